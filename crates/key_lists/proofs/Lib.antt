@@ -1,0 +1,3 @@
+pub mod Among
+pub mod Every
+pub mod Rising

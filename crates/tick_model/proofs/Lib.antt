@@ -1,0 +1,6 @@
+pub mod Among
+pub mod Evaluated
+pub mod Examples
+pub mod SortOrders
+pub mod Stable
+pub mod SumsSoFar

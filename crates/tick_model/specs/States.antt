@@ -1,0 +1,71 @@
+-- Each node's table at a step, and its change since the step before.
+use Rattle.std.specs.Prelude.{ℕ, zero, suc, List, [], ◌∷◌, ◌++◌, map, fold, length, ◌≡◌, ◌<◌, true, slice_index_or}
+use Rattle.std.specs.List.{AllByRecursion}
+use Rattle.tick_model.specs.Tables.{IsTable}
+use Rattle.tick_model.specs.declared.feed.Run.{Run}
+use Rattle.tick_model.specs.declared.plan.Op.{Op}
+use Rattle.tick_model.specs.declared.plan.Op.TheVariants.{Source, Keep, View, Join, Agg, Merge, Sort, Head, Tail, AsOf}
+use Rattle.tick_model.specs.declared.plan.Node.{Node}
+use Rattle.tick_model.specs.declared.plan.Plan.{Plan}
+use Rattle.tick_model.specs.declared.table.PlainTable.{PlainTable}
+use Rattle.tick_model.specs.declared.update.KeyPair.{KeyPair}
+use Rattle.tick_model.specs.Updates.{Tick, both_in}
+use Rattle.tick_model.specs.Agg.{agg_pairs}
+use Rattle.tick_model.specs.Merge.{merge_pairs}
+use Rattle.tick_model.specs.Sort.{sort_pairs}
+use Rattle.tick_model.specs.Evaluation.{Outcome, eval, source_number, table_at, has_table, outcome_at, inputs_of}
+use Rattle.tick_model.specs.Sources.{source_ticks, sources, tick_at}
+
+abbrev pub state : Run → ℕ → List Outcome
+state run step = eval run.plan (sources run step)
+
+-- the pairs that an operator keeps, from the ticks of its inputs and its old and new table
+abbrev pub kept_by : Op → (ℕ → Tick) → PlainTable → PlainTable → List KeyPair
+kept_by Source tick old new = []
+kept_by (Keep input test) tick old new = both_in old new (tick input).kept
+kept_by (View input exprs) tick old new = (tick input).kept
+kept_by (Join left right on take choice) tick old new = (tick left).kept
+kept_by (Agg input by aggs) tick old new = agg_pairs by (tick input) old new
+kept_by (Merge inputs) tick old new = merge_pairs (map tick inputs)
+kept_by (Sort input by) tick old new = sort_pairs by (tick input)
+kept_by (Head input rows) tick old new = both_in old new (tick input).kept
+kept_by (Tail input rows) tick old new = both_in old new (tick input).kept
+kept_by (AsOf left right on at take) tick old new = (tick left).kept
+
+abbrev pub tick_of : Op → Tick → List Tick → PlainTable → PlainTable → Tick
+tick_of Source own done old new = own
+tick_of op own done old new = record { old = old; new = new; kept = kept_by op (tick_at done) old new }
+
+-- the tick of a node, from those of the nodes before it
+abbrev pub tick_node : List Node → List Tick → (ℕ → PlainTable) → (ℕ → PlainTable) → List Tick → Node → List Tick
+tick_node nodes own old new done node =
+    let n = length done in
+    done ++ tick_of node.op (tick_at own (source_number nodes n)) done (old n) (new n) ∷ []
+
+abbrev pub ticks_between : Plan → List Tick → (ℕ → PlainTable) → (ℕ → PlainTable) → List Tick
+ticks_between plan own old new = fold (tick_node plan.nodes own old new) [] plan.nodes
+
+-- the tables before a step; before the opening all are empty
+abbrev pub empty_at : Plan → ℕ → PlainTable
+empty_at plan node = record { width = width_at plan.nodes node; rows = [] }
+  where
+    width_at : List Node → ℕ → ℕ
+    width_at [] node = 0
+    width_at (n ∷ nodes) zero = length n.columns
+    width_at (n ∷ nodes) (suc node) = width_at nodes node
+
+abbrev pub ticks : Run → ℕ → List Tick
+ticks run zero = ticks_between run.plan (source_ticks run 0) (empty_at run.plan) (table_at (state run 0))
+ticks run (suc step) = ticks_between run.plan (source_ticks run (suc step)) (table_at (state run step)) (table_at (state run (suc step)))
+
+abbrev pub tick : Run → ℕ → ℕ → Tick
+tick run step node = tick_at (ticks run step) node
+
+-- each node has a table, by the rules of tables
+pub record HaveTables (plan : Plan) (outcomes : List Outcome) : Type 0 where
+  pub each : (n : ℕ) → n < length plan.nodes → has_table (outcome_at outcomes n) ≡ true
+  pub tables : (n : ℕ) → IsTable (table_at outcomes n)
+
+-- a node's inputs are lesser nodes
+abbrev pub HasLesserInputs : Plan → Type 0
+HasLesserInputs plan = (n : ℕ) (d : Node) → n < length plan.nodes → AllByRecursion (λ input. input < n) (inputs_of (slice_index_or plan.nodes n d).op)

@@ -1,0 +1,13 @@
+//! The plain data of the engine, and what its words mean.
+#![tactic(auto)]
+
+pub mod evaluate;
+pub mod feed;
+pub mod formula;
+pub mod items;
+pub mod name;
+pub mod plan;
+pub mod sort;
+pub mod sums;
+pub mod table;
+pub mod update;
