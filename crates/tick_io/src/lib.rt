@@ -1,0 +1,14 @@
+//! The outside world as the engine sees it: files by name, one stream of bytes that is written, and a gate at which the
+//! work of each node can be held up.
+//!
+//! Each of the three is a trait, with what it stands for in contracts alone. A fault of reading or writing is answered only where
+//! a count of failures rose in that very call, so code above can say what a fault means without a word about devices.
+#![tactic(auto)]
+
+mod gate;
+mod inputs;
+mod sink;
+
+pub use gate::{Gate, OpenGate};
+pub use inputs::{Inputs, LoadFault};
+pub use sink::{Sink, SinkFault, put_all};
