@@ -5,10 +5,13 @@
 //! a count of failures rose in that very call, so code above can say what a fault means without a word about devices.
 #![tactic(auto)]
 
+mod calls;
 mod gate;
 mod inputs;
+mod memory;
 mod sink;
 
 pub use gate::{Gate, OpenGate};
 pub use inputs::{Inputs, LoadFault};
+pub use memory::{MemoryInputs, MemorySink, SteadySink, VoidSink};
 pub use sink::{Sink, SinkFault, put_all};
