@@ -1,5 +1,5 @@
 -- Pieces that are written one after another, the last of which may be cut short.
-use Rattle.std.proofs.Common.{◌≡◌, ◌+◌, ◌≤◌, ℕ, List, ◌++◌, length, take, drop, Option, Some, None, refl, ap, sym, ◌∙◌, arith, append_assoc, length-append}
+use Rattle.std.proofs.Common.{◌≡◌, ◌+◌, ◌≤◌, ℕ, List, ◌++◌, length, take, drop, Option, Some, None, refl, ap, sym, subst, ◌∙◌, arith, append_assoc, length-append}
 use Rattle.std.proofs.Math.Seq.{take-add, take-append-add}
 use Rattle.std.proofs.lemmas.List.{take-append-le}
 use Rattle.std.specs.Io.KnownBytes.{append_known}
@@ -27,3 +27,8 @@ front_after old mid new first second whole (count, within, front) =
 pub front_longer : (old new : Option (List ℕ)) (piece later : List ℕ) → AppendsFront old new piece → AppendsFront old new (piece ++ later)
 front_longer old new piece later (count, within, front) =
     (count, omega (arith, length-append piece later), front ∙ ap (append_known old) (sym (take-append-le count piece later within)))
+
+-- a front of a piece, after all that stands before the piece, is a front of the whole text
+pub front_within : (old mid new : Option (List ℕ)) (before piece later whole : List ℕ) → (before ++ piece) ++ later ≡ whole → mid ≡ append_known old before → AppendsFront mid new piece → AppendsFront old new whole
+front_within old mid new before piece later whole e written front =
+    subst (AppendsFront old new) e (front_longer old new (before ++ piece) later (front_after old mid new before piece written front))

@@ -26,8 +26,8 @@ content_of [] name = None
 content_of (file ∷ files) name = if bytes_eq file.name name then Some file.bytes else content_of files name
 
 -- whether the next load of a name fails
-abbrev pub fails : Shelf → List ℕ → Bool
-fails shelf name = next_fails shelf.calls || is_none (content_of shelf.files name)
+abbrev pub load_fails : Shelf → List ℕ → Bool
+load_fails shelf name = next_fails shelf.calls || is_none (content_of shelf.files name)
 
 -- what is answered of the bytes that are there, of which at most so many are wanted
 abbrev pub answer_of : Option (List ℕ) → ℕ → Result (List ℕ) LoadFault

@@ -46,7 +46,7 @@ pub trait Inputs {
 
     /// All the bytes of a file that has at most `most` of them.
     fn load(&mut self, alloc: Global, name: &str, most: usize) -> Result<Vec<u8>, LoadFault>
-        ensures short { IfOk result (λ loaded. vec_len loaded ≤ most) }
+        ensures within { IfOk result (λ loaded. vec_len loaded ≤ most) }
         ensures whole { IfOk result (λ loaded. IsTrue told → content self.old name.now ≡ Some loaded.items) }
 
         ensures seen { IfTooLong result (λ seen. most < seen) }

@@ -7,11 +7,16 @@
 
 mod calls;
 mod gate;
+mod host;
 mod inputs;
 mod memory;
 mod sink;
 
 pub use gate::{Gate, OpenGate};
+pub use host::{HostInputs, StdSink};
 pub use inputs::{Inputs, LoadFault};
 pub use memory::{MemoryInputs, MemorySink, SteadySink, VoidSink};
 pub use sink::{Sink, SinkFault, put_all};
+
+#[cfg(test)]
+mod tests;

@@ -3,7 +3,7 @@ ghost use Rattle.std.specs.Prelude.{◌≡◌, ◌<◌, ◌≤◌, [], ◌++◌,
 ghost use Rattle.std.specs.Option.{option_copied};
 ghost use Rattle.tick_io.specs.Counts.{Rose};
 ghost use Rattle.tick_io.specs.Calls.{no_calls, next_fails, after_call};
-ghost use Rattle.tick_io.specs.Files.{content_of, file_of, fails, answer_to, answer_unless, AnswersUnlessMemory};
+ghost use Rattle.tick_io.specs.Files.{content_of, file_of, load_fails, answer_to, answer_unless, AnswersUnlessMemory};
 ghost use Rattle.tick_io.specs.Loads.{IfTooLong};
 
 use crate::calls::CallCounter;
@@ -52,9 +52,10 @@ impl Inputs for MemoryInputs {
     /// Fails exactly where the call is one that is to fail or where there is no file of the name. Else it is too long exactly
     /// where the file is longer than `most`.
     fn load(&mut self, alloc: Global, name: &str, most: usize) -> Result<Vec<u8>, LoadFault>
+        ensures exactly { IsErrOf result LoadFault.Failed ↔ IsTrue (load_fails self.old name.now) }
         ensures answer { AnswersUnlessMemory result (answer_to self.old name.now most) }
         ensures files { self.new.files ≡ self.old.files }
-        ensures calls { self.new.calls ≡ after_call (fails self.old name.now) self.old.calls }
+        ensures calls { self.new.calls ≡ after_call (load_fails self.old name.now) self.old.calls }
 
         ensures failed { IsErrOf result LoadFault.Failed → Rose self.old.calls.failures self.new.calls.failures }
         ensures never_falls { self.old.calls.failures ≤ self.new.calls.failures }

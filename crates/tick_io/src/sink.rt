@@ -43,7 +43,7 @@ pub trait Sink: Send {
     /// Appends the front of a piece, at least one byte, and answers how many bytes. After an error nothing is appended.
     fn write(&mut self, piece: &[u8]) -> Result<usize, SinkFault>
         requires { 0 < length piece.now }
-        ensures some { IfOk result (λ count. 1 ≤ count) }
+        ensures progress { IfOk result (λ count. 1 ≤ count) }
         ensures within { IfOk result (λ count. count ≤ length piece.now) }
         ensures appended { IfOk result (λ count. bytes self.new ≡ append_known (bytes self.old) (take count piece.now)) }
         ensures err { OnErr result (bytes self.new ≡ bytes self.old) }
