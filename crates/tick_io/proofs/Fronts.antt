@@ -1,5 +1,5 @@
 -- Pieces that are written one after another, the last of which may be cut short.
-use Rattle.std.proofs.Common.{◌≡◌, ◌+◌, ◌≤◌, ℕ, List, ◌++◌, length, take, drop, Option, Some, None, refl, ap, sym, subst, ◌∙◌, arith, append_assoc, length-append}
+use Rattle.std.proofs.Common.{◌≡◌, ◌+◌, ℕ, List, ◌++◌, length, take, drop, Option, Some, None, refl, ap, sym, subst, ◌∙◌, arith, append_assoc, length-append}
 use Rattle.std.proofs.Math.Seq.{take-add, take-append-add}
 use Rattle.std.proofs.lemmas.List.{take-append-le}
 use Rattle.std.specs.Io.KnownBytes.{append_known}
@@ -17,11 +17,11 @@ append_known-take known n m piece =
 
 -- a front of the second piece, after the whole first, is a front of both
 pub front_after : (old mid new : Option (List ℕ)) (first second : List ℕ) → mid ≡ append_known old first → AppendsFront mid new second → AppendsFront old new (first ++ second)
-front_after old mid new first second whole (count, within, front) =
-    ( length first + count
-    , omega (arith, length-append first second)
-    , front ∙ ap (λ known. append_known known (take count second)) whole ∙ append_known-append_known old first (take count second) ∙ ap (append_known old) (sym (take-append-add first second count))
-    )
+front_after old mid new first second whole (count, within, front) = (
+  length first + count,
+  omega (arith, length-append first second),
+  front ∙ ap (λ known. append_known known (take count second)) whole ∙ append_known-append_known old first (take count second) ∙ ap (append_known old) (sym (take-append-add first second count)),
+)
 
 -- a front of a piece is one of all that begins with the piece
 pub front_longer : (old new : Option (List ℕ)) (piece later : List ℕ) → AppendsFront old new piece → AppendsFront old new (piece ++ later)

@@ -1,5 +1,5 @@
 -- A count that rose within some calls rose within all of them, since no call lets it fall.
-use Rattle.std.proofs.Common.{◌≡◌, ◌<◌, ◌≤◌, ◌⊎◌, ℕ, inl, inr, arith, ⊎_elim}
+use Rattle.std.proofs.Common.{◌≤◌, ℕ, arith}
 use Rattle.tick_io.specs.Counts.{next_count, Rose}
 
 -- what rose in later calls rose in all

@@ -1,5 +1,5 @@
 -- Files in memory, and what a load of one answers.
-use Rattle.std.specs.Prelude.{◌≡◌, ◌||◌, ℕ, ⊤, Bool, List, [], ◌∷◌, Option, None, Some, Result, Ok, Err, if◌then◌else◌, is_none, IsOk, length, nat_lt, String, string_bytes}
+use Rattle.std.specs.Prelude.{◌≡◌, ◌||◌, ℕ, Bool, List, [], ◌∷◌, Option, None, Some, Result, Ok, Err, if◌then◌else◌, is_none, IsOk, length, nat_lt, String, string_bytes}
 use Rattle.std.specs.Global.{Global, Vec}
 use Rattle.std.specs.Str.{bytes_eq}
 use Rattle.tick_io.specs.Calls.{Calls, next_fails}

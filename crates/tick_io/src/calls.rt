@@ -1,6 +1,5 @@
 //! The calls of an object in memory, some of which are to fail.
 
-
 use std::marker::Model;
 
 /// Counts calls, and knows by their numbers, from 1, which of them fail.

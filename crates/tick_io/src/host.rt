@@ -1,7 +1,6 @@
-//! The files and the standard output of the process. They tell no content: what a file held and what a terminal showed, no contract
-//! knows.
-ghost use Rattle.std.specs.Prelude.{◌≡◌, ◌<◌, ◌≤◌, ℕ, false, None, Some, IfOk, IsErrOf, length, take, vec_len, IfSome, OnErr};
-ghost use Rattle.tick_io.specs.Counts.{Rose, next_count};
+//! The files and the standard output of the process. What a file held and what a terminal showed no contract knows, so neither tells
+//! its bytes.
+ghost use Rattle.std.specs.Prelude.{◌≡◌, ◌<◌, ◌≤◌, false, None, IfOk, IfSome, length, vec_len};
 ghost use Rattle.tick_io.specs.Loads.{IfTooLong};
 
 use crate::{Inputs, LoadFault, Sink, SinkFault};
@@ -55,12 +54,7 @@ impl<R: Files + Sync> Inputs for HostInputs<'_, R> {
 }
 
 /// All the bytes of a file that has at most `most` of them.
-fn read_file<R: Files>(
-    alloc: Global,
-    rt: &R,
-    name: &str,
-    most: usize,
-) -> Result<Vec<u8>, LoadFault>
+fn read_file<R: Files>(alloc: Global, rt: &R, name: &str, most: usize) -> Result<Vec<u8>, LoadFault>
     ensures within { IfOk result (λ loaded. vec_len loaded ≤ most) }
     ensures seen { IfTooLong result (λ seen. most < seen) }
 {
@@ -72,11 +66,7 @@ fn read_file<R: Files>(
 
 /// All the bytes that a reader has left, where they are at most `most`. Each turn takes at least one byte, and all turns together
 /// take at most `most + 1`.
-fn read_to_end<F: Read>(
-    alloc: Global,
-    reader: &mut F,
-    most: usize,
-) -> Result<Vec<u8>, LoadFault>
+fn read_to_end<F: Read>(alloc: Global, reader: &mut F, most: usize) -> Result<Vec<u8>, LoadFault>
     ensures within { IfOk result (λ loaded. vec_len loaded ≤ most) }
     ensures whole { IfOk result (λ loaded. IfSome (F.remaining reader.old) (λ bytes. loaded.items ≡ bytes)) }
     ensures seen { IfTooLong result (λ seen. most < seen) }

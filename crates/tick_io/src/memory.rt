@@ -1,10 +1,9 @@
 //! Inputs and sinks in memory, whose calls fail where they are told to.
-ghost use Rattle.std.specs.Prelude.{◌≡◌, ◌<◌, ◌≤◌, [], ◌++◌, ℕ, true, None, Some, IfOk, OnOk, OnErr, IfErr, IsErrOf, IsSomeAnd, IsTrue, length, take, vec_len, is_none, ◌↔◌, string_bytes, map};
+ghost use Rattle.std.specs.Prelude.{◌≡◌, ◌<◌, ◌≤◌, [], ◌++◌, true, None, Some, IfOk, OnOk, OnErr, IfErr, IsErrOf, IsTrue, length, ◌↔◌, map};
 ghost use Rattle.std.specs.Option.{option_copied};
 ghost use Rattle.tick_io.specs.Counts.{Rose};
 ghost use Rattle.tick_io.specs.Calls.{no_calls, next_fails, after_call};
 ghost use Rattle.tick_io.specs.Files.{content_of, file_of, load_fails, answer_to, answer_unless, AnswersUnlessMemory};
-ghost use Rattle.tick_io.specs.Loads.{IfTooLong};
 
 use crate::calls::CallCounter;
 use crate::{Inputs, LoadFault, Sink, SinkFault};
@@ -52,7 +51,7 @@ impl Inputs for MemoryInputs {
     /// Fails exactly where the call is one that is to fail or where there is no file of the name. Else it is too long exactly
     /// where the file is longer than `most`.
     fn load(&mut self, alloc: Global, name: &str, most: usize) -> Result<Vec<u8>, LoadFault>
-        ensures exactly { IsErrOf result LoadFault.Failed ↔ IsTrue (load_fails self.old name.now) }
+        ensures fails_exactly { IsErrOf result LoadFault.Failed ↔ IsTrue (load_fails self.old name.now) }
         ensures answer { AnswersUnlessMemory result (answer_to self.old name.now most) }
         ensures files { self.new.files ≡ self.old.files }
         ensures calls { self.new.calls ≡ after_call (load_fails self.old name.now) self.old.calls }
@@ -144,7 +143,7 @@ impl Sink for MemorySink {
         ensures whole { IfOk result (λ count. count ≡ length piece.now) }
         ensures bytes { OnOk result (self.new.bytes ≡ self.old.bytes ++ piece.now) }
         ensures err { OnErr result (self.new.bytes ≡ self.old.bytes) }
-        ensures exactly { IsErrOf result SinkFault.Failed ↔ IsTrue (next_fails self.old.calls) }
+        ensures fails_exactly { IsErrOf result SinkFault.Failed ↔ IsTrue (next_fails self.old.calls) }
         ensures calls { self.new.calls ≡ after_call (next_fails self.old.calls) self.old.calls }
 
         ensures failed { IsErrOf result SinkFault.Failed → Rose self.old.calls.failures self.new.calls.failures }
@@ -155,8 +154,7 @@ impl Sink for MemorySink {
         if fails {
             return Err(SinkFault::Failed);
         }
-        self.bytes.extend_from_slice(piece)?;
-        Ok(piece.len())
+        append(&mut self.bytes, piece)
     }
 }
 
@@ -204,9 +202,19 @@ impl Sink for SteadySink {
         ensures err { OnErr result (self.new ≡ self.old) }
         ensures memory { IfErr result (λ fault. fault ≡ SinkFault.Memory) }
     {
-        self.bytes.extend_from_slice(piece)?;
-        Ok(piece.len())
+        append(&mut self.bytes, piece)
     }
+}
+
+/// Appends a piece whole, and answers its length.
+fn append(bytes: &mut Vec<u8>, piece: &[u8]) -> Result<usize, SinkFault>
+    ensures whole { IfOk result (λ count. count ≡ length piece.now) }
+    ensures bytes { OnOk result (bytes.new.items ≡ bytes.old.items ++ piece.now) }
+    ensures err { OnErr result (bytes.new.items ≡ bytes.old.items) }
+    ensures memory { IfErr result (λ fault. fault ≡ SinkFault.Memory) }
+{
+    bytes.extend_from_slice(piece)?;
+    Ok(piece.len())
 }
 
 /// A sink that keeps nothing and does not tell its bytes. It takes each piece whole.

@@ -1,4 +1,4 @@
-use Rattle.std.proofs.Common.{◌≡◌, ap, ◌∙◌, arith, take, drop, length, length-drop}
+use Rattle.std.proofs.Common.{◌≡◌, ap, ◌∙◌, arith, take, drop, length-drop}
 use Rattle.std.specs.Io.KnownBytes.{append_known}
 use Rattle.std.proofs.lemmas.List.{take_rest}
 use Rattle.tick_io.proofs.Fronts.{append_known-take}
