@@ -1,2 +1,2 @@
 pub mod Fronts
-pub mod Rising
+pub mod RisingCounts

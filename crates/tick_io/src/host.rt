@@ -1,6 +1,6 @@
 //! The files and the standard output of the process. What a file held and what a terminal showed no contract knows, so neither tells
 //! its bytes.
-ghost use Rattle.std.specs.Prelude.{◌≡◌, ◌<◌, ◌≤◌, false, None, IfOk, IfSome, length, vec_len};
+ghost use Rattle.std.specs.Prelude.{◌≡◌, ◌+◌, ◌≤◌, false, None, IfOk, IfSome, length, vec_len};
 ghost use Rattle.tick_io.specs.Loads.{IfTooLong};
 
 use crate::{Inputs, LoadFault, Sink, SinkFault};
@@ -53,10 +53,10 @@ impl<R: Files + Sync> Inputs for HostInputs<'_, R> {
     }
 }
 
-/// All the bytes of a file that has at most `most` of them.
+/// All the bytes of a file that has at most `most` of them. Of a longer one it reads one byte more than that.
 fn read_file<R: Files>(alloc: Global, rt: &R, name: &str, most: usize) -> Result<Vec<u8>, LoadFault>
     ensures within { IfOk result (λ loaded. vec_len loaded ≤ most) }
-    ensures seen { IfTooLong result (λ seen. most < seen) }
+    ensures seen { IfTooLong result (λ seen. seen ≡ most + 1) }
 {
     match fs::open(rt, name) {
         Ok(mut file) => read_to_end(alloc, &mut file, most),
@@ -64,12 +64,13 @@ fn read_file<R: Files>(alloc: Global, rt: &R, name: &str, most: usize) -> Result
     }
 }
 
-/// All the bytes that a reader has left, where they are at most `most`. Each turn takes at least one byte, and all turns together
-/// take at most `most + 1`.
+/// All the bytes that a reader has left, where they are at most `most`, and else one byte more than that.
+///
+/// Each turn of the loop takes at least one byte, so the loop ends whatever the reader does.
 fn read_to_end<F: Read>(alloc: Global, reader: &mut F, most: usize) -> Result<Vec<u8>, LoadFault>
     ensures within { IfOk result (λ loaded. vec_len loaded ≤ most) }
     ensures whole { IfOk result (λ loaded. IfSome (F.remaining reader.old) (λ bytes. loaded.items ≡ bytes)) }
-    ensures seen { IfTooLong result (λ seen. most < seen) }
+    ensures seen { IfTooLong result (λ seen. seen ≡ most + 1) }
     ensures too_long { IfTooLong result (λ seen. IfSome (F.remaining reader.old) (λ bytes. seen ≤ length bytes)) }
 {
     let mut loaded = Vec::new(alloc);

@@ -1,4 +1,4 @@
-use Rattle.std.proofs.Common.{◌≡◌, ◌+◌, ◌-◌, length, vec_len}
+use Rattle.std.proofs.Common.{◌≡◌, ◌+◌, ◌-◌, ◌≤◌, length, vec_len}
 use Rattle.std.specs.Io.KnownBytes.{Consumes}
 use Rattle.tick_io.proofs.host.read_to_end.Given as goal
 
@@ -8,6 +8,7 @@ invariant-loop-chunk g l =
     let remaining = g.F.Read.remaining in
     record {
       length_kept : length l.chunk ≡ 65536;
+      within : vec_len l.loaded ≤ l.most + 1;
       taken : Consumes (remaining l.fn.reader) (remaining l.reader) l.loaded.items;
     }
 
