@@ -1,6 +1,6 @@
 //! The gate through which the work of a node goes, so that a test can hold it up.
 
-/// What is called round the work of a node, from any thread. Its calls change nothing that a program writes.
+/// What is called round the work of a node, from any thread.
 ///
 /// In a cycle, `enter` and `leave` are called round the work of each operator node, with the node's number, which is below 256.
 /// Beside a feed, the caller of number c calls `enter(256 + c)` before its first snapshot and `leave(256 + c)` after the last one that it

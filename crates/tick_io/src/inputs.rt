@@ -11,7 +11,7 @@ use std::alloc::{AllocError, AllocFailed, Global};
 pub enum LoadFault {
     /// Memory ran out.
     Memory,
-    /// There are more bytes than were asked for at most. So many of them were seen.
+    /// There are more bytes than were asked for at most. `seen` of them were seen.
     TooLong { seen: usize },
     /// There is no such file, or it could not be read.
     Failed,
@@ -45,6 +45,9 @@ pub trait Inputs {
     ghost failures: { Self → List ℕ → ℕ };
 
     /// All the bytes of a file that has at most `most` of them.
+    ///
+    /// `TooLong` comes only where there are more, and `Failed` only where the count of this name rose in this call. No load changes
+    /// what any name has.
     fn load(&mut self, alloc: Global, name: &str, most: usize) -> Result<Vec<u8>, LoadFault>
         ensures within { IfOk result (λ loaded. vec_len loaded ≤ most) }
         ensures whole { IfOk result (λ loaded. IsTrue told → content self.old name.now ≡ Some loaded.items) }

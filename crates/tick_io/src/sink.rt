@@ -2,7 +2,7 @@
 ghost use Rattle.std.specs.Prelude.{◌≡◌, ◌<◌, ◌≤◌, ℕ, List, Option, IfOk, OnOk, OnErr, IsErrOf, length, take};
 ghost use Rattle.std.specs.Io.KnownBytes.{append_known};
 ghost use Rattle.tick_io.specs.Counts.{Rose};
-ghost use Rattle.tick_io.specs.Written.{AppendsFront};
+ghost use Rattle.tick_io.specs.Written.{AppendsPrefix};
 ghost use Rattle.tick_io.specs.declared.sink.SinkFault.TheVariants.{Memory};
 
 use std::alloc::{AllocError, AllocFailed};
@@ -40,7 +40,9 @@ pub trait Sink: Send {
     /// How many writes have failed.
     ghost failures: { Self → ℕ };
 
-    /// Appends the front of a piece, at least one byte, and answers how many bytes. After an error nothing is appended.
+    /// Appends a prefix of the piece, of one byte at least, and returns its length.
+    ///
+    /// After an error nothing was appended. `Failed` comes only where the count of failures rose in this call.
     fn write(&mut self, piece: &[u8]) -> Result<usize, SinkFault>
         requires { 0 < length piece.now }
         ensures progress { IfOk result (λ count. 1 ≤ count) }
@@ -51,12 +53,12 @@ pub trait Sink: Send {
         ensures never_falls { failures self.old ≤ failures self.new };
 }
 
-/// Writes a whole piece. It takes no memory of its own.
+/// Appends the whole piece. It takes no memory of its own.
 ///
-/// After an error a front of the piece was appended.
+/// After an error a prefix of the piece was appended. `Failed` comes only where the sink's count of failures rose in this call.
 pub fn put_all<S: Sink>(sink: &mut S, piece: &[u8]) -> Result<(), SinkFault>
     ensures whole { OnOk result (S.bytes sink.new ≡ append_known (S.bytes sink.old) piece.now) }
-    ensures err { OnErr result (AppendsFront (S.bytes sink.old) (S.bytes sink.new) piece.now) }
+    ensures err { OnErr result (AppendsPrefix (S.bytes sink.old) (S.bytes sink.new) piece.now) }
     ensures failed { IsErrOf result SinkFault.Failed → Rose (S.failures sink.old) (S.failures sink.new) }
     ensures never_falls { S.failures sink.old ≤ S.failures sink.new }
 {

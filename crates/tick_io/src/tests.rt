@@ -3,7 +3,7 @@ ghost use Rattle.std.specs.Prelude.{◌≡◌, Some, IfOk, OnOk, OnErr, IsErrOf,
 ghost use Rattle.std.specs.List.{flat_map};
 ghost use Rattle.std.specs.Io.KnownBytes.{append_known};
 ghost use Rattle.tick_io.specs.Counts.{Rose};
-ghost use Rattle.tick_io.specs.Written.{AppendsFront};
+ghost use Rattle.tick_io.specs.Written.{AppendsPrefix};
 
 use super::*;
 use std::alloc::{AllocError, Global};
@@ -29,7 +29,7 @@ fn load_each<I: Inputs>(
 /// Writes the pieces one after another.
 fn put_each<S: Sink>(sink: &mut S, pieces: &[Vec<u8>]) -> Result<(), SinkFault>
     ensures whole { OnOk result (S.bytes sink.new ≡ append_known (S.bytes sink.old) (flat_map (λ piece. piece.items) pieces.now)) }
-    ensures err { OnErr result (AppendsFront (S.bytes sink.old) (S.bytes sink.new) (flat_map (λ piece. piece.items) pieces.now)) }
+    ensures err { OnErr result (AppendsPrefix (S.bytes sink.old) (S.bytes sink.new) (flat_map (λ piece. piece.items) pieces.now)) }
     ensures failed { IsErrOf result SinkFault.Failed → Rose (S.failures sink.old) (S.failures sink.new) }
 {
     for piece in pieces {

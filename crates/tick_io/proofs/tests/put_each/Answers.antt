@@ -3,7 +3,7 @@ use Rattle.std.specs.List.{flat_map}
 use Rattle.std.proofs.lemmas.List.{take-append-drop, drop_more}
 use Rattle.std.proofs.lemmas.List.Concat.{flat_map-append}
 use Rattle.std.proofs.lemmas.Result.{err_from_is_err_and}
-use Rattle.tick_io.proofs.Fronts.{front_within}
+use Rattle.tick_io.proofs.Prefixes.{prefix_within}
 use Rattle.tick_io.proofs.tests.put_each.Goals as goal
 
 -- what is made of a list, around one element
@@ -23,5 +23,5 @@ returns-in_err-put_all-clause-err g c =
     let before = flat_map (λ piece. piece.items) (take i pieces) in
     let later = flat_map (λ piece. piece.items) (drop (i + 1) pieces) in
     let whole = ap (λ bytes. (before ++ bytes) ++ later) (c.deref.ensures.value ∙ ap (λ piece. piece.items) c.piece-item.is) ∙ parts (λ piece. piece.items) pieces i piece within in
-    let front = front_within _ _ _ before c.deref.result.now later _ whole c.loop-piece.invariant.whole c.in_err-put_all.ensures.err in
-    rw p.1 front
+    let prefix = prefix_within _ _ _ before c.deref.result.now later _ whole c.loop-piece.invariant.whole c.in_err-put_all.ensures.err in
+    rw p.1 prefix
