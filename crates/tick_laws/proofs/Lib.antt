@@ -1,0 +1,12 @@
+pub mod Blocks
+pub mod Carried
+pub mod Composed
+pub mod Grown
+pub mod Kept
+pub mod Merged
+pub mod Moves
+pub mod NodeTicks
+pub mod OperatorTicks
+pub mod Placed
+pub mod RunTicks
+pub mod SourceTicks

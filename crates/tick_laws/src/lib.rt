@@ -1,0 +1,7 @@
+//! Laws of the definitions. Each function does nothing: its contract is the law.
+#![tactic(auto)]
+
+pub mod operators;
+pub mod runs;
+pub mod sources;
+pub mod updates;
