@@ -10,3 +10,4 @@ pub mod OperatorTicks
 pub mod Placed
 pub mod RunTicks
 pub mod SourceTicks
+pub mod ToldRows
