@@ -1,6 +1,7 @@
 pub mod Blocks
 pub mod Carried
 pub mod Composed
+pub mod ComposedThrice
 pub mod Grown
 pub mod Kept
 pub mod Merged
@@ -11,3 +12,4 @@ pub mod Placed
 pub mod RunTicks
 pub mod SourceTicks
 pub mod ToldRows
+pub mod WholeUpdates
