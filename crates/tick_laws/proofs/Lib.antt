@@ -1,5 +1,6 @@
 pub mod Blocks
 pub mod Carried
+pub mod CheckedUpdates
 pub mod Composed
 pub mod ComposedThrice
 pub mod Grown

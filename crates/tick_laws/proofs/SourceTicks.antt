@@ -14,7 +14,8 @@ use Rattle.tick_model.specs.Updates.{Tick, IsTick, pairs}
 use Rattle.tick_model.specs.Evaluation.{source_number, no_table}
 use Rattle.tick_model.specs.Sources.{IsBlock, HasTables, block_width, block_fault, record_of, blocks_fault, batch_fault, blocks_of, carry_on, carried, update_of, unchanged, same_key, opened, no_tick, tick_at, after_block, after_blocks, source_ticks, sources, new_table}
 use Rattle.key_lists.proofs.Among.{each_among}
-use Rattle.tick_laws.proofs.Blocks.{block_tick, none_parts, map_none}
+use Rattle.tick_laws.proofs.Blocks.{block_tick}
+use Rattle.tick_laws.proofs.CheckedUpdates.{none_parts, map_none}
 use Rattle.tick_laws.proofs.Composed.{composed_tick}
 use Rattle.key_lists.proofs.Every.{every-map, map_map}
 

@@ -1,8 +1,7 @@
 -- Updates that are checked against the keys that they change.
 --     keys_after old update      the keys that an update leaves
---     IsChecked limit old update      it breaks no rule on the old keys, and its added keys rise below the limit
-use Rattle.std.specs.Prelude.{◌≡◌, ℕ, ◌<◌, List, [], ◌∷◌, None, nat_lt, if◌then◌else◌}
-use Rattle.std.specs.List.{AllByRecursion}
+--     IsChecked limit old update      it breaks no rule on the old keys, and its added keys rise
+use Rattle.std.specs.Prelude.{◌≡◌, ℕ, List, [], ◌∷◌, None, nat_lt, if◌then◌else◌}
 use Rattle.key_lists.specs.Keys.{IsRising, without}
 use Rattle.tick_model.specs.declared.table.PlainRow.{PlainRow}
 use Rattle.tick_model.specs.declared.table.PlainTable.{PlainTable}
@@ -25,7 +24,6 @@ keys_after old update = put_keys update.added (landed update.shifted (without up
 pub record IsChecked (limit : ℕ) (old : List ℕ) (update : Update) : Type 0 where
   pub breaks_none : update_fault limit old update ≡ None
   pub added_rise : IsRising update.added
-  pub added_below : AllByRecursion (λ key. key < limit) update.added
 
 -- the tick from a table to what an update makes of it
 abbrev pub carried_tick : PlainTable → Update → List PlainRow → Tick
