@@ -1,9 +1,10 @@
 -- Numbers of several lists in regions of their own.
 use Rattle.std.proofs.Common.{◌≡◌, refl, ap, sym, ◌∙◌, ℕ, ◌<◌, ◌≤◌, ◌+◌, ◌*◌, ◌/◌, ◌==◌, eqb, arith, true, List, [], ◌∷◌, ◌++◌, map, inl, inr}
-use Rattle.std.specs.Prelude.{fold}
+use Rattle.std.specs.Prelude.{fold, sum_by}
 use Rattle.std.specs.List.{AllByRecursion}
 use Rattle.std.proofs.lemmas.Bool.{or_left, or_right, or_cases, eqb-true, eq-eqb}
 use Rattle.std.proofs.lemmas.List.{map-append}
+use Rattle.std.proofs.lemmas.List.Sums.{sum_by-cons}
 use Rattle.tick_model.specs.declared.table.PlainRow.{PlainRow}
 use Rattle.tick_model.specs.declared.table.PlainTable.{PlainTable}
 use Rattle.key_lists.specs.Keys.{is_among, IsRising}
@@ -11,7 +12,7 @@ use Rattle.tick_model.specs.declared.update.KeyPair.{KeyPair}
 use Rattle.tick_model.specs.Tables.{keys}
 use Rattle.tick_model.specs.Updates.{Tick, IsTick, old_keys, new_keys}
 use Rattle.tick_model.specs.Merge.{last_key, region, row_from, pair_from, merged_rows, merged_pairs}
-use Rattle.key_lists.proofs.Among.{among-append, of_among}
+use Rattle.key_lists.proofs.Among.{among-append, each_among, of_among}
 use Rattle.key_lists.proofs.Every.{every_weaker, every-map, every-append, map_map}
 use Rattle.key_lists.proofs.Rising.{rising-append, rising-plus}
 
@@ -46,6 +47,14 @@ module _ {T : Type 0} (numbers some : T → List ℕ) (region : T → ℕ) where
       (apart_above (offset + region t) ts)
       (rising-plus offset (some t) h.0.rising)
       (apart_rising (offset + region t) ts h.1)
+
+  -- all numbers are below the end of the last region
+  pub apart_below : (offset : ℕ) (ts : List T) → AllByRecursion IsPart ts → AllByRecursion (λ k. k < offset + sum_by region ts) (apart some region offset ts)
+  apart_below offset [] h = tt
+  apart_below offset (t ∷ ts) h =
+      every-append (λ k. k < offset + sum_by region (t ∷ ts)) (map (λ k. k + offset) (some t)) (apart some region (offset + region t) ts)
+      (every-map (λ k. k < offset + sum_by region (t ∷ ts)) (λ k. k + offset) (some t) (every_weaker (λ k. k < region t) (λ k. k + offset < offset + sum_by region (t ∷ ts)) (some t) (λ k less. omega (arith, less, sum_by-cons region t ts)) h.0.below))
+      (every_weaker (λ k. k < offset + region t + sum_by region ts) (λ k. k < offset + sum_by region (t ∷ ts)) (apart some region (offset + region t) ts) (λ k less. omega (arith, less, sum_by-cons region t ts)) (apart_below (offset + region t) ts h.1))
 
   among-plus : (offset key : ℕ) (xs : List ℕ) → is_among key xs ≡ true → is_among (key + offset) (map (λ k. k + offset) xs) ≡ true
   among-plus offset key [] h = h
@@ -83,7 +92,7 @@ below_region table r = go table.rows r
     go (row ∷ rows) r = every_weaker (λ k. k ≤ fold (λ _ row. row.key) row.key rows) (λ k. k < 65536 * (fold (λ _ row. row.key) row.key rows / 65536 + 1)) (row.key ∷ keys rows) (λ k h. within k (fold (λ _ row. row.key) row.key rows) h) (last_greatest row.key rows r)
 
 -- keys and pairs of a merge, as numbers in regions
-pub keys-merged_rows : (side : Tick → PlainTable) (offset : ℕ) (ticks : List Tick) → keys (merged_rows offset (map side ticks)) ≡ apart (λ t. keys (side t).rows) (λ t. region (side t)) offset ticks
+pub keys-merged_rows : {T : Type 0} (side : T → PlainTable) (offset : ℕ) (ts : List T) → keys (merged_rows offset (map side ts)) ≡ apart (λ t. keys (side t).rows) (λ t. region (side t)) offset ts
 keys-merged_rows side offset [] = refl
 keys-merged_rows side offset (t ∷ ts) =
     map-append (λ (row : PlainRow). row.key) (map (row_from offset) (side t).rows) (merged_rows (offset + region (side t)) (map side ts))
@@ -113,3 +122,7 @@ old_part t h = record { rising = h.rising_old; below = among_part (λ k. k < reg
 
 pub new_part : (t : Tick) → IsTick t → IsPart (λ t. keys t.new.rows) (λ t. new_keys t.kept) (λ t. region t.new) t
 new_part t h = record { rising = h.rising_new; below = among_part (λ k. k < region t.new) (keys t.new.rows) (new_keys t.kept) (below_region t.new h.new_table.rising) h.of_new; among = h.of_new }
+
+-- all keys of a table, as a part of them
+pub whole_part : {T : Type 0} (side : T → PlainTable) (t : T) → IsRising (keys (side t).rows) → IsPart (λ t. keys (side t).rows) (λ t. keys (side t).rows) (λ t. region (side t)) t
+whole_part side t r = record { rising = r; below = below_region (side t) r; among = each_among (keys (side t).rows) }

@@ -17,7 +17,7 @@ use Rattle.tick_model.specs.States.{kept_by, tick_of, tick_node}
 use Rattle.tick_model.specs.AsOf.{asof_table}
 use Rattle.tick_model.specs.Join.{join_table}
 use Rattle.tick_model.specs.Merge.{merge_table}
-use Rattle.key_lists.proofs.Every.{map_same, every_weaker}
+use Rattle.key_lists.proofs.Every.{every, every_weaker, map_same}
 use Rattle.tick_laws.proofs.Grown.{made_at, length-grown}
 use Rattle.tick_laws.proofs.OperatorTicks.{operator_keeps}
 
@@ -135,7 +135,7 @@ module _ (nodes : List Node) (d : Node) where
             let f = new_result op l made_new in
             subst (λ old. IsTick (from old (table_at N n))) e
             (subst (λ new. IsTick (from (result op (λ k. (tick_at (take n T) k).old)) new)) f
-            (operator_keeps op (tick_at (take n T)) all_ticks (subst IsTable (sym e) (old_fine n)) (subst IsTable (sym f) (new_fine n))))
+            (operator_keeps op (tick_at (take n T)) (every (λ k. IsTick (tick_at (take n T) k)) (inputs_of op) all_ticks) (subst IsTable (sym e) (old_fine n)) (subst IsTable (sym f) (new_fine n))))
 
         node_tick : (op : Op) → AllByRecursion (λ input. input < n) (inputs_of op)
             → get_or O n NoInput ≡ outcome_of op (get_or olds (source_number nodes n) no_table) (take n O)

@@ -1,3 +1,4 @@
 pub mod Checked
 pub mod Operated
 pub mod Replaced
+pub mod Room
