@@ -10,6 +10,7 @@ pub mod Moves
 pub mod NodeTicks
 pub mod OperatorTicks
 pub mod Placed
+pub mod ResultCells
 pub mod ResultTables
 pub mod RunTicks
 pub mod SourceTicks

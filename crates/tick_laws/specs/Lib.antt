@@ -1,4 +1,5 @@
 pub mod Checked
+pub mod Numbers
 pub mod Operated
 pub mod Replaced
 pub mod Room

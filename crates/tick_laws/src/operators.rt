@@ -2,10 +2,11 @@
 
 ghost use Rattle.std.specs.List.{AllByRecursion};
 ghost use Rattle.std.specs.Prelude.{ℕ};
+ghost use Rattle.tick_laws.specs.Numbers.{HasOpNumbers};
 ghost use Rattle.tick_laws.specs.Operated.{operated};
 ghost use Rattle.tick_laws.specs.Room.{HasRoom};
 ghost use Rattle.tick_model.specs.Evaluation.{inputs_of, result as result_of};
-ghost use Rattle.tick_model.specs.Tables.{IsTable};
+ghost use Rattle.tick_model.specs.Tables.{HasCells, IsTable};
 ghost use Rattle.tick_model.specs.Updates.{Tick, IsTick};
 ghost use Rattle.tick_model.specs.declared.plan.Op.{Op};
 ghost use Rattle.tick_model.specs.declared.table.PlainTable.{PlainTable};
@@ -15,6 +16,13 @@ ghost use Rattle.tick_model.specs.declared.table.PlainTable.{PlainTable};
 pub fn operators_make_tables()
     ensures { (op : Op) (table : ℕ → PlainTable) → AllByRecursion (λ input. IsTable (table input)) (inputs_of op)
         → HasRoom op table → IsTable (result_of op table) }
+{}
+
+/// The cells of the table are numbers of 64 bits, where those of the inputs and the numbers of the
+/// formulas are.
+pub fn operators_keep_cells()
+    ensures { (op : Op) (table : ℕ → PlainTable) → AllByRecursion (λ input. IsTable (table input)) (inputs_of op)
+        → AllByRecursion (λ input. HasCells (table input)) (inputs_of op) → HasOpNumbers op → HasCells (result_of op table) }
 {}
 
 /// The pairs that an operator keeps are those of a tick, where its inputs' are.
