@@ -3,13 +3,17 @@ pub mod Carried
 pub mod CheckedUpdates
 pub mod Composed
 pub mod ComposedThrice
+pub mod EvalNodes
 pub mod Grown
 pub mod Kept
+pub mod LawfulPlans
 pub mod Merged
 pub mod Moves
+pub mod NodeTables
 pub mod NodeTicks
 pub mod OperatorTicks
 pub mod Placed
+pub mod PlanTables
 pub mod ResultCells
 pub mod ResultTables
 pub mod RunTicks

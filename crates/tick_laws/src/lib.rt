@@ -1,6 +1,7 @@
 //! Laws of the definitions. Each function does nothing: its contract is the law.
 #![tactic(auto)]
 
+pub mod bounds;
 pub mod checks;
 pub mod operators;
 pub mod runs;
