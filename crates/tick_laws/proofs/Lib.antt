@@ -7,11 +7,13 @@ pub mod EvalNodes
 pub mod Grown
 pub mod Kept
 pub mod LawfulPlans
+pub mod LawfulSources
 pub mod Merged
 pub mod Moves
 pub mod NodeTables
 pub mod NodeTicks
 pub mod OperatorTicks
+pub mod Paired
 pub mod Placed
 pub mod PlanTables
 pub mod ResultCells

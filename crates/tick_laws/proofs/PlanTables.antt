@@ -16,49 +16,21 @@ use Rattle.tick_laws.specs.Bounded.{IsNodeTable, AreSourceTables}
 use Rattle.tick_laws.proofs.EvalNodes.{each_node_has, is_source_op}
 use Rattle.tick_laws.proofs.LawfulPlans.{IsBound, IsLawfulPlan, lawful_plan, columns_at-node, bound_is, bound_room, each_bound}
 use Rattle.tick_laws.proofs.NodeTables.{node_table}
+use Rattle.tick_laws.proofs.Paired.{no_node, Paired, paired_at, source_there}
 
--- a node for places past the end
-abbrev pub no_node : Node
-no_node = record { name = []; columns = []; op = Source }
+paired_tables : (sources : List Node) (tables : List PlainTable) → AreSourceTables sources tables → Paired (λ source table. IsNodeTable (length source.columns) (2 ^ 40) table) sources tables
+paired_tables [] [] h = tt
+paired_tables [] (table ∷ tables) h = h
+paired_tables (source ∷ sources) [] h = h
+paired_tables (source ∷ sources) (table ∷ tables) h = (h.0, paired_tables sources tables h.1)
 
 -- the table of a source stands at its number among the sources
-pub source_at : (P : Node → PlainTable → Type 0) (Are : List Node → List PlainTable → Type 0)
-    → ((source : Node) (sources : List Node) → Are (source ∷ sources) [] → ⊥)
-    → ((source : Node) (sources : List Node) (table : PlainTable) (tables : List PlainTable) → Are (source ∷ sources) (table ∷ tables) → P source table × Are sources tables)
-    → (nodes : List Node) (tables : List PlainTable) (d : Node) (n : ℕ) → Are (filter is_source nodes) tables → n < length nodes → is_source (get_or nodes n d) ≡ true → P (get_or nodes n d) (get_or tables (source_number nodes n) no_table)
-source_at P Are short parts [] tables d n h less is = absurd (omega (arith, less))
-source_at P Are short parts (node ∷ nodes) tables d zero h less is =
-    first tables (subst (λ b. Are (cond b (node ∷ filter is_source nodes) (filter is_source nodes)) tables) is h)
-  where
-    first : (tables : List PlainTable) → Are (node ∷ filter is_source nodes) tables → P node (get_or tables 0 no_table)
-    first [] h = absurd (short node (filter is_source nodes) h)
-    first (table ∷ tables) h = (parts node (filter is_source nodes) table tables h).0
-source_at P Are short parts (node ∷ nodes) tables d (suc n) h less is =
-    (elim (is_source node) as (λ b. is_source node ≡ b → Are (cond b (node ∷ filter is_source nodes) (filter is_source nodes)) tables → P (get_or nodes n d) (get_or tables (source_number (node ∷ nodes) (suc n)) no_table)) [
-      | true ↦ λ e h. past e tables h (λ tables h. source_at P Are short parts nodes tables d n h (omega (arith, less)) is)
-      | false ↦ λ e h. subst (λ k. P (get_or nodes n d) (get_or tables k no_table)) (sym (counted e ∙ none_more (source_number nodes n))) (source_at P Are short parts nodes tables d n h (omega (arith, less)) is)
-    ]) refl h
-  where
-    counted : {b : Bool} → is_source node ≡ b → source_number (node ∷ nodes) (suc n) ≡ cond b 1 0 + source_number nodes n
-    counted {b} e = sum_by-cons (λ (x : Node). cond (is_source x) 1 0) node (take n nodes) ∙ ap (λ c. cond c 1 0 + source_number nodes n) e
-
-    none_more : (k : ℕ) → 0 + k ≡ k
-    none_more k = omega arith
-
-    past : is_source node ≡ true → (tables : List PlainTable) → Are (node ∷ filter is_source nodes) tables
-        → ((tables : List PlainTable) → Are (filter is_source nodes) tables → P (get_or nodes n d) (get_or tables (source_number nodes n) no_table))
-        → P (get_or nodes n d) (get_or tables (source_number (node ∷ nodes) (suc n)) no_table)
-    past e [] h rest = absurd (short node (filter is_source nodes) h)
-    past e (table ∷ tables) h rest =
-        subst (λ k. P (get_or nodes n d) (get_or (table ∷ tables) k no_table)) (sym (counted e ∙ one_more (source_number nodes n)))
-        (rest tables (parts node (filter is_source nodes) table tables h).1)
-      where
-        one_more : (k : ℕ) → 1 + k ≡ suc k
-        one_more k = omega arith
-
-source_table : (nodes : List Node) (tables : List PlainTable) (d : Node) (n : ℕ) → AreSourceTables (sources_of nodes) tables → n < length nodes → is_source (get_or nodes n d) ≡ true
-    → IsNodeTable (length (get_or nodes n d).columns) (2 ^ 40) (get_or tables (source_number nodes n) no_table)
-source_table = source_at (λ source table. IsNodeTable (length source.columns) (2 ^ 40) table) AreSourceTables (λ source sources h. h) (λ source sources table tables h. (h.0, h.1))
+source_table : (nodes : List Node) (tables : List PlainTable) (n : ℕ) → AreSourceTables (sources_of nodes) tables → n < length nodes → is_source (get_or nodes n no_node) ≡ true
+    → IsNodeTable (length (get_or nodes n no_node).columns) (2 ^ 40) (get_or tables (source_number nodes n) no_table)
+source_table nodes tables n h less is =
+    let there = source_there nodes n less is in
+    subst (λ (node : Node). IsNodeTable (length node.columns) (2 ^ 40) (get_or tables (source_number nodes n) no_table)) there.1
+    (paired_at (λ source table. IsNodeTable (length source.columns) (2 ^ 40) table) (sources_of nodes) tables (source_number nodes n) (paired_tables (sources_of nodes) tables h) there.0)
 
 -- the bound of a source
 source_bound : (node : Node) (bound : ℕ → ℕ) → is_source node ≡ true → 2 ^ 40 ≡ bound_of node.op bound
@@ -75,7 +47,7 @@ plan_tables plan sources lawful tables =
     (λ n less is.
     subst (λ columns. IsNodeTable (length columns) (bound n) (get_or sources (source_number plan.nodes n) no_table)) (sym (columns_at-node plan.nodes no_node n less))
     (subst (λ b. IsNodeTable (length (get_or plan.nodes n no_node).columns) b (get_or sources (source_number plan.nodes n) no_table)) (source_bound (get_or plan.nodes n no_node) bound is ∙ sym (bound_is plan no_node l n less))
-    (source_table plan.nodes sources no_node n tables less is)))
+    (source_table plan.nodes sources n tables less is)))
     (λ n less is table inputs fault.
     let node = get_or plan.nodes n no_node in
     subst (λ columns. IsNodeTable (length columns) (bound n) (result node.op table)) (sym (columns_at-node plan.nodes no_node n less))

@@ -55,7 +55,7 @@ set_every P d (y ∷ ys) zero x p h (suc k) = h (suc k)
 set_every P d (y ∷ ys) (suc i) x p h zero = h zero
 set_every P d (y ∷ ys) (suc i) x p h (suc k) = set_every (λ k. P (suc k)) d ys i x p (λ k. h (suc k)) k
 
-get_every : {X : Type 0} (P : X → Type 0) (d : X) (xs : List X) → P d → AllByRecursion P xs → (k : ℕ) → P (get_or xs k d)
+pub get_every : {X : Type 0} (P : X → Type 0) (d : X) (xs : List X) → P d → AllByRecursion P xs → (k : ℕ) → P (get_or xs k d)
 get_every P d [] p h k = p
 get_every P d (x ∷ xs) p h zero = h.0
 get_every P d (x ∷ xs) p h (suc k) = get_every P d xs p h.1 k
