@@ -12,10 +12,12 @@ pub mod Merged
 pub mod Moves
 pub mod NodeTables
 pub mod NodeTicks
+pub mod OpeningTicks
 pub mod OperatorTicks
 pub mod Paired
 pub mod Placed
 pub mod PlanTables
+pub mod ReachedTables
 pub mod ResultCells
 pub mod ResultTables
 pub mod RunTicks

@@ -18,6 +18,7 @@ use Rattle.tick_model.specs.AsOf.{asof_table}
 use Rattle.tick_model.specs.Join.{join_table}
 use Rattle.tick_model.specs.Merge.{merge_table}
 use Rattle.key_lists.proofs.Every.{every, every_weaker, map_same}
+use Rattle.tick_laws.specs.Reached.{IsTickFrom}
 use Rattle.tick_laws.proofs.Grown.{made_at, length-grown}
 use Rattle.tick_laws.proofs.OperatorTicks.{operator_keeps}
 
@@ -48,10 +49,8 @@ module _ (nodes : List Node) (d : Node) where
   op_at n = (get_or nodes n d).op
 
   -- the tick of a node between two lists of outcomes
-  record IsNodeTick (old new : List Outcome) (n : ℕ) (tick : Tick) : Type 0 where
-    is_tick : IsTick tick
-    old_is : tick.old ≡ table_at old n
-    new_is : tick.new ≡ table_at new n
+  abbrev IsNodeTick : List Outcome → List Outcome → ℕ → Tick → Type 0
+  IsNodeTick old new n tick = IsTickFrom (table_at old n) (table_at new n) tick
 
   module _ (olds news : List PlainTable) (own : List Tick) where
     abbrev O : List Outcome
@@ -163,5 +162,5 @@ module _ (nodes : List Node) (d : Node) where
                 (node_tick n h (λ k below. node_ticks m k (omega (arith, below, less)) (omega (arith, below, h))) (op_at n) (lawful n h) (made_O n h) (made_N n h))
           ]
 
-      pub each_node_tick : (n : ℕ) → n < length nodes → IsTick (get_or T n no_tick)
-      each_node_tick n h = (node_ticks (suc n) n (omega arith) h).is_tick
+      pub each_node_tick : (n : ℕ) → n < length nodes → IsTickFrom (table_at O n) (table_at N n) (get_or T n no_tick)
+      each_node_tick n h = node_ticks (suc n) n (omega arith) h

@@ -3,5 +3,6 @@ pub mod Checked
 pub mod Fitting
 pub mod Numbers
 pub mod Operated
+pub mod Reached
 pub mod Replaced
 pub mod Room
