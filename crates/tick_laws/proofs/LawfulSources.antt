@@ -59,7 +59,7 @@ fits_row columns texts row r = record { kinds = r.cells; numbers = r.numbers }
 is_row : (columns : List ColumnSpec) (texts : ℕ) (row : PlainRow) → IsSourceRow columns texts row → IsRow (length columns) row
 is_row columns texts row r = record { key = let k = r.key in omega (arith, k); whole = length-fit_columns texts columns row.cells r.cells }
 
-rising_range : (n count : ℕ) → AllByRecursion (λ key. n ≤ key) (range_with_len n count) × IsRising (range_with_len n count)
+pub rising_range : (n count : ℕ) → AllByRecursion (λ key. n ≤ key) (range_with_len n count) × IsRising (range_with_len n count)
 rising_range n zero = (tt, tt)
 rising_range n (suc count) =
     let rest = rising_range (n + 1) count in

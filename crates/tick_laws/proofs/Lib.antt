@@ -17,6 +17,7 @@ pub mod OperatorTicks
 pub mod Paired
 pub mod Placed
 pub mod PlanTables
+pub mod PrintedChanges
 pub mod ReachedTables
 pub mod ResultCells
 pub mod ResultTables

@@ -4,6 +4,7 @@
 pub mod bounds;
 pub mod checks;
 pub mod operators;
+pub mod printing;
 pub mod runs;
 pub mod sources;
 pub mod updates;
