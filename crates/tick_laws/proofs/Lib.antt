@@ -4,6 +4,8 @@ pub mod CheckedUpdates
 pub mod Composed
 pub mod ComposedThrice
 pub mod EvalNodes
+pub mod FittingNodes
+pub mod FittingResults
 pub mod Grown
 pub mod Kept
 pub mod LawfulPlans
