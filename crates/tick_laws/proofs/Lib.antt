@@ -6,6 +6,7 @@ pub mod ComposedThrice
 pub mod EvalNodes
 pub mod FittingNodes
 pub mod FittingResults
+pub mod GoodSteps
 pub mod Grown
 pub mod Kept
 pub mod LawfulPlans

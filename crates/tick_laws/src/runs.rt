@@ -1,12 +1,13 @@
 //! Laws of runs: every node's table and every node's change, at each step that a run reaches.
 
-ghost use Rattle.std.specs.Prelude.{◌≡◌, ℕ, ◌+◌, ◌<◌, length, slice_index, true};
+ghost use Rattle.std.specs.Prelude.{◌≡◌, ℕ, ◌+◌, ◌<◌, ◌≤◌, Some, length, slice_index, true};
 ghost use Rattle.tick_laws.specs.Bounded.{IsNodeTable};
 ghost use Rattle.tick_laws.specs.Reached.{IsReached, IsTickFrom, KeepsRules, table_before};
 ghost use Rattle.tick_model.specs.Evaluation.{has_table, outcome_at, table_at};
 ghost use Rattle.tick_model.specs.LawfulRuns.{IsLawfulRun};
 ghost use Rattle.tick_model.specs.Plans.{columns_at, key_bounds};
 ghost use Rattle.tick_model.specs.Sources.{HasTables};
+ghost use Rattle.tick_model.specs.Spoiled.{good};
 ghost use Rattle.tick_model.specs.States.{state, tick, HasLesserInputs, HaveTables};
 ghost use Rattle.tick_model.specs.declared.feed.Run.{Run};
 
@@ -32,6 +33,13 @@ pub fn lawful_runs_stay_within_bounds()
         → (node : ℕ) → node < length run.plan.nodes → has_table (outcome_at (state run step) node) ≡ true
         → IsNodeTable (length (columns_at run.plan.nodes node)) (slice_index (key_bounds run.plan.nodes) node)
             (table_at (state run step) node) }
+{}
+
+/// A run reaches its last good step, and with it all steps before.
+pub fn good_steps_are_reached()
+    ensures within { (run : Run) (last : ℕ) → good run ≡ Some last → last ≤ length run.batches }
+    ensures reached { (run : Run) (last : ℕ) → good run ≡ Some last → IsReached run last }
+    ensures before { (run : Run) (step last : ℕ) → step ≤ last → IsReached run last → IsReached run step }
 {}
 
 /// At each step that a lawful run reaches, every node has a table.
