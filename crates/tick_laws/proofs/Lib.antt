@@ -4,6 +4,7 @@ pub mod CheckedUpdates
 pub mod Composed
 pub mod ComposedThrice
 pub mod EvalNodes
+pub mod Examples
 pub mod FittingNodes
 pub mod FittingResults
 pub mod GoodSteps
