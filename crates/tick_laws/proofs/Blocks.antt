@@ -1,7 +1,6 @@
 -- A block that breaks no rule carries a table to a table, and its pairs are a tick's.
-use Rattle.std.proofs.Common.{◌≡◌, sym, ◌^◌, ◌<◌, ℕ, List, ◌++◌, arith, None, length, lit≤}
+use Rattle.std.proofs.Common.{◌≡◌, ◌^◌, ◌++◌, None, lit≤}
 use Rattle.std.specs.Prelude.{option_map}
-use Rattle.std.specs.List.{AllByRecursion}
 use Rattle.std.proofs.lemmas.List.{map-append}
 use Rattle.tick_model.specs.declared.feed.Block.{Block}
 use Rattle.tick_model.specs.declared.table.PlainRow.{PlainRow}
@@ -13,7 +12,7 @@ use Rattle.tick_model.specs.Rules.{update_fault}
 use Rattle.tick_model.specs.Sources.{update_of, block_fault, IsBlock}
 use Rattle.tick_model.specs.Updates.{IsTick}
 use Rattle.key_lists.specs.Keys.{IsRising}
-use Rattle.key_lists.proofs.Every.{every_weaker, every-append}
+use Rattle.key_lists.proofs.Every.{every-append}
 use Rattle.tick_laws.specs.Checked.{IsChecked, carried_tick}
 use Rattle.tick_laws.proofs.CheckedUpdates.{none_parts, map_none, tick-carry}
 

@@ -3,7 +3,7 @@ use Rattle.std.proofs.Common.{◌≡◌, refl, ap, sym, ◌∙◌, subst, Bool, 
 use Rattle.std.specs.Prelude.{filter, find, option_map, IfSome}
 use Rattle.std.specs.List.{AllByRecursion}
 use Rattle.std.specs.Cmp.Rules.{signed_items}
-use Rattle.std.proofs.lemmas.Bool.{le-ltb, lt-ltb, eqb-true, eq-eqb, ne_eqb, or_parts, not-false, cases_eq, or_cases, or_right, false_from_ne_true}
+use Rattle.std.proofs.lemmas.Bool.{le-ltb, lt-ltb, eqb-true, eq-eqb, ne_eqb, or_parts, not-false, cases_eq, or_right, false_from_ne_true}
 use Rattle.tick_model.specs.declared.table.PlainRow.{PlainRow}
 use Rattle.tick_model.specs.declared.table.PlainTable.{PlainTable}
 use Rattle.key_lists.specs.Keys.{is_among, IsRising, without}

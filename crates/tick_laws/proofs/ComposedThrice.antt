@@ -1,5 +1,5 @@
 -- Composing the pairs of three changes.
-use Rattle.std.proofs.Common.{◌≡◌, refl, ap, sym, ◌∙◌, subst, Bool, true, false, cond, ℕ, ◌<◌, ◌==◌, arith, List, [], ◌∷◌, Option, Some, None}
+use Rattle.std.proofs.Common.{◌≡◌, refl, ap, sym, ◌∙◌, subst, true, false, cond, ℕ, ◌<◌, ◌==◌, arith, List, [], ◌∷◌, Option, Some, None}
 use Rattle.std.specs.Prelude.{find, filter_map, option_map}
 use Rattle.std.specs.List.{AllByRecursion, cons_option}
 use Rattle.std.proofs.lemmas.Bool.{eqb-true, ne_eqb}

@@ -1,6 +1,6 @@
 -- The rows of each node of a lawful plan fit its columns, where those of its inputs fit theirs.
-use Rattle.std.proofs.Common.{◌≡◌, refl, ap, ap₂, sym, ◌∙◌, subst, ℕ, zero, suc, ◌+◌, ◌-◌, ◌≤◌, ◌<◌, arith, Bool, true, false, true≢false, cond, ◌&&◌, ◌||◌, List, [], ◌∷◌, ◌++◌, map, length, filter, Option, Some, None, ℤ}
-use Rattle.std.specs.Prelude.{IfSome, int_le, nat_le, slice_get, FitsSigned}
+use Rattle.std.proofs.Common.{◌≡◌, refl, ap, sym, ◌∙◌, ℕ, zero, suc, ◌-◌, true, false, true≢false, ◌&&◌, List, [], ◌∷◌, ◌++◌, map, length, filter, Option, Some, None, ℤ}
+use Rattle.std.specs.Prelude.{IfSome, int_le, nat_le, FitsSigned}
 use Rattle.std.specs.Int.{w64}
 use Rattle.std.specs.List.{AllByRecursion, list_all}
 use Rattle.std.proofs.lemmas.Bool.{and_parts, and_from, or_right}

@@ -1,13 +1,13 @@
 -- The pairs that operators keep are those of a tick.
-use Rattle.std.proofs.Common.{◌≡◌, refl, ℕ, ◌<◌, Bool, true, false, cond, ◌&&◌, List, [], ◌∷◌, map, filter}
+use Rattle.std.proofs.Common.{◌≡◌, Bool, true, ◌&&◌, List, filter}
 use Rattle.std.specs.List.{AllByRecursion}
 use Rattle.std.proofs.lemmas.Bool.{and_parts}
 use Rattle.tick_model.specs.declared.table.PlainTable.{PlainTable}
-use Rattle.key_lists.specs.Keys.{is_among, IsRising}
+use Rattle.key_lists.specs.Keys.{is_among}
 use Rattle.tick_model.specs.declared.update.KeyPair.{KeyPair}
 use Rattle.tick_model.specs.Tables.{keys, IsTable}
 use Rattle.tick_model.specs.Updates.{Tick, IsTick, both_in}
-use Rattle.key_lists.proofs.Every.{every_weaker, every-map, every_unmapped, every-filter, filter_passes}
+use Rattle.key_lists.proofs.Every.{every_weaker, every-map, every-filter, filter_passes}
 use Rattle.key_lists.proofs.Rising.{rising-filter}
 
 -- some of the pairs of which both rows are in the results

@@ -1,9 +1,9 @@
 -- What the test of a lawful plan says of its nodes.
-use Rattle.std.proofs.Common.{◌≡◌, refl, ap, ap₂, sym, ◌∙◌, subst, ℕ, zero, suc, ◌+◌, ◌*◌, ◌<◌, ◌≤◌, ◌^◌, ◌&&◌, arith, Bool, true, false, true≢false, List, [], ◌∷◌, ◌++◌, map, take, length, get_or, length-take-le, length-append, Option, Some, None, inl, inr, ltb}
-use Rattle.std.specs.Prelude.{fold, sum, sum_by, slice_index, nat_lt, nat_le}
+use Rattle.std.proofs.Common.{◌≡◌, refl, ap, ap₂, sym, ◌∙◌, subst, ℕ, zero, suc, ◌+◌, ◌*◌, ◌<◌, ◌^◌, ◌&&◌, arith, Bool, true, true≢false, List, [], ◌∷◌, map, take, length, get_or, Option, inl, inr}
+use Rattle.std.specs.Prelude.{sum, sum_by, slice_index, nat_lt, nat_le}
 use Rattle.std.specs.List.{list_all, AllByRecursion, enumerate_from}
-use Rattle.std.proofs.lemmas.Bool.{and_parts, cases_lt, ltb-true, leb-true}
-use Rattle.std.proofs.lemmas.List.{get_or-take, length-map}
+use Rattle.std.proofs.lemmas.Bool.{and_parts, cases_lt, ltb-true}
+use Rattle.std.proofs.lemmas.List.{get_or-take}
 use Rattle.std.proofs.lemmas.List.Sums.{sum-map, sum_by-cons}
 use Rattle.tick_model.specs.declared.plan.ColumnSpec.{ColumnSpec}
 use Rattle.tick_model.specs.declared.plan.Kind.{Kind}
@@ -12,9 +12,9 @@ use Rattle.tick_model.specs.declared.plan.Op.{Op}
 use Rattle.tick_model.specs.declared.plan.Op.TheVariants.{Source, Keep, View, Join, Agg, Merge, Sort, Head, Tail, AsOf}
 use Rattle.tick_model.specs.declared.plan.Plan.{Plan}
 use Rattle.tick_model.specs.Evaluation.{inputs_of}
-use Rattle.tick_model.specs.Plans.{is_lawful, node_lawful, columns_fit, columns_at, bound_of, with_bound, key_bounds, same_columns, have_kinds, follow, same_kind, has_kind}
+use Rattle.tick_model.specs.Plans.{is_lawful, node_lawful, columns_fit, columns_at, bound_of, key_bounds, same_columns, have_kinds, follow, same_kind, has_kind}
 use Rattle.tick_model.specs.Names.{same_name}
-use Rattle.key_lists.proofs.Every.{every_weaker, every_both}
+use Rattle.key_lists.proofs.Every.{every_weaker}
 use Rattle.tick_laws.proofs.Grown.{made_at, length-grown}
 use Rattle.tick_laws.proofs.EvalNodes.{all_pass}
 

@@ -1,29 +1,25 @@
 -- The sources of a lawful run stay within their bounds and fit their columns, while no batch breaks a rule.
-use Rattle.std.proofs.Common.{◌≡◌, refl, ap, sym, ◌∙◌, subst, ℕ, zero, suc, ◌+◌, ◌<◌, ◌≤◌, ◌^◌, ◌&&◌, arith, Bool, true, false, true≢false, cond, List, [], ◌∷◌, ◌++◌, map, take, length, get_or, set, Option, Some, None, ℤ, ltb, lit≤}
-use Rattle.std.specs.Prelude.{filter, option_map, sum_by, slice_get}
-use Rattle.std.specs.Option.{option_map_or}
+use Rattle.std.proofs.Common.{◌≡◌, refl, ap, sym, ◌∙◌, subst, ℕ, zero, suc, ◌+◌, ◌<◌, ◌≤◌, ◌^◌, arith, Bool, true, false, true≢false, cond, List, [], ◌∷◌, ◌++◌, map, length, get_or, Some, None, ℤ, ltb, lit≤}
+use Rattle.std.specs.Prelude.{option_map}
 use Rattle.std.specs.List.{AllByRecursion, range_with_len}
 use Rattle.std.proofs.lemmas.Bool.{and_parts, ltb-false}
-use Rattle.std.proofs.lemmas.List.Sums.{sum_by-cons}
 use Rattle.tick_model.specs.declared.feed.Batch.{Batch}
 use Rattle.tick_model.specs.declared.feed.Block.{Block}
 use Rattle.tick_model.specs.declared.feed.Run.{Run}
 use Rattle.tick_model.specs.declared.plan.ColumnSpec.{ColumnSpec}
 use Rattle.tick_model.specs.declared.plan.Node.{Node}
-use Rattle.tick_model.specs.declared.plan.Plan.{Plan}
 use Rattle.tick_model.specs.declared.table.PlainRow.{PlainRow}
 use Rattle.tick_model.specs.declared.table.PlainTable.{PlainTable}
-use Rattle.tick_model.specs.declared.update.FeedRule.{FeedRule}
 use Rattle.tick_model.specs.declared.update.FeedRule.TheVariants.{Update as ByUpdate, TooManyRows}
 use Rattle.key_lists.specs.Keys.{IsRising}
 use Rattle.tick_model.specs.Tables.{keys, IsRow, IsTable}
-use Rattle.tick_model.specs.Updates.{Tick, IsTick}
+use Rattle.tick_model.specs.Updates.{Tick}
 use Rattle.tick_model.specs.Evaluation.{no_table, is_source, source_number}
 use Rattle.tick_model.specs.LawfulRuns.{IsSourceRow, IsOpening, AreOpenings, sources_of, is_source_number, IsLawfulBlock, IsLawfulRun}
 use Rattle.tick_model.specs.Plans.{columns_at}
 use Rattle.tick_model.specs.Printable.{fit_columns, fits_kind}
 use Rattle.tick_model.specs.Rules.{update_fault}
-use Rattle.tick_model.specs.Sources.{IsBlock, HasTables, block_width, block_fault, too_many, record_of, blocks_fault, batch_fault, blocks_of, carry_on, carried, update_of, unchanged, opened, no_tick, tick_at, after_block, after_blocks, source_ticks, sources, new_table}
+use Rattle.tick_model.specs.Sources.{IsBlock, HasTables, block_width, block_fault, too_many, record_of, blocks_fault, batch_fault, blocks_of, carry_on, carried, update_of, unchanged, opened, tick_at, after_block, after_blocks, source_ticks, sources, new_table}
 use Rattle.key_lists.proofs.Every.{every_weaker, every-map, every-append, map_map}
 use Rattle.tick_laws.specs.Bounded.{IsNodeTable, AreSourceTables}
 use Rattle.tick_laws.specs.Checked.{IsChecked}
@@ -62,9 +58,10 @@ is_row columns texts row r = record { key = let k = r.key in omega (arith, k); w
 pub rising_range : (n count : ℕ) → AllByRecursion (λ key. n ≤ key) (range_with_len n count) × IsRising (range_with_len n count)
 rising_range n zero = (tt, tt)
 rising_range n (suc count) =
-    let rest = rising_range (n + 1) count in
-    ((omega arith, every_weaker (λ key. n + 1 ≤ key) (λ key. n ≤ key) (range_with_len (n + 1) count) (λ key h. omega (arith, h)) rest.0),
-      (every_weaker (λ key. n + 1 ≤ key) (λ key. n < key) (range_with_len (n + 1) count) (λ key h. omega (arith, h)) rest.0, rest.1))
+    let rest = rising_range (n + 1) count in (
+      (omega arith, every_weaker (λ key. n + 1 ≤ key) (λ key. n ≤ key) (range_with_len (n + 1) count) (λ key h. omega (arith, h)) rest.0),
+      (every_weaker (λ key. n + 1 ≤ key) (λ key. n < key) (range_with_len (n + 1) count) (λ key h. omega (arith, h)) rest.0, rest.1),
+    )
 
 opening_state : (columns : List ColumnSpec) (texts : ℕ) (table : PlainTable) → IsOpening columns texts table → IsSourceState columns texts table
 opening_state columns texts table h = record {

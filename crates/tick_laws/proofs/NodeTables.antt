@@ -1,27 +1,24 @@
 -- Each operator of a lawful plan keeps its table within its bounds.
-use Rattle.std.proofs.Common.{◌≡◌, refl, ap, ap₂, sym, ◌∙◌, subst, ℕ, zero, suc, ◌+◌, ◌*◌, ◌/◌, ◌<◌, ◌≤◌, ◌-◌, ◌^◌, ◌&&◌, arith, Bool, true, false, true≢false, cond, List, [], ◌∷◌, ◌++◌, map, take, drop, length, filter, length-append, length-take, length-drop, Option, Some, None, ltb, lit≤}
-use Rattle.std.specs.Prelude.{fold, sum, sum_by, nat_lt, nat_le}
+use Rattle.std.proofs.Common.{◌≡◌, refl, ap, sym, ◌∙◌, subst, ℕ, suc, ◌+◌, ◌*◌, ◌/◌, ◌<◌, ◌≤◌, ◌-◌, ◌^◌, ◌&&◌, arith, Bool, true, false, true≢false, cond, List, [], ◌∷◌, ◌++◌, map, take, drop, length, filter, length-append, length-take, length-drop, Some, None, ltb}
+use Rattle.std.specs.Prelude.{fold, sum, sum_by, nat_le}
 use Rattle.std.specs.List.{list_all, AllByRecursion}
 use Rattle.std.proofs.lemmas.Bool.{and_parts, ltb-false}
-use Rattle.std.proofs.lemmas.List.{length-map, map-append}
+use Rattle.std.proofs.lemmas.List.{length-map}
 use Rattle.std.proofs.lemmas.List.Sums.{sum-map, sum_by-cons}
 use Rattle.tick_model.specs.declared.plan.ColumnSpec.{ColumnSpec}
-use Rattle.tick_model.specs.declared.plan.Kind.{Kind}
 use Rattle.tick_model.specs.declared.plan.Op.{Op}
 use Rattle.tick_model.specs.declared.plan.Op.TheVariants.{Source, Keep, View, Join, Agg, Merge, Sort, Head, Tail, AsOf}
 use Rattle.tick_model.specs.declared.table.NodeFault.TheVariants.{TooManyRows}
 use Rattle.tick_model.specs.declared.table.PlainRow.{PlainRow}
 use Rattle.tick_model.specs.declared.table.PlainTable.{PlainTable}
-use Rattle.key_lists.specs.Keys.{IsRising}
 use Rattle.tick_model.specs.Tables.{keys, IsTable}
 use Rattle.tick_model.specs.Formulas.{truth}
 use Rattle.tick_model.specs.Agg.{is_first}
-use Rattle.tick_model.specs.Merge.{last_key, region, row_from, merged_rows, merge_table, merge_fault, width_of}
+use Rattle.tick_model.specs.Merge.{last_key, region, row_from, merged_rows, merge_fault, width_of}
 use Rattle.tick_model.specs.Sort.{in_order, numbered}
 use Rattle.tick_model.specs.Evaluation.{inputs_of, result, fault_of}
-use Rattle.tick_model.specs.Plans.{columns_fit, bound_of, same_columns, follow, have_kinds, kind_of, kinds_of, kind_at, agg_kind, is_bound, is_test_bound, test_fits, some_of, same_kind_at, has_kind}
+use Rattle.tick_model.specs.Plans.{columns_fit, bound_of, same_columns, follow, have_kinds, kind_of, kinds_of, kind_at, agg_kind, is_bound, is_test_bound, test_fits, some_of, same_kind_at}
 use Rattle.key_lists.proofs.Every.{every_weaker, every_both, every-map, every_unmapped, every-filter}
-use Rattle.tick_laws.specs.Room.{AreMergeable, HasRoom}
 use Rattle.tick_laws.specs.Bounded.{IsNodeTable}
 use Rattle.tick_laws.proofs.EvalNodes.{all_pass, is_source_op}
 use Rattle.tick_laws.proofs.LawfulPlans.{IsBound, length-same_columns, length-have_kinds, length-follow}

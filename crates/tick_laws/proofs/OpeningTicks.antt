@@ -1,9 +1,9 @@
 -- The first step of a lawful run: each node's change is a tick from an empty table, which keeps nothing.
-use Rattle.std.proofs.Common.{◌≡◌, refl, ap, sym, ◌∙◌, subst, ℕ, zero, suc, ◌+◌, ◌<◌, ◌≤◌, inl, inr, ◌⊎◌, arith, true, false, true≢false, List, [], ◌∷◌, ◌++◌, map, filter, take, length, get_or, length-take-le}
+use Rattle.std.proofs.Common.{◌≡◌, refl, ap, sym, ◌∙◌, subst, ℕ, zero, suc, ◌+◌, ◌<◌, inl, inr, ◌⊎◌, arith, true, false, true≢false, List, [], ◌∷◌, ◌++◌, map, filter, take, length, get_or, length-take-le}
 use Rattle.std.specs.Prelude.{filter_map, fold}
 use Rattle.std.specs.List.{AllByRecursion, enumerate_from}
 use Rattle.std.proofs.lemmas.Bool.{cases_lt}
-use Rattle.std.proofs.lemmas.List.{get_or-take, get_or_past}
+use Rattle.std.proofs.lemmas.List.{get_or-take}
 use Rattle.tick_model.specs.declared.feed.Run.{Run}
 use Rattle.tick_model.specs.declared.plan.Node.{Node}
 use Rattle.tick_model.specs.declared.plan.Op.{Op}
@@ -19,7 +19,6 @@ use Rattle.tick_model.specs.Merge.{merged_pairs, pair_from, region}
 use Rattle.tick_model.specs.Sort.{place_pair, same_place, in_order}
 use Rattle.tick_model.specs.Evaluation.{Outcome, Table, table_at, table_of, no_table, inputs_of, is_source, outcome_of, source_number}
 use Rattle.tick_model.specs.LawfulRuns.{IsLawfulRun}
-use Rattle.tick_model.specs.Plans.{columns_at}
 use Rattle.tick_model.specs.Sources.{opened, no_tick, tick_at, source_ticks, sources}
 use Rattle.tick_model.specs.States.{empty_at, kept_by, state, tick, tick_of, tick_node}
 use Rattle.key_lists.proofs.Every.{every_weaker, every-map}
@@ -147,7 +146,7 @@ module _ (run : Run) (h : IsLawfulRun run) (r : IsReached run 0) where
       let fits = source_fits run h 0 r.batches n less is in
       let opening = opened_opening run.opening place in
       let width : own.old.width ≡ (old_table n).width =
-        opened_width run.opening place ∙ ap (λ (table : PlainTable). table.width) (source_new own_ticks place) ∙ fits.bounded.width_is ∙ sym (width_empty run.plan nodes n less)
+      opened_width run.opening place ∙ ap (λ (table : PlainTable). table.width) (source_new own_ticks place) ∙ fits.bounded.width_is ∙ sym (width_empty run.plan nodes n less)
       in
       record {
         from = record {
@@ -163,10 +162,10 @@ module _ (run : Run) (h : IsLawfulRun run) (r : IsReached run 0) where
       let op = (get_or nodes n no_node).op in
       let tables = reached_tables run h 0 r in
       let none = none_kept op (tick_at (take n T)) (old_table n) (new_at n)
-        (every_weaker (λ i. i < n) (λ i. IsOpening (tick_at (take n T) i)) (inputs_of op) (λ i below. subst IsOpening (sym (get_or-take n T i no_tick below)) (before i below).opening) (lesser_inputs run.plan h.plan n no_node less))
+      (every_weaker (λ i. i < n) (λ i. IsOpening (tick_at (take n T) i)) (inputs_of op) (λ i below. subst IsOpening (sym (get_or-take n T i no_tick below)) (before i below).opening) (lesser_inputs run.plan h.plan n no_node less))
       in
       let width : (new_at n).width ≡ (old_table n).width =
-        (bounded_at run h 0 r.batches n less (tables.each n less)).width_is ∙ ap length (columns_at-node nodes no_node n less) ∙ sym (width_empty run.plan nodes n less)
+      (bounded_at run h 0 r.batches n less (tables.each n less)).width_is ∙ ap length (columns_at-node nodes no_node n less) ∙ sym (width_empty run.plan nodes n less)
       in
       record {
         from = record { is_tick = from_empty (old_table n).width (new_at n) (kept_by op (tick_at (take n T)) (old_table n) (new_at n)) (tables.tables n) width none; old_is = refl; new_is = refl };

@@ -68,4 +68,3 @@ source_there (node ∷ nodes) (suc n) less is = go (is_source node) refl (source
         subst (λ c. (source_number (node ∷ nodes) (suc n) < length (cond c (node ∷ filter is_source nodes) (filter is_source nodes))) × (get_or (cond c (node ∷ filter is_source nodes) (filter is_source nodes)) (source_number (node ∷ nodes) (suc n)) no_node ≡ get_or nodes n no_node)) (sym e)
         (subst (λ k. (k < length (filter is_source nodes)) × (get_or (filter is_source nodes) k no_node ≡ get_or nodes n no_node)) (sym (counted false e ∙ none_more (source_number nodes n)))
         rest)
-

@@ -1,8 +1,7 @@
 -- In a lawful plan, each node's table stays within its bounds.
-use Rattle.std.proofs.Common.{◌≡◌, refl, ap, sym, ◌∙◌, subst, ℕ, zero, suc, ◌+◌, ◌<◌, ◌^◌, arith, Bool, true, false, true≢false, cond, List, [], ◌∷◌, take, length, get_or, None}
-use Rattle.std.specs.Prelude.{filter, count_by, sum_by, slice_index}
+use Rattle.std.proofs.Common.{◌≡◌, refl, ap, sym, ◌∙◌, subst, ℕ, ◌<◌, ◌^◌, arith, true, false, true≢false, List, [], ◌∷◌, length, get_or, None}
+use Rattle.std.specs.Prelude.{slice_index}
 use Rattle.std.specs.List.{AllByRecursion}
-use Rattle.std.proofs.lemmas.List.Sums.{sum_by-cons}
 use Rattle.tick_model.specs.declared.plan.Node.{Node}
 use Rattle.tick_model.specs.declared.plan.Op.{Op}
 use Rattle.tick_model.specs.declared.plan.Op.TheVariants.{Source}

@@ -1,5 +1,5 @@
 -- The change of a tick is printable, where the rows of its new table fit the columns.
-use Rattle.std.proofs.Common.{◌≡◌, refl, ap, ap₂, sym, ◌∙◌, subst, ℕ, zero, suc, ◌+◌, ◌*◌, ◌<◌, ◌≤◌, ◌-◌, ◌^◌, arith, Bool, true, false, true≢false, cond, not, ◌&&◌, ◌||◌, List, [], ◌∷◌, ◌++◌, map, length, length-append, add-one, ℤ, pos, negsuc, ◌-ℤ◌, ◌<ℤ◌}
+use Rattle.std.proofs.Common.{◌≡◌, refl, ap, ap₂, sym, ◌∙◌, subst, ℕ, zero, suc, ◌+◌, ◌*◌, ◌<◌, ◌≤◌, ◌^◌, arith, Bool, true, false, cond, not, ◌&&◌, ◌||◌, List, [], ◌∷◌, map, length, length-append, add-one, ℤ, pos}
 use Rattle.std.specs.Prelude.{filter, flat_map, FitsSigned}
 use Rattle.std.specs.List.{AllByRecursion, list_any, range_with_len}
 use Rattle.std.specs.Int.{w64}
@@ -10,13 +10,13 @@ use Rattle.tick_model.specs.declared.table.PlainRow.{PlainRow}
 use Rattle.tick_model.specs.declared.table.PlainTable.{PlainTable}
 use Rattle.tick_model.specs.declared.update.KeyPair.{KeyPair}
 use Rattle.tick_model.specs.declared.update.ShiftRange.{ShiftRange}
-use Rattle.key_lists.specs.Keys.{is_among, IsRising, without}
+use Rattle.key_lists.specs.Keys.{is_among}
 use Rattle.tick_model.specs.Tables.{cell, cells_at, same_cells, keys, IsRow, IsTable}
-use Rattle.tick_model.specs.Shifts.{delta, one, extend, stretches, shifted}
-use Rattle.tick_model.specs.Updates.{Tick, IsTick, Update, old_keys, new_keys, differs, differs_in, between}
-use Rattle.tick_model.specs.Changes.{Change, change_of, is_none, rows_under, told_keys, told_cells}
+use Rattle.tick_model.specs.Shifts.{delta, one, extend, stretches}
+use Rattle.tick_model.specs.Updates.{Tick, IsTick, Update, old_keys, differs, differs_in, between}
+use Rattle.tick_model.specs.Changes.{change_of, is_none, rows_under, told_keys, told_cells}
 use Rattle.tick_model.specs.Printable.{IsShift, IsShiftRange, fit_columns, IsPrintable}
-use Rattle.key_lists.proofs.Among.{each_among, of_among}
+use Rattle.key_lists.proofs.Among.{of_among}
 use Rattle.key_lists.proofs.Every.{every, every_weaker, every_both, every-map, every_unmapped, every-filter, every-append}
 use Rattle.key_lists.proofs.Rising.{rising_some}
 use Rattle.tick_laws.specs.Fitting.{FitsColumns, HasColumns}
@@ -35,10 +35,11 @@ shift_moving low (range ∷ ranges) a =
     (elim (int_eq range.delta (pos 0)) as (λ b. int_eq range.delta (pos 0) ≡ b → IsShift (cond (not b) (range ∷ filter moving ranges) (filter moving ranges))) [
       | true ↦ λ e. shift_moving (suc range.end) ranges a.2
       | false ↦ λ e. (
-          a.1, e,
-          every-filter (λ (next : ShiftRange). range.end < next.begin) moving ranges (every_weaker (λ (next : ShiftRange). suc range.end ≤ next.begin) (λ (next : ShiftRange). range.end < next.begin) ranges (λ next h. h) (apart_above (suc range.end) ranges a.2)),
-          shift_moving (suc range.end) ranges a.2,
-        )
+        a.1,
+        e,
+        every-filter (λ (next : ShiftRange). range.end < next.begin) moving ranges (every_weaker (λ (next : ShiftRange). suc range.end ≤ next.begin) (λ (next : ShiftRange). range.end < next.begin) ranges (λ next h. h) (apart_above (suc range.end) ranges a.2)),
+        shift_moving (suc range.end) ranges a.2,
+      )
     ]) refl
   where
     moving : ShiftRange → Bool

@@ -11,14 +11,14 @@ use Rattle.tick_model.specs.declared.plan.Plan.{Plan}
 use Rattle.tick_model.specs.declared.table.NodeFault.{NodeFault}
 use Rattle.tick_model.specs.declared.table.PlainTable.{PlainTable}
 use Rattle.tick_model.specs.Tables.{IsTable}
-use Rattle.tick_model.specs.Evaluation.{Outcome, Table, Fault, NoInput, eval, has_table, table_of, table_at, outcome_at, inputs_of, result, fault_of, or_fault, applied, outcome_of, source_number}
-use Rattle.tick_model.specs.LawfulRuns.{IsLawfulRun, sources_of}
+use Rattle.tick_model.specs.Evaluation.{Outcome, Table, Fault, NoInput, eval, has_table, table_of, table_at, outcome_at, inputs_of, result, fault_of, or_fault, applied, source_number}
+use Rattle.tick_model.specs.LawfulRuns.{IsLawfulRun}
 use Rattle.tick_model.specs.Plans.{columns_at, is_lawful, key_bounds}
 use Rattle.tick_model.specs.Sources.{sources}
-use Rattle.tick_model.specs.Spoiled.{Cause, node_fault}
+use Rattle.tick_model.specs.Spoiled.{node_fault}
 use Rattle.tick_model.specs.States.{state, HaveTables, HasLesserInputs}
 use Rattle.key_lists.proofs.Every.{every_weaker}
-use Rattle.tick_laws.specs.Bounded.{IsNodeTable, AreSourceTables}
+use Rattle.tick_laws.specs.Bounded.{IsNodeTable}
 use Rattle.tick_laws.specs.Reached.{KeepsRules, IsReached}
 use Rattle.tick_laws.proofs.EvalNodes.{outcome_cases, length_outcomes, made_outcome}
 use Rattle.tick_laws.proofs.LawfulPlans.{lawful_plan}

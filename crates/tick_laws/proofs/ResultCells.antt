@@ -1,5 +1,5 @@
 -- The cells of each operator's rows are numbers of 64 bits, where those of its inputs are.
-use Rattle.std.proofs.Common.{◌≡◌, refl, ap, sym, ◌∙◌, subst, ℕ, zero, suc, ◌+◌, ◌<◌, ◌≤◌, ◌-◌, ◌^◌, arith, Bool, true, false, cond, ◌&&◌, ◌||◌, List, [], ◌∷◌, ◌++◌, map, length, filter, get_or, Option, Some, None, ℤ, pos, neg_ℤ, ◌+ℤ◌, ◌-ℤ◌, ◌*ℤ◌, lit<}
+use Rattle.std.proofs.Common.{ℕ, zero, suc, ◌≤◌, ◌-◌, ◌^◌, arith, Bool, true, false, cond, ◌&&◌, ◌||◌, List, [], ◌∷◌, ◌++◌, map, length, filter, Option, Some, None, ℤ, pos, neg_ℤ, ◌+ℤ◌, ◌-ℤ◌, ◌*ℤ◌, lit<}
 use Rattle.std.specs.Prelude.{FitsSigned, IfSome, fold, int_le, int_lt}
 use Rattle.std.specs.Int.{w64, int_min, int_max}
 use Rattle.std.specs.List.{AllByRecursion, last_or}
@@ -20,7 +20,7 @@ use Rattle.tick_model.specs.AsOf.{later, latest, not_later}
 use Rattle.tick_model.specs.Agg.{is_first, key_cells, aggregate, group_of, same_group, column_of, present, over, sum_of}
 use Rattle.tick_model.specs.Sort.{in_order}
 use Rattle.tick_model.specs.Evaluation.{inputs_of, result}
-use Rattle.key_lists.proofs.Every.{every, every_weaker, every_both, every-map, every-filter, every-append}
+use Rattle.key_lists.proofs.Every.{every, every_weaker, every-map, every-filter, every-append}
 use Rattle.tick_laws.specs.Numbers.{HasNumbers, HasOpNumbers}
 use Rattle.tick_laws.proofs.Placed.{every-in_order}
 use Rattle.tick_laws.proofs.ResultTables.{every-take, every-drop, cells-numbered, cells-merged, table_count}

@@ -1,5 +1,5 @@
 -- Each operator makes a table of tables.
-use Rattle.std.proofs.Common.{◌≡◌, refl, ap, ap₂, sym, ◌∙◌, subst, ℕ, zero, suc, ◌+◌, ◌<◌, ◌≤◌, ◌-◌, ◌^◌, arith, Bool, true, false, cond, List, [], ◌∷◌, ◌++◌, map, take, drop, length, filter, length-append, Option, Some, None, ℤ}
+use Rattle.std.proofs.Common.{◌≡◌, refl, ap, ap₂, sym, ◌∙◌, subst, ℕ, zero, suc, ◌+◌, ◌<◌, ◌≤◌, ◌-◌, ◌^◌, arith, Bool, true, false, cond, List, [], ◌∷◌, map, take, drop, length, filter, length-append, Option, Some, None, ℤ}
 use Rattle.std.specs.Prelude.{sum_by}
 use Rattle.std.specs.List.{AllByRecursion}
 use Rattle.std.proofs.lemmas.List.{length-map}
@@ -15,8 +15,8 @@ use Rattle.tick_model.specs.Join.{taken, chosen, matches}
 use Rattle.tick_model.specs.AsOf.{latest, not_later}
 use Rattle.tick_model.specs.Agg.{is_first, key_cells, aggregate, group_of}
 use Rattle.tick_model.specs.Merge.{merged_rows, merge_table, region, row_from, width_of}
-use Rattle.tick_model.specs.Sort.{place, in_order, numbered, sort_table}
-use Rattle.tick_model.specs.Evaluation.{inputs_of, no_table, result}
+use Rattle.tick_model.specs.Sort.{place, in_order, numbered}
+use Rattle.tick_model.specs.Evaluation.{inputs_of, result}
 use Rattle.key_lists.proofs.Every.{every_weaker, every_both, every-map, every_unmapped, every-filter, every-append}
 use Rattle.key_lists.proofs.Rising.{rising-filter}
 use Rattle.tick_model.proofs.SortOrders.{comes_before}

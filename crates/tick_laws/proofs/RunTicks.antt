@@ -1,9 +1,9 @@
 -- Every node's change at every step of a run.
-use Rattle.std.proofs.Common.{◌≡◌, sym, subst, ℕ, zero, suc, ◌+◌, ◌<◌, ◌≤◌, arith, length, None, add-one}
+use Rattle.std.proofs.Common.{sym, subst, ℕ, zero, suc, ◌+◌, ◌<◌, ◌≤◌, arith, length, add-one}
 use Rattle.tick_model.specs.declared.feed.Run.{Run}
 use Rattle.tick_model.specs.Evaluation.{table_at}
 use Rattle.tick_model.specs.LawfulRuns.{IsLawfulRun}
-use Rattle.tick_model.specs.Sources.{HasTables, batch_fault, sources, source_ticks}
+use Rattle.tick_model.specs.Sources.{HasTables, sources, source_ticks}
 use Rattle.tick_model.specs.States.{state, tick, HaveTables, HasLesserInputs}
 use Rattle.tick_laws.specs.Reached.{KeepsRules, IsReached, IsTickFrom, table_before}
 use Rattle.tick_laws.proofs.LawfulSources.{lawful_tables}

@@ -1,5 +1,5 @@
 -- The update of a tick that keeps nothing, and of one that changes nothing.
-use Rattle.std.proofs.Common.{◌≡◌, refl, ap, sym, ◌∙◌, Bool, true, false, cond, not, ◌||◌, ℕ, arith, List, [], ◌∷◌, map, ℤ, pos, ◌-ℤ◌}
+use Rattle.std.proofs.Common.{◌≡◌, refl, ap, ◌∙◌, true, false, cond, not, ◌||◌, ℕ, arith, List, [], ◌∷◌, map, pos, ◌-ℤ◌}
 use Rattle.std.specs.Prelude.{filter}
 use Rattle.std.specs.List.{AllByRecursion, list_any, range_with_len}
 use Rattle.std.specs.Ordering.{int_eq}
@@ -10,10 +10,10 @@ use Rattle.tick_model.specs.declared.table.PlainTable.{PlainTable}
 use Rattle.tick_model.specs.declared.update.KeyPair.{KeyPair}
 use Rattle.tick_model.specs.declared.update.ShiftRange.{ShiftRange}
 use Rattle.key_lists.specs.Keys.{is_among, without}
-use Rattle.tick_model.specs.Tables.{keys, same_cells, cell, cells_at}
+use Rattle.tick_model.specs.Tables.{keys, cell, cells_at}
 use Rattle.tick_model.specs.Shifts.{delta, one, extend, stretches, shifted}
 use Rattle.tick_model.specs.Sources.{same_key, unchanged}
-use Rattle.tick_model.specs.Updates.{Tick, Update, old_keys, new_keys, differs, differs_in, between}
+use Rattle.tick_model.specs.Updates.{Update, new_keys, differs, differs_in, between}
 use Rattle.key_lists.proofs.Among.{each_among}
 use Rattle.key_lists.proofs.Every.{every, every_weaker, every-map, filter_all, filter_none, map_map}
 use Rattle.tick_laws.specs.Replaced.{replaced, whole_update, no_update}

@@ -16,7 +16,7 @@ pub fn nodes_stay_within_bounds()
     ensures { (plan : Plan) (sources : List PlainTable) → is_lawful plan ≡ true → AreSourceTables (sources_of plan.nodes) sources
         → (node : ℕ) → node < length plan.nodes → has_table (outcome_at (eval plan sources) node) ≡ true
         → IsNodeTable (length (columns_at plan.nodes node)) (slice_index (key_bounds plan.nodes) node)
-            (table_at (eval plan sources) node) }
+        (table_at (eval plan sources) node) }
 {}
 
 /// No key bound of a lawful plan is past 2 ^ 62, so that every key of a node, a merge's too, is below it.

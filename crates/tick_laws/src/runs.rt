@@ -32,7 +32,7 @@ pub fn lawful_runs_stay_within_bounds()
     ensures { (run : Run) → IsLawfulRun run → (step : ℕ) → KeepsRules run step
         → (node : ℕ) → node < length run.plan.nodes → has_table (outcome_at (state run step) node) ≡ true
         → IsNodeTable (length (columns_at run.plan.nodes node)) (slice_index (key_bounds run.plan.nodes) node)
-            (table_at (state run step) node) }
+        (table_at (state run step) node) }
 {}
 
 /// A run reaches its last good step, and with it all steps before.

@@ -1,7 +1,6 @@
 -- An update that is checked against the keys of a table.
-use Rattle.std.proofs.Common.{◌≡◌, refl, ℕ, List, [], ◌∷◌, pos, negsuc, Some, lit<}
+use Rattle.std.proofs.Common.{◌≡◌, refl, ℕ, List, [], ◌∷◌, negsuc, Some}
 use Rattle.key_lists.specs.Keys.{IsRising}
-use Rattle.tick_model.specs.declared.update.ShiftRange.{ShiftRange}
 use Rattle.tick_model.specs.declared.update.UpdateFault.TheVariants.{AddedTaken}
 use Rattle.tick_model.specs.Rules.{update_fault}
 use Rattle.tick_model.specs.Updates.{Update}

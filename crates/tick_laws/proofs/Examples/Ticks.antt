@@ -1,16 +1,14 @@
 -- A tick in which a row leaves, one comes, one is modified and two move.
-use Rattle.std.proofs.Common.{◌≡◌, refl, ℕ, List, [], ◌∷◌, ℤ, pos, lit<, lit≤}
+use Rattle.std.proofs.Common.{◌≡◌, refl, ℕ, List, [], ◌∷◌, pos, lit<, lit≤}
 use Rattle.tick_model.specs.declared.plan.Op.TheVariants.{Merge}
 use Rattle.tick_model.specs.declared.table.PlainRow.{PlainRow}
 use Rattle.tick_model.specs.declared.table.PlainTable.{PlainTable}
 use Rattle.tick_model.specs.declared.update.KeyPair.{KeyPair}
-use Rattle.tick_model.specs.declared.update.ShiftRange.{ShiftRange}
 use Rattle.tick_model.specs.Tables.{IsTable, keys}
 use Rattle.tick_model.specs.Shifts.{composed}
 use Rattle.tick_model.specs.Updates.{Tick, IsTick, Update, between, pairs}
-use Rattle.tick_model.specs.Changes.{Change, change_of, changed}
+use Rattle.tick_model.specs.Changes.{change_of, changed}
 use Rattle.tick_model.specs.Evaluation.{result}
-use Rattle.tick_laws.specs.Operated.{operated}
 use Rattle.tick_laws.specs.Room.{HasRoom}
 use Rattle.tick_laws.proofs.ComposedThrice.{composed-associative}
 use Rattle.tick_laws.proofs.ResultTables.{result_table}
