@@ -27,5 +27,6 @@ pub mod ResultCells
 pub mod ResultTables
 pub mod RunTicks
 pub mod SourceTicks
+pub mod TickNodes
 pub mod ToldRows
 pub mod WholeUpdates

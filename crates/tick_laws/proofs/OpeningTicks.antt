@@ -23,8 +23,8 @@ use Rattle.tick_model.specs.Sources.{opened, no_tick, tick_at, source_ticks, sou
 use Rattle.tick_model.specs.States.{empty_at, kept_by, state, tick, tick_of, tick_node}
 use Rattle.key_lists.proofs.Every.{every_weaker, every-map}
 use Rattle.tick_laws.specs.Reached.{IsReached, IsTickFrom}
-use Rattle.tick_laws.proofs.EvalNodes.{made_outcome, outcome_cases, is_source_op}
-use Rattle.tick_laws.proofs.Grown.{made_at, length-grown}
+use Rattle.tick_laws.proofs.EvalNodes.{outcome_is, source_outcome}
+use Rattle.tick_laws.proofs.TickNodes.{tick_cases, tick_from, tick_is}
 use Rattle.tick_laws.proofs.LawfulPlans.{columns_at-node}
 use Rattle.tick_laws.proofs.LawfulSources.{lawful_tables, source_fits}
 use Rattle.tick_laws.proofs.Paired.{no_node}
@@ -79,37 +79,12 @@ empty_is table width w r =
     ap (λ w. let t : PlainTable = record { width = w; rows = table.rows } in t) w
     ∙ ap (λ rows. let t : PlainTable = record { width = width; rows = rows } in t) r
 
-abbrev tick_from : PlainTable → PlainTable → List KeyPair → Tick
-tick_from old new kept = record { old = old; new = new; kept = kept }
-
 -- a tick that keeps nothing, from a table without rows
 from_empty : (width : ℕ) (new : PlainTable) (kept : List KeyPair) → IsTable new → new.width ≡ width → kept ≡ [] → let empty : PlainTable = record { width = width; rows = [] } in IsTick (tick_from empty new kept)
 from_empty width new kept t w k =
     let empty : PlainTable = record { width = width; rows = [] } in
     subst (λ kept. IsTick (tick_from empty new kept)) (sym k)
     (record { old_table = record { rows = tt; rising = tt }; new_table = t; one_width = w; of_old = tt; of_new = tt; rising_old = tt; rising_new = tt })
-
--- a node's tick is its source's, or that of its operator
-tick_cases : (op : Op) (own : Tick) (done : List Tick) (old new : PlainTable)
-    → ((is_source_op op ≡ true) × (tick_of op own done old new ≡ own)) ⊎ ((is_source_op op ≡ false) × (tick_of op own done old new ≡ tick_from old new (kept_by op (tick_at done) old new)))
-tick_cases Source own done old new = inl (refl, refl)
-tick_cases (Keep input test) own done old new = inr (refl, refl)
-tick_cases (View input exprs) own done old new = inr (refl, refl)
-tick_cases (Join left right on taken choice) own done old new = inr (refl, refl)
-tick_cases (Agg input by aggs) own done old new = inr (refl, refl)
-tick_cases (Merge inputs) own done old new = inr (refl, refl)
-tick_cases (Sort input by) own done old new = inr (refl, refl)
-tick_cases (Head input rows) own done old new = inr (refl, refl)
-tick_cases (Tail input rows) own done old new = inr (refl, refl)
-tick_cases (AsOf left right on at taken) own done old new = inr (refl, refl)
-
--- the table of a source is its own
-source_outcome : (op : Op) (own : PlainTable) (done : List Outcome) → is_source_op op ≡ true → outcome_of op own done ≡ Table own
-source_outcome op own done is =
-    elim (outcome_cases op own done) [
-      | inl source ↦ source.1
-      | inr other ↦ absurd (true≢false (sym is ∙ other.0))
-    ]
 
 module _ (run : Run) (h : IsLawfulRun run) (r : IsReached run 0) where
   abbrev nodes : List Node
@@ -127,13 +102,8 @@ module _ (run : Run) (h : IsLawfulRun run) (r : IsReached run 0) where
   abbrev T : List Tick
   T = fold (tick_node nodes own_ticks old_table new_at) [] nodes
 
-  length_T : length T ≡ length nodes
-  length_T = length-grown no_tick no_node (λ done node. tick_of node.op (tick_at own_ticks (source_number nodes (length done))) done (old_table (length done)) (new_at (length done))) [] nodes ∙ omega arith
-
-  made_T : (n : ℕ) → n < length nodes → get_or T n no_tick ≡ tick_of (get_or nodes n no_node).op (tick_at own_ticks (source_number nodes n)) (take n T) (old_table n) (new_at n)
-  made_T n less =
-      made_at no_tick no_node (λ done node. tick_of node.op (tick_at own_ticks (source_number nodes (length done))) done (old_table (length done)) (new_at (length done))) [] nodes n n less (omega arith)
-      ∙ ap (λ k. tick_of (get_or nodes n no_node).op (tick_at own_ticks (source_number nodes k)) (take n T) (old_table k) (new_at k)) (length-take-le n T (omega (arith, length_T, less)))
+  lesser : (n : ℕ) → n < length nodes → AllByRecursion (λ input. input < n) (inputs_of (get_or nodes n no_node).op)
+  lesser n = lesser_inputs run.plan h.plan n no_node
 
   record IsOpened (n : ℕ) (tick : Tick) : Type 0 where
     from : IsTickFrom (old_table n) (new_at n) tick
@@ -152,23 +122,23 @@ module _ (run : Run) (h : IsLawfulRun run) (r : IsReached run 0) where
         from = record {
           is_tick = source_tick run (lawful_tables run h) 0 r.batches place;
           old_is = empty_is own.old (old_table n).width width opening.no_rows;
-          new_is = source_new own_ticks place ∙ ap table_of (sym (made_outcome nodes no_node (sources run 0) n less ∙ source_outcome (get_or nodes n no_node).op (get_or (sources run 0) place no_table) (take n (state run 0)) is));
+          new_is = source_new own_ticks place ∙ ap table_of (sym (outcome_is nodes no_node (sources run 0) lesser n less ∙ source_outcome (get_or nodes n no_node).op (get_or (sources run 0) place no_table) (state run 0) is));
         };
         opening = opening;
       }
 
-  operator_opened : (n : ℕ) (less : n < length nodes) → ((k : ℕ) → k < n → IsOpened k (get_or T k no_tick)) → IsOpened n (tick_from (old_table n) (new_at n) (kept_by (get_or nodes n no_node).op (tick_at (take n T)) (old_table n) (new_at n)))
+  operator_opened : (n : ℕ) → n < length nodes → ((k : ℕ) → k < n → IsOpened k (get_or T k no_tick)) → IsOpened n (tick_from (old_table n) (new_at n) (kept_by (get_or nodes n no_node).op (tick_at T) (old_table n) (new_at n)))
   operator_opened n less before =
       let op = (get_or nodes n no_node).op in
       let tables = reached_tables run h 0 r in
-      let none = none_kept op (tick_at (take n T)) (old_table n) (new_at n)
-      (every_weaker (λ i. i < n) (λ i. IsOpening (tick_at (take n T) i)) (inputs_of op) (λ i below. subst IsOpening (sym (get_or-take n T i no_tick below)) (before i below).opening) (lesser_inputs run.plan h.plan n no_node less))
+      let none = none_kept op (tick_at T) (old_table n) (new_at n)
+      (every_weaker (λ i. i < n) (λ i. IsOpening (tick_at T i)) (inputs_of op) (λ i below. (before i below).opening) (lesser n less))
       in
       let width : (new_at n).width ≡ (old_table n).width =
       (bounded_at run h 0 r.batches n less (tables.each n less)).width_is ∙ ap length (columns_at-node nodes no_node n less) ∙ sym (width_empty run.plan nodes n less)
       in
       record {
-        from = record { is_tick = from_empty (old_table n).width (new_at n) (kept_by op (tick_at (take n T)) (old_table n) (new_at n)) (tables.tables n) width none; old_is = refl; new_is = refl };
+        from = record { is_tick = from_empty (old_table n).width (new_at n) (kept_by op (tick_at T) (old_table n) (new_at n)) (tables.tables n) width none; old_is = refl; new_is = refl };
         opening = record { no_rows = refl; no_pairs = none };
       }
 
@@ -178,8 +148,8 @@ module _ (run : Run) (h : IsLawfulRun run) (r : IsReached run 0) where
       elim (cases_lt n m) [
         | inl before ↦ opened_before m n before within
         | inr last ↦
-            subst (IsOpened n) (sym (made_T n within))
-            (elim (tick_cases (get_or nodes n no_node).op (tick_at own_ticks (source_number nodes n)) (take n T) (old_table n) (new_at n)) [
+            subst (IsOpened n) (sym (tick_is nodes no_node own_ticks old_table new_at n within (lesser n within)))
+            (elim (tick_cases (get_or nodes n no_node).op (tick_at own_ticks (source_number nodes n)) T (old_table n) (new_at n)) [
               | inl own ↦ subst (IsOpened n) (sym own.1) (source_opened n within own.0)
               | inr made ↦ subst (IsOpened n) (sym made.1) (operator_opened n within (λ k below. opened_before m k (omega (arith, below, less)) (omega (arith, below, within))))
             ])

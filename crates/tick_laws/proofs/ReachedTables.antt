@@ -20,7 +20,7 @@ use Rattle.tick_model.specs.States.{state, HaveTables, HasLesserInputs}
 use Rattle.key_lists.proofs.Every.{every_weaker}
 use Rattle.tick_laws.specs.Bounded.{IsNodeTable}
 use Rattle.tick_laws.specs.Reached.{KeepsRules, IsReached}
-use Rattle.tick_laws.proofs.EvalNodes.{outcome_cases, length_outcomes, made_outcome}
+use Rattle.tick_laws.proofs.EvalNodes.{outcome_cases, length_outcomes, outcome_is}
 use Rattle.tick_laws.proofs.LawfulPlans.{lawful_plan}
 use Rattle.tick_laws.proofs.LawfulSources.{sources_bounded}
 use Rattle.tick_laws.proofs.Paired.{no_node}
@@ -69,16 +69,16 @@ module _ (plan : Plan) (sources : List PlainTable) (lawful : is_lawful plan ≡ 
       elim (cases_lt n m) [
         | inl before ↦ tables_before m n before within
         | inr last ↦
-            let made = made_outcome nodes no_node sources n within in
+            let is = outcome_is nodes no_node sources (λ n. lesser_inputs plan lawful n no_node) n within in
             let op = (get_or nodes n no_node).op in
-            elim (outcome_cases op (get_or sources (own n) none) (take n O)) [
-              | inl own ↦ ap has_table (made ∙ own.1)
+            elim (outcome_cases op (get_or sources (own n) none) O) [
+              | inl own ↦ ap has_table (is ∙ own.1)
               | inr by_inputs ↦
-                  ap has_table (made ∙ by_inputs.1)
-                  ∙ applied_to_tables op (take n O)
-                  (every_weaker (λ input. input < n) (λ input. has_table (outcome_at (take n O) input) ≡ true) (inputs_of op)
-                  (λ input below. ap has_table (get_or-take n O input NoInput below) ∙ tables_before m input (omega (arith, below, less)) (omega (arith, below, within))) (lesser_inputs plan lawful n no_node within))
-                  (ap is_fault (sym (made ∙ by_inputs.1)) ∙ no_fault_at 0 O n fine)
+                  ap has_table (is ∙ by_inputs.1)
+                  ∙ applied_to_tables op O
+                  (every_weaker (λ input. input < n) (λ input. has_table (outcome_at O input) ≡ true) (inputs_of op)
+                  (λ input below. tables_before m input (omega (arith, below, less)) (omega (arith, below, within))) (lesser_inputs plan lawful n no_node within))
+                  (ap is_fault (sym (is ∙ by_inputs.1)) ∙ no_fault_at 0 O n fine)
             ]
       ]
     where

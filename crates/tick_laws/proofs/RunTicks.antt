@@ -16,8 +16,7 @@ use Rattle.tick_laws.proofs.SourceTicks.{source_tick, source_old, source_new}
 run_ticks_suc : (run : Run) → HasTables run → HasLesserInputs run.plan → (step : ℕ) → KeepsRules run (suc step) → HaveTables run.plan (state run step) → HaveTables run.plan (state run (suc step))
     → (node : ℕ) → node < length run.plan.nodes → IsTickFrom (table_at (state run step) node) (table_at (state run (suc step)) node) (tick run (suc step) node)
 run_ticks_suc run h l step fine old new node within =
-    each_node_tick run.plan.nodes no_node (sources run step) (sources run (suc step)) (source_ticks run (suc step))
-    (λ n below. l n no_node below) old.each new.each old.tables new.tables
+    each_node_tick run.plan.nodes no_node (sources run step) (sources run (suc step)) (source_ticks run (suc step)) (λ n. l n no_node) old.each new.each old.tables new.tables
     (source_tick run h (suc step) fine) (source_old run step) (source_new (source_ticks run (suc step))) node within
 
 pub run_ticks : (run : Run) → HasTables run → HasLesserInputs run.plan → (step : ℕ) → KeepsRules run (step + 1) → HaveTables run.plan (state run step) → HaveTables run.plan (state run (step + 1))
