@@ -3,6 +3,7 @@ pub mod Carried
 pub mod CheckedUpdates
 pub mod Composed
 pub mod ComposedThrice
+pub mod EmptyUpdates
 pub mod EvalNodes
 pub mod Examples
 pub mod FittingNodes

@@ -1,16 +1,18 @@
 -- Every node's change at every step of a run.
-use Rattle.std.proofs.Common.{sym, subst, ℕ, zero, suc, ◌+◌, ◌<◌, ◌≤◌, arith, length, add-one}
+use Rattle.std.proofs.Common.{◌≡◌, sym, subst, ℕ, zero, suc, ◌+◌, ◌<◌, ◌≤◌, arith, length, get_or, add-one}
 use Rattle.tick_model.specs.declared.feed.Run.{Run}
-use Rattle.tick_model.specs.Evaluation.{table_at}
+use Rattle.tick_model.specs.declared.plan.Node.{Node}
+use Rattle.tick_model.specs.Evaluation.{source_number, table_at}
 use Rattle.tick_model.specs.LawfulRuns.{IsLawfulRun}
-use Rattle.tick_model.specs.Sources.{HasTables, sources, source_ticks}
-use Rattle.tick_model.specs.States.{state, tick, HaveTables, HasLesserInputs}
+use Rattle.tick_model.specs.Sources.{HasTables, sources, source_ticks, tick_at}
+use Rattle.tick_model.specs.States.{empty_at, state, tick, tick_of, ticks, HaveTables, HasLesserInputs}
 use Rattle.tick_laws.specs.Reached.{KeepsRules, IsReached, IsTickFrom, table_before}
 use Rattle.tick_laws.proofs.LawfulSources.{lawful_tables}
 use Rattle.tick_laws.proofs.NodeTicks.{each_node_tick}
 use Rattle.tick_laws.proofs.OpeningTicks.{opening_ticks}
 use Rattle.tick_laws.proofs.Paired.{no_node}
 use Rattle.tick_laws.proofs.ReachedTables.{lesser_inputs, reached_tables}
+use Rattle.tick_laws.proofs.TickNodes.{length_ticks, tick_is}
 use Rattle.tick_laws.proofs.SourceTicks.{source_tick, source_old, source_new}
 
 run_ticks_suc : (run : Run) → HasTables run → HasLesserInputs run.plan → (step : ℕ) → KeepsRules run (suc step) → HaveTables run.plan (state run step) → HaveTables run.plan (state run (suc step))
@@ -37,3 +39,13 @@ lawful_ticks run h zero r node within = opening_ticks run h r node within
 lawful_ticks run h (suc step) r node within =
     run_ticks_suc run (lawful_tables run h) (lesser_inputs run.plan h.plan) step r.batches
     (reached_tables run h step (reached_before run step (suc step) (omega arith) r)) (reached_tables run h (suc step) r) node within
+
+-- a node's tick is that of its operator over the ticks of its inputs
+pub count_ticks : (run : Run) (step : ℕ) → length (ticks run step) ≡ length run.plan.nodes
+count_ticks run zero = length_ticks run.plan.nodes no_node (source_ticks run 0) (empty_at run.plan) (table_at (state run 0))
+count_ticks run (suc step) = length_ticks run.plan.nodes no_node (source_ticks run (suc step)) (table_at (state run step)) (table_at (state run (suc step)))
+
+pub tick_of_inputs : (run : Run) (step : ℕ) → HasLesserInputs run.plan → (node : ℕ) (d : Node) → node < length run.plan.nodes
+    → tick run step node ≡ tick_of (get_or run.plan.nodes node d).op (tick_at (source_ticks run step) (source_number run.plan.nodes node)) (ticks run step) (table_before run step node) (table_at (state run step) node)
+tick_of_inputs run zero lesser node d within = tick_is run.plan.nodes d (source_ticks run 0) (empty_at run.plan) (table_at (state run 0)) node within (lesser node d within)
+tick_of_inputs run (suc step) lesser node d within = tick_is run.plan.nodes d (source_ticks run (suc step)) (table_at (state run step)) (table_at (state run (suc step))) node within (lesser node d within)

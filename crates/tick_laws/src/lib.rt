@@ -3,6 +3,7 @@
 
 pub mod bounds;
 pub mod checks;
+pub mod nodes;
 pub mod operators;
 pub mod printing;
 pub mod runs;

@@ -1,9 +1,9 @@
 //! Laws of updates: what an update makes of a table, and which rows it keeps.
 
-ghost use Rattle.std.specs.Prelude.{◌≡◌, List};
+ghost use Rattle.std.specs.Prelude.{◌≡◌, List, true};
 ghost use Rattle.key_lists.specs.Keys.{IsRising};
 ghost use Rattle.tick_laws.specs.Replaced.{followed, no_update, replaced, whole_update};
-ghost use Rattle.tick_model.specs.Changes.{change_of, changed};
+ghost use Rattle.tick_model.specs.Changes.{change_of, changed, is_empty};
 ghost use Rattle.tick_model.specs.Shifts.{composed};
 ghost use Rattle.tick_model.specs.Sources.{unchanged};
 ghost use Rattle.tick_model.specs.Updates.{Tick, IsTick, between, carry, old_keys, pairs, told};
@@ -32,6 +32,11 @@ pub fn unkept_rows_are_replaced()
 /// Where each row stays as it is, the update is empty in all of its parts.
 pub fn unchanged_tables_have_no_update()
     ensures { (table : PlainTable) → between (unchanged table) ≡ no_update }
+{}
+
+/// Where the update is empty, the new table is the old one.
+pub fn empty_updates_change_nothing()
+    ensures { (tick : Tick) → IsTick tick → is_empty (between tick) ≡ true → tick.new ≡ tick.old }
 {}
 
 /// Kept pairs of three changes may be composed from either end.
