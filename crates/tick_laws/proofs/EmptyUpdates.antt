@@ -1,6 +1,5 @@
 -- An update that is empty leaves its table as it is.
-use Rattle.std.proofs.Common.{◌≡◌, refl, ap, sym, ◌∙◌, subst, ℕ, arith, true, false, true≢false, ◌&&◌, List, [], ◌∷◌, map, pos, ◌+ℤ◌}
-use Rattle.std.specs.List.{AllByRecursion}
+use Rattle.std.proofs.Common.{◌≡◌, refl, ap, sym, ◌∙◌, ℕ, arith, true, false, true≢false, ◌&&◌, List, [], ◌∷◌, pos, ◌+ℤ◌}
 use Rattle.std.proofs.lemmas.Bool.{and_parts}
 use Rattle.std.proofs.lemmas.Int.{ints}
 use Rattle.tick_model.specs.declared.table.PlainRow.{PlainRow}

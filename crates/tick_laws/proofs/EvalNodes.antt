@@ -161,7 +161,7 @@ module _ (nodes : List Node) (d : Node) (sources : List PlainTable) where
     module _ (P : ℕ → PlainTable → Type 0)
         (of_source : (n : ℕ) → n < length nodes → is_source (node_at n) ≡ true → P n (own_table n))
         (of_operator : (n : ℕ) → n < length nodes → is_source (node_at n) ≡ false → (table : ℕ → PlainTable) → AllByRecursion (λ input. P input (table input)) (inputs_of (node_at n).op)
-            → fault_of (node_at n).op table ≡ None → P n (result (node_at n).op table)) where
+        → fault_of (node_at n).op table ≡ None → P n (result (node_at n).op table)) where
       node_has : (n : ℕ) → n < length nodes → ((k : ℕ) → k < n → has_table (get_or O k NoInput) ≡ true → P k (table_at O k))
           → has_table (outcome_of (node_at n).op (own_table n) O) ≡ true → P n (table_of (outcome_of (node_at n).op (own_table n) O))
       node_has n within before h =

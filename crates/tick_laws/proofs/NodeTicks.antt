@@ -8,9 +8,9 @@ use Rattle.tick_model.specs.declared.plan.Op.{Op}
 use Rattle.tick_model.specs.declared.table.PlainTable.{PlainTable}
 use Rattle.tick_model.specs.Tables.{IsTable}
 use Rattle.tick_model.specs.Updates.{Tick, IsTick}
-use Rattle.tick_model.specs.Evaluation.{Outcome, Table, NoInput, has_table, no_table, table_of, table_at, inputs_of, result, applied, outcome_of, eval_node, source_number}
+use Rattle.tick_model.specs.Evaluation.{Outcome, NoInput, has_table, no_table, table_of, table_at, inputs_of, result, applied, outcome_of, eval_node, source_number}
 use Rattle.tick_model.specs.Sources.{no_tick, tick_at}
-use Rattle.tick_model.specs.States.{kept_by, tick_of, tick_node}
+use Rattle.tick_model.specs.States.{kept_by, tick_node}
 use Rattle.key_lists.proofs.Every.{every_weaker}
 use Rattle.tick_laws.specs.Reached.{IsTickFrom}
 use Rattle.tick_laws.proofs.EvalNodes.{applied_has, is_source_op, operator_outcome, outcome_is, result_same, source_outcome}
@@ -56,7 +56,7 @@ module _ (nodes : List Node) (d : Node) (olds news : List PlainTable) (own : Lis
         → (table : ℕ → PlainTable) → AllByRecursion (λ k. table k ≡ table_at outcomes k) (inputs_of (op_at n)) → result (op_at n) table ≡ table_at outcomes n
     result_is sources outcomes e n h is has table same =
         let made : get_or outcomes n NoInput ≡ applied (op_at n) outcomes =
-          ap (λ os. get_or os n NoInput) e ∙ outcome_is nodes d sources lesser n h ∙ ap (outcome_of (op_at n) (get_or sources (source_number nodes n) no_table)) (sym e) ∙ operator_outcome (op_at n) (get_or sources (source_number nodes n) no_table) outcomes is
+        ap (λ os. get_or os n NoInput) e ∙ outcome_is nodes d sources lesser n h ∙ ap (outcome_of (op_at n) (get_or sources (source_number nodes n) no_table)) (sym e) ∙ operator_outcome (op_at n) (get_or sources (source_number nodes n) no_table) outcomes is
         in
         result_same (op_at n) table (table_at outcomes) same ∙ sym (applied_has (op_at n) outcomes (ap has_table (sym made) ∙ has)).table ∙ ap table_of (sym made)
 

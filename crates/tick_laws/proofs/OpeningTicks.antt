@@ -1,9 +1,8 @@
 -- The first step of a lawful run: each node's change is a tick from an empty table, which keeps nothing.
-use Rattle.std.proofs.Common.{◌≡◌, refl, ap, sym, ◌∙◌, subst, ℕ, zero, suc, ◌+◌, ◌<◌, inl, inr, ◌⊎◌, arith, true, false, true≢false, List, [], ◌∷◌, ◌++◌, map, filter, take, length, get_or, length-take-le}
+use Rattle.std.proofs.Common.{◌≡◌, refl, ap, sym, ◌∙◌, subst, ℕ, zero, suc, ◌+◌, ◌<◌, inl, inr, arith, true, List, [], ◌∷◌, ◌++◌, map, filter, length, get_or}
 use Rattle.std.specs.Prelude.{filter_map, fold}
 use Rattle.std.specs.List.{AllByRecursion, enumerate_from}
 use Rattle.std.proofs.lemmas.Bool.{cases_lt}
-use Rattle.std.proofs.lemmas.List.{get_or-take}
 use Rattle.tick_model.specs.declared.feed.Run.{Run}
 use Rattle.tick_model.specs.declared.plan.Node.{Node}
 use Rattle.tick_model.specs.declared.plan.Op.{Op}
@@ -17,10 +16,10 @@ use Rattle.tick_model.specs.Updates.{IsTick, Tick, both_in}
 use Rattle.tick_model.specs.Agg.{key_cells}
 use Rattle.tick_model.specs.Merge.{merged_pairs, pair_from, region}
 use Rattle.tick_model.specs.Sort.{place_pair, same_place, in_order}
-use Rattle.tick_model.specs.Evaluation.{Outcome, Table, table_at, table_of, no_table, inputs_of, is_source, outcome_of, source_number}
+use Rattle.tick_model.specs.Evaluation.{table_at, table_of, no_table, inputs_of, is_source, source_number}
 use Rattle.tick_model.specs.LawfulRuns.{IsLawfulRun}
 use Rattle.tick_model.specs.Sources.{opened, no_tick, tick_at, source_ticks, sources}
-use Rattle.tick_model.specs.States.{empty_at, kept_by, state, tick, tick_of, tick_node}
+use Rattle.tick_model.specs.States.{empty_at, kept_by, state, tick, tick_node}
 use Rattle.key_lists.proofs.Every.{every_weaker, every-map}
 use Rattle.tick_laws.specs.Reached.{IsReached, IsTickFrom}
 use Rattle.tick_laws.proofs.EvalNodes.{outcome_is, source_outcome}

@@ -1,5 +1,5 @@
 -- The ticks of a plan's nodes, each from those of its inputs.
-use Rattle.std.proofs.Common.{◌≡◌, refl, ap, ap₂, ◌∙◌, ℕ, ◌<◌, ◌⊎◌, inl, inr, arith, true, false, List, [], ◌∷◌, map, take, length, get_or, length-take-le}
+use Rattle.std.proofs.Common.{◌≡◌, refl, ap, ◌∙◌, ℕ, ◌<◌, ◌⊎◌, inl, inr, arith, true, false, List, [], take, length, get_or, length-take-le}
 use Rattle.std.specs.Prelude.{fold}
 use Rattle.std.specs.List.{AllByRecursion}
 use Rattle.std.proofs.lemmas.List.{get_or-take}

@@ -26,5 +26,5 @@ pub fn nodes_make_their_ticks()
     ensures each { (run : Run) (step : ℕ) → HasLesserInputs run.plan → (node : ℕ) (d : Node) → node < length run.plan.nodes
         → tick run step node
         ≡ tick_of (slice_index_or run.plan.nodes node d).op (tick_at (source_ticks run step) (source_number run.plan.nodes node)) (ticks run step)
-            (table_before run step node) (table_at (state run step) node) }
+        (table_before run step node) (table_at (state run step) node) }
 {}
