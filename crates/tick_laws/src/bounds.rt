@@ -13,7 +13,8 @@ ghost use Rattle.tick_model.specs.declared.table.PlainTable.{PlainTable};
 /// each node that has a table has one of its own width, with keys below its key bound and at most
 /// 4,194,304 rows.
 pub fn nodes_stay_within_bounds()
-    ensures { (plan : Plan) (sources : List PlainTable) → is_lawful plan ≡ true → AreSourceTables (sources_of plan.nodes) sources
+    ensures { (plan : Plan) (sources : List PlainTable)
+        → is_lawful plan ≡ true → AreSourceTables (sources_of plan.nodes) sources
         → (node : ℕ) → node < length plan.nodes → has_table (outcome_at (eval plan sources) node) ≡ true
         → IsNodeTable (length (columns_at plan.nodes node)) (slice_index (key_bounds plan.nodes) node)
         (table_at (eval plan sources) node) }
@@ -21,5 +22,6 @@ pub fn nodes_stay_within_bounds()
 
 /// No key bound of a lawful plan is past 2 ^ 62, so that every key of a node, a merge's too, is below it.
 pub fn bounds_are_below_keys()
-    ensures { (plan : Plan) → is_lawful plan ≡ true → AllByRecursion (λ bound. bound < 2 ^ 62) (key_bounds plan.nodes) }
+    ensures { (plan : Plan) → is_lawful plan ≡ true
+        → AllByRecursion (λ bound. bound < 2 ^ 62) (key_bounds plan.nodes) }
 {}

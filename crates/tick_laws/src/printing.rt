@@ -16,8 +16,9 @@ ghost use Rattle.tick_model.specs.declared.plan.ColumnSpec.{ColumnSpec};
 
 /// The change of a tick is printable, where the rows of its new table fit the columns.
 pub fn fitting_changes_are_printable()
-    ensures { (columns : List ColumnSpec) (texts : List (List ℕ)) (tick : Tick) → IsTick tick → tick.new.width ≡ length columns
-        → HasColumns columns (length texts) tick.new → IsPrintable columns texts (change_of tick) }
+    ensures { (columns : List ColumnSpec) (texts : List (List ℕ)) (tick : Tick)
+        → IsTick tick → tick.new.width ≡ length columns → HasColumns columns (length texts) tick.new
+        → IsPrintable columns texts (change_of tick) }
 {}
 
 /// While no batch of a lawful run breaks a rule, the rows of each node that has a table fit its columns:

@@ -13,7 +13,8 @@ ghost use Rattle.tick_model.specs.declared.update.KeyPair.{KeyPair};
 /// The update between two tables, with the new rows that it tells, makes the new table of the old
 /// one, and keeps the pairs that it was made of.
 pub fn update_carries()
-    ensures table { (tick : Tick) → IsTick tick → carry tick.old (between tick) (told tick) ≡ tick.new }
+    ensures table { (tick : Tick) → IsTick tick
+        → carry tick.old (between tick) (told tick) ≡ tick.new }
     ensures kept { (tick : Tick) → IsTick tick → pairs tick.old (between tick) ≡ tick.kept }
 {}
 
