@@ -27,6 +27,7 @@ pub mod ReachedTables
 pub mod ResultCells
 pub mod ResultTables
 pub mod RunTicks
+pub mod SliceTicks
 pub mod SourceTicks
 pub mod TickNodes
 pub mod ToldRows

@@ -25,7 +25,7 @@ filter_all (pair ∷ kept) = ap (λ rest. pair ∷ rest) (filter_all kept)
 abbrev tick_from : PlainTable → PlainTable → List KeyPair → Tick
 tick_from old new kept = record { old = old; new = new; kept = kept }
 
-all_both_in : (input : Tick) (old new : PlainTable) → IsTick input → IsTable old → IsTable new → new.width ≡ old.width → IsTick (tick_from old new (both_in old new input.kept))
+pub all_both_in : (input : Tick) (old new : PlainTable) → IsTick input → IsTable old → IsTable new → new.width ≡ old.width → IsTick (tick_from old new (both_in old new input.kept))
 all_both_in input old new h o n w = subst (λ kept. IsTick (tick_from old new kept)) (filter_all (both_in old new input.kept)) (some_both_in (λ _. true) input old new h o n w)
 
 -- a table of the same keys keeps the same pairs

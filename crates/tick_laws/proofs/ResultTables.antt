@@ -37,13 +37,13 @@ every-drop P zero (x ∷ xs) h = h
 every-drop P (suc n) [] h = tt
 every-drop P (suc n) (x ∷ xs) h = every-drop P n xs h.1
 
-rising-take : {X : Type 0} (f : X → ℕ) (n : ℕ) (xs : List X) → IsRising (map f xs) → IsRising (map f (take n xs))
+pub rising-take : {X : Type 0} (f : X → ℕ) (n : ℕ) (xs : List X) → IsRising (map f xs) → IsRising (map f (take n xs))
 rising-take f zero [] h = tt
 rising-take f zero (x ∷ xs) h = tt
 rising-take f (suc n) [] h = tt
 rising-take f (suc n) (x ∷ xs) h = (every-map (λ y. f x < y) f (take n xs) (every-take (λ y. f x < f y) n xs (every_unmapped (λ y. f x < y) f xs h.0)), rising-take f n xs h.1)
 
-rising-drop : {X : Type 0} (f : X → ℕ) (n : ℕ) (xs : List X) → IsRising (map f xs) → IsRising (map f (drop n xs))
+pub rising-drop : {X : Type 0} (f : X → ℕ) (n : ℕ) (xs : List X) → IsRising (map f xs) → IsRising (map f (drop n xs))
 rising-drop f zero [] h = tt
 rising-drop f zero (x ∷ xs) h = h
 rising-drop f (suc n) [] h = tt

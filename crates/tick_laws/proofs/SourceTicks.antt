@@ -24,7 +24,7 @@ map_id [] = refl
 map_id (k ∷ ks) = ap (λ rest. k ∷ rest) (map_id ks)
 
 -- a table that stays keeps all its rows
-unchanged_tick : (table : PlainTable) → IsTable table → IsTick (unchanged table)
+pub unchanged_tick : (table : PlainTable) → IsTable table → IsTick (unchanged table)
 unchanged_tick table h = record {
   old_table = h;
   new_table = h;
@@ -44,7 +44,7 @@ unchanged_tick table h = record {
 empty_table : (width : ℕ) → let table : PlainTable = record { width = width; rows = [] } in IsTable table
 empty_table width = record { rows = tt; rising = tt }
 
-opened_tick : (table : PlainTable) → IsTable table → IsTick (opened table)
+pub opened_tick : (table : PlainTable) → IsTable table → IsTick (opened table)
 opened_tick table h = record { old_table = empty_table table.width; new_table = h; one_width = refl; of_old = tt; of_new = tt; rising_old = tt; rising_new = tt }
 
 -- what holds of all places holds after a write of such a value

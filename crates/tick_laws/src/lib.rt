@@ -7,5 +7,6 @@ pub mod nodes;
 pub mod operators;
 pub mod printing;
 pub mod runs;
+pub mod slices;
 pub mod sources;
 pub mod updates;
