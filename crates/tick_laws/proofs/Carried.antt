@@ -13,7 +13,7 @@ use Rattle.tick_model.specs.Shifts.{moved, as_key, shifted}
 use Rattle.tick_model.specs.Updates.{Tick, IsTick, old_keys, new_keys, differs, between, insert_row, removing, moved_row, shifting, adding, modifying, rows_at, carry, kept_pair, pairs, told}
 use Rattle.key_lists.proofs.Among.{among_below, among_own, among_past, among-filter, among-append, of_among}
 use Rattle.tick_model.proofs.Among.{rows_among, row_own, row_past, rest_above, each_found, row_at-filter, row_at-filter_none}
-use Rattle.key_lists.proofs.Every.{every, every_weaker, every_both, every-map, every_unmapped, every-filter, map_same, filter_same, filter_none, filter-map, map_map, map_own}
+use Rattle.key_lists.proofs.Every.{every, every_weaker, every_both, every-map, every_unmapped, every-filter, map_same, filter_same, filter_none, filter-map, map_map, map_own, filter_filter}
 use Rattle.tick_laws.proofs.Moves.{each_moved}
 
 -- the keys of the pairs, by f, stand among those of the rows, in order
@@ -180,14 +180,6 @@ rows_together cells (pair ∷ rest) (row ∷ rows) r w =
     test : PlainRow → Bool
     test row = not (is_among row.key (new_keys (pair ∷ rest)))
 
-filter-filter : (p q : PlainRow → Bool) (rows : List PlainRow) → filter p (filter q rows) ≡ filter (λ row. q row && p row) rows
-filter-filter p q [] = refl
-filter-filter p q (row ∷ rows) =
-    elim (q row) as (λ b. filter p (cond b (row ∷ filter q rows) (filter q rows)) ≡ cond (b && p row) (row ∷ filter (λ row. q row && p row) rows) (filter (λ row. q row && p row) rows)) [
-      | true ↦ ap (λ rest. cond (p row) (row ∷ rest) rest) (filter-filter p q rows)
-      | false ↦ filter-filter p q rows
-    ]
-
 or_and_first : (a b : Bool) → ((a || b) && a) ≡ a
 or_and_first true b = refl
 or_and_first false true = refl
@@ -200,7 +192,7 @@ and_true false = refl
 -- the rows that an update tells as added are those of no pair
 added_rows : (tick : Tick) → rows_at (between tick).added (told tick) ≡ filter (λ row. not (is_among row.key (new_keys tick.kept))) tick.new.rows
 added_rows tick =
-    filter-filter (λ row. is_among row.key added) (λ row. is_among row.key (added ++ modified)) tick.new.rows
+    filter_filter (λ row. is_among row.key added) (λ row. is_among row.key (added ++ modified)) tick.new.rows
     ∙ filter_same (λ row. is_among row.key (added ++ modified) && is_among row.key added) (λ row. not (is_among row.key (new_keys tick.kept))) tick.new.rows
     (every_weaker (λ row. is_among row.key (keys tick.new.rows) ≡ true) (λ row. (is_among row.key (added ++ modified) && is_among row.key added) ≡ not (is_among row.key (new_keys tick.kept))) tick.new.rows
     (λ row own.

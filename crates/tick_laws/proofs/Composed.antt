@@ -12,10 +12,11 @@ use Rattle.tick_model.specs.Updates.{Tick, IsTick, old_keys, new_keys}
 use Rattle.key_lists.proofs.Every.{every-map, every_unmapped}
 use Rattle.tick_laws.proofs.Placed.{find_has, pairs_rise}
 
-module _ (next : List KeyPair) where
-  abbrev led : KeyPair → Option KeyPair → Option KeyPair
-  led pair o = option_map (λ (further : KeyPair). let leads : KeyPair = record { old = pair.old; new = further.new } in leads) o
+-- a pair, led on by the one behind it
+abbrev pub led : KeyPair → Option KeyPair → Option KeyPair
+led pair o = option_map (λ (further : KeyPair). let leads : KeyPair = record { old = pair.old; new = further.new } in leads) o
 
+module _ (next : List KeyPair) where
   abbrev further : KeyPair → Option KeyPair
   further pair = find (λ (other : KeyPair). other.old == pair.new) next
 

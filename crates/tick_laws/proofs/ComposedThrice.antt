@@ -1,18 +1,16 @@
 -- Composing the pairs of three changes.
 use Rattle.std.proofs.Common.{◌≡◌, refl, ap, sym, ◌∙◌, subst, true, false, cond, ℕ, ◌<◌, ◌==◌, arith, List, [], ◌∷◌, Option, Some, None}
-use Rattle.std.specs.Prelude.{find, filter_map, option_map}
+use Rattle.std.specs.Prelude.{find, filter_map}
 use Rattle.std.specs.List.{AllByRecursion, cons_option}
 use Rattle.std.proofs.lemmas.Bool.{eqb-true, ne_eqb}
 use Rattle.tick_model.specs.declared.update.KeyPair.{KeyPair}
 use Rattle.key_lists.specs.Keys.{IsRising}
 use Rattle.tick_model.specs.Shifts.{onward, composed}
 use Rattle.tick_model.specs.Updates.{old_keys}
+use Rattle.tick_laws.proofs.Composed.{led}
 
 abbrev found : ℕ → List KeyPair → Option KeyPair
 found key = find (λ (pair : KeyPair). pair.old == key)
-
-abbrev led : KeyPair → Option KeyPair → Option KeyPair
-led pair o = option_map (λ (further : KeyPair). let leads : KeyPair = record { old = pair.old; new = further.new } in leads) o
 
 abbrev led_on : List KeyPair → Option KeyPair → Option KeyPair
 led_on next None = None

@@ -11,13 +11,13 @@ use Rattle.tick_laws.specs.Reached.{IsReached}
 use Rattle.tick_laws.proofs.CheckedUpdates.{none_parts, map_none}
 
 -- what a search for the first number that passes has passed over
-none_pass : (p : ℕ → Bool) (a n k : ℕ) → find p (range_with_len a n) ≡ None → a ≤ k → k < a + n → p k ≡ false
-none_pass p a zero k h low high = absurd (omega (arith, low, high))
-none_pass p a (suc n) k h low high =
+passed_over : (p : ℕ → Bool) (a n k : ℕ) → find p (range_with_len a n) ≡ None → a ≤ k → k < a + n → p k ≡ false
+passed_over p a zero k h low high = absurd (omega (arith, low, high))
+passed_over p a (suc n) k h low high =
     (elim (p a) as (λ b. p a ≡ b → cond b (Some a) (find p (range_with_len (a + 1) n)) ≡ None → p k ≡ false) [
       | true ↦ λ e h. absurd (cc)
       | false ↦ λ e h. elim (cases_lt a k) [
-        | inl more ↦ none_pass p (a + 1) n k h (omega (arith, more)) (omega (arith, high))
+        | inl more ↦ passed_over p (a + 1) n k h (omega (arith, more)) (omega (arith, high))
         | inr least ↦ let same : a ≡ k = omega (arith, least, low) in subst (λ j. p j ≡ false) same e
       ]
     ]) refl h
@@ -53,7 +53,7 @@ module _ (run : Run) where
   unspoiled_to : (o : Option ℕ) → find is_spoiled (range_with_len 0 (length run.batches + 1)) ≡ o → (last : ℕ) → step_before (length run.batches) o ≡ Some last → IsUnspoiled last
   unspoiled_to None f last e =
       let same : length run.batches ≡ last = cc in
-      record { within = omega (arith, same); unspoiled = λ s below. none_pass is_spoiled 0 (length run.batches + 1) s f (omega arith) (omega (arith, same, below)) }
+      record { within = omega (arith, same); unspoiled = λ s below. passed_over is_spoiled 0 (length run.batches + 1) s f (omega arith) (omega (arith, same, below)) }
   unspoiled_to (Some zero) f last e = absurd (cc)
   unspoiled_to (Some (suc step)) f last e =
       let same : step ≡ last = cc in

@@ -1,29 +1,22 @@
 -- Each operator makes a tick of its inputs' ticks.
-use Rattle.std.proofs.Common.{◌≡◌, refl, ap, sym, ◌∙◌, subst, ℕ, ◌+◌, true, List, [], ◌∷◌, map, length, filter}
+use Rattle.std.proofs.Common.{◌≡◌, refl, ap, sym, ◌∙◌, subst, ℕ, ◌+◌, true, List, [], ◌∷◌, map, length}
 use Rattle.std.specs.List.{AllByRecursion}
 use Rattle.tick_model.specs.declared.plan.Op.{Op}
 use Rattle.tick_model.specs.declared.plan.Op.TheVariants.{Source, Keep, View, Join, Agg, Merge, Sort, Head, Tail, AsOf}
 use Rattle.tick_model.specs.declared.table.PlainRow.{PlainRow}
 use Rattle.tick_model.specs.declared.table.PlainTable.{PlainTable}
 use Rattle.key_lists.specs.Keys.{is_among, IsRising}
-use Rattle.tick_model.specs.declared.update.KeyPair.{KeyPair}
 use Rattle.tick_model.specs.Tables.{keys, cells_at, same_cells, IsTable}
 use Rattle.tick_model.specs.Updates.{Tick, IsTick, both_in, old_keys, new_keys}
 use Rattle.tick_model.specs.Agg.{key_cells}
 use Rattle.tick_model.specs.Evaluation.{inputs_of, result}
 use Rattle.tick_model.specs.Merge.{merged_rows, width_of, region}
 use Rattle.tick_laws.specs.Operated.{operated}
-use Rattle.key_lists.proofs.Every.{every_weaker, every-map, map_map}
+use Rattle.key_lists.proofs.Every.{every_weaker, every-map, filter_all, map_map}
 use Rattle.tick_laws.proofs.Kept.{some_both_in}
 use Rattle.tick_laws.proofs.Merged.{IsPart, apart, apart_rising, apart_among, keys-merged_rows, old_keys-merged, new_keys-merged, old_part, new_part}
 use Rattle.tick_laws.proofs.Placed.{sort_keeps}
-
-filter_all : (kept : List KeyPair) → filter (λ _. true) kept ≡ kept
-filter_all [] = refl
-filter_all (pair ∷ kept) = ap (λ rest. pair ∷ rest) (filter_all kept)
-
-abbrev tick_from : PlainTable → PlainTable → List KeyPair → Tick
-tick_from old new kept = record { old = old; new = new; kept = kept }
+use Rattle.tick_laws.proofs.TickNodes.{tick_from}
 
 pub all_both_in : (input : Tick) (old new : PlainTable) → IsTick input → IsTable old → IsTable new → new.width ≡ old.width → IsTick (tick_from old new (both_in old new input.kept))
 all_both_in input old new h o n w = subst (λ kept. IsTick (tick_from old new kept)) (filter_all (both_in old new input.kept)) (some_both_in (λ _. true) input old new h o n w)

@@ -128,10 +128,6 @@ every-flat_map P f (k ∷ ks) h = every-append P (f k) (flat_map f ks) h.0 (ever
 table_keys : (table : PlainTable) → IsTable table → AllByRecursion (λ k. k < 2 ^ 62) (keys table.rows)
 table_keys table t = every-map (λ k. k < 2 ^ 62) (λ (row : PlainRow). row.key) table.rows (every_weaker (IsRow table.width) (λ row. row.key < 2 ^ 62) table.rows (λ row r. r.key) t.rows)
 
-opposite : (b : Bool) → not b ≡ true → b ≡ false
-opposite true h = sym h
-opposite false h = refl
-
 module _ (columns : List ColumnSpec) (texts : List (List ℕ)) (tick : Tick) (h : IsTick tick) (width : tick.new.width ≡ length columns) (fits : HasColumns columns (length texts) tick.new) where
   abbrev update : Update
   update = between tick

@@ -24,6 +24,7 @@ use Rattle.tick_laws.specs.Room.{AreMergeable, HasRoom}
 use Rattle.tick_laws.proofs.Merged.{IsPart, apart, apart_rising, apart_below, keys-merged_rows, whole_part}
 use Rattle.tick_laws.proofs.OperatorTicks.{keys_mapped}
 use Rattle.tick_laws.proofs.Placed.{every-in_order}
+use Rattle.tick_laws.proofs.ToldRows.{map_id}
 
 pub every-take : {X : Type 0} (P : X → Type 0) (n : ℕ) (xs : List X) → AllByRecursion P xs → AllByRecursion P (take n xs)
 every-take P zero [] h = tt
@@ -130,10 +131,6 @@ merged_table tables h room = record {
   where
     own : PlainTable → List ℕ
     own table = keys table.rows
-
-    map_id : (ts : List PlainTable) → map (λ t. t) ts ≡ ts
-    map_id [] = refl
-    map_id (t ∷ ts) = ap (λ rest. t ∷ rest) (map_id ts)
 
     same : keys (merged_rows 0 tables) ≡ apart own region 0 tables
     same = ap (λ ts. keys (merged_rows 0 ts)) (sym (map_id tables)) ∙ keys-merged_rows (λ (t : PlainTable). t) 0 tables

@@ -17,11 +17,8 @@ use Rattle.key_lists.proofs.Among.{each_among}
 use Rattle.tick_laws.proofs.Blocks.{block_tick}
 use Rattle.tick_laws.proofs.CheckedUpdates.{none_parts, map_none}
 use Rattle.tick_laws.proofs.Composed.{composed_tick}
+use Rattle.tick_laws.proofs.ToldRows.{map_id}
 use Rattle.key_lists.proofs.Every.{every-map, map_map}
-
-map_id : (ks : List ℕ) → map (λ k. k) ks ≡ ks
-map_id [] = refl
-map_id (k ∷ ks) = ap (λ rest. k ∷ rest) (map_id ks)
 
 -- a table that stays keeps all its rows
 pub unchanged_tick : (table : PlainTable) → IsTable table → IsTick (unchanged table)

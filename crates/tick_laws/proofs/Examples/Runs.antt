@@ -13,16 +13,20 @@ use Rattle.tick_model.specs.declared.plan.Op.{Op}
 use Rattle.tick_model.specs.declared.plan.Op.TheVariants.{Source, View, Merge, Sort}
 use Rattle.tick_model.specs.declared.plan.Plan.{Plan}
 use Rattle.tick_model.specs.declared.table.PlainRow.{PlainRow}
+use Rattle.tick_model.specs.declared.table.PlainTable.{PlainTable}
 use Rattle.tick_model.specs.Tables.{null}
-use Rattle.tick_model.specs.Changes.{change_of}
+use Rattle.tick_model.specs.Changes.{change_of, changed}
 use Rattle.tick_model.specs.LawfulRuns.{IsLawfulRun}
 use Rattle.tick_model.specs.Printable.{IsPrintable}
+use Rattle.tick_model.specs.Slices.{slice, slice_tick}
 use Rattle.tick_model.specs.Spoiled.{good}
-use Rattle.tick_model.specs.States.{tick}
+use Rattle.tick_model.specs.States.{state, tick}
+use Rattle.tick_model.specs.Evaluation.{table_at}
 use Rattle.tick_laws.specs.Numbers.{HasPlanNumbers}
 use Rattle.tick_laws.specs.Reached.{IsReached}
 use Rattle.tick_laws.proofs.FittingNodes.{node_printable}
 use Rattle.tick_laws.proofs.GoodSteps.{good_reached}
+use Rattle.tick_laws.proofs.SliceTicks.{slice_carries}
 
 abbrev column : List ℕ → Kind → ColumnSpec
 column name kind = record { name = name; kind = kind }
@@ -119,3 +123,13 @@ by_size = refl
 
 by_size_printable : IsPrintable columns run.texts (change_of (tick run 1 2))
 by_size_printable = node_printable run is_lawful_run has_numbers 1 is_reached 2 (lit< tt)
+
+-- the sizes of the two largest rows, from the opening to the step
+abbrev largest : PlainTable → PlainTable
+largest = slice 0 2 (0 ∷ [])
+
+largest_now : largest (table_at (state run 1) 2) ≡ record { width = 1; rows = (record { key = 0; cells = pos 9 ∷ [] }) ∷ (record { key = 1; cells = pos 9 ∷ [] }) ∷ [] }
+largest_now = refl
+
+largest_carried : changed (largest (table_at (state run 0) 2)) (change_of (slice_tick run 2 largest 0 1)) ≡ largest (table_at (state run 1) 2)
+largest_carried = slice_carries run is_lawful_run 2 (lit< tt) 0 2 (0 ∷ []) 0 1 is_reached
