@@ -14,7 +14,7 @@ use Rattle.tick_model.specs.Sources.{sources}
 use Rattle.tick_model.specs.States.{state, tick}
 use Rattle.key_lists.proofs.Every.{every_weaker}
 use Rattle.tick_laws.specs.Fitting.{HasColumns}
-use Rattle.tick_laws.specs.Numbers.{HasOpNumbers, HasPlanNumbers}
+use Rattle.tick_model.specs.Numbers.{HasOpNumbers}
 use Rattle.tick_laws.specs.Reached.{KeepsRules, IsReached}
 use Rattle.tick_laws.proofs.EvalNodes.{each_node_has}
 use Rattle.tick_laws.proofs.FittingResults.{result_fits}
@@ -32,7 +32,7 @@ each_at P [] n h less = absurd (omega (arith, less))
 each_at P (node ∷ nodes) zero h less = h.0
 each_at P (node ∷ nodes) (suc n) h less = each_at P nodes n h.1 (omega (arith, less))
 
-module _ (run : Run) (h : IsLawfulRun run) (numbers : HasPlanNumbers run.plan) (step : ℕ) where
+module _ (run : Run) (h : IsLawfulRun run) (step : ℕ) where
   abbrev nodes : List Node
   nodes = run.plan.nodes
 
@@ -56,7 +56,7 @@ module _ (run : Run) (h : IsLawfulRun run) (numbers : HasPlanNumbers run.plan) (
       record {
         bounded = bounded_operator run.plan h.plan n less is table (every_weaker (λ i. IsFitting i (table i)) (λ i. IsBounded run.plan h.plan i (table i)) (inputs_of op) (λ i f. f.bounded) inputs) fault;
         fits = result_fits texts (columns_at nodes) (columns_at nodes n) table op is (fitting_columns run.plan h.plan n less)
-            (each_at (λ (node : Node). has_op_ranks texts node.op ≡ true) nodes n h.ranks less) (each_at (λ (node : Node). HasOpNumbers node.op) nodes n numbers less)
+            (each_at (λ (node : Node). has_op_ranks texts node.op ≡ true) nodes n h.ranks less) (each_at (λ (node : Node). HasOpNumbers node.op) nodes n h.numbers less)
             (every_weaker (λ i. IsFitting i (table i)) (λ i. IsTable (table i)) (inputs_of op) (λ i f. f.bounded.is_table) inputs)
             (every_weaker (λ i. IsFitting i (table i)) (λ i. HasColumns (columns_at nodes i) texts (table i)) (inputs_of op) (λ i f. f.fits) inputs);
       }

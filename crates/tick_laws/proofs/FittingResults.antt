@@ -27,7 +27,7 @@ use Rattle.tick_model.specs.Plans.{same_kind, long_alone, both_long, kind_of, is
 use Rattle.tick_model.specs.Printable.{names_text, fits_kind, fit_columns}
 use Rattle.key_lists.proofs.Every.{every, every_weaker, every_both, every-map, every-filter}
 use Rattle.tick_laws.specs.Fitting.{FitsColumns, HasColumns}
-use Rattle.tick_laws.specs.Numbers.{HasOpNumbers}
+use Rattle.tick_model.specs.Numbers.{HasOpNumbers}
 use Rattle.tick_laws.proofs.EvalNodes.{all_pass, is_source_op}
 use Rattle.tick_laws.proofs.Placed.{every-in_order}
 use Rattle.tick_laws.proofs.ResultCells.{result_cells, chosen_every, latest_every, picked_every}

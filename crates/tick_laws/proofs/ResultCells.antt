@@ -21,7 +21,7 @@ use Rattle.tick_model.specs.Agg.{is_first, key_cells, aggregate, group_of, same_
 use Rattle.tick_model.specs.Sort.{in_order}
 use Rattle.tick_model.specs.Evaluation.{inputs_of, result}
 use Rattle.key_lists.proofs.Every.{every, every_weaker, every-map, every-filter, every-append}
-use Rattle.tick_laws.specs.Numbers.{HasNumbers, HasOpNumbers}
+use Rattle.tick_model.specs.Numbers.{HasNumbers, HasOpNumbers}
 use Rattle.tick_laws.proofs.Placed.{every-in_order}
 use Rattle.tick_laws.proofs.ResultTables.{every-take, every-drop, cells-numbered, cells-merged, table_count}
 

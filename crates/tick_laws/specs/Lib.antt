@@ -1,7 +1,6 @@
 pub mod Bounded
 pub mod Checked
 pub mod Fitting
-pub mod Numbers
 pub mod Operated
 pub mod Reached
 pub mod Replaced

@@ -1,7 +1,7 @@
 //! Laws of operators: what they make of tables, and of the changes of tables.
 
 ghost use Rattle.std.specs.Prelude.{ℕ};
-ghost use Rattle.tick_laws.specs.Numbers.{HasOpNumbers};
+ghost use Rattle.tick_model.specs.Numbers.{HasOpNumbers};
 ghost use Rattle.tick_laws.specs.Operated.{EachInput, operated};
 ghost use Rattle.tick_laws.specs.Room.{HasRoom};
 ghost use Rattle.tick_model.specs.Evaluation.{result as result_of};

@@ -2,7 +2,6 @@
 
 ghost use Rattle.std.specs.Prelude.{◌≡◌, ℕ, ◌<◌, List, length, true};
 ghost use Rattle.tick_laws.specs.Fitting.{HasColumns};
-ghost use Rattle.tick_laws.specs.Numbers.{HasPlanNumbers};
 ghost use Rattle.tick_laws.specs.Reached.{IsReached, KeepsRules};
 ghost use Rattle.tick_model.specs.Changes.{change_of};
 ghost use Rattle.tick_model.specs.Evaluation.{has_table, outcome_at, table_at};
@@ -22,17 +21,16 @@ pub fn fitting_changes_are_printable()
 {}
 
 /// While no batch of a lawful run breaks a rule, the rows of each node that has a table fit its columns:
-/// a cell of a text column is null or the number of a text, and every cell is a number of 64 bits, as
-/// the numbers of the plan's formulas are.
+/// a cell of a text column is null or the number of a text, and every cell is a number of 64 bits.
 pub fn rows_fit_their_columns()
-    ensures { (run : Run) → IsLawfulRun run → HasPlanNumbers run.plan → (step : ℕ) → KeepsRules run step
+    ensures { (run : Run) → IsLawfulRun run → (step : ℕ) → KeepsRules run step
         → (node : ℕ) → node < length run.plan.nodes → has_table (outcome_at (state run step) node) ≡ true
         → HasColumns (columns_at run.plan.nodes node) (length run.texts) (table_at (state run step) node) }
 {}
 
 /// At each step that a lawful run reaches, the change of every node is printable.
 pub fn reached_changes_are_printable()
-    ensures { (run : Run) → IsLawfulRun run → HasPlanNumbers run.plan → (step : ℕ) → IsReached run step
+    ensures { (run : Run) → IsLawfulRun run → (step : ℕ) → IsReached run step
         → (node : ℕ) → node < length run.plan.nodes
         → IsPrintable (columns_at run.plan.nodes node) run.texts (change_of (tick run step node)) }
 {}

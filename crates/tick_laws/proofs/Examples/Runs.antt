@@ -22,7 +22,6 @@ use Rattle.tick_model.specs.Slices.{slice, slice_tick}
 use Rattle.tick_model.specs.Spoiled.{good}
 use Rattle.tick_model.specs.States.{state, tick}
 use Rattle.tick_model.specs.Evaluation.{table_at}
-use Rattle.tick_laws.specs.Numbers.{HasPlanNumbers}
 use Rattle.tick_laws.specs.Reached.{IsReached}
 use Rattle.tick_laws.proofs.FittingNodes.{node_printable}
 use Rattle.tick_laws.proofs.GoodSteps.{good_reached}
@@ -73,6 +72,7 @@ run = record {
 is_lawful_run : IsLawfulRun run
 is_lawful_run = record {
   plan = refl;
+  numbers = (tt, (tt, (tt, ((record { sfits = lit< tt }, tt), tt))));
   ranks = (refl, (refl, (refl, (refl, tt))));
   opening = (
     record {
@@ -107,9 +107,6 @@ is_lawful_run = record {
   texts = (refl, (refl, tt), (refl, tt, tt));
 }
 
-has_numbers : HasPlanNumbers plan
-has_numbers = (tt, (tt, (tt, ((record { sfits = lit< tt }, tt), tt))))
-
 -- both of its steps are good
 is_good : good run ≡ Some 1
 is_good = refl
@@ -122,7 +119,7 @@ by_size : change_of (tick run 1 2) ≡ record { update = record { removed = 2 �
 by_size = refl
 
 by_size_printable : IsPrintable columns run.texts (change_of (tick run 1 2))
-by_size_printable = node_printable run is_lawful_run has_numbers 1 is_reached 2 (lit< tt)
+by_size_printable = node_printable run is_lawful_run 1 is_reached 2 (lit< tt)
 
 -- the sizes of the two largest rows, from the opening to the step
 abbrev largest : PlainTable → PlainTable
