@@ -4,3 +4,4 @@ pub mod Examples
 pub mod SortOrders
 pub mod Stable
 pub mod SumsSoFar
+pub mod ColumnLists

@@ -1,6 +1,7 @@
 //! The plain data of the engine, and what its words mean.
 #![tactic(auto)]
 
+pub mod columns;
 pub mod evaluate;
 pub mod feed;
 pub mod formula;
