@@ -5,3 +5,6 @@ pub mod SortOrders
 pub mod Stable
 pub mod SumsSoFar
 pub mod ColumnLists
+pub mod KeyBounds
+pub mod StoreWords
+pub mod RisingNumbers

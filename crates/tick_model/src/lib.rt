@@ -1,15 +1,18 @@
 //! The plain data of the engine, and what its words mean.
 #![tactic(auto)]
 
+pub mod bounds;
 pub mod columns;
 pub mod evaluate;
 pub mod feed;
 pub mod formula;
 pub mod items;
 pub mod kinds;
+pub mod lawful;
 pub mod name;
 pub mod names;
 pub mod plan;
+pub mod published;
 pub mod sort;
 pub mod sums;
 pub mod table;
