@@ -6,5 +6,6 @@ pub mod Stable
 pub mod SumsSoFar
 pub mod ColumnLists
 pub mod KeyBounds
-pub mod StoreWords
 pub mod RisingNumbers
+pub mod Matches
+pub mod GroupCells

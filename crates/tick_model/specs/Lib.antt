@@ -4,6 +4,7 @@ pub mod Changes
 pub mod Choices
 pub mod Clock
 pub mod Evaluation
+pub mod Extremes
 pub mod Formulas
 pub mod HeadTail
 pub mod Join

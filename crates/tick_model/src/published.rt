@@ -1,16 +1,16 @@
 //! How much room the snapshots of published tables take.
 
-ghost use Rattle.std.specs.Prelude.{◌≡◌, ◌+◌, ◌*◌, ◌^◌, ◌<◌};
-ghost use Rattle.tick_model.specs.Plans.{published_words as words_of};
+ghost use Rattle.std.specs.Prelude.{◌≡◌, ◌^◌, ◌≤◌};
+ghost use Rattle.tick_model.specs.Plans.{published_words as words_of, table_words as words_of_table};
 
 use crate::items::Items;
 use crate::plan::Published;
 
-fn cells_of(published: &Published) -> u128
-    ensures value { result ≡ published.now.limit * (1 + published.now.width) }
-    ensures small { result < 2 ^ 64 }
+fn table_words(published: &Published) -> u128
+    ensures value { result ≡ words_of_table published.now }
+    ensures small { result ≤ 2 ^ 64 }
 {
-    u128::from(published.limit) * (1 + u128::from(published.width))
+    1 + u128::from(published.limit) * (1 + u128::from(published.width))
 }
 
 /// The words of the snapshot store: two, and two banks, each with a count of rows for each published table and, up to
@@ -18,9 +18,9 @@ fn cells_of(published: &Published) -> u128
 pub fn published_words(published: &Items<Published>) -> u128
     ensures { result ≡ words_of published.now }
 {
-    let mut cells = 0u128;
+    let mut words = 0u128;
     for table in published.as_slice() {
-        cells += cells_of(table);
+        words += table_words(table);
     }
-    2 + 2 * (u128::from(published.count()) + cells)
+    2 + 2 * words
 }

@@ -1,0 +1,11 @@
+use Rattle.std.proofs.Common.{◌≡◌, ◌++◌, ◌+◌, ◌≤◌, ◌*◌, map, filter, drop, take, length}
+use Rattle.std.specs.Prelude.{fold, None}
+use Rattle.std.specs.Ordering.{int_eq}
+use Rattle.std.specs.Cmp.Lexicographic.{pointwise}
+use Rattle.std.specs.Int.{int_min, int_max}
+use Rattle.tick_model.specs.Extremes.{with_present}
+use Rattle.tick_model.specs.Agg.{column_of}
+use Rattle.tick_model.proofs.groups.column_min.Given as goal
+
+abbrev pub invariant-loop-row : goal.invariant-loop-row
+invariant-loop-row l = l.least ≡ fold (with_present int_min) None (column_of (take l.row-index l.rows) l.column)

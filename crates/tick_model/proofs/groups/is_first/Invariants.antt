@@ -1,0 +1,10 @@
+use Rattle.std.proofs.Common.{◌≡◌, ◌++◌, ◌+◌, ◌≤◌, ◌*◌, map, filter, drop, take, length}
+use Rattle.std.specs.Prelude.{fold, None}
+use Rattle.std.specs.Ordering.{int_eq}
+use Rattle.std.specs.Cmp.Lexicographic.{pointwise}
+use Rattle.std.specs.Int.{int_min, int_max}
+use Rattle.tick_model.specs.Agg.{is_first}
+use Rattle.tick_model.proofs.groups.is_first.Given as goal
+
+abbrev pub invariant-loop-other : goal.invariant-loop-other
+invariant-loop-other l = is_first l.by (drop l.other-index l.rows) l.row ≡ is_first l.by l.rows l.row

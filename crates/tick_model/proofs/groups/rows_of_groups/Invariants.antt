@@ -1,0 +1,10 @@
+use Rattle.std.proofs.Common.{◌≡◌, ◌++◌, ◌+◌, ◌≤◌, ◌*◌, map, filter, drop, take, length}
+use Rattle.std.specs.Prelude.{fold, None}
+use Rattle.std.specs.Ordering.{int_eq}
+use Rattle.std.specs.Cmp.Lexicographic.{pointwise}
+use Rattle.std.specs.Int.{int_min, int_max}
+use Rattle.tick_model.specs.Agg.{agg_row, is_first}
+use Rattle.tick_model.proofs.groups.rows_of_groups.Given as goal
+
+abbrev pub invariant-loop-row : goal.invariant-loop-row
+invariant-loop-row l = l.groups ≡ map (agg_row l.by l.aggs l.rows) (filter (is_first l.by l.rows) (take l.row-index l.rows))

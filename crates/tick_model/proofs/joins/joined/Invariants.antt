@@ -1,0 +1,10 @@
+use Rattle.std.proofs.Common.{◌≡◌, ◌++◌, map, filter, drop, take, length, ◌&&◌}
+use Rattle.std.specs.Prelude.{filter_map, None, int_le}
+use Rattle.std.specs.List.{list_all}
+use Rattle.std.specs.Option.{option_copied, option_map_or}
+use Rattle.tick_model.specs.Tables.{null, cell}
+use Rattle.tick_model.specs.declared.table.PlainRow.{PlainRow}
+use Rattle.tick_model.proofs.joins.joined.Given as goal
+
+abbrev pub invariant-loop-column : goal.invariant-loop-column
+invariant-loop-column l = l.cells.items ≡ l.left.cells ++ map (λ column. option_map_or (λ (row : PlainRow). cell row.cells column) (option_copied l.right) null) (take l.column-index l.take)

@@ -1,0 +1,10 @@
+use Rattle.std.proofs.Common.{◌≡◌, ◌++◌, map, filter, drop, take, length, ◌&&◌}
+use Rattle.std.specs.Prelude.{filter_map, None, int_le}
+use Rattle.std.specs.List.{list_all}
+use Rattle.std.specs.Option.{option_copied, option_map_or}
+use Rattle.tick_model.specs.Join.{joined}
+use Rattle.tick_model.specs.AsOf.{latest, not_later}
+use Rattle.tick_model.proofs.joins.rows_as_of.Given as goal
+
+abbrev pub invariant-loop-row : goal.invariant-loop-row
+invariant-loop-row l = l.rows ≡ map (joined l.take (λ row. latest l.at.right (not_later l.on l.at l.right row))) (take l.row-index l.left)
