@@ -9,3 +9,4 @@ pub mod KeyBounds
 pub mod RisingNumbers
 pub mod Matches
 pub mod GroupCells
+pub mod Numbering

@@ -15,6 +15,7 @@ pub mod Names
 pub mod Numbers
 pub mod Plans
 pub mod Printable
+pub mod Ready
 pub mod Rules
 pub mod Shifts
 pub mod Slices

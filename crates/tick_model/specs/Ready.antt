@@ -1,0 +1,27 @@
+-- When an operator may be applied to the tables of the nodes before it.
+--     IsReady op tables      its inputs are there, its formulas are within their rows, and their keys have room
+use Rattle.std.specs.Prelude.{◌≡◌, ℕ, ◌+◌, ◌^◌, ◌<◌, ◌≤◌, List, [], ◌∷◌, length, map, slice_index_or}
+use Rattle.std.specs.List.{All}
+use Rattle.tick_model.specs.declared.plan.Op.{Op}
+use Rattle.tick_model.specs.declared.plan.Op.TheVariants.{Source, Keep, View, Join, Agg, Merge, Sort, Head, Tail, AsOf}
+use Rattle.tick_model.specs.declared.table.PlainTable.{PlainTable}
+use Rattle.tick_model.specs.Formulas.{IsWithin, IsTestWithin}
+use Rattle.tick_model.specs.Merge.{last_key, region}
+use Rattle.tick_model.specs.Evaluation.{no_table}
+
+abbrev pub table_in : List PlainTable → ℕ → PlainTable
+table_in tables node = slice_index_or tables node no_table
+
+-- every row has the table's width
+abbrev pub IsWhole : PlainTable → Type 0
+IsWhole table = All (λ row. length row.cells ≡ table.width) table.rows
+
+-- the keys of merged inputs stay below 2 ^ 62, and so do their regions
+pub record HasRoom (offset : ℕ) (input : PlainTable) : Type 0 where
+  pub keys : All (λ row. row.key + offset < 2 ^ 62) input.rows
+  pub last : last_key input.rows < 2 ^ 62
+  pub next : offset + region input ≤ 2 ^ 62
+
+abbrev pub HaveRoom : ℕ → List PlainTable → Type 0
+HaveRoom offset [] = Unit {0}
+HaveRoom offset (input ∷ inputs) = HasRoom offset input × HaveRoom (offset + region input) inputs
