@@ -10,3 +10,5 @@ pub mod RisingNumbers
 pub mod Matches
 pub mod GroupCells
 pub mod Numbering
+pub mod Widths
+pub mod TableRows

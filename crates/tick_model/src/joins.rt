@@ -1,8 +1,7 @@
 //! Joins: each left row with cells of the right row that it matches.
 
-ghost use Rattle.std.specs.Prelude.{◌≡◌, ◌&&◌, ◌++◌, ◌∷◌, [], map, slice_get, MatchOption, IfOk, int_le};
+ghost use Rattle.std.specs.Prelude.{◌≡◌, ◌&&◌, ◌∷◌, [], map, filter_map, slice_get, MatchOption, IfOk, int_le};
 ghost use Rattle.std.specs.Option.{option_copied, option_map_or};
-ghost use Rattle.std.specs.Prelude.{ℕ};
 ghost use Rattle.tick_model.specs.Tables.{null, cell as cell_of};
 ghost use Rattle.tick_model.specs.Join.{agree as agree_on, matches as matches_of, chosen as chosen_of, joined as joined_row, duplicate as duplicate_of, join_fault as join_fault_of};
 ghost use Rattle.tick_model.specs.AsOf.{not_later, later as later_of, latest as latest_of};
@@ -11,7 +10,7 @@ use crate::formula::NULL;
 use crate::items::Items;
 use crate::plan::{Choice, OnPair};
 use crate::sort::cell;
-use crate::table::{NodeFault, PlainRow};
+use crate::table::{NodeFault, PlainRow, PlainTable};
 use std::alloc::{AllocError, Global};
 
 /// Whether two rows have equal cells in each pair of columns.
@@ -105,19 +104,26 @@ fn joined(alloc: Global, take: &[u32], left: &PlainRow, right: Option<&PlainRow>
     })
 }
 
-/// The first left row with two matches, where the choice is that there be one.
-pub fn join_fault(on: &[OnPair], choice: Choice, left: &[PlainRow], right: &[PlainRow]) -> Option<NodeFault>
-    ensures { (wide wider : ℕ) → result ≡ join_fault_of on.now choice (record { width = wide; rows = left.now }) (record { width = wider; rows = right.now }) }
+/// The first left row with two matches or more.
+fn first_duplicate(on: &[OnPair], left: &[PlainRow], right: &[PlainRow]) -> Option<NodeFault>
+    ensures { result ≡ slice_get (filter_map (λ row. duplicate_of row (matches_of on.now right.now row)) left.now) 0 }
 {
-    if choice != Choice::Error {
-        return None;
-    }
     for row in left {
         if let Some(fault) = duplicate(on, right, row) {
             return Some(fault);
         }
     }
     None
+}
+
+/// That a left row has two matches, where the choice is that there be one.
+pub fn join_fault(on: &[OnPair], choice: Choice, left: &PlainTable, right: &PlainTable) -> Option<NodeFault>
+    ensures { result ≡ join_fault_of on.now choice left.now right.now }
+{
+    match choice {
+        Choice::Error => first_duplicate(on, left.rows.as_slice(), right.rows.as_slice()),
+        Choice::First | Choice::Last => None,
+    }
 }
 
 /// Each left row with the cells of the right row that a choice takes.

@@ -14,6 +14,7 @@ pub mod lawful;
 pub mod merges;
 pub mod name;
 pub mod names;
+pub mod operators;
 pub mod plan;
 pub mod published;
 pub mod rows;

@@ -3,7 +3,7 @@ use Rattle.std.specs.Prelude.{filter_map, None, int_le}
 use Rattle.std.specs.List.{list_all}
 use Rattle.std.specs.Option.{option_copied, option_map_or}
 use Rattle.tick_model.specs.Join.{matches, duplicate}
-use Rattle.tick_model.proofs.joins.join_fault.Given as goal
+use Rattle.tick_model.proofs.joins.first_duplicate.Given as goal
 
 abbrev pub invariant-loop-row : goal.invariant-loop-row
 invariant-loop-row l = filter_map (λ row. duplicate row (matches l.on l.right row)) (drop l.row-index l.left) ≡ filter_map (λ row. duplicate row (matches l.on l.right row)) l.left
