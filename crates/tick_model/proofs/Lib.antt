@@ -12,3 +12,4 @@ pub mod GroupCells
 pub mod Numbering
 pub mod Widths
 pub mod TableRows
+pub mod Results
