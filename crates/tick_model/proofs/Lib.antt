@@ -1,5 +1,4 @@
 pub mod Among
-pub mod Evaluated
 pub mod Examples
 pub mod SortOrders
 pub mod Stable
@@ -13,3 +12,7 @@ pub mod Numbering
 pub mod Widths
 pub mod TableRows
 pub mod Results
+pub mod ReadyOperators
+pub mod SourceTables
+pub mod LawfulNodes
+pub mod Evaluated

@@ -8,7 +8,7 @@ pub mod Extremes
 pub mod Formulas
 pub mod HeadTail
 pub mod Join
-pub mod Lawful
+pub mod Fits
 pub mod LawfulRuns
 pub mod Merge
 pub mod Names
@@ -23,6 +23,7 @@ pub mod Sort
 pub mod Sources
 pub mod Spoiled
 pub mod States
+pub mod Stops
 pub mod Tables
 pub mod Texts
 pub mod Updates

@@ -19,6 +19,7 @@ pub mod plan;
 pub mod published;
 pub mod rows;
 pub mod sort;
+pub mod sources;
 pub mod sums;
 pub mod table;
 pub mod update;
