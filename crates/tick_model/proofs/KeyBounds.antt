@@ -93,11 +93,11 @@ bound_here nodes n node within here lesser =
     ∙ ap (λ k. get_or (known ++ own ∷ []) k 0) (sym count)
     ∙ get_or-append_seam known own [] 0
     ∙ bound_same node.op (λ input. get_or known input 0) (key_bound nodes)
-        (every_weaker (λ input. input < n) (λ input. get_or known input 0 ≡ key_bound nodes input) (inputs_of node.op)
-        (λ input before.
-            let low : input < length known = omega (arith, before, count) in
-            sym (get_or_append_left known (own ∷ []) 0 input low) ∙ sym (get_or_append_left (known ++ own ∷ []) more.0 0 input (omega (arith, low, places))) ∙ ap (λ bounds. get_or bounds input 0) (sym all))
-        lesser)
+    (every_weaker (λ input. input < n) (λ input. get_or known input 0 ≡ key_bound nodes input) (inputs_of node.op)
+    (λ input before.
+    let low : input < length known = omega (arith, before, count) in
+    sym (get_or_append_left known (own ∷ []) 0 input low) ∙ sym (get_or_append_left (known ++ own ∷ []) more.0 0 input (omega (arith, low, places))) ∙ ap (λ bounds. get_or bounds input 0) (sym all))
+    lesser)
 
 pub bound_below : (limit : ℕ) (nodes : List Node) (n : ℕ) → list_all (λ bound. nat_lt bound limit) (key_bounds nodes) ≡ true → n < length nodes → key_bound nodes n < limit
 bound_below limit nodes n h within =

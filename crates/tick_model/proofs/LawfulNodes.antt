@@ -35,8 +35,8 @@ lesser_of n (input ∷ inputs) h =
     let parts = and_parts (nat_lt input n) (list_all (λ input. nat_lt input n) inputs) h in
     (ltb-true input n parts.0, lesser_of n inputs parts.1)
 
--- the third and the fourth of nine tests, and the first
-nine_tests : (a b c d e f g h i : Bool) → (a && b && c && d && e && f && g && h && i) ≡ true → (a ≡ true) × (c ≡ true) × (d ≡ true)
+-- the third and the fourth of nine tests
+nine_tests : (a b c d e f g h i : Bool) → (a && b && c && d && e && f && g && h && i) ≡ true → (c ≡ true) × (d ≡ true)
 nine_tests a b c d e f g h i all =
     let first_eight = (and_parts (a && b && c && d && e && f && g && h) i all).0 in
     let first_seven = (and_parts (a && b && c && d && e && f && g) h first_eight).0 in
@@ -44,8 +44,7 @@ nine_tests a b c d e f g h i all =
     let first_five = (and_parts (a && b && c && d && e) f first_six).0 in
     let first_four = (and_parts (a && b && c && d) e first_five).0 in
     let fourth = and_parts (a && b && c) d first_four in
-    let third = and_parts (a && b) c fourth.0 in
-    ((and_parts a b third.0).0, third.1, fourth.1)
+    ((and_parts (a && b) c fourth.0).1, fourth.1)
 
 -- the last two of seven tests, and the fifth
 seven_tests : (a b c d e f g : Bool) → (a && b && c && d && e && f && g) ≡ true → (e ≡ true) × (f ≡ true) × (g ≡ true)
@@ -55,26 +54,22 @@ seven_tests a b c d e f g all =
     ((and_parts (a && b && c && d) e sixth.0).1, sixth.1, last.1)
 
 plan_tests : (plan : Plan) → is_lawful plan ≡ true
-    → (nat_le (length plan.nodes) 256 ≡ true) × (list_all (node_lawful plan.nodes) (enumerate_from 0 plan.nodes) ≡ true) × (list_all (λ bound. nat_lt bound (2 ^ 62)) (key_bounds plan.nodes) ≡ true)
+    → (list_all (node_lawful plan.nodes) (enumerate_from 0 plan.nodes) ≡ true) × (list_all (λ bound. nat_lt bound (2 ^ 62)) (key_bounds plan.nodes) ≡ true)
 plan_tests plan h =
     nine_tests (nat_le (length plan.nodes) 256) (are_distinct (map (λ (node : Node). node.name) plan.nodes)) (list_all (node_lawful plan.nodes) (enumerate_from 0 plan.nodes)) (list_all (λ bound. nat_lt bound (2 ^ 62)) (key_bounds plan.nodes))
-        (rises plan.printed) (list_all (λ node. nat_lt node (length plan.nodes)) plan.printed) (number_distinct (map (λ (published : Published). published.node) plan.published)) (list_all (publication_lawful plan.nodes) plan.published)
-        (nat_le (published_words plan.published) 1048576) h
-
--- a lawful plan has at most 256 nodes
-pub few_nodes : (plan : Plan) → is_lawful plan ≡ true → length plan.nodes ≤ 256
-few_nodes plan h = leb-true (length plan.nodes) 256 (plan_tests plan h).0
+    (rises plan.printed) (list_all (λ node. nat_lt node (length plan.nodes)) plan.printed) (number_distinct (map (λ (published : Published). published.node) plan.published)) (list_all (publication_lawful plan.nodes) plan.published)
+    (nat_le (published_words plan.published) 1048576) h
 
 pub lawful_node : (plan : Plan) (n : ℕ) (node : Node) → is_lawful plan ≡ true → n < length plan.nodes → node ≡ get_or plan.nodes n node → IsLawfulNode plan.nodes n node
 lawful_node plan n node h within here =
     let tests = plan_tests plan h in
     let start : 0 + n ≡ n = omega arith in
-    let own : node_lawful plan.nodes (n, node) ≡ true = subst (λ k. node_lawful plan.nodes (k, node) ≡ true) start (numbered_at (node_lawful plan.nodes) 0 plan.nodes n node tests.1 within here) in
+    let own : node_lawful plan.nodes (n, node) ≡ true = subst (λ k. node_lawful plan.nodes (k, node) ≡ true) start (numbered_at (node_lawful plan.nodes) 0 plan.nodes n node tests.0 within here) in
     let parts = seven_tests (is_name node.name) (list_all (λ (column : ColumnSpec). is_name column.name) node.columns) (are_distinct (map (λ (column : ColumnSpec). column.name) node.columns)) (nat_le 1 (length node.columns))
-        (nat_le (length node.columns) 32) (list_all (λ input. nat_lt input n) (inputs_of node.op)) (columns_fit node.op (columns_at plan.nodes) node.columns) own in
+    (nat_le (length node.columns) 32) (list_all (λ input. nat_lt input n) (inputs_of node.op)) (columns_fit node.op (columns_at plan.nodes) node.columns) own in
     record {
       lesser = lesser_of n (inputs_of node.op) parts.1;
       fits = parts.2;
       narrow = leb-true (length node.columns) 32 parts.0;
-      room = bound_below (2 ^ 62) plan.nodes n tests.2 within;
+      room = bound_below (2 ^ 62) plan.nodes n tests.1 within;
     }

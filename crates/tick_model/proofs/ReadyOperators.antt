@@ -40,8 +40,7 @@ pub ready_is : (op : Op) (columns : ℕ → List ColumnSpec) (bound : ℕ → �
 ready_is Source columns bound tables cols o fit narrow known h room = absurd o
 ready_is (Keep from test) columns bound tables cols o fit narrow known h room =
     let parts = and_parts (same_columns cols (columns from) && test_fits test (kinds_of (columns from))) (is_test_bound test) fit in
-    let fits = (and_parts (same_columns cols (columns from)) (test_fits test (kinds_of (columns from))) parts.0).1 in
-    (
+    let fits = (and_parts (same_columns cols (columns from)) (test_fits test (kinds_of (columns from))) parts.0).1 in (
       known.0,
       whole_of (length (columns from)) (bound from) (table_in tables from) h.0,
       subst (λ width. IsTestWithin width test) (kinds_count (columns from) ∙ sym h.0.width_is) (test_within test (kinds_of (columns from)) fits parts.1),
@@ -52,8 +51,7 @@ ready_is (View from exprs) columns bound tables cols o fit narrow known h room =
     let bounds = (and_parts (some_of exprs) (list_all is_bound exprs) parts.0).1 in
     let count : length kinds ≡ length exprs = length-map exprs (λ expr. kind_of expr (kinds_of (columns from))) in
     let width : length cols ≡ length (columns from) + length kinds = follow_width cols (columns from) kinds parts.1 in
-    let own : (table_in tables from).width ≡ length (columns from) = h.0.width_is in
-    (
+    let own : (table_in tables from).width ≡ length (columns from) = h.0.width_is in (
       known.0,
       whole_of (length (columns from)) (bound from) (table_in tables from) h.0,
       subst (λ width. All (IsWithin width) exprs) (kinds_count (columns from) ∙ sym own) (all_from (IsWithin (length (kinds_of (columns from)))) exprs (all_within exprs (kinds_of (columns from)) (follow_some cols (columns from) kinds parts.1) bounds)),

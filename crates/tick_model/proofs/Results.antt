@@ -159,8 +159,7 @@ merged_room limit width bound table (input ∷ inputs) offset small h room =
     let total : sum (map bound (input ∷ inputs)) ≡ bound input + sum (map bound inputs) = sum_by-cons (λ n. n) (bound input) (map bound inputs) in
     let within : region (table input) ≤ bound input = region_below (width input) (bound input) (table input) h.0 in
     let last : last_key (table input).rows < bound input = last_key_below (width input) (bound input) (table input) h.0 in
-    let fits : offset + bound input ≤ 2 ^ 62 = omega (arith, total, room, small) in
-    (
+    let fits : offset + bound input ≤ 2 ^ 62 = omega (arith, total, room, small) in (
       record {
         keys = all_from (λ row. row.key + offset < 2 ^ 62) (table input).rows (every_weaker (λ row. row.key < bound input) (λ row. row.key + offset < 2 ^ 62) (table input).rows (λ row k. omega (arith, k, fits)) h.0.below);
         last = omega (arith, last, fits);
@@ -178,8 +177,8 @@ merged_below limit width bound table (input ∷ inputs) offset h room =
     let within : region (table input) ≤ bound input = region_below (width input) (bound input) (table input) h.0 in
     let fits : offset + bound input ≤ limit = omega (arith, total, room) in
     every-append (λ row. row.key < limit) (map (row_from offset) (table input).rows) (merged_rows (offset + region (table input)) (map table inputs))
-        (every-map (λ row. row.key < limit) (row_from offset) (table input).rows (every_weaker (λ row. row.key < bound input) (λ row. row.key + offset < limit) (table input).rows (λ row k. omega (arith, k, fits)) h.0.below))
-        (merged_below limit width bound table inputs (offset + region (table input)) h.1 (omega (arith, total, room, within)))
+    (every-map (λ row. row.key < limit) (row_from offset) (table input).rows (every_weaker (λ row. row.key < bound input) (λ row. row.key + offset < limit) (table input).rows (λ row k. omega (arith, k, fits)) h.0.below))
+    (merged_below limit width bound table inputs (offset + region (table input)) h.1 (omega (arith, total, room, within)))
 
 merged_whole : (wanted : ℕ) (width bound : ℕ → ℕ) (table : ℕ → PlainTable) (inputs : List ℕ) (offset : ℕ) → AreResults width bound table inputs → AllByRecursion (λ input. width input ≡ wanted) inputs
     → AllByRecursion (λ row. length row.cells ≡ wanted) (merged_rows offset (map table inputs))

@@ -4,19 +4,8 @@ ghost use Rattle.std.specs.Prelude.{◌≡◌, ◌^◌, ◌<◌, ◌≤◌, map,
 ghost use Rattle.std.specs.List.{All, list_all};
 ghost use Rattle.tick_model.specs.Plans.{bound_of as bound_in, key_bounds};
 
+use crate::limits::{KEY_SPACE, MOST_NODES, MOST_ROWS, SOURCE_KEYS};
 use crate::plan::{Node, Op};
-
-/// The most nodes of a plan.
-pub const MOST_NODES: usize = 256;
-
-/// Each key is below it.
-pub const KEY_SPACE: u64 = 1 << 62;
-
-/// Each key of a source is below it.
-const SOURCE_KEYS: u64 = 1 << 40;
-
-/// Each key of a sort is below it, since a node has no more rows.
-const SORT_KEYS: u64 = 4_194_304;
 
 fn bound_at(bounds: &[u64], node: u32) -> u64
     ensures { result ≡ slice_index bounds.now node }
@@ -24,7 +13,7 @@ fn bound_at(bounds: &[u64], node: u32) -> u64
     bounds.get(node as usize).copied().unwrap_or(0)
 }
 
-// The sum of the inputs' bounds, each counted as often as it is named.
+/// The sum of the inputs' bounds, each counted as often as it is named.
 fn sum_of_bounds(bounds: &[u64], inputs: &[u32]) -> u128
     requires { All (λ bound. bound < 2 ^ 62) bounds.now }
     ensures { result ≡ sum (map (slice_index bounds.now) inputs.now) }
@@ -36,7 +25,7 @@ fn sum_of_bounds(bounds: &[u64], inputs: &[u32]) -> u128
     sum
 }
 
-// The bound of a node, from those of the nodes before it.
+/// The bound of a node, from those of the nodes before it.
 fn bound_of(op: &Op, bounds: &[u64]) -> u128
     requires { All (λ bound. bound < 2 ^ 62) bounds.now }
     ensures { result ≡ bound_in op.now (slice_index bounds.now) }
@@ -50,7 +39,7 @@ fn bound_of(op: &Op, bounds: &[u64]) -> u128
         | Op::Tail { input, .. } => u128::from(bound_at(bounds, *input)),
         Op::Join { left, .. } | Op::AsOf { left, .. } => u128::from(bound_at(bounds, *left)),
         Op::Merge { inputs } => sum_of_bounds(bounds, inputs.as_slice()),
-        Op::Sort { .. } => u128::from(SORT_KEYS),
+        Op::Sort { .. } => u128::from(MOST_ROWS),
     }
 }
 

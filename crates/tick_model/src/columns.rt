@@ -5,16 +5,11 @@ ghost use Rattle.std.specs.List.{list_all};
 ghost use Rattle.tick_model.specs.Names.{same_name};
 ghost use Rattle.tick_model.specs.Plans.{same_kind, has_kind as has_kind_of, is_bound as is_bound_in, same_columns as same_columns_of, have_kinds as have_kinds_of, follow as follow_of, kind_at as kind_in, same_kind_at as same_kind_in, some_of, agg_kind, columns_fit as columns_fit_of, columns_at as columns_in};
 
-
-use crate::kinds::{is_bound, is_test_bound, kind_at, kind_of, kinds_meet, long_alone, same_kind, test_fits};
+use crate::kinds::{
+    is_bound, is_test_bound, kind_at, kind_of, kinds_meet, long_alone, same_kind, test_fits,
+};
+use crate::limits::{FEWEST_INPUTS, MOST_INPUTS, MOST_ROWS};
 use crate::plan::{Agg, ColumnSpec, Expr, Kind, Node, OnPair, Op, Pred, SortBy};
-
-/// The most rows that a head or a tail may ask for.
-const MOST_ROWS: u32 = 4_194_304;
-
-/// How many inputs a merge may have.
-const FEWEST_INPUTS: usize = 2;
-const MOST_INPUTS: usize = 16;
 
 /// What has a kind over the columns of an input, as a formula, the number of a column and an aggregate have.
 trait KindOver {
@@ -58,7 +53,9 @@ impl KindOver for Agg {
         match self {
             Agg::Count => Some(Kind::Long),
             Agg::Sum(column) => long_alone(kind_at(input, *column)),
-            Agg::Min(column) | Agg::Max(column) | Agg::First(column) | Agg::Last(column) => kind_at(input, *column),
+            Agg::Min(column) | Agg::Max(column) | Agg::First(column) | Agg::Last(column) => kind_at(
+                input, *column,
+            ),
         }
     }
 }
@@ -111,7 +108,12 @@ fn have_kinds<T: KindOver>(columns: &[ColumnSpec], items: &[T], input: &[ColumnS
 }
 
 /// Whether the columns are those of an input, followed by one for each item, of its kind over another input.
-fn follow<T: KindOver>(columns: &[ColumnSpec], input: &[ColumnSpec], items: &[T], other: &[ColumnSpec]) -> bool
+fn follow<T: KindOver>(
+    columns: &[ColumnSpec],
+    input: &[ColumnSpec],
+    items: &[T],
+    other: &[ColumnSpec],
+) -> bool
     ensures { result ≡ follow_of columns.now input.now (map (T.kind_by other.now) items.now) }
 {
     if columns.len() < input.len() {
@@ -236,7 +238,13 @@ pub fn columns_fit(op: &Op, nodes: &[Node], columns: &[ColumnSpec]) -> bool
             let exprs = exprs.as_slice();
             has_members(exprs) && are_bound(exprs) && follow(columns, input, exprs, input)
         }
-        Op::Join { left, right, on, take, choice: _ } => {
+        Op::Join {
+            left,
+            right,
+            on,
+            take,
+            choice: _,
+        } => {
             let left = columns_at(nodes, *left);
             let right = columns_at(nodes, *right);
             let taken = take.as_slice();
@@ -247,7 +255,8 @@ pub fn columns_fit(op: &Op, nodes: &[Node], columns: &[ColumnSpec]) -> bool
         }
         Op::Agg { input, by, aggs } => {
             let input = columns_at(nodes, *input);
-            has_members(aggs.as_slice()) && are_of_groups(columns, by.as_slice(), aggs.as_slice(), input)
+            has_members(aggs.as_slice())
+                && are_of_groups(columns, by.as_slice(), aggs.as_slice(), input)
         }
         Op::Merge { inputs } => {
             FEWEST_INPUTS <= inputs.len()
@@ -256,12 +265,20 @@ pub fn columns_fit(op: &Op, nodes: &[Node], columns: &[ColumnSpec]) -> bool
         }
         Op::Sort { input, by } => {
             let input = columns_at(nodes, *input);
-            has_members(by.as_slice()) && same_columns(columns, input) && are_columns(input, by.as_slice())
+            has_members(by.as_slice())
+                && same_columns(columns, input)
+                && are_columns(input, by.as_slice())
         }
         Op::Head { input, rows } | Op::Tail { input, rows } => {
             same_columns(columns, columns_at(nodes, *input)) && *rows <= MOST_ROWS
         }
-        Op::AsOf { left, right, on, at, take } => {
+        Op::AsOf {
+            left,
+            right,
+            on,
+            at,
+            take,
+        } => {
             let left = columns_at(nodes, *left);
             let right = columns_at(nodes, *right);
             as_of_columns_fit(columns, left, right, on.as_slice(), *at, take.as_slice())

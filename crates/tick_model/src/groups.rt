@@ -40,7 +40,12 @@ fn is_first(by: &[u32], rows: &[PlainRow], row: &PlainRow) -> bool
 }
 
 /// The rows of a row's group.
-fn group_of(alloc: Global, by: &[u32], rows: &[PlainRow], row: &PlainRow) -> Result<Vec<PlainRow>, AllocError>
+fn group_of(
+    alloc: Global,
+    by: &[u32],
+    rows: &[PlainRow],
+    row: &PlainRow,
+) -> Result<Vec<PlainRow>, AllocError>
     ensures { IfOk result (λ group. group.items ≡ group_by by.now rows.now row.now) }
 {
     let mut group = Vec::new(alloc);
@@ -117,7 +122,13 @@ fn aggregate(rows: &[PlainRow], agg: Agg) -> i64
     }
 }
 
-fn agg_row(alloc: Global, by: &[u32], aggs: &[Agg], rows: &[PlainRow], row: &PlainRow) -> Result<PlainRow, AllocError>
+fn agg_row(
+    alloc: Global,
+    by: &[u32],
+    aggs: &[Agg],
+    rows: &[PlainRow],
+    row: &PlainRow,
+) -> Result<PlainRow, AllocError>
     ensures { IfOk result (λ made. made ≡ agg_row_of by.now aggs.now rows.now row.now) }
 {
     let group = group_of(alloc, by, rows, row)?;

@@ -26,7 +26,11 @@ fn agree(on: &[OnPair], left: &PlainRow, right: &PlainRow) -> bool
 }
 
 /// The first right row that matches, and the rows after it.
-fn next_match<'a>(on: &[OnPair], rows: &'a [PlainRow], left: &PlainRow) -> Option<(&'a PlainRow, &'a [PlainRow])>
+fn next_match<'a>(
+    on: &[OnPair],
+    rows: &'a [PlainRow],
+    left: &PlainRow,
+) -> Option<(&'a PlainRow, &'a [PlainRow])>
     ensures { MatchOption result (matches_of on.now rows.now left.now ≡ []) (λ next. matches_of on.now rows.now left.now ≡ next.0.now ∷ matches_of on.now next.1.now left.now) }
 {
     for (i, right) in rows.iter().enumerate() {
@@ -59,7 +63,12 @@ fn last_match<'a>(on: &[OnPair], rows: &'a [PlainRow], left: &PlainRow) -> Optio
 }
 
 /// The right row that a choice takes.
-fn chosen<'a>(on: &[OnPair], choice: Choice, rows: &'a [PlainRow], left: &PlainRow) -> Option<&'a PlainRow>
+fn chosen<'a>(
+    on: &[OnPair],
+    choice: Choice,
+    rows: &'a [PlainRow],
+    left: &PlainRow,
+) -> Option<&'a PlainRow>
     ensures { option_copied result ≡ chosen_of choice (matches_of on.now rows.now left.now) }
 {
     match choice {
@@ -91,7 +100,12 @@ fn taken_cell(right: Option<&PlainRow>, column: u32) -> i64
 }
 
 /// A left row, followed by the taken cells of a right row, or by nulls.
-fn joined(alloc: Global, take: &[u32], left: &PlainRow, right: Option<&PlainRow>) -> Result<PlainRow, AllocError>
+fn joined(
+    alloc: Global,
+    take: &[u32],
+    left: &PlainRow,
+    right: Option<&PlainRow>,
+) -> Result<PlainRow, AllocError>
     ensures { IfOk result (λ row. row ≡ joined_row take.now (λ _. option_copied right.entry) left.now) }
 {
     let mut cells = left.cells.as_slice().to_vec(alloc)?;
@@ -117,7 +131,12 @@ fn first_duplicate(on: &[OnPair], left: &[PlainRow], right: &[PlainRow]) -> Opti
 }
 
 /// That a left row has two matches, where the choice is that there be one.
-pub fn join_fault(on: &[OnPair], choice: Choice, left: &PlainTable, right: &PlainTable) -> Option<NodeFault>
+pub fn join_fault(
+    on: &[OnPair],
+    choice: Choice,
+    left: &PlainTable,
+    right: &PlainTable,
+) -> Option<NodeFault>
     ensures { result ≡ join_fault_of on.now choice left.now right.now }
 {
     match choice {
@@ -147,20 +166,27 @@ pub fn joined_rows(
 fn is_not_later(on: &[OnPair], at: OnPair, left: &PlainRow, right: &PlainRow) -> bool
     ensures { result ≡ (agree_on on.now left.now right.now && int_le (cell_of right.now.cells at.right) (cell_of left.now.cells at.left)) }
 {
-    agree(on, left, right) && cell(right.cells.as_slice(), at.right) <= cell(left.cells.as_slice(), at.left)
+    agree(on, left, right)
+        && cell(right.cells.as_slice(), at.right) <= cell(left.cells.as_slice(), at.left)
 }
 
 fn later<'a>(column: u32, best: Option<&'a PlainRow>, row: &'a PlainRow) -> &'a PlainRow
     ensures { result.now ≡ option_map_or (λ best. later_of column best row.now) (option_copied best.entry) row.now }
 {
     match best {
-        Some(best) if cell(best.cells.as_slice(), column) > cell(row.cells.as_slice(), column) => best,
+        Some(best) if cell(best.cells.as_slice(), column) > cell(row.cells.as_slice(), column) =>
+            best,
         _ => row,
     }
 }
 
 /// The latest right row that is not later than a left row, and the last of those.
-fn latest<'a>(on: &[OnPair], at: OnPair, rows: &'a [PlainRow], left: &PlainRow) -> Option<&'a PlainRow>
+fn latest<'a>(
+    on: &[OnPair],
+    at: OnPair,
+    rows: &'a [PlainRow],
+    left: &PlainRow,
+) -> Option<&'a PlainRow>
     ensures { option_copied result ≡ latest_of at.right (not_later on.now at rows.now left.now) }
 {
     let mut best: Option<&'a PlainRow> = None;

@@ -81,7 +81,10 @@ pub fn kind_of<T: HasKind>(expr: &Expr, columns: &[T]) -> Option<Kind>
         Expr::Number(_) | Expr::Null => Some(Kind::Long),
         Expr::Literal(_) | Expr::Rank(_) => Some(Kind::Text),
         Expr::Neg(a) => long_alone(kind_of(a, columns)),
-        Expr::Add(a, b) | Expr::Sub(a, b) | Expr::Mul(a, b) => both_long(kind_of(a, columns), kind_of(b, columns)),
+        Expr::Add(a, b) | Expr::Sub(a, b) | Expr::Mul(a, b) => both_long(
+            kind_of(a, columns),
+            kind_of(b, columns),
+        ),
     }
 }
 

@@ -6,21 +6,13 @@ ghost use Rattle.tick_model.specs.Evaluation.{inputs_of};
 ghost use Rattle.tick_model.specs.Names.{is_name as is_name_of, are_distinct as are_distinct_names};
 ghost use Rattle.tick_model.specs.Plans.{columns_fit as columns_fit_of, columns_at as columns_in, key_bounds, node_lawful, publication_lawful, number_distinct, rises as rises_in, published_words as words_of, is_lawful};
 
-use crate::bounds::{MOST_NODES, have_key_space};
+use crate::bounds::have_key_space;
 use crate::columns::{columns_at, columns_fit};
 use crate::items::Items;
+use crate::limits::{MOST_COLUMNS, MOST_NODES, MOST_ROWS, MOST_WORDS};
 use crate::names::{Named, are_distinct, is_name};
 use crate::plan::{ColumnSpec, Node, Op, Plan, Published};
 use crate::published::published_words;
-
-/// The most columns of a node.
-const MOST_COLUMNS: usize = 32;
-
-/// The most rows that a published table may be allowed.
-const MOST_ROWS: u32 = 4_194_304;
-
-/// The most words of the snapshot store.
-const MOST_WORDS: u128 = 1_048_576;
 
 fn have_names(columns: &[ColumnSpec]) -> bool
     ensures { result ≡ list_all (λ column. is_name_of column.name) columns.now }
@@ -36,7 +28,10 @@ fn have_names(columns: &[ColumnSpec]) -> bool
 fn are_columns_lawful(columns: &[ColumnSpec]) -> bool
     ensures { result ≡ (list_all (λ column. is_name_of column.name) columns.now && are_distinct_names (map (λ column. column.name) columns.now) && nat_le 1 (length columns.now) && nat_le (length columns.now) 32) }
 {
-    have_names(columns) && are_distinct(columns) && 1 <= columns.len() && columns.len() <= MOST_COLUMNS
+    have_names(columns)
+        && are_distinct(columns)
+        && 1 <= columns.len()
+        && columns.len() <= MOST_COLUMNS
 }
 
 fn are_lesser(inputs: &[u32], number: usize) -> bool
@@ -77,7 +72,9 @@ fn has_lawful_op(nodes: &[Node], number: usize, node: &Node) -> bool
 fn is_node_lawful(nodes: &[Node], number: usize, node: &Node) -> bool
     ensures { result ≡ node_lawful nodes.now (number, node.now) }
 {
-    is_name(node.name()) && are_columns_lawful(node.columns.as_slice()) && has_lawful_op(nodes, number, node)
+    is_name(node.name())
+        && are_columns_lawful(node.columns.as_slice())
+        && has_lawful_op(nodes, number, node)
 }
 
 fn is_each_node_lawful(nodes: &[Node]) -> bool
@@ -94,7 +91,10 @@ fn is_each_node_lawful(nodes: &[Node]) -> bool
 fn are_nodes_lawful(nodes: &[Node]) -> bool
     ensures { result ≡ (nat_le (length nodes.now) 256 && are_distinct_names (map (λ node. node.name) nodes.now) && list_all (node_lawful nodes.now) (enumerate_from 0 nodes.now) && list_all (λ bound. nat_lt bound (2 ^ 62)) (key_bounds nodes.now)) }
 {
-    nodes.len() <= MOST_NODES && are_distinct(nodes) && is_each_node_lawful(nodes) && have_key_space(nodes)
+    nodes.len() <= MOST_NODES
+        && are_distinct(nodes)
+        && is_each_node_lawful(nodes)
+        && have_key_space(nodes)
 }
 
 fn rises(numbers: &[u32]) -> bool

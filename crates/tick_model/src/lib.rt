@@ -11,6 +11,7 @@ pub mod items;
 pub mod joins;
 pub mod kinds;
 pub mod lawful;
+pub mod limits;
 pub mod merges;
 pub mod name;
 pub mod names;

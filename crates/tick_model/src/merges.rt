@@ -6,14 +6,12 @@ ghost use Rattle.tick_model.specs.Merge.{last_key as last_key_of, region as regi
 ghost use Rattle.tick_model.specs.Ready.{table_in, HaveRoom};
 
 use crate::items::Items;
+use crate::limits::MOST_ROWS;
 use crate::table::{NodeFault, PlainRow, PlainTable};
 use std::alloc::{AllocError, Global};
 
 /// Regions are multiples of it.
 const REGION: u64 = 65_536;
-
-/// The most rows of a merge.
-const MOST_ROWS: u64 = 4_194_304;
 
 fn last_key(rows: &[PlainRow]) -> u64
     ensures { result ≡ last_key_of rows.now }
@@ -59,7 +57,11 @@ fn push_rows(
 }
 
 /// The rows of the inputs, in order of the inputs.
-pub fn merged_rows(alloc: Global, tables: &[PlainTable], inputs: &[u32]) -> Result<Items<PlainRow>, AllocError>
+pub fn merged_rows(
+    alloc: Global,
+    tables: &[PlainTable],
+    inputs: &[u32],
+) -> Result<Items<PlainRow>, AllocError>
     requires known { All (λ input. input < length tables.now) inputs.now }
     requires room { HaveRoom 0 (map (table_in tables.now) inputs.now) }
     ensures { IfOk result (λ rows. rows ≡ merged_rows_of 0 (map (table_in tables.now) inputs.now)) }
@@ -85,7 +87,7 @@ pub fn merge_fault(tables: &[PlainTable], inputs: &[u32]) -> Option<NodeFault>
     for input in inputs {
         rows += tables[*input as usize].rows.len() as u64;
     }
-    if rows > MOST_ROWS {
+    if rows > u64::from(MOST_ROWS) {
         Some(NodeFault::TooManyRows { rows })
     } else {
         None

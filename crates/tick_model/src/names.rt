@@ -8,8 +8,9 @@ use crate::plan::{ColumnSpec, Node};
 
 /// The words of scripts that are no names.
 const RESERVED: [&str; 28] = [
-    "table", "from", "where", "view", "join", "on", "take", "agg", "by", "do", "merge", "sort", "head", "tail",
-    "print", "publish", "and", "or", "not", "null", "long", "text", "count", "sum", "min", "max", "first", "last",
+    "table", "from", "where", "view", "join", "on", "take", "agg", "by", "do", "merge", "sort",
+    "head", "tail", "print", "publish", "and", "or", "not", "null", "long", "text", "count", "sum",
+    "min", "max", "first", "last",
 ];
 
 /// The most bytes that may follow the first of a name.

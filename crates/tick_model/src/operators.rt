@@ -93,7 +93,14 @@ fn joined(
     if let Some(fault) = join_fault(on, choice, left, right) {
         return Err(NoTable::Fault(fault));
     }
-    let rows = joined_rows(alloc, on, take, choice, left.rows.as_slice(), right.rows.as_slice())?;
+    let rows = joined_rows(
+        alloc,
+        on,
+        take,
+        choice,
+        left.rows.as_slice(),
+        right.rows.as_slice(),
+    )?;
     Ok(PlainTable {
         width: left.width + take.len() as u32,
         rows,
@@ -111,14 +118,26 @@ fn joined_as_of(
     requires { left.now.width + length take.now < 2 ^ 32 }
     ensures { IfOk result (λ table. table ≡ asof_table on.now at take.now left.now right.now) }
 {
-    let rows = rows_as_of(alloc, on, at, take, left.rows.as_slice(), right.rows.as_slice())?;
+    let rows = rows_as_of(
+        alloc,
+        on,
+        at,
+        take,
+        left.rows.as_slice(),
+        right.rows.as_slice(),
+    )?;
     Ok(PlainTable {
         width: left.width + take.len() as u32,
         rows,
     })
 }
 
-fn grouped(alloc: Global, by: &[u32], aggs: &[Agg], input: &PlainTable) -> Result<PlainTable, AllocError>
+fn grouped(
+    alloc: Global,
+    by: &[u32],
+    aggs: &[Agg],
+    input: &PlainTable,
+) -> Result<PlainTable, AllocError>
     requires { length by.now + length aggs.now < 2 ^ 32 }
     ensures { IfOk result (λ table. table ≡ agg_table by.now aggs.now input.now) }
 {
@@ -179,19 +198,36 @@ pub fn operated(alloc: Global, op: &Op, tables: &[PlainTable]) -> Result<PlainTa
         Op::Source => unreachable!(),
         Op::Keep { input, test } => Ok(kept(alloc, test, &tables[*input as usize])?),
         Op::View { input, exprs } => Ok(viewed(alloc, exprs.as_slice(), &tables[*input as usize])?),
-        Op::Join { left, right, on, take, choice } => {
+        Op::Join {
+            left,
+            right,
+            on,
+            take,
+            choice,
+        } => {
             let left = &tables[*left as usize];
             let right = &tables[*right as usize];
             joined(alloc, on.as_slice(), take.as_slice(), *choice, left, right)
         }
         Op::Agg { input, by, aggs } => {
-            Ok(grouped(alloc, by.as_slice(), aggs.as_slice(), &tables[*input as usize])?)
+            Ok(grouped(
+                alloc,
+                by.as_slice(),
+                aggs.as_slice(),
+                &tables[*input as usize],
+            )?)
         }
         Op::Merge { inputs } => merged(alloc, tables, inputs.as_slice()),
         Op::Sort { input, by } => Ok(sorted(alloc, by.as_slice(), &tables[*input as usize])?),
         Op::Head { input, rows } => Ok(head(alloc, *rows, &tables[*input as usize])?),
         Op::Tail { input, rows } => Ok(tail(alloc, *rows, &tables[*input as usize])?),
-        Op::AsOf { left, right, on, at, take } => {
+        Op::AsOf {
+            left,
+            right,
+            on,
+            at,
+            take,
+        } => {
             let left = &tables[*left as usize];
             let right = &tables[*right as usize];
             Ok(joined_as_of(alloc, on.as_slice(), *at, take.as_slice(), left, right)?)

@@ -33,7 +33,11 @@ pub fn rows_copied(alloc: Global, rows: &[PlainRow]) -> Result<Vec<PlainRow>, Al
 }
 
 /// The first rows, or all where there are fewer.
-pub fn first_rows(alloc: Global, count: usize, rows: &[PlainRow]) -> Result<Items<PlainRow>, AllocError>
+pub fn first_rows(
+    alloc: Global,
+    count: usize,
+    rows: &[PlainRow],
+) -> Result<Items<PlainRow>, AllocError>
     ensures { IfOk result (λ first. first ≡ take count rows.now) }
 {
     let first = &rows[..count.min(rows.len())];
@@ -41,7 +45,11 @@ pub fn first_rows(alloc: Global, count: usize, rows: &[PlainRow]) -> Result<Item
 }
 
 /// The last rows, or all where there are fewer.
-pub fn last_rows(alloc: Global, count: usize, rows: &[PlainRow]) -> Result<Items<PlainRow>, AllocError>
+pub fn last_rows(
+    alloc: Global,
+    count: usize,
+    rows: &[PlainRow],
+) -> Result<Items<PlainRow>, AllocError>
     ensures { IfOk result (λ last. last ≡ drop (length rows.now - count) rows.now) }
 {
     let last = &rows[rows.len().saturating_sub(count)..];

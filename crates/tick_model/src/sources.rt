@@ -8,14 +8,9 @@ ghost use Rattle.tick_model.specs.Evaluation.{is_source as is_source_node};
 ghost use Rattle.tick_model.specs.Fits.{is_source_row as is_row_of, is_source_table as is_table_of, fit_sources};
 
 use crate::items::Items;
+use crate::limits::{MOST_ROWS, SOURCE_KEYS};
 use crate::plan::{Node, Op, Plan};
 use crate::table::{PlainRow, PlainTable};
-
-/// Each key of a source is below it.
-const SOURCE_KEYS: u64 = 1 << 40;
-
-/// The most rows of a source.
-const MOST_ROWS: usize = 4_194_304;
 
 /// Whether a node is a source.
 pub fn is_source(node: &Node) -> bool
@@ -56,7 +51,10 @@ fn is_source_table(width: usize, table: &PlainTable) -> bool
     ensures { result ≡ is_table_of width table.now }
 {
     let rows = table.rows.as_slice();
-    table.width as usize == width && rows.len() <= MOST_ROWS && have_rising_keys(rows) && are_source_rows(width, rows)
+    table.width as usize == width
+        && rows.len() <= MOST_ROWS as usize
+        && have_rising_keys(rows)
+        && are_source_rows(width, rows)
 }
 
 impl Plan {
