@@ -1,5 +1,5 @@
 -- What aggregates say of a column, cell by cell.
-use Rattle.std.proofs.Common.{◌≡◌, refl, ap, ◌∙◌, ℕ, suc, ◌-◌, arith, Bool, true, false, cond, not, List, [], ◌∷◌, map, length, ℤ, Option, Some, None, unwrap_or}
+use Rattle.std.proofs.Common.{◌≡◌, refl, ap, ◌∙◌, ℕ, ◌-◌, arith, true, false, cond, not, List, [], ◌∷◌, length, ℤ, Some, None, unwrap_or}
 use Rattle.std.specs.Prelude.{fold, slice_get}
 use Rattle.std.specs.Option.{option_map_or}
 use Rattle.tick_model.specs.declared.table.PlainRow.{PlainRow}

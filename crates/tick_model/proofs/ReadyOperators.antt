@@ -1,17 +1,15 @@
 -- A lawful operator may be applied to its inputs' tables, and what comes of it is its outcome.
-use Rattle.std.proofs.Common.{◌≡◌, refl, ap, ap₂, sym, ◌∙◌, subst, Bool, true, false, ◌&&◌, ℕ, ◌+◌, ◌^◌, ◌<◌, ◌≤◌, arith, List, [], ◌∷◌, ◌++◌, length, map, sum, get_or, length-append, Some}
-use Rattle.std.specs.Prelude.{nat_le, is_some}
+use Rattle.std.proofs.Common.{◌≡◌, refl, ap, ap₂, sym, ◌∙◌, subst, Bool, true, false, ◌&&◌, ℕ, ◌+◌, ◌^◌, ◌<◌, ◌≤◌, arith, List, [], ◌∷◌, ◌++◌, length, map, sum, length-append}
+use Rattle.std.specs.Prelude.{nat_le}
 use Rattle.std.specs.List.{All, AllByRecursion, list_all}
 use Rattle.std.proofs.lemmas.Bool.{and_parts, leb-true}
 use Rattle.std.proofs.lemmas.List.{length-map, get_or-map}
 use Rattle.std.proofs.lemmas.List.Elements.{recursion_from_All}
 use Rattle.key_lists.proofs.Every.{every_weaker, all_from, map_same}
 use Rattle.tick_model.specs.declared.plan.ColumnSpec.{ColumnSpec}
-use Rattle.tick_model.specs.declared.plan.Expr.{Expr}
 use Rattle.tick_model.specs.declared.plan.Kind.TheVariants.{Long}
 use Rattle.tick_model.specs.declared.plan.Op.{Op}
 use Rattle.tick_model.specs.declared.plan.Op.TheVariants.{Source, Keep, View, Join, Agg as AggOp, Merge, Sort, Head, Tail, AsOf}
-use Rattle.tick_model.specs.declared.table.PlainRow.{PlainRow}
 use Rattle.tick_model.specs.declared.table.PlainTable.{PlainTable}
 use Rattle.tick_model.specs.Formulas.{IsWithin, IsTestWithin}
 use Rattle.tick_model.specs.Where.{where_table}
@@ -24,8 +22,8 @@ use Rattle.tick_model.specs.Sort.{sort_table}
 use Rattle.tick_model.specs.HeadTail.{head_table, tail_table}
 use Rattle.tick_model.specs.Plans.{kinds_of, kind_of, kind_at, agg_kind, test_fits, is_bound, is_test_bound, same_columns, have_kinds, follow, some_of, same_kind_at, has_kind, columns_fit, bound_of}
 use Rattle.tick_model.specs.Evaluation.{Outcome, Table, NoInput, has_table, outcome_at, table_at, table_of, inputs_of, result, fault_of, or_fault, applied, outcome_of, no_table}
-use Rattle.tick_model.specs.Ready.{table_in, IsWhole, AreMergeable, IsReady, IsNodeReady}
-use Rattle.tick_model.proofs.Widths.{same_width, kinds_width, follow_width, follow_some, test_within, all_within}
+use Rattle.tick_model.specs.Ready.{table_in, IsWhole, IsReady, IsNodeReady}
+use Rattle.tick_model.proofs.Widths.{kinds_width, follow_width, follow_some, test_within, all_within}
 use Rattle.tick_model.proofs.Results.{IsResult, AreResults, IsOperator, merged_room}
 
 whole_of : (width bound : ℕ) (table : PlainTable) → IsResult width bound table → IsWhole table

@@ -1,37 +1,35 @@
 -- What a node's table keeps to, where the tables of its inputs do.
-use Rattle.std.proofs.Common.{◌≡◌, refl, ap, ap₂, sym, ◌∙◌, subst, Bool, true, false, cond, ◌&&◌, ℕ, suc, ◌+◌, ◌-◌, ◌*◌, ◌^◌, ◌<◌, ◌≤◌, arith, List, [], ◌∷◌, ◌++◌, length, map, take, drop, filter, sum, Option, Some, None, length-append, length-drop, length-take, true≢false}
+use Rattle.std.proofs.Common.{◌≡◌, refl, ap, ap₂, sym, ◌∙◌, subst, Bool, true, false, cond, ◌&&◌, ℕ, suc, ◌+◌, ◌-◌, ◌*◌, ◌^◌, ◌<◌, ◌≤◌, arith, List, [], ◌∷◌, ◌++◌, length, map, take, filter, sum, Option, Some, None, length-append, length-drop, length-take}
 use Rattle.std.specs.Prelude.{nat_lt, nat_le, is_some}
-use Rattle.std.specs.List.{All, AllByRecursion, sum_by, list_all}
+use Rattle.std.specs.List.{AllByRecursion, sum_by, list_all}
 use Rattle.std.proofs.lemmas.Bool.{and_parts, leb-true, ltb-false}
 use Rattle.std.proofs.lemmas.List.{length-map}
 use Rattle.std.proofs.lemmas.List.Sums.{length-filter, count_by-le-length, sum_by-cons}
-use Rattle.key_lists.proofs.Every.{every_weaker, every_both, every-map, every-filter, every-append, all_from}
+use Rattle.key_lists.proofs.Every.{every_weaker, every-map, every-filter, every-append, all_from}
 use Rattle.tick_model.specs.declared.plan.Agg.{Agg}
 use Rattle.tick_model.specs.declared.plan.ColumnSpec.{ColumnSpec}
 use Rattle.tick_model.specs.declared.plan.Expr.{Expr}
-use Rattle.tick_model.specs.declared.plan.Kind.{Kind}
 use Rattle.tick_model.specs.declared.plan.Kind.TheVariants.{Long}
 use Rattle.tick_model.specs.declared.plan.Op.{Op}
 use Rattle.tick_model.specs.declared.plan.Op.TheVariants.{Source, Keep, View, Join, Agg as AggOp, Merge, Sort, Head, Tail, AsOf}
 use Rattle.tick_model.specs.declared.plan.Pred.{Pred}
 use Rattle.tick_model.specs.declared.plan.SortBy.{SortBy}
-use Rattle.tick_model.specs.declared.table.NodeFault.{NodeFault}
 use Rattle.tick_model.specs.declared.table.NodeFault.TheVariants.{TooManyRows}
 use Rattle.tick_model.specs.declared.table.PlainRow.{PlainRow}
 use Rattle.tick_model.specs.declared.table.PlainTable.{PlainTable}
-use Rattle.tick_model.specs.Formulas.{IsWithin, IsTestWithin, truth, value}
+use Rattle.tick_model.specs.Formulas.{truth, value}
 use Rattle.tick_model.specs.Where.{where_table}
 use Rattle.tick_model.specs.View.{view_row, view_table}
-use Rattle.tick_model.specs.Join.{taken, joined, join_fault, chosen, matches}
+use Rattle.tick_model.specs.Join.{taken, joined, chosen, matches}
 use Rattle.tick_model.specs.AsOf.{latest, not_later}
 use Rattle.tick_model.specs.Tables.{cell, null}
 use Rattle.tick_model.specs.Agg.{key_cells, group_of, aggregate, agg_row, is_first, agg_table}
-use Rattle.tick_model.specs.Merge.{last_key, region, row_from, merged_rows, width_of, merge_table, merge_fault}
-use Rattle.tick_model.specs.Sort.{in_order, sort_cmp, numbered, sort_table}
+use Rattle.tick_model.specs.Merge.{last_key, region, row_from, merged_rows, merge_table, merge_fault}
+use Rattle.tick_model.specs.Sort.{in_order, sort_table}
 use Rattle.tick_model.specs.HeadTail.{head_table, tail_table}
 use Rattle.tick_model.specs.Plans.{kinds_of, kind_of, kind_at, agg_kind, test_fits, is_bound, is_test_bound, same_columns, have_kinds, follow, some_of, same_kind_at, has_kind, columns_fit, bound_of}
-use Rattle.tick_model.specs.Evaluation.{inputs_of, result, fault_of, no_table}
-use Rattle.tick_model.specs.Ready.{HasRoom, HaveRoom}
+use Rattle.tick_model.specs.Evaluation.{inputs_of, result, fault_of}
+use Rattle.tick_model.specs.Ready.{HaveRoom}
 use Rattle.tick_model.proofs.TableRows.{every-take, every-drop, every-ordered, length-ordered, length-numbered, numbered_whole, numbered_below, last_below, region_within}
 use Rattle.tick_model.proofs.Widths.{same_width, kinds_width, follow_width}
 

@@ -1,5 +1,5 @@
 -- Numbers that rise, where few are left.
-use Rattle.std.proofs.Common.{◌≡◌, refl, true, ℕ, ◌+◌, ◌-◌, ◌≤◌, arith, List, [], ◌∷◌, length, drop, length-drop}
+use Rattle.std.proofs.Common.{◌≡◌, refl, true, ℕ, ◌+◌, ◌≤◌, arith, List, [], ◌∷◌, length, drop, length-drop}
 use Rattle.tick_model.specs.Plans.{rises}
 
 pub rises_alone : (xs : List ℕ) → length xs ≤ 1 → rises xs ≡ true

@@ -1,5 +1,5 @@
 -- The least and the greatest cell of a column, cell by cell.
-use Rattle.std.specs.Prelude.{Option, Some, None, ℤ, if◌then◌else◌}
+use Rattle.std.specs.Prelude.{Option, Some, ℤ, if◌then◌else◌}
 use Rattle.std.specs.Option.{option_map_or}
 use Rattle.tick_model.specs.Tables.{is_null}
 

@@ -1,6 +1,6 @@
-use Rattle.std.proofs.Common.{◌≡◌, ◌^◌, ◌≤◌, ap, sym, ◌∙◌, subst, take, take_all, arith}
-use Rattle.std.specs.Prelude.{nat_lt, List, ℕ, ◌<◌}
-use Rattle.std.specs.List.{All, list_all}
+use Rattle.std.proofs.Common.{◌^◌, ap, sym, ◌∙◌, take, take_all, arith}
+use Rattle.std.specs.Prelude.{nat_lt}
+use Rattle.std.specs.List.{list_all}
 use Rattle.tick_model.specs.Plans.{key_bounds}
 use Rattle.tick_model.proofs.KeyBounds.{bound_fails, bounds_pass}
 use Rattle.tick_model.proofs.bounds.have_key_space.Goals as goal

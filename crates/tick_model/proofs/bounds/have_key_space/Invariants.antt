@@ -1,4 +1,4 @@
-use Rattle.std.proofs.Common.{◌≡◌, ◌^◌, ◌<◌, ◌≤◌, take}
+use Rattle.std.proofs.Common.{◌≡◌, ◌^◌, ◌<◌, take}
 use Rattle.std.specs.List.{All}
 use Rattle.tick_model.specs.Plans.{key_bounds}
 use Rattle.tick_model.proofs.bounds.have_key_space.Given as goal

@@ -1,4 +1,4 @@
-use Rattle.std.proofs.Common.{◌≡◌, map, drop, is_some}
+use Rattle.std.proofs.Common.{◌≡◌, drop}
 use Rattle.std.specs.List.{list_all}
 use Rattle.tick_model.specs.Plans.{is_bound}
 use Rattle.tick_model.proofs.columns.are_bound.Given as goal

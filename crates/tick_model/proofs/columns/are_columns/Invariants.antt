@@ -1,4 +1,4 @@
-use Rattle.std.proofs.Common.{◌≡◌, map, drop, is_some}
+use Rattle.std.proofs.Common.{◌≡◌, drop, is_some}
 use Rattle.std.specs.List.{list_all}
 use Rattle.tick_model.specs.declared.plan.SortBy.{SortBy}
 use Rattle.tick_model.specs.Plans.{kind_at}

@@ -1,4 +1,4 @@
-use Rattle.std.proofs.Common.{◌≡◌, map, drop, is_some}
+use Rattle.std.proofs.Common.{◌≡◌, drop}
 use Rattle.std.specs.List.{list_all}
 use Rattle.tick_model.specs.Plans.{same_columns, columns_at}
 use Rattle.tick_model.proofs.columns.are_of_each.Given as goal

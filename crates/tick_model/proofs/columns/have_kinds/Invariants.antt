@@ -1,5 +1,4 @@
-use Rattle.std.proofs.Common.{◌≡◌, ◌≤◌, length, map, drop, is_some}
-use Rattle.std.specs.List.{list_all}
+use Rattle.std.proofs.Common.{◌≡◌, ◌≤◌, length, map, drop}
 use Rattle.tick_model.specs.Plans.{have_kinds}
 use Rattle.tick_model.proofs.columns.have_kinds.Given as goal
 

@@ -1,8 +1,4 @@
-use Rattle.std.proofs.Common.{◌≡◌, ◌++◌, ◌+◌, ◌≤◌, ◌*◌, map, filter, drop, take, length}
-use Rattle.std.specs.Prelude.{fold, None}
-use Rattle.std.specs.Ordering.{int_eq}
-use Rattle.std.specs.Cmp.Lexicographic.{pointwise}
-use Rattle.std.specs.Int.{int_min, int_max}
+use Rattle.std.proofs.Common.{◌≡◌, drop}
 use Rattle.tick_model.specs.Agg.{same_group}
 use Rattle.tick_model.proofs.groups.same_group.Given as goal
 

@@ -1,6 +1,4 @@
-use Rattle.std.proofs.Common.{◌≡◌, ◌++◌, map, filter, drop, take, length, ◌&&◌}
-use Rattle.std.specs.Prelude.{filter_map, None, int_le}
-use Rattle.std.specs.List.{list_all}
+use Rattle.std.proofs.Common.{◌≡◌, ◌++◌, map, take}
 use Rattle.std.specs.Option.{option_copied, option_map_or}
 use Rattle.tick_model.specs.Tables.{null, cell}
 use Rattle.tick_model.specs.declared.table.PlainRow.{PlainRow}

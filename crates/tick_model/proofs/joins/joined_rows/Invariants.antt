@@ -1,7 +1,4 @@
-use Rattle.std.proofs.Common.{◌≡◌, ◌++◌, map, filter, drop, take, length, ◌&&◌}
-use Rattle.std.specs.Prelude.{filter_map, None, int_le}
-use Rattle.std.specs.List.{list_all}
-use Rattle.std.specs.Option.{option_copied, option_map_or}
+use Rattle.std.proofs.Common.{◌≡◌, map, take}
 use Rattle.tick_model.specs.Join.{matches, chosen, joined}
 use Rattle.tick_model.proofs.joins.joined_rows.Given as goal
 

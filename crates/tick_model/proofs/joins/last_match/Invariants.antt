@@ -1,7 +1,5 @@
-use Rattle.std.proofs.Common.{◌≡◌, ◌++◌, map, filter, drop, take, length, ◌&&◌}
-use Rattle.std.specs.Prelude.{filter_map, None, int_le}
-use Rattle.std.specs.List.{list_all}
-use Rattle.std.specs.Option.{option_copied, option_map_or}
+use Rattle.std.proofs.Common.{◌≡◌, take}
+use Rattle.std.specs.Option.{option_copied}
 use Rattle.tick_model.specs.Join.{matches, chosen}
 use Rattle.tick_model.specs.declared.plan.Choice.TheVariants.{Last}
 use Rattle.tick_model.proofs.joins.last_match.Given as goal

@@ -1,6 +1,4 @@
-use Rattle.std.proofs.Common.{◌≡◌, map, drop, length, not}
-use Rattle.std.specs.Prelude.{nat_lt, ◌==◌}
-use Rattle.std.specs.List.{list_all, enumerate_from}
+use Rattle.std.proofs.Common.{◌≡◌, map, drop}
 use Rattle.tick_model.specs.declared.plan.Published.{Published}
 use Rattle.tick_model.specs.Plans.{number_distinct}
 use Rattle.tick_model.proofs.lawful.are_published_once.Given as goal

@@ -1,5 +1,4 @@
-use Rattle.std.proofs.Common.{◌≡◌, map, drop, length, not}
-use Rattle.std.specs.Prelude.{nat_lt, ◌==◌}
+use Rattle.std.proofs.Common.{◌≡◌, drop}
 use Rattle.std.specs.List.{list_all, enumerate_from}
 use Rattle.tick_model.specs.Plans.{node_lawful}
 use Rattle.tick_model.proofs.lawful.is_each_node_lawful.Given as goal

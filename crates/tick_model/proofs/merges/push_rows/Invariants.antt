@@ -1,4 +1,4 @@
-use Rattle.std.proofs.Common.{◌≡◌, ◌++◌, ◌+◌, ◌≤◌, ◌*◌, map, drop, take, length}
+use Rattle.std.proofs.Common.{◌≡◌, ◌++◌, map, take}
 use Rattle.tick_model.specs.Merge.{row_from}
 use Rattle.tick_model.proofs.merges.push_rows.Given as goal
 
