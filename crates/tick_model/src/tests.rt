@@ -1,3 +1,5 @@
+//! The evaluator, the test of plans and the words of published tables on worked examples.
+
 use crate::evaluate::{EvalStop, evaluate};
 use crate::items::Items;
 use crate::kinds::{kind_of, test_fits};

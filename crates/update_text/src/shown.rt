@@ -1,3 +1,5 @@
+//! What is shown of a table: its name and its columns.
+
 use tick_model::items::Items;
 use tick_model::name::Name;
 use tick_model::plan::ColumnSpec;
