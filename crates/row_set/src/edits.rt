@@ -1,0 +1,217 @@
+//! Edits of a set's ranges in place, where there is room for them.
+ghost use Rattle.std.specs.Prelude.{◌≡◌, ◌+◌, ◌-◌, ◌^◌, ◌<◌, ◌≤◌, ◌∷◌, [], ◌++◌, length, take, drop, OnOk, vec_len, vec_capacity};
+ghost use Rattle.key_lists.specs.Keys.{without};
+ghost use Rattle.row_set.specs.Ranges.{AreApart, keys_of, keys_from, starts_of};
+ghost use Rattle.row_set.specs.Sets.{united};
+
+use crate::ranges::Range;
+use crate::search::{begun_by, ended_before};
+use std::alloc::AllocError;
+
+/// Makes room for some more ranges and their starts.
+pub(crate) fn make_room(
+    ranges: &mut Vec<Range>,
+    starts: &mut Vec<u64>,
+    more: usize,
+) -> Result<(), AllocError>
+    ensures ranges { ranges.new.items ≡ ranges.old.items }
+    ensures starts { starts.new.items ≡ starts.old.items }
+    ensures ranges_room { OnOk result (vec_len ranges.new + more ≤ vec_capacity ranges.new) }
+    ensures starts_room { OnOk result (vec_len starts.new + more ≤ vec_capacity starts.new) }
+{
+    ranges.reserve(more)?;
+    starts.reserve(more)
+}
+
+/// Puts other ranges in the place of those from `from` up to `to`. There is room for them.
+fn splice(ranges: &mut Vec<Range>, from: usize, to: usize, others: &[Range])
+    requires order { from ≤ to }
+    requires within { to ≤ vec_len ranges.old }
+    requires room { vec_len ranges.old + length others.now ≤ vec_capacity ranges.old + (to - from) }
+    ensures items { ranges.new.items ≡ take from ranges.old.items ++ (others.now ++ drop to ranges.old.items) }
+    ensures capacity { vec_capacity ranges.new ≡ vec_capacity ranges.old }
+{
+    let mut at = from;
+    for range in others {
+        if at < to {
+            ranges[at] = *range;
+        } else {
+            let _ = ranges.insert(at, *range);
+        }
+        at += 1;
+    }
+    if at < to {
+        let len = ranges.len();
+        ranges.copy_within(to..len, at);
+        ranges.truncate(len - (to - at));
+    }
+}
+
+/// Sets the starts of the ranges from `from` on. Those before are right, and there is room.
+pub(crate) fn recount(starts: &mut Vec<u64>, ranges: &[Range], from: usize)
+    requires within { from ≤ length ranges.now }
+    requires before { take from starts.old.items ≡ starts_of 0 (take from ranges.now) }
+    requires room { length ranges.now ≤ vec_capacity starts.old }
+    requires small { length (keys_of ranges.now) < 2 ^ 63 }
+    ensures starts { starts.new.items ≡ starts_of 0 ranges.now }
+    ensures capacity { vec_capacity starts.new ≡ vec_capacity starts.old }
+{
+    starts.truncate(from);
+    let mut next = match (ranges[..from].last(), starts.last()) {
+        (Some(range), Some(start)) => *start + (range.last - range.first + 1),
+        _ => 0,
+    };
+    for range in &ranges[from..] {
+        let _ = starts.push(next);
+        next += range.last - range.first + 1;
+    }
+}
+
+/// Adds every key from `first` to `last`. The ranges before the index that it gives stay.
+pub(crate) fn insert_keys(ranges: &mut Vec<Range>, first: u64, last: u64) -> usize
+    requires apart { AreApart 0 ranges.old.items }
+    requires order { first ≤ last }
+    requires small { last < 2 ^ 62 }
+    requires room { vec_len ranges.old < vec_capacity ranges.old }
+    ensures apart { AreApart 0 ranges.new.items }
+    ensures keys { keys_of ranges.new.items ≡ united (keys_from first last) (keys_of ranges.old.items) }
+    ensures within { result ≤ vec_len ranges.new }
+    ensures before { take result ranges.new.items ≡ take result ranges.old.items }
+    ensures growth { vec_len ranges.new ≤ vec_len ranges.old + 1 }
+    ensures capacity { vec_capacity ranges.new ≡ vec_capacity ranges.old }
+{
+    let from = ended_before(ranges, first.saturating_sub(1));
+    let to = begun_by(ranges, last + 1);
+    let joined = if from < to {
+        Range {
+            first: first.min(ranges[from].first),
+            last: last.max(ranges[to - 1].last),
+        }
+    } else {
+        Range { first, last }
+    };
+    splice(ranges, from, to, &[joined]);
+    from
+}
+
+/// Removes every key from `first` to `last`. The ranges before the index that it gives stay.
+pub(crate) fn remove_keys(ranges: &mut Vec<Range>, first: u64, last: u64) -> usize
+    requires apart { AreApart 0 ranges.old.items }
+    requires order { first ≤ last }
+    requires small { last < 2 ^ 62 }
+    requires room { vec_len ranges.old < vec_capacity ranges.old }
+    ensures apart { AreApart 0 ranges.new.items }
+    ensures keys { keys_of ranges.new.items ≡ without (keys_from first last) (keys_of ranges.old.items) }
+    ensures within { result ≤ vec_len ranges.new }
+    ensures before { take result ranges.new.items ≡ take result ranges.old.items }
+    ensures growth { vec_len ranges.new ≤ vec_len ranges.old + 1 }
+    ensures capacity { vec_capacity ranges.new ≡ vec_capacity ranges.old }
+{
+    let from = ended_before(ranges, first);
+    let to = begun_by(ranges, last);
+    if from == to {
+        return ranges.len();
+    }
+    let head = ranges[from];
+    let tail = ranges[to - 1];
+    let left = Range {
+        first: head.first,
+        last: first.saturating_sub(1),
+    };
+    let right = Range {
+        first: last + 1,
+        last: tail.last,
+    };
+    match (head.first < first, last < tail.last) {
+        (true, true) => splice(ranges, from, to, &[left, right]),
+        (true, false) => splice(ranges, from, to, &[left]),
+        (false, true) => splice(ranges, from, to, &[right]),
+        (false, false) => splice(ranges, from, to, &[]),
+    }
+    from
+}
+
+/// The key that a key moves to.
+fn moved(key: u64, delta: i64) -> u64
+    requires small { key < 2 ^ 62 }
+    requires lands { IsKey (pos key +ℤ delta) }
+    ensures { pos result ≡ pos key +ℤ delta }
+{
+    (key as i64 + delta) as u64
+}
+
+/// Moves every key from `first` to `last` by delta. The ranges before the index that it gives stay.
+pub(crate) fn shift_keys(ranges: &mut Vec<Range>, first: u64, last: u64, delta: i64) -> usize
+    requires apart { AreApart 0 ranges.old.items }
+    requires order { first ≤ last }
+    requires in_bounds { AllByRecursion (λ key. IsKey (moved_key first last delta key)) (keys_of ranges.old.items) }
+    requires rising { IsRising (moved_keys first last delta (keys_of ranges.old.items)) }
+    requires room { vec_len ranges.old + 2 ≤ vec_capacity ranges.old }
+    ensures apart { AreApart 0 ranges.new.items }
+    ensures keys { keys_of ranges.new.items ≡ moved_keys first last delta (keys_of ranges.old.items) }
+    ensures within { result ≤ vec_len ranges.new }
+    ensures before { take result ranges.new.items ≡ take result ranges.old.items }
+    ensures growth { vec_len ranges.new ≤ vec_len ranges.old + 2 }
+    ensures capacity { vec_capacity ranges.new ≡ vec_capacity ranges.old }
+{
+    let mut from = ended_before(ranges, first);
+    let mut to = begun_by(ranges, last);
+    if from == to {
+        return ranges.len();
+    }
+    let touched = from.saturating_sub(1);
+    if ranges[from].first < first {
+        split(ranges, from, first);
+        from += 1;
+        to += 1;
+    }
+    if last < ranges[to - 1].last {
+        split(ranges, to - 1, last + 1);
+    }
+    for index in from..to {
+        let range = ranges[index];
+        ranges[index] = Range {
+            first: moved(range.first, delta),
+            last: moved(range.last, delta),
+        };
+    }
+    join(ranges, to);
+    join(ranges, from);
+    touched
+}
+
+/// Makes two ranges of one, the second from `key` on.
+fn split(ranges: &mut Vec<Range>, index: usize, key: u64)
+    requires within { index < vec_len ranges.old }
+    requires room { vec_len ranges.old < vec_capacity ranges.old }
+    requires inside { 0 < key }
+{
+    let range = ranges[index];
+    let left = Range {
+        first: range.first,
+        last: key - 1,
+    };
+    let right = Range {
+        first: key,
+        last: range.last,
+    };
+    splice(ranges, index, index + 1, &[left, right]);
+}
+
+/// Makes one range of the two that meet at an index, where they touch.
+fn join(ranges: &mut Vec<Range>, index: usize)
+    requires within { index ≤ vec_len ranges.old }
+{
+    if index == 0 || index == ranges.len() {
+        return;
+    }
+    let left = ranges[index - 1];
+    let right = ranges[index];
+    if left.last + 1 == right.first {
+        let joined = Range {
+            first: left.first,
+            last: right.last,
+        };
+        splice(ranges, index - 1, index + 1, &[joined]);
+    }
+}
