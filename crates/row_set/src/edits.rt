@@ -1,8 +1,9 @@
 //! Edits of a set's ranges in place, where there is room for them.
-ghost use Rattle.std.specs.Prelude.{◌≡◌, ◌+◌, ◌-◌, ◌^◌, ◌<◌, ◌≤◌, ◌∷◌, [], ◌++◌, length, take, drop, OnOk, vec_len, vec_capacity};
-ghost use Rattle.key_lists.specs.Keys.{without};
+ghost use Rattle.std.specs.Prelude.{◌≡◌, pos, ◌+ℤ◌, ◌+◌, ◌-◌, ◌^◌, ◌<◌, ◌≤◌, ◌∷◌, [], ◌++◌, length, take, drop, OnOk, vec_len, vec_capacity};
+ghost use Rattle.std.specs.List.{AllByRecursion};
+ghost use Rattle.key_lists.specs.Keys.{IsRising, without};
 ghost use Rattle.row_set.specs.Ranges.{AreApart, keys_of, keys_from, starts_of};
-ghost use Rattle.row_set.specs.Sets.{united};
+ghost use Rattle.row_set.specs.Sets.{IsKey, moved_key, moved_keys, united};
 
 use crate::ranges::Range;
 use crate::search::{begun_by, ended_before};

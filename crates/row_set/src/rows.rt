@@ -1,14 +1,16 @@
 //! The set itself: what it is made of, what it answers and how it is edited.
 ghost use Rattle.std.specs.Prelude.{◌≡◌, ◌^◌, ◌<◌, ◌≤◌, ◌==◌, List, [], length, find, nat_le, IfOk, OnOk, OnErr, slice_get, take, drop};
-ghost use Rattle.key_lists.specs.Keys.{is_among, without};
+ghost use Rattle.std.specs.List.{AllByRecursion};
+ghost use Rattle.key_lists.specs.Keys.{IsRising, is_among, without};
 ghost use Rattle.row_set.specs.Ranges.{AreApart, holds, keys_from, keys_of, ranges_of};
 ghost use Rattle.row_set.specs.Choice.{chosen};
-ghost use Rattle.row_set.specs.Sets.{IsKeySet, count_below, common, found, last_key, united};
+ghost use Rattle.row_set.specs.Sets.{IsKey, moved_key, moved_keys, IsKeySet, count_below, common, found, last_key, united};
 
 use crate::algebra::{Choice, KEYS_END, rest_from, stretch_from};
-use crate::edits::{insert_keys, make_room, recount, remove_keys};
+use crate::edits::{insert_keys, make_room, recount, remove_keys, shift_keys};
 use crate::ranges::Range;
-use crate::search::{begun_by, ended_before, keys_before};
+use crate::search;
+use crate::search::{begun_by, ended_before};
 use std::alloc::{AllocError, Global};
 use std::marker::Model;
 
@@ -66,8 +68,7 @@ impl RowSet {
         ensures range { result ≡ find (holds key) (ranges_of self.now) }
         ensures keys { IsKeySet self.now }
     {
-        let range = self.ranges.get(ended_before(&self.ranges, key)).copied()?;
-        (range.first <= key).then_some(range)
+        search::range_at(&self.ranges, key)
     }
 
     /// The number of keys.
@@ -75,7 +76,7 @@ impl RowSet {
         ensures count { result ≡ length self.now }
         ensures keys { IsKeySet self.now }
     {
-        keys_before(&self.ranges, &self.starts, self.ranges.len())
+        search::count_keys(&self.ranges, &self.starts)
     }
 
     /// Whether there is no key.
@@ -91,11 +92,7 @@ impl RowSet {
         ensures key { result ≡ slice_get self.now position }
         ensures keys { IsKeySet self.now }
     {
-        let next = self.starts.partition_point(|start| *start <= position);
-        let index = next.checked_sub(1)?;
-        let range = self.ranges[index];
-        let offset = position - self.starts[index];
-        (offset <= range.last - range.first).then(|| range.first + offset)
+        search::key_at(&self.ranges, &self.starts, position)
     }
 
     /// The position of a key, or else, as an error, the number of smaller keys.
@@ -103,12 +100,7 @@ impl RowSet {
         ensures position { result ≡ found key self.now }
         ensures keys { IsKeySet self.now }
     {
-        let index = ended_before(&self.ranges, key);
-        let before = keys_before(&self.ranges, &self.starts, index);
-        match self.ranges.get(index) {
-            Some(range) if range.first <= key => Ok(before + (key - range.first)),
-            _ => Err(before),
-        }
+        search::position_of(&self.ranges, &self.starts, key)
     }
 
     /// The number of smaller keys.
@@ -126,7 +118,7 @@ impl RowSet {
         ensures key { result ≡ slice_get self.now 0 }
         ensures keys { IsKeySet self.now }
     {
-        self.ranges.first().map(|range| range.first)
+        search::first_key(&self.ranges)
     }
 
     /// The greatest key, or None where there is none.
@@ -134,7 +126,7 @@ impl RowSet {
         ensures key { result ≡ last_key self.now }
         ensures keys { IsKeySet self.now }
     {
-        self.ranges.last().map(|range| range.last)
+        search::last_key(&self.ranges)
     }
 
     /// The least key that is not below this one, or None where all are.
@@ -142,8 +134,7 @@ impl RowSet {
         ensures next { result ≡ find (nat_le key) self.now }
         ensures keys { IsKeySet self.now }
     {
-        let range = self.ranges.get(ended_before(&self.ranges, key))?;
-        Some(range.first.max(key))
+        search::next_key(&self.ranges, key)
     }
 
     /// The longest ranges of neighbouring keys, rising.

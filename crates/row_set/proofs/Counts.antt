@@ -1,0 +1,49 @@
+-- The positions at which ranges begin, and how many keys there are.
+use Rattle.std.proofs.Common.{◌≡◌, refl, ap, Bool, true, false, true≢false, ◌==◌, sym, ◌∙◌, subst, ℕ, zero, suc, ◌+◌, ◌-◌, ◌^◌, ◌<◌, ◌≤◌, arith, List, [], ◌∷◌, ◌++◌, length, take, drop, get_or, length-append, take_all}
+use Rattle.std.proofs.lemmas.List.{take_more}
+use Rattle.row_set.specs.declared.ranges.Range.{Range}
+use Rattle.row_set.specs.Ranges.{keys_in, keys_of, starts_of, AreApart, IsStored}
+use Rattle.row_set.proofs.Held.{keys_of-append, length-keys_in}
+use Rattle.row_set.proofs.Apart.{length_below}
+use Rattle.row_set.proofs.Places.{range_at}
+
+pub length-starts : (start : ℕ) (ranges : List Range) → length (starts_of start ranges) ≡ length ranges
+length-starts start [] = refl
+length-starts start (range ∷ ranges) = ap suc (length-starts (start + length (keys_in range)) ranges)
+
+pub start_at : (start i d : ℕ) (ranges : List Range) → i < length ranges → get_or (starts_of start ranges) i d ≡ start + length (keys_of (take i ranges))
+start_at start i d [] lt = absurd (omega arith)
+start_at start zero d (range ∷ ranges) lt = omega arith
+start_at start (suc i) d (range ∷ ranges) lt =
+    omega (arith, start_at (start + length (keys_in range)) i d ranges (omega arith), length-append (keys_in range) (keys_of (take i ranges)))
+
+pub stored_length : (ranges : List Range) (starts : List ℕ) → IsStored ranges starts → length starts ≡ length ranges
+stored_length ranges starts h = ap length h.placed ∙ length-starts 0 ranges
+
+pub stored_at : (i d : ℕ) (ranges : List Range) (starts : List ℕ) → IsStored ranges starts → i < length ranges → get_or starts i d ≡ length (keys_of (take i ranges))
+stored_at i d ranges starts h lt = ap (λ those. get_or those i d) h.placed ∙ omega (arith, start_at 0 i d ranges lt)
+
+-- one range more
+pub length-keys_more : (i : ℕ) (d : Range) (ranges : List Range) → AreApart 0 ranges → i < length ranges → length (keys_of (take (i + 1) ranges)) ≡ length (keys_of (take i ranges)) + ((get_or ranges i d).last - (get_or ranges i d).first + 1)
+length-keys_more i d ranges h lt =
+    let there = range_at 0 ranges h i d lt in
+    ap (λ those. length (keys_of those)) (take_more ranges i d lt)
+    ∙ ap length (keys_of-append (take i ranges) (get_or ranges i d ∷ []))
+    ∙ omega (arith, length-append (keys_of (take i ranges)) (keys_of (get_or ranges i d ∷ [])), length-append (keys_in (get_or ranges i d)) [], length-keys_in (get_or ranges i d), there.ascends)
+
+pub length-keys_all : (i : ℕ) (d : Range) (ranges : List Range) → AreApart 0 ranges → i + 1 ≡ length ranges → length (keys_of ranges) ≡ length (keys_of (take i ranges)) + ((get_or ranges i d).last - (get_or ranges i d).first + 1)
+length-keys_all i d ranges h e = ap (λ those. length (keys_of those)) (sym (take_all (i + 1) ranges (omega arith))) ∙ length-keys_more i d ranges h (omega arith)
+
+pub few_keys : (ranges : List Range) → AreApart 0 ranges → length (keys_of ranges) ≤ 2 ^ 62 + 1
+few_keys ranges h = omega (arith, length_below 0 ranges (omega arith) h)
+
+pub some_from_test : (n : ℕ) (b : Bool) → b ≡ false → b ≡ (n == 0) → 0 < n
+some_from_test zero b e f = absurd (true≢false (sym f ∙ e))
+some_from_test (suc n) b e f = omega arith
+
+abbrev pub blank : Range
+blank = record { first = 0; last = 0 }
+
+pub count_from_end : (ranges : List Range) (starts : List ℕ) → IsStored ranges starts → 0 < length ranges → get_or starts (length ranges - 1) 0 + ((get_or ranges (length ranges - 1) blank).last - (get_or ranges (length ranges - 1) blank).first + 1) ≡ length (keys_of ranges)
+count_from_end ranges starts h some =
+    omega (arith, stored_at (length ranges - 1) 0 ranges starts h (omega arith), length-keys_all (length ranges - 1) blank ranges h.apart (omega arith))

@@ -1,0 +1,6 @@
+pub mod Apart
+pub mod Counts
+pub mod Held
+pub mod Longest
+pub mod Lookups
+pub mod Places
