@@ -1,5 +1,5 @@
 -- The positions at which ranges begin, and how many keys there are.
-use Rattle.std.proofs.Common.{◌≡◌, refl, ap, Bool, true, false, true≢false, ◌==◌, sym, ◌∙◌, subst, ℕ, zero, suc, ◌+◌, ◌-◌, ◌^◌, ◌<◌, ◌≤◌, arith, List, [], ◌∷◌, ◌++◌, length, take, drop, get_or, length-append, take_all}
+use Rattle.std.proofs.Common.{◌≡◌, refl, ap, Bool, true, false, true≢false, ◌==◌, sym, ◌∙◌, subst, ℕ, zero, suc, ◌+◌, ◌-◌, ◌^◌, ◌<◌, ◌≤◌, arith, List, [], ◌∷◌, ◌++◌, length, take, drop, get_or, length-append, take_all, ne_eqb}
 use Rattle.std.proofs.lemmas.List.{take_more}
 use Rattle.row_set.specs.declared.ranges.Range.{Range}
 use Rattle.row_set.specs.Ranges.{keys_in, keys_of, starts_of, AreApart, IsStored}
@@ -47,3 +47,9 @@ blank = record { first = 0; last = 0 }
 pub count_from_end : (ranges : List Range) (starts : List ℕ) → IsStored ranges starts → 0 < length ranges → get_or starts (length ranges - 1) 0 + ((get_or ranges (length ranges - 1) blank).last - (get_or ranges (length ranges - 1) blank).first + 1) ≡ length (keys_of ranges)
 count_from_end ranges starts h some =
     omega (arith, stored_at (length ranges - 1) 0 ranges starts h (omega arith), length-keys_all (length ranges - 1) blank ranges h.apart (omega arith))
+
+pub empty_alike : (ranges : List Range) → AreApart 0 ranges → (length ranges == 0) ≡ (length (keys_of ranges) == 0)
+empty_alike [] h = refl
+empty_alike (range ∷ ranges) h =
+    ne_eqb (length (range ∷ ranges)) 0 (λ e. omega (arith, e))
+    ∙ sym (ne_eqb (length (keys_of (range ∷ ranges))) 0 (λ e. omega (arith, e, length-append (keys_in range) (keys_of ranges), length-keys_in range, h.0.ascends)))
