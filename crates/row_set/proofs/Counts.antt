@@ -1,6 +1,6 @@
 -- The positions at which ranges begin, and how many keys there are.
-use Rattle.std.proofs.Common.{◌≡◌, refl, ap, Bool, true, false, true≢false, ◌==◌, sym, ◌∙◌, subst, ℕ, zero, suc, ◌+◌, ◌-◌, ◌^◌, ◌<◌, ◌≤◌, arith, List, [], ◌∷◌, ◌++◌, length, take, drop, get_or, length-append, take_all, ne_eqb}
-use Rattle.std.proofs.lemmas.List.{take_more}
+use Rattle.std.proofs.Common.{◌≡◌, refl, ap, Bool, true, false, true≢false, ◌==◌, sym, ◌∙◌, subst, ℕ, zero, suc, ◌+◌, ◌-◌, ◌^◌, ◌<◌, ◌≤◌, arith, List, [], ◌∷◌, ◌++◌, length, take, drop, get_or, length-append, length-drop, get_or-drop, take_all, ne_eqb}
+use Rattle.std.proofs.lemmas.List.{take_more, take_rest}
 use Rattle.row_set.specs.declared.ranges.Range.{Range}
 use Rattle.row_set.specs.Ranges.{keys_in, keys_of, starts_of, AreApart, IsStored}
 use Rattle.row_set.proofs.Held.{keys_of-append, length-keys_in}
@@ -53,3 +53,33 @@ empty_alike [] h = refl
 empty_alike (range ∷ ranges) h =
     ne_eqb (length (range ∷ ranges)) 0 (λ e. omega (arith, e))
     ∙ sym (ne_eqb (length (keys_of (range ∷ ranges))) 0 (λ e. omega (arith, e, length-append (keys_in range) (keys_of ranges), length-keys_in range, h.0.ascends)))
+
+-- one start more
+pub starts_of-append : (start : ℕ) (xs ys : List Range) → starts_of start (xs ++ ys) ≡ starts_of start xs ++ starts_of (start + length (keys_of xs)) ys
+starts_of-append start [] ys = let same : start ≡ start + 0 = omega arith in ap (λ n. starts_of n ys) same
+starts_of-append start (range ∷ xs) ys =
+    let same : start + length (keys_in range) + length (keys_of xs) ≡ start + length (keys_of (range ∷ xs)) = omega (arith, length-append (keys_in range) (keys_of xs)) in
+    ap (λ rest. start ∷ rest) (starts_of-append (start + length (keys_in range)) xs ys ∙ ap (λ n. starts_of (start + length (keys_in range)) xs ++ starts_of n ys) same)
+
+-- the starts of the first k ranges are known, and next is the number of their keys
+pub record AreCounted (ranges : List Range) (k next : ℕ) (starts : List ℕ) : Type 0 where
+  pub placed : starts ≡ starts_of 0 (take k ranges)
+  pub count : next ≡ length (keys_of (take k ranges))
+
+pub counted_more : (ranges : List Range) (k next : ℕ) (starts : List ℕ) → AreApart 0 ranges → k < length ranges → AreCounted ranges k next starts → AreCounted ranges (k + 1) (next + ((get_or ranges k blank).last - (get_or ranges k blank).first + 1)) (starts ++ next ∷ [])
+counted_more ranges k next starts h lt is =
+    let same : next ≡ 0 + length (keys_of (take k ranges)) = omega (arith, is.count) in
+    record {
+      placed =
+          ap (λ those. those ++ next ∷ []) is.placed
+          ∙ ap (λ n. starts_of 0 (take k ranges) ++ n ∷ []) same
+          ∙ sym (starts_of-append 0 (take k ranges) (get_or ranges k blank ∷ []))
+          ∙ ap (starts_of 0) (sym (take_more ranges k blank lt));
+      count = omega (arith, is.count, length-keys_more k blank ranges h lt);
+    }
+
+pub rest_at : (from i : ℕ) (ranges : List Range) → get_or (take (length ranges - from) (drop from ranges)) i blank ≡ get_or ranges (from + i) blank
+rest_at from i ranges = ap (λ rest. get_or rest i blank) (take_rest ranges from) ∙ get_or-drop from ranges i blank
+
+pub length-rest : (from : ℕ) (ranges : List Range) → length (take (length ranges - from) (drop from ranges)) ≡ length ranges - from
+length-rest from ranges = ap length (take_rest ranges from) ∙ length-drop from ranges

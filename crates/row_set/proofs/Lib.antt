@@ -4,3 +4,4 @@ pub mod Held
 pub mod Longest
 pub mod Lookups
 pub mod Places
+pub mod Spliced

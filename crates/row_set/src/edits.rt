@@ -6,7 +6,7 @@ ghost use Rattle.row_set.specs.Ranges.{AreApart, keys_of, keys_from, starts_of};
 ghost use Rattle.row_set.specs.Sets.{IsKey, moved_key, moved_keys, united};
 
 use crate::ranges::Range;
-use crate::search::{begun_by, ended_before};
+use crate::search::{begun_by, count_keys, ended_before};
 use std::alloc::AllocError;
 
 /// Makes room for some more ranges and their starts.
@@ -24,27 +24,49 @@ pub(crate) fn make_room(
     starts.reserve(more)
 }
 
+/// Puts a range at an index, in the place of the one there or, where that is one of the last to stay, before it.
+fn put(ranges: &mut Vec<Range>, at: usize, to: usize, range: Range)
+    requires within { at ≤ vec_len ranges.old }
+    requires end { to ≤ vec_len ranges.old }
+    requires room { to ≤ at → vec_len ranges.old < vec_capacity ranges.old }
+    ensures replaced { at < to → ranges.new.items ≡ take at ranges.old.items ++ (range ∷ drop (at + 1) ranges.old.items) }
+    ensures inserted { to ≤ at → ranges.new.items ≡ take at ranges.old.items ++ (range ∷ drop at ranges.old.items) }
+    ensures capacity { vec_capacity ranges.old ≤ vec_capacity ranges.new }
+{
+    if at < to {
+        ranges[at] = range;
+    } else {
+        let _ = ranges.insert(at, range);
+    }
+}
+
+/// Takes out the ranges from `from` up to `to`.
+fn cut(ranges: &mut Vec<Range>, from: usize, to: usize)
+    requires order { from ≤ to }
+    requires within { to ≤ vec_len ranges.old }
+    ensures items { ranges.new.items ≡ take from ranges.old.items ++ drop to ranges.old.items }
+    ensures capacity { vec_capacity ranges.old ≤ vec_capacity ranges.new }
+{
+    let len = ranges.len();
+    ranges.copy_within(to..len, from);
+    ranges.truncate(len - (to - from));
+}
+
 /// Puts other ranges in the place of those from `from` up to `to`. There is room for them.
 fn splice(ranges: &mut Vec<Range>, from: usize, to: usize, others: &[Range])
     requires order { from ≤ to }
     requires within { to ≤ vec_len ranges.old }
     requires room { vec_len ranges.old + length others.now ≤ vec_capacity ranges.old + (to - from) }
     ensures items { ranges.new.items ≡ take from ranges.old.items ++ (others.now ++ drop to ranges.old.items) }
-    ensures capacity { vec_capacity ranges.new ≡ vec_capacity ranges.old }
+    ensures capacity { vec_capacity ranges.old ≤ vec_capacity ranges.new }
 {
     let mut at = from;
     for range in others {
-        if at < to {
-            ranges[at] = *range;
-        } else {
-            let _ = ranges.insert(at, *range);
-        }
+        put(ranges, at, to, *range);
         at += 1;
     }
     if at < to {
-        let len = ranges.len();
-        ranges.copy_within(to..len, at);
-        ranges.truncate(len - (to - at));
+        cut(ranges, at, to);
     }
 }
 
@@ -53,15 +75,12 @@ pub(crate) fn recount(starts: &mut Vec<u64>, ranges: &[Range], from: usize)
     requires within { from ≤ length ranges.now }
     requires before { take from starts.old.items ≡ starts_of 0 (take from ranges.now) }
     requires room { length ranges.now ≤ vec_capacity starts.old }
-    requires small { length (keys_of ranges.now) < 2 ^ 63 }
+    requires apart { AreApart 0 ranges.now }
     ensures starts { starts.new.items ≡ starts_of 0 ranges.now }
-    ensures capacity { vec_capacity starts.new ≡ vec_capacity starts.old }
+    ensures capacity { vec_capacity starts.old ≤ vec_capacity starts.new }
 {
     starts.truncate(from);
-    let mut next = match (ranges[..from].last(), starts.last()) {
-        (Some(range), Some(start)) => *start + (range.last - range.first + 1),
-        _ => 0,
-    };
+    let mut next = count_keys(&ranges[..from], starts);
     for range in &ranges[from..] {
         let _ = starts.push(next);
         next += range.last - range.first + 1;
@@ -79,7 +98,7 @@ pub(crate) fn insert_keys(ranges: &mut Vec<Range>, first: u64, last: u64) -> usi
     ensures within { result ≤ vec_len ranges.new }
     ensures before { take result ranges.new.items ≡ take result ranges.old.items }
     ensures growth { vec_len ranges.new ≤ vec_len ranges.old + 1 }
-    ensures capacity { vec_capacity ranges.new ≡ vec_capacity ranges.old }
+    ensures capacity { vec_capacity ranges.old ≤ vec_capacity ranges.new }
 {
     let from = ended_before(ranges, first.saturating_sub(1));
     let to = begun_by(ranges, last + 1);
@@ -106,7 +125,7 @@ pub(crate) fn remove_keys(ranges: &mut Vec<Range>, first: u64, last: u64) -> usi
     ensures within { result ≤ vec_len ranges.new }
     ensures before { take result ranges.new.items ≡ take result ranges.old.items }
     ensures growth { vec_len ranges.new ≤ vec_len ranges.old + 1 }
-    ensures capacity { vec_capacity ranges.new ≡ vec_capacity ranges.old }
+    ensures capacity { vec_capacity ranges.old ≤ vec_capacity ranges.new }
 {
     let from = ended_before(ranges, first);
     let to = begun_by(ranges, last);
@@ -153,7 +172,7 @@ pub(crate) fn shift_keys(ranges: &mut Vec<Range>, first: u64, last: u64, delta: 
     ensures within { result ≤ vec_len ranges.new }
     ensures before { take result ranges.new.items ≡ take result ranges.old.items }
     ensures growth { vec_len ranges.new ≤ vec_len ranges.old + 2 }
-    ensures capacity { vec_capacity ranges.new ≡ vec_capacity ranges.old }
+    ensures capacity { vec_capacity ranges.old ≤ vec_capacity ranges.new }
 {
     let mut from = ended_before(ranges, first);
     let mut to = begun_by(ranges, last);
