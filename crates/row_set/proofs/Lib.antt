@@ -3,5 +3,7 @@ pub mod Counts
 pub mod Held
 pub mod Longest
 pub mod Lookups
+pub mod Middles
 pub mod Places
 pub mod Spliced
+pub mod United

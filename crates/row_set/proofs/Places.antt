@@ -2,10 +2,12 @@
 use Rattle.std.proofs.Common.{◌≡◌, refl, ap, sym, ◌∙◌, subst, Bool, true, false, ℕ, zero, suc, ◌+◌, ◌-◌, ◌<◌, ◌≤◌, arith, List, [], ◌∷◌, ◌++◌, length, take, drop, get_or, leb, ltb, leb-true, leb-false, ltb-true, ltb-false, inl, inr}
 use Rattle.std.specs.List.{AllByRecursion, AllWithin}
 use Rattle.std.specs.List.Sorted.{IsPartitionPoint, IsPartitionedBy, IsNonDecreasingBy}
+use Rattle.std.proofs.lemmas.Bool.{cases_lt}
+use Rattle.std.proofs.lemmas.List.{drop-take}
 use Rattle.std.proofs.lemmas.List.Sorted.{IsPartitionedBy-ltb, IsPartitionedBy-leb}
 use Rattle.key_lists.proofs.Every.{every_weaker, all_from}
 use Rattle.row_set.specs.declared.ranges.Range.{Range}
-use Rattle.row_set.specs.Ranges.{IsRangeFrom, AreApart}
+use Rattle.row_set.specs.Ranges.{IsRangeFrom, AreApart, Meets}
 use Rattle.row_set.proofs.Apart.{each_range}
 
 pub every_take : {X : Type 0} (P : X → Type 0) (xs : List X) (i : ℕ) → ((k : ℕ) (d : X) → k < i → P (get_or xs k d)) → AllByRecursion P (take i xs)
@@ -62,3 +64,51 @@ begun_part key ranges i h = every_weaker (λ range. leb range.first key ≡ true
 
 pub not_begun_part : (key : ℕ) (ranges : List Range) (i : ℕ) → IsPartitionPoint (λ range. leb range.first key ≡ true) (λ range. leb range.first key ≡ false) ranges i → AllByRecursion (λ range. key < range.first) (drop i ranges)
 not_begun_part key ranges i h = every_weaker (λ range. leb range.first key ≡ false) (λ range. key < range.first) (drop i ranges) (λ range e. leb-false range.first key e) (back_part (λ range. leb range.first key) ranges i h)
+
+-- the ranges that a search for both ends finds
+every-take : {X : Type 0} (P : X → Type 0) (n : ℕ) (xs : List X) → AllByRecursion P xs → AllByRecursion P (take n xs)
+every-take P zero xs h = tt
+every-take P (suc n) [] h = tt
+every-take P (suc n) (x ∷ xs) h = (h.0, every-take P n xs h.1)
+
+every-drop : {X : Type 0} (P : X → Type 0) (n : ℕ) (xs : List X) → AllByRecursion P xs → AllByRecursion P (drop n xs)
+every-drop P zero xs h = h
+every-drop P (suc n) [] h = tt
+every-drop P (suc n) (x ∷ xs) h = every-drop P n xs h.1
+
+every_front_at : {X : Type 0} (P : X → Type 0) (n k : ℕ) (xs : List X) (d : X) → k < n → k < length xs → AllByRecursion P (take n xs) → P (get_or xs k d)
+every_front_at P n k [] d lt within h = absurd (omega arith)
+every_front_at P zero k (x ∷ xs) d lt within h = absurd (omega arith)
+every_front_at P (suc n) zero (x ∷ xs) d lt within h = h.0
+every_front_at P (suc n) (suc k) (x ∷ xs) d lt within h = every_front_at P n k xs d (omega arith) (omega arith) h.1
+
+every_back_at : {X : Type 0} (P : X → Type 0) (n k : ℕ) (xs : List X) (d : X) → n ≤ k → k < length xs → AllByRecursion P (drop n xs) → P (get_or xs k d)
+every_back_at P n k [] d le within h = absurd (omega arith)
+every_back_at P zero zero (x ∷ xs) d le within h = h.0
+every_back_at P zero (suc k) (x ∷ xs) d le within h = every_back_at P zero k xs d (omega arith) (omega arith) h.1
+every_back_at P (suc n) zero (x ∷ xs) d le within h = absurd (omega arith)
+every_back_at P (suc n) (suc k) (x ∷ xs) d le within h = every_back_at P n k xs d (omega arith) (omega arith) h
+
+pub meets : (low high from to : ℕ) (ranges : List Range) → AreApart 0 ranges → low ≤ high → from ≤ length ranges → to ≤ length ranges → AllByRecursion (λ range. range.last < low) (take from ranges) → AllByRecursion (λ range. low ≤ range.last) (drop from ranges) → AllByRecursion (λ range. range.first ≤ high) (take to ranges) → AllByRecursion (λ range. high < range.first) (drop to ranges) → Meets low high ranges from to
+meets low high from to ranges h le from_in to_in before lows highs after =
+    let order : from ≤ to =
+        elim (cases_lt to from) [
+          | inl lt ↦
+              let blank : Range = record { first = 0; last = 0 } in
+              let begins : high < (get_or ranges to blank).first = every_back_at (λ range. high < range.first) to to ranges blank (omega arith) (omega arith) after in
+              let ends : (get_or ranges to blank).last < low = every_front_at (λ range. range.last < low) from to ranges blank lt (omega arith) before in
+              absurd (omega (arith, begins, ends, (range_at 0 ranges h to blank (omega arith)).ascends))
+          | inr ok ↦ ok
+        ] in
+    let whole : from + (to - from) ≡ to = omega arith in
+    record {
+      order = order;
+      within = to_in;
+      before = before;
+      lows = every-take (λ range. low ≤ range.last) (to - from) (drop from ranges) lows;
+      highs =
+          subst (λ those. AllByRecursion (λ range. range.first ≤ high) those)
+          (ap (λ n. drop from (take n ranges)) (sym whole) ∙ drop-take from (to - from) ranges)
+          (every-drop (λ range. range.first ≤ high) from (take to ranges) highs);
+      after = after;
+    }

@@ -6,7 +6,7 @@ ghost use Rattle.row_set.specs.Ranges.{AreApart, keys_of, keys_from, starts_of};
 ghost use Rattle.row_set.specs.Sets.{IsKey, moved_key, moved_keys, united};
 
 use crate::ranges::Range;
-use crate::search::{begun_by, count_keys, ended_before};
+use crate::search::{count_keys, meeting};
 use std::alloc::AllocError;
 
 /// Makes room for some more ranges and their starts.
@@ -100,8 +100,7 @@ pub(crate) fn insert_keys(ranges: &mut Vec<Range>, first: u64, last: u64) -> usi
     ensures growth { vec_len ranges.new ≤ vec_len ranges.old + 1 }
     ensures capacity { vec_capacity ranges.old ≤ vec_capacity ranges.new }
 {
-    let from = ended_before(ranges, first.saturating_sub(1));
-    let to = begun_by(ranges, last + 1);
+    let (from, to) = meeting(ranges, first.saturating_sub(1), last + 1);
     let joined = if from < to {
         Range {
             first: first.min(ranges[from].first),
@@ -127,8 +126,7 @@ pub(crate) fn remove_keys(ranges: &mut Vec<Range>, first: u64, last: u64) -> usi
     ensures growth { vec_len ranges.new ≤ vec_len ranges.old + 1 }
     ensures capacity { vec_capacity ranges.old ≤ vec_capacity ranges.new }
 {
-    let from = ended_before(ranges, first);
-    let to = begun_by(ranges, last);
+    let (from, to) = meeting(ranges, first, last);
     if from == to {
         return ranges.len();
     }
@@ -174,8 +172,7 @@ pub(crate) fn shift_keys(ranges: &mut Vec<Range>, first: u64, last: u64, delta: 
     ensures growth { vec_len ranges.new ≤ vec_len ranges.old + 2 }
     ensures capacity { vec_capacity ranges.old ≤ vec_capacity ranges.new }
 {
-    let mut from = ended_before(ranges, first);
-    let mut to = begun_by(ranges, last);
+    let (mut from, mut to) = meeting(ranges, first, last);
     if from == to {
         return ranges.len();
     }

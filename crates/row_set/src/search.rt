@@ -2,7 +2,7 @@
 ghost use Rattle.std.specs.Prelude.{◌≡◌, ◌<◌, ◌≤◌, length, take, drop, find, nat_le, slice_get};
 ghost use Rattle.std.specs.List.{AllByRecursion};
 ghost use Rattle.std.specs.List.Sorted.{IsNonDecreasing, IsPartitionPoint};
-ghost use Rattle.row_set.specs.Ranges.{AreApart, IsStored, holds, keys_of};
+ghost use Rattle.row_set.specs.Ranges.{AreApart, IsStored, Meets, holds, keys_of};
 ghost use Rattle.row_set.specs.Sets.{found, last_key};
 
 use crate::ranges::Range;
@@ -25,6 +25,15 @@ pub(crate) fn begun_by(ranges: &[Range], key: u64) -> usize
     ensures others { AllByRecursion (λ range. key < range.first) (drop result ranges.now) }
 {
     ranges.partition_point(|range| range.first <= key)
+}
+
+/// From which one and up to which one the ranges meet the keys from `low` to `high`.
+pub(crate) fn meeting(ranges: &[Range], low: u64, high: u64) -> (usize, usize)
+    requires apart { AreApart 0 ranges.now }
+    requires order { low ≤ high }
+    ensures { Meets low high ranges.now result.0 result.1 }
+{
+    (ended_before(ranges, low), begun_by(ranges, high))
 }
 
 /// The number of keys in all ranges.
