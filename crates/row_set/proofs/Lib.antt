@@ -1,5 +1,6 @@
 pub mod Apart
 pub mod Counts
+pub mod Edges
 pub mod Held
 pub mod Longest
 pub mod Lookups

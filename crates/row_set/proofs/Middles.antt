@@ -153,17 +153,17 @@ joined_holds key first last ranges head tail le is =
           ]
     ]
 
-any_parts : (key from to : ℕ) (ranges : List Range) → from ≤ to → list_any (holds key) ranges ≡ (list_any (holds key) (take from ranges) || (list_any (holds key) (middle from to ranges) || list_any (holds key) (drop to ranges)))
+pub any_parts : (key from to : ℕ) (ranges : List Range) → from ≤ to → list_any (holds key) ranges ≡ (list_any (holds key) (take from ranges) || (list_any (holds key) (middle from to ranges) || list_any (holds key) (drop to ranges)))
 any_parts key from to ranges le =
     ap (list_any (holds key)) (sym (three_parts from to ranges le))
     ∙ any-append (holds key) (take from ranges) (middle from to ranges ++ drop to ranges)
     ∙ ap (λ b. list_any (holds key) (take from ranges) || b) (any-append (holds key) (middle from to ranges) (drop to ranges))
 
 -- the seams before the first range that is met and after the last one
-before_head : (from : ℕ) (ranges : List Range) → from < length ranges → AreApart 0 ranges → AllByRecursion (λ range. range.last + 2 ≤ (get_or ranges from blank).first) (take from ranges)
+pub before_head : (from : ℕ) (ranges : List Range) → from < length ranges → AreApart 0 ranges → AllByRecursion (λ range. range.last + 2 ≤ (get_or ranges from blank).first) (take from ranges)
 before_head from ranges lt h = apart_seam 0 (take from ranges) (get_or ranges from blank) (drop (from + 1) ranges) (subst (λ those. AreApart 0 those) (sym (split_at from ranges lt)) h)
 
-after_tail : (to : ℕ) (ranges : List Range) → 0 < to → to ≤ length ranges → AreApart 0 ranges → AreApart ((get_or ranges (to - 1) blank).last + 2) (drop to ranges)
+pub after_tail : (to : ℕ) (ranges : List Range) → 0 < to → to ≤ length ranges → AreApart 0 ranges → AreApart ((get_or ranges (to - 1) blank).last + 2) (drop to ranges)
 after_tail to ranges some within h =
     let same : to - 1 + 1 ≡ to = omega arith in
     subst (λ n. AreApart ((get_or ranges (to - 1) blank).last + 2) (drop n ranges)) same (apart_at (to - 1) ranges (omega arith) h).1
