@@ -83,3 +83,12 @@ rest_at from i ranges = ap (λ rest. get_or rest i blank) (take_rest ranges from
 
 pub length-rest : (from : ℕ) (ranges : List Range) → length (take (length ranges - from) (drop from ranges)) ≡ length ranges - from
 length-rest from ranges = ap length (take_rest ranges from) ∙ length-drop from ranges
+
+-- the starts of ranges of which the first n are as before
+take-starts : (n start : ℕ) (ranges : List Range) → take n (starts_of start ranges) ≡ starts_of start (take n ranges)
+take-starts zero start ranges = refl
+take-starts (suc n) start [] = refl
+take-starts (suc n) start (range ∷ ranges) = ap (λ rest. start ∷ rest) (take-starts n (start + length (keys_in range)) ranges)
+
+pub kept_starts : (n : ℕ) (old new : List Range) (starts : List ℕ) → IsStored old starts → take n new ≡ take n old → take n starts ≡ starts_of 0 (take n new)
+kept_starts n old new starts h same = ap (take n) h.placed ∙ take-starts n 0 old ∙ ap (starts_of 0) (sym same)
