@@ -4,6 +4,7 @@ pub mod Edges
 pub mod Held
 pub mod Longest
 pub mod Lookups
+pub mod Merged
 pub mod Middles
 pub mod Places
 pub mod Spliced

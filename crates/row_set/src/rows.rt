@@ -285,13 +285,13 @@ impl RowSet {
     {
         let room = self.ranges.len().saturating_add(other.ranges.len());
         let mut kept = RowSet::with_capacity(*self.ranges.allocator(), room)?;
-        let mut first = self.ranges.as_slice();
-        let mut second = other.ranges.as_slice();
+        let mut first = self.ranges();
+        let mut second = other.ranges();
         let mut at = 0;
         while at < KEYS_END {
             let here = stretch_from(first, at);
             let there = stretch_from(second, at);
-            let end = here.end.min(there.end);
+            let end = choice.until(here, there);
             if choice.takes(here.held, there.held) {
                 kept.insert_range(at, end - 1)?;
             }
