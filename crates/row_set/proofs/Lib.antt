@@ -9,3 +9,4 @@ pub mod Middles
 pub mod Places
 pub mod Spliced
 pub mod United
+pub mod Windows

@@ -66,12 +66,12 @@ pub not_begun_part : (key : ℕ) (ranges : List Range) (i : ℕ) → IsPartition
 not_begun_part key ranges i h = every_weaker (λ range. leb range.first key ≡ false) (λ range. key < range.first) (drop i ranges) (λ range e. leb-false range.first key e) (back_part (λ range. leb range.first key) ranges i h)
 
 -- the ranges that a search for both ends finds
-every-take : {X : Type 0} (P : X → Type 0) (n : ℕ) (xs : List X) → AllByRecursion P xs → AllByRecursion P (take n xs)
+pub every-take : {X : Type 0} (P : X → Type 0) (n : ℕ) (xs : List X) → AllByRecursion P xs → AllByRecursion P (take n xs)
 every-take P zero xs h = tt
 every-take P (suc n) [] h = tt
 every-take P (suc n) (x ∷ xs) h = (h.0, every-take P n xs h.1)
 
-every-drop : {X : Type 0} (P : X → Type 0) (n : ℕ) (xs : List X) → AllByRecursion P xs → AllByRecursion P (drop n xs)
+pub every-drop : {X : Type 0} (P : X → Type 0) (n : ℕ) (xs : List X) → AllByRecursion P xs → AllByRecursion P (drop n xs)
 every-drop P zero xs h = h
 every-drop P (suc n) [] h = tt
 every-drop P (suc n) (x ∷ xs) h = every-drop P n xs h.1

@@ -10,7 +10,6 @@ use crate::algebra::{Choice, KEYS_END, rest_from, stretch_from};
 use crate::edits::{insert_keys, make_room, recount, remove_keys, shift_keys};
 use crate::ranges::Range;
 use crate::search;
-use crate::search::{begun_by, ended_before};
 use std::alloc::{AllocError, Global};
 use std::marker::Model;
 
@@ -245,12 +244,13 @@ impl RowSet {
         ensures { IfOk result (λ keys. keys ≡ take count (drop first self.now)) }
     {
         let end = first.saturating_add(count).min(self.len());
+        let mut window = RowSet::new(*self.ranges.allocator());
         if first < end {
-            if let (Some(low), Some(high)) = (self.get(first), self.get(end - 1)) {
-                return self.between(low, high);
-            }
+            let low = self.get(first).unwrap();
+            let high = self.get(end - 1).unwrap();
+            window.insert_range(low, high)?;
         }
-        Ok(RowSet::new(*self.ranges.allocator()))
+        window.intersect(self)
     }
 
     /// An equal set.
@@ -262,21 +262,6 @@ impl RowSet {
             ranges: Vec::from_slice(alloc, &self.ranges)?,
             starts: Vec::from_slice(alloc, &self.starts)?,
         })
-    }
-
-    /// The keys from `low` to `high`.
-    fn between(&self, low: u64, high: u64) -> Result<RowSet, AllocError>
-        requires order { low ≤ high }
-        requires small { high < 2 ^ 62 }
-        ensures { IfOk result (λ keys. keys ≡ common self.now (keys_from low high)) }
-    {
-        let from = ended_before(&self.ranges, low);
-        let to = begun_by(&self.ranges, high);
-        let mut kept = RowSet::with_capacity(*self.ranges.allocator(), to - from)?;
-        for range in &self.ranges[from..to] {
-            kept.insert_range(range.first.max(low), range.last.min(high))?;
-        }
-        Ok(kept)
     }
 
     /// The keys that are in the sets as the choice has it.
