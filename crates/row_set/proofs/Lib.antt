@@ -1,4 +1,5 @@
 pub mod Apart
+pub mod Batches
 pub mod Counts
 pub mod Edges
 pub mod Held

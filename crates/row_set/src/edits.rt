@@ -149,6 +149,44 @@ pub(crate) fn remove_keys(ranges: &mut Vec<Range>, first: u64, last: u64) -> usi
     from
 }
 
+/// Adds every key of other ranges. The ranges before the index that it gives stay.
+pub(crate) fn insert_ranges(ranges: &mut Vec<Range>, others: &[Range]) -> usize
+    requires apart { AreApart 0 ranges.old.items }
+    requires others_apart { AreApart 0 others.now }
+    requires room { vec_len ranges.old + length others.now ≤ vec_capacity ranges.old }
+    ensures apart { AreApart 0 ranges.new.items }
+    ensures keys { keys_of ranges.new.items ≡ united (keys_of others.now) (keys_of ranges.old.items) }
+    ensures within { result ≤ vec_len ranges.new }
+    ensures before { take result ranges.new.items ≡ take result ranges.old.items }
+    ensures growth { vec_len ranges.new ≤ vec_len ranges.old + length others.now }
+    ensures capacity { vec_capacity ranges.old ≤ vec_capacity ranges.new }
+{
+    let mut from = ranges.len();
+    for range in others {
+        from = from.min(insert_keys(ranges, range.first, range.last));
+    }
+    from
+}
+
+/// Removes every key of other ranges. The ranges before the index that it gives stay.
+pub(crate) fn remove_ranges(ranges: &mut Vec<Range>, others: &[Range]) -> usize
+    requires apart { AreApart 0 ranges.old.items }
+    requires others_apart { AreApart 0 others.now }
+    requires room { vec_len ranges.old + length others.now ≤ vec_capacity ranges.old }
+    ensures apart { AreApart 0 ranges.new.items }
+    ensures keys { keys_of ranges.new.items ≡ without (keys_of others.now) (keys_of ranges.old.items) }
+    ensures within { result ≤ vec_len ranges.new }
+    ensures before { take result ranges.new.items ≡ take result ranges.old.items }
+    ensures growth { vec_len ranges.new ≤ vec_len ranges.old + length others.now }
+    ensures capacity { vec_capacity ranges.old ≤ vec_capacity ranges.new }
+{
+    let mut from = ranges.len();
+    for range in others {
+        from = from.min(remove_keys(ranges, range.first, range.last));
+    }
+    from
+}
+
 /// The key that a key moves to.
 fn moved(key: u64, delta: i64) -> u64
     requires small { key < 2 ^ 62 }

@@ -7,7 +7,9 @@ ghost use Rattle.row_set.specs.Choice.{chosen};
 ghost use Rattle.row_set.specs.Sets.{IsKey, moved_key, moved_keys, IsKeySet, count_below, common, found, last_key, united};
 
 use crate::algebra::{Choice, KEYS_END, rest_from, stretch_from};
-use crate::edits::{insert_keys, make_room, recount, remove_keys, shift_keys};
+use crate::edits::{
+    insert_keys, insert_ranges, make_room, recount, remove_keys, remove_ranges, shift_keys,
+};
 use crate::ranges::Range;
 use crate::search;
 use std::alloc::{AllocError, Global};
@@ -177,11 +179,9 @@ impl RowSet {
         ensures ok { OnOk result (self.new ≡ united keys.now self.old) }
         ensures err { OnErr result (self.new ≡ self.old) }
     {
-        make_room(&mut self.ranges, &mut self.starts, keys.ranges.len())?;
-        let mut from = self.ranges.len();
-        for range in &keys.ranges {
-            from = from.min(insert_keys(&mut self.ranges, range.first, range.last));
-        }
+        let others = keys.ranges();
+        make_room(&mut self.ranges, &mut self.starts, others.len())?;
+        let from = insert_ranges(&mut self.ranges, others);
         recount(&mut self.starts, &self.ranges, from);
         Ok(())
     }
@@ -191,11 +191,9 @@ impl RowSet {
         ensures ok { OnOk result (self.new ≡ without keys.now self.old) }
         ensures err { OnErr result (self.new ≡ self.old) }
     {
-        make_room(&mut self.ranges, &mut self.starts, keys.ranges.len())?;
-        let mut from = self.ranges.len();
-        for range in &keys.ranges {
-            from = from.min(remove_keys(&mut self.ranges, range.first, range.last));
-        }
+        let others = keys.ranges();
+        make_room(&mut self.ranges, &mut self.starts, others.len())?;
+        let from = remove_ranges(&mut self.ranges, others);
         recount(&mut self.starts, &self.ranges, from);
         Ok(())
     }
