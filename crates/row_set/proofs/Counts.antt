@@ -85,7 +85,7 @@ pub length-rest : (from : ℕ) (ranges : List Range) → length (take (length ra
 length-rest from ranges = ap length (take_rest ranges from) ∙ length-drop from ranges
 
 -- the starts of ranges of which the first n are as before
-take-starts : (n start : ℕ) (ranges : List Range) → take n (starts_of start ranges) ≡ starts_of start (take n ranges)
+pub take-starts : (n start : ℕ) (ranges : List Range) → take n (starts_of start ranges) ≡ starts_of start (take n ranges)
 take-starts zero start ranges = refl
 take-starts (suc n) start [] = refl
 take-starts (suc n) start (range ∷ ranges) = ap (λ rest. start ∷ rest) (take-starts n (start + length (keys_in range)) ranges)

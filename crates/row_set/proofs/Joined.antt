@@ -1,5 +1,5 @@
 -- Two neighbouring ranges that touch, made one.
-use Rattle.std.proofs.Common.{◌≡◌, refl, ap, ap₂, sym, ◌∙◌, subst, Bool, true, false, ℕ, zero, suc, ◌+◌, ◌-◌, ◌^◌, ◌<◌, ◌≤◌, arith, List, [], ◌∷◌, ◌++◌, length, take, drop, slice_range, get_or, length-take-le, append_assoc, take-append-drop, drop_at}
+use Rattle.std.proofs.Common.{◌≡◌, ap, ap₂, sym, ◌∙◌, subst, true, ℕ, zero, suc, ◌+◌, ◌-◌, ◌<◌, ◌≤◌, arith, List, [], ◌∷◌, ◌++◌, length, take, drop, slice_range, get_or, length-take-le, take-append-drop}
 use Rattle.std.specs.List.{AllByRecursion, list_any, range_with_len}
 use Rattle.std.proofs.lemmas.Bool.{or_left}
 use Rattle.std.proofs.lemmas.List.{drop_more, drop-drop, drop-take, drop-append-le}
@@ -79,10 +79,10 @@ in_order ranges from i h =
     let left_order : left.first ≤ left.last = (left_is ranges from i h).ascends in
     let right_order : right.first ≤ right.last = (right_rest ranges from i h).0.ascends in
     let rises : IsRising (keys_of (take (i - 1) ranges) ++ (keys_in left ++ keys_of (right ∷ drop (i + 1) ranges))) =
-        subst IsRising (ap keys_of (sym (pair_at i ranges some h.within)) ∙ keys_of-append (take (i - 1) ranges) (left ∷ right ∷ drop (i + 1) ranges)) h.rising in
+    subst IsRising (ap keys_of (sym (pair_at i ranges some h.within)) ∙ keys_of-append (take (i - 1) ranges) (left ∷ right ∷ drop (i + 1) ranges)) h.rising in
     above_all left.last right.first (keys_in left) (keys_of (right ∷ drop (i + 1) ranges)) (rising_back (keys_of (take (i - 1) ranges)) (keys_in left ++ keys_of (right ∷ drop (i + 1) ranges)) rises)
-        (among-in left.last left ∙ holds-true left.last left left_order (omega arith))
-        (first_among right (drop (i + 1) ranges) right_order)
+    (among-in left.last left ∙ holds-true left.last left left_order (omega arith))
+    (first_among right (drop (i + 1) ranges) right_order)
   where
     first_among : (range : Range) (rest : List Range) → range.first ≤ range.last → is_among range.first (keys_of (range ∷ rest)) ≡ true
     first_among range rest le = among-keys range.first (range ∷ rest) ∙ or_left (holds range.first range) (list_any (holds range.first) rest) (holds-true range.first range (omega arith) le)
@@ -99,13 +99,13 @@ gap_apart ranges from i h gap =
     let back : AreApart 0 (right ∷ drop (i + 1) ranges) = right_rest ranges from i h in
     let whole : from + (i - from) ≡ i = omega (arith, h.some) in
     let is : (init ++ left ∷ []) ++ (right ∷ drop (i + 1) ranges) ≡ drop from ranges =
-        ap₂ ◌++◌ (sym (middle_last from i ranges h.some le)) (sym (drop_more ranges i blank h.within) ∙ ap (λ n. drop n ranges) (sym whole) ∙ sym (drop-drop (i - from) from ranges))
-        ∙ take-append-drop (i - from) (drop from ranges) in
+    ap₂ ◌++◌ (sym (middle_last from i ranges h.some le)) (sym (drop_more ranges i blank h.within) ∙ ap (λ n. drop n ranges) (sym whole) ∙ sym (drop-drop (i - from) from ranges))
+    ∙ take-append-drop (i - from) (drop from ranges) in
     subst (λ those. AreApart 0 those) is
     (apart-append 0 right.first (init ++ left ∷ []) (right ∷ drop (i + 1) ranges) (omega arith)
-        (every-append (λ range. range.last + 2 ≤ right.first) init (left ∷ []) (every_weaker (λ range. range.last + 2 ≤ left.first) (λ range. range.last + 2 ≤ right.first) init (λ range below. omega (arith, below, lt, (left_is ranges from i h).ascends)) (apart_seam 0 init left [] front)) (lt, tt))
-        front
-        (record { above = omega arith; ascends = back.0.ascends; small = back.0.small }, back.1))
+    (every-append (λ range. range.last + 2 ≤ right.first) init (left ∷ []) (every_weaker (λ range. range.last + 2 ≤ left.first) (λ range. range.last + 2 ≤ right.first) init (λ range below. omega (arith, below, lt, (left_is ranges from i h).ascends)) (apart_seam 0 init left [] front)) (lt, tt))
+    front
+    (record { above = omega arith; ascends = back.0.ascends; small = back.0.small }, back.1))
 
 -- the two are made one
 pub touch_apart : (ranges new : List Range) (from i : ℕ) → AreBoth ranges from i → new ≡ take (i - 1) ranges ++ span (get_or ranges (i - 1) blank).first (get_or ranges i blank).last ∷ drop (i + 1) ranges → AreApart 0 (drop from new)
@@ -121,13 +121,13 @@ touch_apart ranges new from i h is =
     let back : AreApart 0 (right ∷ rest) = right_rest ranges from i h in
     let lt : left.last < right.first = in_order ranges from i h in
     let ends : drop from new ≡ init ++ span left.first right.last ∷ rest =
-        ap (drop from) is
-        ∙ drop-append-le from (take (i - 1) ranges) (span left.first right.last ∷ rest) (omega (arith, size, h.some))
-        ∙ ap (λ n. drop from (take n ranges) ++ span left.first right.last ∷ rest) whole
-        ∙ ap (λ those. those ++ span left.first right.last ∷ rest) (drop-take from (i - from - 1) ranges) in
+    ap (drop from) is
+    ∙ drop-append-le from (take (i - 1) ranges) (span left.first right.last ∷ rest) (omega (arith, size, h.some))
+    ∙ ap (λ n. drop from (take n ranges) ++ span left.first right.last ∷ rest) whole
+    ∙ ap (λ those. those ++ span left.first right.last ∷ rest) (drop-take from (i - from - 1) ranges) in
     subst (λ those. AreApart 0 those) (sym ends)
     (apart-append 0 left.first init (span left.first right.last ∷ rest) (omega arith) (apart_seam 0 init left [] front) (apart_front 0 init (left ∷ []) front)
-        (record { above = omega arith; ascends = omega (arith, lt, (left_is ranges from i h).ascends, back.0.ascends); small = back.0.small }, back.1))
+    (record { above = omega arith; ascends = omega (arith, lt, (left_is ranges from i h).ascends, back.0.ascends); small = back.0.small }, back.1))
 
 pub touch_keys : (ranges new : List Range) (from i : ℕ) → AreBoth ranges from i → (get_or ranges (i - 1) blank).last + 1 ≡ (get_or ranges i blank).first → new ≡ take (i - 1) ranges ++ span (get_or ranges (i - 1) blank).first (get_or ranges i blank).last ∷ drop (i + 1) ranges → keys_of new ≡ keys_of ranges
 touch_keys ranges new from i h touch is =

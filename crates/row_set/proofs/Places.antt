@@ -112,3 +112,20 @@ meets low high from to ranges h le from_in to_in before lows highs after =
           (every-drop (λ range. range.first ≤ high) from (take to ranges) highs);
       after = after;
     }
+
+every_front : (P : Range → Type 0) (d : Range) (ranges : List Range) → ((k : ℕ) → k < length ranges → P (get_or ranges k d)) → AllByRecursion P (take (length ranges) ranges)
+every_front P d [] h = tt
+every_front P d (range ∷ ranges) h = (h 0 (omega arith), every_front P d ranges (λ k lt. h (suc k) (omega arith)))
+
+-- all ranges, where the last one does
+pub all_ended : (key : ℕ) (d : Range) (ranges : List Range) → AreApart 0 ranges → 0 < length ranges → (get_or ranges (length ranges - 1) d).last < key → AllByRecursion (λ range. range.last < key) (take (length ranges) ranges)
+all_ended key d ranges h some lt =
+    every_front (λ range. range.last < key) d ranges (λ k within. omega (arith, lasts_rise 0 ranges h k (length ranges - 1) d (omega arith) (omega arith), lt))
+
+pub all_begun : (key : ℕ) (d : Range) (ranges : List Range) → AreApart 0 ranges → 0 < length ranges → (get_or ranges (length ranges - 1) d).first ≤ key → AllByRecursion (λ range. range.first ≤ key) (take (length ranges) ranges)
+all_begun key d ranges h some lt =
+    every_front (λ range. range.first ≤ key) d ranges (λ k within. omega (arith, firsts_rise 0 ranges h k (length ranges - 1) d (omega arith) (omega arith), lt))
+
+pub none_left : (P : Range → Type 0) (ranges : List Range) → AllByRecursion P (drop (length ranges) ranges)
+none_left P [] = tt
+none_left P (range ∷ ranges) = none_left P ranges

@@ -1,22 +1,17 @@
 -- Keys and ranges that move by one difference.
-use Rattle.std.proofs.Common.{◌≡◌, refl, ap, ap₂, sym, ◌∙◌, subst, Bool, true, false, cond, not, ◌&&◌, ◌||◌, ℕ, zero, suc, ◌+◌, ◌-◌, ◌^◌, ◌<◌, ◌≤◌, min, max, arith, List, [], ◌∷◌, ◌++◌, length, map, take, drop, slice_range, get_or, leb, le-leb, get_or-drop, get_or-take, length-drop, length-take-le, append_assoc, ℤ, pos, negsuc, ◌+ℤ◌, ◌≤ℤ◌, ◌<ℤ◌, inl, inr}
+use Rattle.std.proofs.Common.{◌≡◌, refl, ap, ap₂, sym, ◌∙◌, subst, Bool, true, false, cond, not, ◌&&◌, ◌||◌, ℕ, zero, suc, ◌+◌, ◌-◌, ◌<◌, ◌≤◌, min, max, arith, List, [], ◌∷◌, ◌++◌, length, map, drop, slice_range, get_or, leb, le-leb, get_or-drop, get_or-take, length-drop, length-take-le, ℤ, pos, negsuc, ◌+ℤ◌, ◌≤ℤ◌, inl, inr}
 use Rattle.std.specs.List.{AllByRecursion, list_any, range_with_len}
 use Rattle.std.proofs.lemmas.Bool.{cases_lt, and_from, and_left, and_right, lt-leb, true≢false}
 use Rattle.std.proofs.lemmas.Int.{ints}
-use Rattle.std.proofs.lemmas.List.{drop-drop, get_or-map, map-append}
-use Rattle.key_lists.specs.Keys.{is_among, IsRising}
-use Rattle.key_lists.proofs.Every.{every, every_both, every_weaker, every-append, every-map, all_from, map_same, map_own, map_map}
-use Rattle.key_lists.proofs.Rising.{rising_same, rising-append}
+use Rattle.std.proofs.lemmas.List.{get_or-map, map-append}
+use Rattle.key_lists.proofs.Every.{all_from, map_same, map_map}
 use Rattle.row_set.specs.declared.ranges.Range.{Range}
-use Rattle.row_set.specs.Ranges.{keys_from, keys_in, keys_of, holds, IsRangeFrom, AreApart, Meets}
-use Rattle.row_set.specs.Moves.{moved_key, as_key, moved_keys, IsKey, moved_range, Lands}
-use Rattle.row_set.proofs.Held.{each_between, each_key, among-keys, holds-true, holds_before, holds_after, keys_of-append}
-use Rattle.row_set.proofs.Apart.{apart-drop, apart-take, apart_weaker, apart-append, each_range, keys_rise}
+use Rattle.row_set.specs.Ranges.{keys_in, keys_of, holds, IsRangeFrom, AreApart}
+use Rattle.row_set.specs.Moves.{moved_key, as_key, IsKey, moved_range, Lands}
+use Rattle.row_set.proofs.Held.{each_between, holds-true, holds_before, holds_after}
+use Rattle.row_set.proofs.Apart.{apart_weaker}
 use Rattle.row_set.proofs.Counts.{blank}
-use Rattle.row_set.proofs.Lookups.{any-append}
-use Rattle.row_set.proofs.Middles.{span, IsMet, met, three_parts, before_head, after_tail}
-use Rattle.row_set.proofs.Edges.{left_edge, right_edge, edges_hold, left_apart, right_apart}
-use Rattle.row_set.proofs.Spliced.{IsSplicing}
+use Rattle.row_set.proofs.Middles.{span}
 
 pub pos-as_key : (number : ℤ) → pos 0 ≤ℤ number → pos (as_key number) ≡ number
 pos-as_key (pos n) h = refl
@@ -77,8 +72,7 @@ shift_apart delta low there (range ∷ ranges) le h k =
     let next : pos (as_key (pos range.last +ℤ delta) + 2) ≤ℤ (pos (range.last + 2) +ℤ delta) = omega (arith, ints, last_is) in
     let above = h.0.above in
     let ascends = h.0.ascends in
-    let small = k.0.last_key.small in
-    (
+    let small = k.0.last_key.small in (
       record { above = omega (arith, ints, first_is, le, above); ascends = omega (arith, ints, first_is, last_is, ascends); small = omega (arith, ints, last_is, small) },
       shift_apart delta (range.last + 2) (as_key (pos range.last +ℤ delta) + 2) ranges next h.1 k.1,
     )
@@ -107,7 +101,7 @@ clipped_move delta first last (range ∷ ranges) w r k =
     map-append (λ key. as_key (moved_key first last delta key)) (keys_in range) (keys_of ranges)
     ∙ ap₂ ◌++◌
     (map_same (λ key. as_key (moved_key first last delta key)) (λ key. as_key (pos key +ℤ delta)) (keys_in range)
-        (each_between (λ key. as_key (moved_key first last delta key) ≡ as_key (pos key +ℤ delta)) range.first range.last (λ key above below. inside first last key delta (w.0 key above below).0 (w.0 key above below).1))
+    (each_between (λ key. as_key (moved_key first last delta key) ≡ as_key (pos key +ℤ delta)) range.first range.last (λ key above below. inside first last key delta (w.0 key above below).0 (w.0 key above below).1))
     ∙ shifted_keys delta range k.0 r.0.ascends)
     (clipped_move delta first last ranges w.1 r.1 k.1)
 

@@ -7,23 +7,31 @@ ghost use Rattle.row_set.specs.Sets.{found, last_key};
 
 use crate::ranges::Range;
 
-/// How many of the ranges end before the key.
+/// How many of the ranges end before the key. Where all do, this is seen at once.
 pub(crate) fn ended_before(ranges: &[Range], key: u64) -> usize
     requires { AreApart 0 ranges.now }
     ensures within { result ≤ length ranges.now }
     ensures ended { AllByRecursion (λ range. range.last < key) (take result ranges.now) }
     ensures others { AllByRecursion (λ range. key ≤ range.last) (drop result ranges.now) }
 {
+    let count = ranges.len();
+    if count > 0 && ranges[count - 1].last < key {
+        return count;
+    }
     ranges.partition_point(|range| range.last < key)
 }
 
-/// How many of the ranges begin at the key or before it.
+/// How many of the ranges begin at the key or before it. Where all do, this is seen at once.
 pub(crate) fn begun_by(ranges: &[Range], key: u64) -> usize
     requires { AreApart 0 ranges.now }
     ensures within { result ≤ length ranges.now }
     ensures begun { AllByRecursion (λ range. range.first ≤ key) (take result ranges.now) }
     ensures others { AllByRecursion (λ range. key < range.first) (drop result ranges.now) }
 {
+    let count = ranges.len();
+    if count > 0 && ranges[count - 1].first <= key {
+        return count;
+    }
     ranges.partition_point(|range| range.first <= key)
 }
 

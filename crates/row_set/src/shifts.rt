@@ -1,9 +1,10 @@
 //! Keys of a set that move by one difference, in place, where there is room for the edges that stay behind.
 ghost use Rattle.std.specs.Prelude.{◌≡◌, pos, ◌+ℤ◌, ◌+◌, ◌-◌, ◌^◌, ◌<◌, ◌≤◌, ◌∷◌, [], ◌++◌, if◌then◌else◌, length, map, take, drop, slice_range, vec_len, vec_capacity};
+ghost use Rattle.std.specs.Bool.{OnFalse};
 ghost use Rattle.std.specs.List.{AllByRecursion};
 ghost use Rattle.key_lists.specs.Keys.{IsRising};
 ghost use Rattle.row_set.specs.Moves.{IsKey, Lands, moved_key, moved_keys, moved_range};
-ghost use Rattle.row_set.specs.Ranges.{AreApart, Meets, keys_of};
+ghost use Rattle.row_set.specs.Ranges.{AreApart, Meets, keys_of, starts_of};
 
 use crate::edits::splice;
 use crate::ranges::Range;
@@ -19,14 +20,7 @@ fn moved(key: u64, delta: i64) -> u64
 }
 
 /// Moves what the ranges from `from` up to `to` have from `first` to `last`, and leaves out the rest of them.
-fn move_ranges(
-    ranges: &mut Vec<Range>,
-    from: usize,
-    to: usize,
-    first: u64,
-    last: u64,
-    delta: i64,
-)
+fn move_ranges(ranges: &mut Vec<Range>, from: usize, to: usize, first: u64, last: u64, delta: i64)
     requires apart { AreApart 0 ranges.old.items }
     requires met { Meets first last ranges.old.items from to }
     requires small { last < 2 ^ 62 }
@@ -63,8 +57,9 @@ fn put_edge(ranges: &mut Vec<Range>, index: usize, edge: Range, wanted: bool) ->
     }
 }
 
-/// Makes one range of the two that meet at an index, where they touch. Those from `from` on are apart then.
-fn join(ranges: &mut Vec<Range>, from: usize, index: usize)
+/// Makes one range of the two that meet at an index, where they touch, and says whether they do. Those from `from` on are
+/// apart then.
+fn join(ranges: &mut Vec<Range>, from: usize, index: usize) -> bool
     requires order { from ≤ index }
     requires within { index ≤ vec_len ranges.old }
     requires before { AreApart 0 (slice_range ranges.old.items from index) }
@@ -74,11 +69,12 @@ fn join(ranges: &mut Vec<Range>, from: usize, index: usize)
     ensures keys { keys_of ranges.new.items ≡ keys_of ranges.old.items }
     ensures front { take from ranges.new.items ≡ take from ranges.old.items }
     ensures kept { take (index - 1) ranges.new.items ≡ take (index - 1) ranges.old.items }
+    ensures same { OnFalse result (ranges.new.items ≡ ranges.old.items) }
     ensures shorter { vec_len ranges.new ≤ vec_len ranges.old }
     ensures capacity { vec_capacity ranges.old ≤ vec_capacity ranges.new }
 {
     if from == index || index == ranges.len() {
-        return;
+        return false;
     }
     let left = ranges[index - 1];
     let right = ranges[index];
@@ -88,10 +84,14 @@ fn join(ranges: &mut Vec<Range>, from: usize, index: usize)
             last: right.last,
         };
         splice(ranges, index - 1, index + 1, &[joined]);
+        true
+    } else {
+        false
     }
 }
 
-/// Moves every key from `first` to `last` by delta. The ranges before the index that it gives stay.
+/// Moves every key from `first` to `last` by delta. The starts of the ranges before the index that it gives stay: they are
+/// those of all ranges where none is split and none joined.
 pub(crate) fn shift_keys(ranges: &mut Vec<Range>, first: u64, last: u64, delta: i64) -> usize
     requires apart { AreApart 0 ranges.old.items }
     requires order { first ≤ last }
@@ -102,7 +102,7 @@ pub(crate) fn shift_keys(ranges: &mut Vec<Range>, first: u64, last: u64, delta: 
     ensures apart { AreApart 0 ranges.new.items }
     ensures keys { keys_of ranges.new.items ≡ moved_keys first last delta (keys_of ranges.old.items) }
     ensures within { result ≤ vec_len ranges.new }
-    ensures before { take result ranges.new.items ≡ take result ranges.old.items }
+    ensures starts { take result (starts_of 0 ranges.new.items) ≡ take result (starts_of 0 ranges.old.items) }
     ensures growth { vec_len ranges.new ≤ vec_len ranges.old + 2 }
     ensures capacity { vec_capacity ranges.old ≤ vec_capacity ranges.new }
 {
@@ -119,9 +119,13 @@ pub(crate) fn shift_keys(ranges: &mut Vec<Range>, first: u64, last: u64, delta: 
         last: ranges[to - 1].last,
     };
     move_ranges(ranges, from, to, first, last, delta);
-    let _ = put_edge(ranges, to, right, last < right.last);
-    let edges = put_edge(ranges, from, left, left.first < first);
-    join(ranges, from + edges, to + edges);
-    join(ranges, 0, from + edges);
-    from.saturating_sub(1)
+    let after = put_edge(ranges, to, right, last < right.last);
+    let before = put_edge(ranges, from, left, left.first < first);
+    let joined_after = join(ranges, from + before, to + before);
+    let joined_before = join(ranges, 0, from + before);
+    if before + after == 0 && !joined_after && !joined_before {
+        ranges.len()
+    } else {
+        from.saturating_sub(1)
+    }
 }

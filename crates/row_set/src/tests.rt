@@ -75,3 +75,12 @@ fn small_sets_in_large_ones(rt: HostRuntime) -> Result<(), Fail> {
     assert_eq!(rt; rows.ranges(), [range(0, 9)].as_slice());
     Ok(())
 }
+
+#[test]
+fn moves(rt: HostRuntime) -> Result<(), Fail> {
+    let mut rows = RowSet::new(rt.alloc());
+    rows.insert_range(3, 5)?;
+    rows.shift_range(4, 5, 2)?;
+    assert_eq!(rt; rows.ranges(), [range(3, 3), range(6, 7)].as_slice());
+    Ok(())
+}

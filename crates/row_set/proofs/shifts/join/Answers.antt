@@ -1,4 +1,4 @@
-use Rattle.std.proofs.Common.{◌≡◌, ◌-◌, ◌+◌, ◌<◌, ◌≤◌, ◌∷◌, ◌++◌, length, vec_len, ap, ap₂, sym, ◌∙◌, subst, take, drop, get_or, Fits, w64, arith}
+use Rattle.std.proofs.Common.{◌≡◌, ◌-◌, ◌+◌, ◌<◌, ◌∷◌, ◌++◌, length, ap, ap₂, sym, ◌∙◌, subst, take, drop, get_or, Fits, w64, arith}
 use Rattle.std.proofs.lemmas.List.{get_or_default}
 use Rattle.row_set.specs.declared.ranges.Range.{Range}
 use Rattle.row_set.proofs.Counts.{blank}
@@ -27,7 +27,7 @@ returns-then-left-right-clause-apart c =
     let left : c.index-left.result.now ≡ get_or items (i - 1) blank = c.index-left.ensures ∙ get_or_default items (i - 1) c.index-left.result.now blank (omega (arith, within)) in
     let right : c.index-right.result.now ≡ get_or items i blank = c.index-right.ensures ∙ get_or_default items i c.index-right.result.now blank within in
     let same : c.splice.new.ranges.items ≡ take (i - 1) items ++ span (get_or items (i - 1) blank).first (get_or items i blank).last ∷ drop (i + 1) items =
-        c.splice.ensures.items ∙ ap₂ (λ (x y : Range). take (i - 1) items ++ span x.first y.last ∷ drop (i + 1) items) left right in
+    c.splice.ensures.items ∙ ap₂ (λ (x y : Range). take (i - 1) items ++ span x.first y.last ∷ drop (i + 1) items) left right in
     touch_apart items c.splice.new.ranges.items c.args.from i both same
 
 pub returns-then-left-right-clause-keys : goal.returns-then-left-right-clause-keys
@@ -40,9 +40,9 @@ returns-then-left-right-clause-keys c =
     let left : c.index-left.result.now ≡ get_or items (i - 1) blank = c.index-left.ensures ∙ get_or_default items (i - 1) c.index-left.result.now blank (omega (arith, within)) in
     let right : c.index-right.result.now ≡ get_or items i blank = c.index-right.ensures ∙ get_or_default items i c.index-right.result.now blank within in
     let same : c.splice.new.ranges.items ≡ take (i - 1) items ++ span (get_or items (i - 1) blank).first (get_or items i blank).last ∷ drop (i + 1) items =
-        c.splice.ensures.items ∙ ap₂ (λ (x y : Range). take (i - 1) items ++ span x.first y.last ∷ drop (i + 1) items) left right in
+    c.splice.ensures.items ∙ ap₂ (λ (x y : Range). take (i - 1) items ++ span x.first y.last ∷ drop (i + 1) items) left right in
     let touch : (get_or items (i - 1) blank).last + 1 ≡ (get_or items i blank).first =
-        sym (ap (λ (range : Range). range.last + 1) left) ∙ c.if-left-right.true ∙ ap (λ (range : Range). range.first) right in
+    sym (ap (λ (range : Range). range.last + 1) left) ∙ c.if-left-right.true ∙ ap (λ (range : Range). range.first) right in
     touch_keys items c.splice.new.ranges.items c.args.from i both touch same
 
 pub returns-else-left-right-clause-apart : goal.returns-else-left-right-clause-apart

@@ -1,4 +1,4 @@
-use Rattle.std.proofs.Common.{◌≡◌, ◌-◌, ◌+◌, ◌^◌, ◌<◌, ◌≤◌, ◌∷◌, ◌++◌, List, length, map, min, max, take, drop, slice_range, set, get_or, vec_len, ap, ap₂, sym, ◌∙◌, subst, ℤ, pos, ◌+ℤ◌, to_z, of_z, to_z-of_z, w64, arith, add-one}
+use Rattle.std.proofs.Common.{◌≡◌, ◌-◌, ◌+◌, ◌<◌, ◌≤◌, ◌∷◌, ◌++◌, List, length, map, min, max, take, drop, slice_range, set, get_or, ap, ap₂, sym, ◌∙◌, subst, ℤ, pos, ◌+ℤ◌, to_z, of_z, to_z-of_z, w64, arith, add-one}
 use Rattle.std.specs.List.{AllByRecursion}
 use Rattle.std.proofs.lemmas.List.{get_or_default, length-map, set_split}
 use Rattle.row_set.specs.declared.ranges.Range.{Range}
@@ -30,9 +30,9 @@ moved-requires-clause-small c =
     let many : length others ≡ to - from = length-map (slice_range old from to) (moved_range first last delta) ∙ length-slice from to old order within in
     let size : length new ≡ length old = omega (arith, length-splicing old from to others (index - from) index new c.loop-index.invariant.0 (omega (arith, order, within)) (omega (arith, many, lt)), after, lt, within) in
     let read : c.index-range.result.now ≡ get_or old index blank =
-        c.index-range.ensures
-        ∙ get_or_default new index c.index-range.result.now blank (omega (arith, size, lt, within))
-        ∙ splicing_read old from to others (index - from) index new blank c.loop-index.invariant.0 (omega (arith, order, within)) (omega (arith, many, lt)) lt in
+    c.index-range.ensures
+    ∙ get_or_default new index c.index-range.result.now blank (omega (arith, size, lt, within))
+    ∙ splicing_read old from to others (index - from) index new blank c.loop-index.invariant.0 (omega (arith, order, within)) (omega (arith, many, lt)) lt in
     let there = range_at 0 old c.requires.apart index blank (omega (arith, lt, within)) in
     let least : c.max.result ≡ max (get_or old index blank).first first = c.max.ensures ∙ ap (λ (range : Range). max range.first first) read in
     omega (arith, least, there.ascends, there.small, c.requires.small, c.requires.order)
@@ -57,9 +57,9 @@ moved-requires-clause-lands c =
     let many : length others ≡ to - from = length-map (slice_range old from to) (moved_range first last delta) ∙ length-slice from to old order within in
     let size : length new ≡ length old = omega (arith, length-splicing old from to others (index - from) index new c.loop-index.invariant.0 (omega (arith, order, within)) (omega (arith, many, lt)), after, lt, within) in
     let read : c.index-range.result.now ≡ get_or old index blank =
-        c.index-range.ensures
-        ∙ get_or_default new index c.index-range.result.now blank (omega (arith, size, lt, within))
-        ∙ splicing_read old from to others (index - from) index new blank c.loop-index.invariant.0 (omega (arith, order, within)) (omega (arith, many, lt)) lt in
+    c.index-range.ensures
+    ∙ get_or_default new index c.index-range.result.now blank (omega (arith, size, lt, within))
+    ∙ splicing_read old from to others (index - from) index new blank c.loop-index.invariant.0 (omega (arith, order, within)) (omega (arith, many, lt)) lt in
     let there = range_at 0 old c.requires.apart index blank (omega (arith, lt, within)) in
     let least : c.max.result ≡ max (get_or old index blank).first first = c.max.ensures ∙ ap (λ (range : Range). max range.first first) read in
     subst (λ n. IsKey (pos n +ℤ delta)) (sym least) (lands_at delta first last from to index old lands after lt within).first_key
@@ -84,9 +84,9 @@ moved-requires-in-loop-index-clause-lands c =
     let many : length others ≡ to - from = length-map (slice_range old from to) (moved_range first last delta) ∙ length-slice from to old order within in
     let size : length new ≡ length old = omega (arith, length-splicing old from to others (index - from) index new c.loop-index.invariant.0 (omega (arith, order, within)) (omega (arith, many, lt)), after, lt, within) in
     let read : c.index-range.result.now ≡ get_or old index blank =
-        c.index-range.ensures
-        ∙ get_or_default new index c.index-range.result.now blank (omega (arith, size, lt, within))
-        ∙ splicing_read old from to others (index - from) index new blank c.loop-index.invariant.0 (omega (arith, order, within)) (omega (arith, many, lt)) lt in
+    c.index-range.ensures
+    ∙ get_or_default new index c.index-range.result.now blank (omega (arith, size, lt, within))
+    ∙ splicing_read old from to others (index - from) index new blank c.loop-index.invariant.0 (omega (arith, order, within)) (omega (arith, many, lt)) lt in
     let there = range_at 0 old c.requires.apart index blank (omega (arith, lt, within)) in
     let most : c.min.result ≡ min (get_or old index blank).last last = c.min.ensures ∙ ap (λ (range : Range). min range.last last) read in
     subst (λ n. IsKey (pos n +ℤ delta)) (sym most) (lands_at delta first last from to index old lands after lt within).last_key
@@ -111,21 +111,20 @@ loop-index-preserved c =
     let many : length others ≡ to - from = length-map (slice_range old from to) (moved_range first last delta) ∙ length-slice from to old order within in
     let size : length new ≡ length old = omega (arith, length-splicing old from to others (index - from) index new c.loop-index.invariant.0 (omega (arith, order, within)) (omega (arith, many, lt)), after, lt, within) in
     let read : c.index-range.result.now ≡ get_or old index blank =
-        c.index-range.ensures
-        ∙ get_or_default new index c.index-range.result.now blank (omega (arith, size, lt, within))
-        ∙ splicing_read old from to others (index - from) index new blank c.loop-index.invariant.0 (omega (arith, order, within)) (omega (arith, many, lt)) lt in
+    c.index-range.ensures
+    ∙ get_or_default new index c.index-range.result.now blank (omega (arith, size, lt, within))
+    ∙ splicing_read old from to others (index - from) index new blank c.loop-index.invariant.0 (omega (arith, order, within)) (omega (arith, many, lt)) lt in
     let there = range_at 0 old c.requires.apart index blank (omega (arith, lt, within)) in
     let least : c.max.result ≡ max (get_or old index blank).first first = c.max.ensures ∙ ap (λ (range : Range). max range.first first) read in
     let most : c.min.result ≡ min (get_or old index blank).last last = c.min.ensures ∙ ap (λ (range : Range). min range.last last) read in
     let one : span c.moved.result c.moved-in-loop-index.result ≡ get_or others (index - from) blank =
-        ap₂ span (ap as_key (c.moved.ensures ∙ ap (λ n. pos n +ℤ delta) least)) (ap as_key (c.moved-in-loop-index.ensures ∙ ap (λ n. pos n +ℤ delta) most))
-        ∙ sym (moved_at delta first last from to index old after lt within) in
+    ap₂ span (ap as_key (c.moved.ensures ∙ ap (λ n. pos n +ℤ delta) least)) (ap as_key (c.moved-in-loop-index.ensures ∙ ap (λ n. pos n +ℤ delta) most))
+    ∙ sym (moved_at delta first last from to index old after lt within) in
     let next : index - from + 1 ≡ index + 1 - from = omega (arith, after) in
     let parts : set new index (span c.moved.result c.moved-in-loop-index.result) ≡ take index new ++ (get_or others (index - from) blank ∷ drop (index + 1) new) =
-        rw add-one (set_split new index (span c.moved.result c.moved-in-loop-index.result) (omega (arith, size, lt, within)))
-        ∙ ap (λ range. take index new ++ (range ∷ drop (index + 1) new)) one in
-    (
+    rw add-one (set_split new index (span c.moved.result c.moved-in-loop-index.result) (omega (arith, size, lt, within)))
+    ∙ ap (λ range. take index new ++ (range ∷ drop (index + 1) new)) one in (
       subst (λ i. IsSplicing old from to others i (index + 1) (set new index (span c.moved.result c.moved-in-loop-index.result))) next
-      (splicing_replaces old from to others (index - from) index new (set new index (span c.moved.result c.moved-in-loop-index.result)) blank c.loop-index.invariant.0 (omega (arith, order, within)) within (omega (arith, many, lt)) lt parts),
+          (splicing_replaces old from to others (index - from) index new (set new index (span c.moved.result c.moved-in-loop-index.result)) blank c.loop-index.invariant.0 (omega (arith, order, within)) within (omega (arith, many, lt)) lt parts),
       c.loop-index.invariant.1,
     )

@@ -2,15 +2,16 @@ use Rattle.std.proofs.Common.{◌≡◌, ap, sym, ◌∙◌, take, length, vec_l
 use Rattle.std.specs.List.{AllByRecursion}
 use Rattle.row_set.specs.Moves.{IsKey, moved_key}
 use Rattle.row_set.specs.Ranges.{keys_of, starts_of}
-use Rattle.row_set.proofs.Counts.{kept_starts, stored_length}
+use Rattle.row_set.proofs.Counts.{stored_length, take-starts}
 use Rattle.row_set.proofs.rows.RowSet.shift_range.Goals as goal
 
 pub recount-requires-clause-before : goal.recount-requires-clause-before
 recount-requires-clause-before c =
     let n = c.shift_keys-from.result in
     let new = c.shift_keys-from.new.ranges.items in
-    ap (take n) c.make_room.ensures.starts
-    ∙ kept_starts n c.self.inside.ranges.items new c.self.inside.starts.items c.self.invariant (c.shift_keys-from.ensures.before ∙ ap (take n) c.make_room.ensures.ranges)
+    ap (take n) (c.make_room.ensures.starts ∙ c.self.invariant.placed ∙ ap (starts_of 0) (sym c.make_room.ensures.ranges))
+    ∙ sym c.shift_keys-from.ensures.starts
+    ∙ take-starts n 0 new
     ∙ ap (λ those. starts_of 0 (take n those)) (sym c.deref.ensures.value)
 
 pub recount-requires-clause-room : goal.recount-requires-clause-room
