@@ -1,0 +1,63 @@
+-- Ranges of keys, and the keys that they hold.
+--     keys_from first last      the keys from first to last
+--     keys_of ranges      the keys of the ranges, one range after another
+--     ranges_of keys      the longest ranges of rising keys
+--     AreApart low ranges      the ranges ascend from low on, and a key is left out between any two of them
+--     starts_of start ranges      the position at which each range begins, where the first begins at start
+--     Meets low high ranges from to      which ranges meet the keys from low to high
+--     IsStored ranges starts      how a set is kept
+use Rattle.std.specs.Prelude.{◌≡◌, ℕ, ◌+◌, ◌-◌, ◌^◌, ◌<◌, ◌≤◌, ◌==◌, ◌&&◌, Bool, List, [], ◌∷◌, length, take, drop, slice_range, nat_le, if◌then◌else◌}
+use Rattle.std.specs.List.{AllByRecursion, flat_map, range_with_len}
+use Rattle.row_set.specs.declared.ranges.Range.{Range}
+
+abbrev pub keys_from : ℕ → ℕ → List ℕ
+keys_from first last = range_with_len first (last + 1 - first)
+
+abbrev pub keys_in : Range → List ℕ
+keys_in range = keys_from range.first range.last
+
+abbrev pub keys_of : List Range → List ℕ
+keys_of = flat_map keys_in
+
+-- whether the range holds the key
+abbrev pub holds : ℕ → Range → Bool
+holds key range = nat_le range.first key && nat_le key range.last
+
+-- the ranges with one key before them, which is put into the first of them where it touches it
+abbrev pub preceded : ℕ → List Range → List Range
+preceded key [] = (record { first = key; last = key }) ∷ []
+preceded key (range ∷ ranges) =
+    if key + 1 == range.first
+    then (record range { first = key }) ∷ ranges
+    else (record { first = key; last = key }) ∷ range ∷ ranges
+
+abbrev pub ranges_of : List ℕ → List Range
+ranges_of [] = []
+ranges_of (key ∷ keys) = preceded key (ranges_of keys)
+
+-- the range begins at low or above, holds a key, and holds keys below 2 ^ 62 alone
+pub record IsRangeFrom (low : ℕ) (range : Range) : Type 0 where
+  pub above : low ≤ range.first
+  pub ascends : range.first ≤ range.last
+  pub small : range.last < 2 ^ 62
+
+abbrev pub AreApart : ℕ → List Range → Type 0
+AreApart low [] = Unit {0}
+AreApart low (range ∷ ranges) = IsRangeFrom low range × AreApart (range.last + 2) ranges
+
+abbrev pub starts_of : ℕ → List Range → List ℕ
+starts_of start [] = []
+starts_of start (range ∷ ranges) = start ∷ starts_of (start + length (keys_in range)) ranges
+
+pub record IsStored (ranges : List Range) (starts : List ℕ) : Type 0 where
+  pub apart : AreApart 0 ranges
+  pub placed : starts ≡ starts_of 0 ranges
+
+-- the ranges from `from` up to `to` are those that end at low or after it and begin at high or before it
+pub record Meets (low high : ℕ) (ranges : List Range) (from to : ℕ) : Type 0 where
+  pub order : from ≤ to
+  pub within : to ≤ length ranges
+  pub before : AllByRecursion (λ range. range.last < low) (take from ranges)
+  pub lows : AllByRecursion (λ range. low ≤ range.last) (slice_range ranges from to)
+  pub highs : AllByRecursion (λ range. range.first ≤ high) (slice_range ranges from to)
+  pub after : AllByRecursion (λ range. high < range.first) (drop to ranges)

@@ -1,0 +1,19 @@
+//! Ordered sets of row keys, kept as sorted ranges.
+//!
+//! A `RowSet` is seen as the rising list of its keys, each below 2 ^ 62 (`IsKeySet`, which every call that reads a set
+//! ensures), and each call is a function of such lists: `specs/Sets.antt` has the words, `specs/Ranges.antt` those of
+//! ranges. Lookups are binary searches over the ranges; edits are made in place; the algebra of two sets is one merge of
+//! their ranges.
+#![tactic(auto)]
+
+mod algebra;
+mod edits;
+mod ranges;
+mod rows;
+mod search;
+mod shifts;
+#[cfg(test)]
+mod tests;
+
+pub use ranges::Range;
+pub use rows::RowSet;

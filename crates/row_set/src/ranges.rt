@@ -1,0 +1,10 @@
+//! A range of keys.
+
+/// The keys from `first` to `last`, both included.
+#[derive(Debug, Clone, Copy, PartialEq, Eq)]
+pub struct Range {
+    /// The least key.
+    pub first: u64,
+    /// The greatest key.
+    pub last: u64,
+}
