@@ -1,0 +1,10 @@
+pub mod FeedLemmas
+pub mod Growth
+pub mod PrintLemmas
+pub mod ProgramLemmas
+pub mod RowLemmas
+pub mod RunLemmas
+pub mod ScriptLemmas
+pub mod Soundness
+pub mod TextLemmas
+pub mod TokenLemmas

@@ -1,0 +1,21 @@
+use Rattle.std.proofs.Common.{◌≡◌, ◌^◌, ◌<◌, ◌≤◌, true, ◌∙◌, sym, arith, rules, Ok, Err, length}
+use Rattle.std.specs.Result.{OkIff}
+use Rattle.std.specs.Str.{all_ascii_digits}
+use Rattle.std.specs.Str.Parse.{digits_value}
+use Rattle.std.proofs.lemmas.Result.{OkIff-at_ok, OkIff-at_err}
+use Rattle.std.proofs.lemmas.Str.Parse.{parse_digits}
+use Rattle.feed_run.proofs.TokenLemmas.{own_digits, key_of-short, lower_there, lower_past, lower_not_there}
+use Rattle.feed_run.proofs.tokens.key.Goals as goal
+
+pub returns-in_default-2 : goal.returns-in_default-2
+returns-in_default-2 c =
+    let text = c.args.text.now in
+    let parsed = OkIff-at_err c.parse.result _ _ c.in_default.field-0 (parse_digits own_digits 64 text c.parse.result c.parse.ensures.value.0 (sym (search rules))) c.in_default.is in
+    sym (key_of-short text (omega arith) ∙ lower_not_there (2 ^ 64) (2 ^ 40) text (omega arith) parsed)
+
+pub returns-in-Ok : goal.returns-in-Ok
+returns-in-Ok c =
+    let text = c.args.text.now in
+    let digits : all_ascii_digits text ≡ true = sym (c.if-not-is_digits.ensures) in
+    let parsed = OkIff-at_ok c.parse.result _ _ c.in-Ok.key (parse_digits own_digits 64 text c.parse.result c.parse.ensures.value.0 digits) c.in-Ok.is in
+    sym (key_of-short text (omega arith) ∙ lower_there (2 ^ 64) (2 ^ 40) c.in-Ok.key text digits parsed.0 parsed.1 (omega arith))

@@ -1,0 +1,21 @@
+use Rattle.std.proofs.Common.{◌≡◌, ◌∙◌, sym, ap, cond, true, false, Some, None, List, ℕ, map, length, [], rules, arith}
+use Rattle.std.proofs.lemmas.Bool.{cond-true, cond-false}
+use Rattle.feed_run.specs.Tokens.{pieces_at}
+use Rattle.feed_run.proofs.TokenLemmas.{ended-popped, ended-empty, empty_from_length, is_none-length}
+use Rattle.feed_run.proofs.tokens.lines.Goals as goal
+use Rattle.feed_run.proofs.tokens.lines.Goals.{in_default-via-in-Some+else-is_empty, in_default-via-in_default}
+
+pub returns-in-Some : goal.returns-in-Some
+returns-in-Some c =
+    sym (ended-popped (pieces_at 10 c.args.text.now) c.in_ok-lines.lines.items c.pop.new.self.items c.in-Some.last (c.in_ok-lines.ensures) (c.in-Some.ensures.items)
+    ∙ cond-true _ _ _ (is_none-length c.in-Some.last.now ∙ sym c.is_empty.ensures ∙ c.if-is_empty.true))
+
+pub returns : goal.returns
+returns c =
+    elim c.in_default.branch [
+      | in_default-via-in-Some+else-is_empty w ↦
+          sym (ended-popped (pieces_at 10 c.args.text.now) c.in_ok-lines.lines.items c.pop.new.self.items w.in-Some.last (c.in_ok-lines.ensures) (w.in-Some.ensures.items)
+          ∙ cond-false _ _ _ (is_none-length w.in-Some.last.now ∙ sym w.is_empty.ensures ∙ w.if-is_empty.false))
+      | in_default-via-in_default w ↦
+          sym (ended-empty (pieces_at 10 c.args.text.now) c.in_ok-lines.lines.items (c.in_ok-lines.ensures) (empty_from_length c.in_ok-lines.lines.items (omega (arith, c.in_ok-lines.lines.ok.0, w.in_default.ensures.cases.0))))
+    ]

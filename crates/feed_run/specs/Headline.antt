@@ -1,0 +1,85 @@
+-- What is said of one call of the program.
+--     TellsVerdict verdict status old new      a status of a verdict is that of the verdict, and its whole text was written
+--     TellsLoadFault failed reached old new      a load of a file failed that has to be read, and the record that says so was written
+--     WritesPrefix verdict failed reached old new      a prefix of an allowed text was written
+--     IsComplete verdict status      memory ran out, or the status is that of the verdict
+use Rattle.std.specs.Prelude.{◌≡◌, ◌⊎◌, ℕ, Bool, true, List, [], ◌∷◌, Option, Some, None}
+use Rattle.std.specs.Io.KnownBytes.{append_known}
+use Rattle.std.specs.List.{list_any}
+use Rattle.std.specs.Str.{bytes_eq}
+use Rattle.tick_io.specs.Counts.{Rose}
+use Rattle.tick_io.specs.Written.{AppendsPrefix}
+use Rattle.tick_model.specs.Texts.{record_text}
+use Rattle.feed_run.specs.declared.script.Script.{Script}
+use Rattle.feed_run.specs.Commands.{Command, Run as RunCommand, NotBuilt, command}
+use Rattle.feed_run.specs.Scripts.{script_of}
+use Rattle.feed_run.specs.Verdicts.{Verdict, status_of}
+use Rattle.feed_run.specs.Wholes.{whole, unread_record, IsLawful}
+
+-- the names of the files that have to be read: the script, and the feed where the script is accepted
+abbrev pub feed_after : Option Script → List ℕ → List (List ℕ)
+feed_after None feed = []
+feed_after (Some script) feed = feed ∷ []
+
+abbrev pub files_from : Option (List ℕ) → List ℕ → List (List ℕ)
+files_from None feed = []
+files_from (Some bytes) feed = feed_after (script_of bytes) feed
+
+abbrev pub files_of : Option Command → (List ℕ → Option (List ℕ)) → List (List ℕ)
+files_of None content = []
+files_of (Some NotBuilt) content = []
+files_of (Some (RunCommand script feed)) content = script ∷ files_from (content script) feed
+
+abbrev pub files : List (List ℕ) → (List ℕ → Option (List ℕ)) → List (List ℕ)
+files words content = files_of (command words) content
+
+abbrev pub IsOneOf : List (List ℕ) → List ℕ → Type 0
+IsOneOf names name = list_any (bytes_eq name) names ≡ true
+
+abbrev pub IsRead : List (List ℕ) → (List ℕ → Option (List ℕ)) → List ℕ → Type 0
+IsRead words content = IsOneOf (files words content)
+
+-- the count of failed loads of a name rose
+abbrev pub LoadFailed : {I : Type 0} → (I → List ℕ → ℕ) → I → I → List ℕ → Type 0
+LoadFailed failures old new name = Rose (failures old name) (failures new name)
+
+abbrev pub SomeName : (List ℕ → Type 0) → Type 0
+SomeName failed = (name : List ℕ) × failed name
+
+abbrev pub NoneFailed : (List ℕ → Type 0) → (List ℕ → Type 0) → Type 0
+NoneFailed failed read = (name : List ℕ) → read name → failed name → ⊥
+
+-- a status that a verdict has: memory did not run out, no load failed and no write
+abbrev pub IsOfVerdict : ℕ → Type 0
+IsOfVerdict status = (status ≡ 1 → ⊥) × (status ≡ 3 → ⊥) × (status ≡ 10 → ⊥)
+
+abbrev pub WritesWhole : Verdict → Option (List ℕ) → Option (List ℕ) → Type 0
+WritesWhole told old new = (choice : List (List ℕ)) × IsLawful told choice × (new ≡ append_known old (whole told choice))
+
+abbrev pub TellsVerdict : Option Verdict → ℕ → Option (List ℕ) → Option (List ℕ) → Type 0
+TellsVerdict verdict status old new = IsOfVerdict status → (told : Verdict) × (verdict ≡ Some told) × (status ≡ status_of told) × WritesWhole told old new
+
+abbrev pub TellsLoadFault : (List ℕ → Type 0) → (List ℕ → Type 0) → Option (List ℕ) → Option (List ℕ) → Type 0
+TellsLoadFault failed read old new = (name : List ℕ) × failed name × read name × (new ≡ append_known old (record_text (unread_record name)))
+
+-- the texts of which a prefix may be written: that of the verdict, and that of a load that failed
+pub data AllowedText (verdict : Option Verdict) (failed read : List ℕ → Type 0) : Type 0 where
+  OfVerdict : (told : Verdict) (choice : List (List ℕ)) → verdict ≡ Some told → IsLawful told choice → AllowedText verdict failed read
+  OfLoad : (name : List ℕ) → failed name → read name → AllowedText verdict failed read
+
+abbrev pub allowed_text : {verdict : Option Verdict} {failed read : List ℕ → Type 0} → AllowedText verdict failed read → List ℕ
+allowed_text (OfVerdict told choice is lawful) = whole told choice
+allowed_text (OfLoad name failed read) = record_text (unread_record name)
+
+abbrev pub WritesPrefix : Option Verdict → (List ℕ → Type 0) → (List ℕ → Type 0) → Option (List ℕ) → Option (List ℕ) → Type 0
+WritesPrefix verdict failed read old new = (text : AllowedText verdict failed read) × AppendsPrefix old new (allowed_text text)
+
+abbrev pub WritesPrefixOrNothing : Option Verdict → (List ℕ → Type 0) → (List ℕ → Type 0) → Option (List ℕ) → Option (List ℕ) → Type 0
+WritesPrefixOrNothing verdict failed read old new = WritesPrefix verdict failed read old new ⊎ (new ≡ old)
+
+abbrev pub IsComplete : Option Verdict → ℕ → Type 0
+IsComplete verdict status = (status ≡ 1) ⊎ ((told : Verdict) × (verdict ≡ Some told) × (status ≡ status_of told))
+
+-- the statuses that there are
+abbrev pub IsStatus : ℕ → Type 0
+IsStatus status = (status ≡ 0) ⊎ ((status ≡ 1) ⊎ ((status ≡ 2) ⊎ ((status ≡ 3) ⊎ ((status ≡ 10) ⊎ (status ≡ 11)))))

@@ -1,0 +1,10 @@
+pub mod Answers
+pub mod Commands
+pub mod Feeds
+pub mod Headline
+pub mod Prints
+pub mod Runs
+pub mod Scripts
+pub mod Tokens
+pub mod Verdicts
+pub mod Wholes
