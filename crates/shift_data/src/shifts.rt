@@ -1,0 +1,140 @@
+//! The shift itself: what it is made of, and what it answers.
+ghost use Rattle.std.specs.Prelude.{◌≡◌, ℕ, ◌+◌, ◌-◌, ◌^◌, ◌<◌, ◌≤◌, List, [], ◌∷◌, ◌++◌, length, pos, negsuc, ◌<ℤ◌, None, IfSome, IfOk, OnOk, OnErr, MatchResult};
+ghost use Rattle.std.specs.List.{AllByRecursion};
+ghost use Rattle.tick_model.specs.Shifts.{moved};
+ghost use Rattle.shift_data.specs.Pushes.{push_fault};
+ghost use Rattle.shift_data.specs.ShiftLists.{IsShiftList, offset_by};
+
+use crate::search::{place_of, range_of};
+use std::alloc::{AllocError, Global};
+use std::marker::Model;
+use tick_model::update::ShiftRange;
+
+/// Two keys that show that a shift breaks the order of a set: `second` moves past the limit (then `first` is `second`),
+/// or not past `first`, the key before it.
+#[derive(Clone, Copy, Debug, PartialEq, Eq)]
+pub struct Broken {
+    pub first: u64,
+    pub second: u64,
+}
+
+/// Why a range cannot be put behind those of a shift. The causes are tried in this order.
+#[derive(Clone, Copy, Debug, PartialEq, Eq)]
+pub enum ShiftFault {
+    /// The range ends before it begins.
+    Backward,
+    /// The range begins at `begin`, which is not past the `end` of the last range.
+    NotAscending { end: u64, begin: u64 },
+    /// The range moves nothing.
+    ZeroDelta,
+    /// Out of memory.
+    Memory,
+}
+
+/// How the rows of a table move. A contract sees the list of its ranges.
+#[derive(Debug, Drop)]
+pub struct ShiftData {
+    ranges: Vec<ShiftRange>,
+}
+
+impl Model for ShiftData {
+    ghost use Rattle.std.specs.Prelude.{List};
+    ghost use Rattle.tick_model.specs.declared.update.ShiftRange.{ShiftRange};
+    ghost use Rattle.shift_data.specs.ShiftLists.{IsShiftList};
+
+    ghost Value = { List ShiftRange };
+
+    ghost view = { λ shift. shift.ranges.items };
+
+    ghost invariant = { λ shift. IsShiftList shift.ranges.items };
+}
+
+impl ShiftData {
+    /// The shift that moves nothing.
+    pub fn new(alloc: Global) -> ShiftData
+        ensures { result ≡ [] }
+    {
+        ShiftData {
+            ranges: Vec::new(alloc),
+        }
+    }
+
+    /// Puts a range behind the others. After a refusal the shift is as before.
+    pub fn push(&mut self, begin: u64, end: u64, delta: i64) -> Result<(), ShiftFault>
+        requires begin { begin < 2 ^ 62 }
+        requires end { end < 2 ^ 62 }
+        requires up { delta <ℤ pos (2 ^ 62) }
+        requires down { negsuc (2 ^ 62 - 1) <ℤ delta }
+        ensures ok { OnOk result (self.new ≡ self.old ++ (record { begin = begin; end = end; delta = delta }) ∷ []) }
+        ensures err { OnErr result (self.new ≡ self.old) }
+        ensures refused { IfSome (push_fault self.old begin end delta) (λ fault. result ≡ Err fault) }
+        ensures memory { push_fault self.old begin end delta ≡ None → MatchResult result (λ _. Unit {0}) (λ fault. fault ≡ ShiftFault.Memory) }
+    {
+        if let Some(fault) = push_fault(&self.ranges, begin, end, delta) {
+            return Err(fault);
+        }
+        let range = ShiftRange { begin, end, delta };
+        self.ranges.push(range).map_err(|_| ShiftFault::Memory)
+    }
+
+    /// The ranges, rising.
+    pub fn ranges(&self) -> &[ShiftRange]
+        ensures ranges { result.now ≡ self.now }
+        ensures shift { IsShiftList self.now }
+    {
+        &self.ranges
+    }
+
+    /// The number to which a key moves: the key plus the delta of the range that holds it, or the key.
+    pub fn moved(&self, key: u64) -> i64
+        requires { key < 2 ^ 62 }
+        ensures place { result ≡ moved self.now key }
+        ensures shift { IsShiftList self.now }
+    {
+        match range_of(&self.ranges, key) {
+            Some(range) => place_of(key, range.delta),
+            None => place_of(key, 0),
+        }
+    }
+
+    /// The same moves, `by` keys higher.
+    pub fn offset(&self, by: u64) -> Result<ShiftData, AllocError>
+        requires { AllByRecursion (λ range. range.end + by < 2 ^ 62) self.now }
+        ensures { IfOk result (λ shift. shift ≡ offset_by by self.now) }
+    {
+        let mut ranges = Vec::with_capacity(*self.ranges.allocator(), self.ranges.len())?;
+        for range in &self.ranges {
+            ranges.push(ShiftRange {
+                begin: range.begin + by,
+                end: range.end + by,
+                delta: range.delta,
+            })?;
+        }
+        Ok(ShiftData { ranges })
+    }
+
+    /// An equal shift.
+    pub fn copy(&self) -> Result<ShiftData, AllocError>
+        ensures { IfOk result (λ shift. shift ≡ self.now) }
+    {
+        let ranges = Vec::from_slice(*self.ranges.allocator(), &self.ranges)?;
+        Ok(ShiftData { ranges })
+    }
+}
+
+/// Why a range cannot be put behind these, memory aside.
+fn push_fault(shifts: &[ShiftRange], begin: u64, end: u64, delta: i64) -> Option<ShiftFault>
+    ensures { result ≡ push_fault shifts.now begin end delta }
+{
+    if end < begin {
+        return Some(ShiftFault::Backward);
+    }
+    match shifts.last() {
+        Some(last) if begin <= last.end => Some(ShiftFault::NotAscending {
+            end: last.end,
+            begin,
+        }),
+        _ if delta == 0 => Some(ShiftFault::ZeroDelta),
+        _ => None,
+    }
+}
