@@ -1,2 +1,5 @@
-pub mod Searches
+pub mod Keys
 pub mod Lists
+pub mod Searches
+pub mod Segments
+pub mod Stretched

@@ -1,2 +1,5 @@
+pub mod Moves
+pub mod Parts
 pub mod Pushes
 pub mod ShiftLists
+pub mod Stretches

@@ -5,7 +5,9 @@
 //! the ranges of the shift, and of the ranges of a set that they touch.
 #![tactic(auto)]
 
+mod parts;
 mod search;
 mod shifts;
+mod stretches;
 
 pub use shifts::{Broken, ShiftData, ShiftFault};
