@@ -5,6 +5,7 @@
 //! the ranges of the shift, and of the ranges of a set that they touch.
 #![tactic(auto)]
 
+mod canonical;
 mod parts;
 mod search;
 mod shifts;

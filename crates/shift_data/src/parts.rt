@@ -1,6 +1,7 @@
 //! The parts of a set of keys that a shift moves by one delta each.
 ghost use Rattle.std.specs.Prelude.{◌≡◌, ℕ, ◌-◌, ◌^◌, ◌<◌, ◌≤◌, [], pos, negsuc, ◌<ℤ◌, IfSome, IfNone, true};
 ghost use Rattle.key_lists.specs.Keys.{is_among};
+ghost use Rattle.row_set.specs.Sets.{IsKeySet};
 ghost use Rattle.tick_model.specs.Shifts.{delta_at};
 ghost use Rattle.shift_data.specs.ShiftLists.{IsShiftList};
 ghost use Rattle.shift_data.specs.Parts.{from_on, IsPart, IsSegment, IsLastUpTo};
@@ -67,6 +68,7 @@ pub(crate) fn part_from(shifts: &[ShiftRange], keys: &RowSet, from: u64) -> Opti
     ensures part { IfSome result (IsPart (delta_at shifts.now) keys.now from) }
     ensures up { IfSome result (λ part. part.delta <ℤ pos (2 ^ 62)) }
     ensures down { IfSome result (λ part. negsuc (2 ^ 62 - 1) <ℤ part.delta) }
+    ensures keys { IsKeySet keys.now }
 {
     let first = keys.next_from(from)?;
     let segment = segment_at(shifts, first);

@@ -2,10 +2,13 @@
 ghost use Rattle.std.specs.Prelude.{◌≡◌, ℕ, ◌+◌, ◌-◌, ◌^◌, ◌<◌, ◌≤◌, List, [], ◌∷◌, ◌++◌, length, pos, negsuc, ◌<ℤ◌, None, IfSome, IfOk, OnOk, OnErr, MatchResult};
 ghost use Rattle.std.specs.List.{AllByRecursion};
 ghost use Rattle.tick_model.specs.Shifts.{moved};
+ghost use Rattle.shift_data.specs.Moves.{IsLawful, canonical};
 ghost use Rattle.shift_data.specs.Pushes.{push_fault};
 ghost use Rattle.shift_data.specs.ShiftLists.{IsShiftList, offset_by};
 
+use crate::canonical::canonical;
 use crate::search::{place_of, range_of};
+use row_set::RowSet;
 use std::alloc::{AllocError, Global};
 use std::marker::Model;
 use tick_model::update::ShiftRange;
@@ -95,6 +98,16 @@ impl ShiftData {
             Some(range) => place_of(key, range.delta),
             None => place_of(key, 0),
         }
+    }
+
+    /// The ranges of the rows under these keys: one for each longest stretch of neighbouring rows that move by one delta
+    /// other than 0, from its first key to its last.
+    pub fn canonical(&self, survivors: &RowSet) -> Result<ShiftData, AllocError>
+        requires { IsLawful self.now survivors.now }
+        ensures { IfOk result (λ shift. shift ≡ canonical self.now survivors.now) }
+    {
+        let ranges = canonical(*self.ranges.allocator(), &self.ranges, survivors)?;
+        Ok(ShiftData { ranges })
     }
 
     /// The same moves, `by` keys higher.
