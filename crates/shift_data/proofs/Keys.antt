@@ -1,6 +1,6 @@
 -- The keys of a rising list from one on, and from one to another.
 use Rattle.std.proofs.Common.{◌≡◌, refl, ap, sym, ◌∙◌, subst, Bool, true, false, cond, ◌&&◌, ◌||◌, ◌==◌, ℕ, zero, suc, ◌+◌, ◌-◌, ◌^◌, ◌<◌, ◌≤◌, arith, List, [], ◌∷◌, ◌++◌, length, leb, ltb, Some, None, Option, true≢false, add-zero, inl, inr}
-use Rattle.std.specs.Prelude.{filter, find, slice_get, fold}
+use Rattle.std.specs.Prelude.{filter, find, slice_get, fold, IfSome}
 use Rattle.std.specs.List.{AllByRecursion}
 use Rattle.std.proofs.lemmas.Bool.{le-leb, lt-leb, leb-true, leb-false, lt-ltb, le-ltb, ltb-true, ltb-false, eq-eqb, eqb-true, ne_eqb, and_left, and_right, and_from, and_parts, or_cases, or_from, or_left, or_right, cases_lt, cases_eq, cases_Bool, false≢true}
 use Rattle.std.proofs.lemmas.Option.{none-some, same_Some}
@@ -27,6 +27,11 @@ find_key p (x ∷ xs) key e =
       | true ↦ λ t. let same = same_Some x key (sym (ap (λ b. cond b (Some x) (find p xs)) t) ∙ e) in (or_left (x == key) (is_among key xs) (eq-eqb x key same), ap p (sym same) ∙ t)
       | false ↦ λ t. let rest = find_key p xs key (sym (ap (λ b. cond b (Some x) (find p xs)) t) ∙ e) in (or_right (x == key) (is_among key xs) rest.0, rest.1)
     ]) refl
+
+-- what holds of each holds of the one that is found
+pub found_is : (P : ℕ → Type 0) (p : ℕ → Bool) (xs : List ℕ) → AllByRecursion P xs → IfSome (find p xs) P
+found_is P p [] h = tt
+found_is P p (x ∷ xs) h = elim (p x) as (λ b. IfSome (cond b (Some x) (find p xs)) P) [ true ↦ h.0 | false ↦ found_is P p xs h.1 ]
 
 -- no key before the first one from low on is among them
 pub none_between : (low key : ℕ) (xs : List ℕ) → IsRising xs → find (leb low) xs ≡ Some key → (other : ℕ) → low ≤ other → other < key → is_among other xs ≡ false

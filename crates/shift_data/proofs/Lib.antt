@@ -1,6 +1,7 @@
 pub mod Keys
 pub mod Lawful
 pub mod Lists
+pub mod PartFaults
 pub mod Parting
 pub mod Searches
 pub mod Segments

@@ -1,3 +1,4 @@
+pub mod Faults
 pub mod Moves
 pub mod Parts
 pub mod Pushes

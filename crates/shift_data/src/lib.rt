@@ -6,6 +6,7 @@
 #![tactic(auto)]
 
 mod canonical;
+mod order;
 mod parts;
 mod search;
 mod shifts;

@@ -1,12 +1,14 @@
 //! The shift itself: what it is made of, and what it answers.
-ghost use Rattle.std.specs.Prelude.{◌≡◌, ℕ, ◌+◌, ◌-◌, ◌^◌, ◌<◌, ◌≤◌, List, [], ◌∷◌, ◌++◌, length, pos, negsuc, ◌<ℤ◌, None, IfSome, IfOk, OnOk, OnErr, MatchResult};
+ghost use Rattle.std.specs.Prelude.{◌≡◌, ℕ, ◌+◌, ◌-◌, ◌^◌, ◌<◌, ◌≤◌, List, [], ◌∷◌, ◌++◌, length, pos, negsuc, ◌<ℤ◌, None, IfSome, IfOk, OnOk, OnErr, MatchResult, option_map};
 ghost use Rattle.std.specs.List.{AllByRecursion};
+ghost use Rattle.tick_model.specs.Rules.{shift_fault};
 ghost use Rattle.tick_model.specs.Shifts.{moved};
 ghost use Rattle.shift_data.specs.Moves.{IsLawful, canonical};
 ghost use Rattle.shift_data.specs.Pushes.{push_fault};
 ghost use Rattle.shift_data.specs.ShiftLists.{IsShiftList, offset_by};
 
 use crate::canonical::canonical;
+use crate::order::broken;
 use crate::search::{place_of, range_of};
 use row_set::RowSet;
 use std::alloc::{AllocError, Global};
@@ -53,6 +55,8 @@ impl Model for ShiftData {
 }
 
 impl ShiftData {
+    ghost use Rattle.shift_data.specs.Faults.{breaks};
+
     /// The shift that moves nothing.
     pub fn new(alloc: Global) -> ShiftData
         ensures { result ≡ [] }
@@ -98,6 +102,15 @@ impl ShiftData {
             Some(range) => place_of(key, range.delta),
             None => place_of(key, 0),
         }
+    }
+
+    /// Whether every key moves to one below the limit and the moved keys rise: then None. Else the least key that does not
+    /// move so, with the key before it where it moves not past that one, and else with itself.
+    pub fn keeps_order(&self, keys: &RowSet, limit: u64) -> Option<Broken>
+        requires { limit ≤ 2 ^ 62 }
+        ensures { option_map breaks result ≡ shift_fault limit self.now keys.now }
+    {
+        broken(&self.ranges, keys, limit)
     }
 
     /// The ranges of the rows under these keys: one for each longest stretch of neighbouring rows that move by one delta
