@@ -176,3 +176,8 @@ last_below bound (suc count) last (x ∷ xs) rising e g =
           (rest.0, or_right (x == last) (is_among last xs) rest.1, ((λ _. omega (arith, of_among (λ y. x < y) last xs rising.0 rest.1)), rest.2))
       | inr above ↦ absurd (omega (arith, e, count_none bound (x ∷ xs) (above, every_weaker (λ y. x < y) (λ y. bound ≤ y) xs (λ y more. omega (arith, more)) rising.0)))
     ]
+
+-- where no key is found from low on, none is there
+pub none_from : (low : ℕ) (xs : List ℕ) → find (leb low) xs ≡ None → (key : ℕ) → low ≤ key → is_among key xs ≡ false
+none_from low xs e key above =
+    ap (λ b. b && is_among key xs) (sym (le-leb low key above)) ∙ sym (among-filter (leb low) key xs) ∙ ap (is_among key) (find_none (leb low) xs e)

@@ -1,3 +1,5 @@
+pub mod Applied
+pub mod Asked
 pub mod Keys
 pub mod Lawful
 pub mod Lists

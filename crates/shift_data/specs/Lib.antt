@@ -4,3 +4,4 @@ pub mod Parts
 pub mod Pushes
 pub mod ShiftLists
 pub mod Stretches
+pub mod Wanted

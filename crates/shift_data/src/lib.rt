@@ -5,11 +5,13 @@
 //! the ranges of the shift, and of the ranges of a set that they touch.
 #![tactic(auto)]
 
+mod apply;
 mod canonical;
 mod order;
 mod parts;
 mod search;
 mod shifts;
 mod stretches;
+mod unapply;
 
 pub use shifts::{Broken, ShiftData, ShiftFault};

@@ -1,15 +1,17 @@
 //! The shift itself: what it is made of, and what it answers.
 ghost use Rattle.std.specs.Prelude.{◌≡◌, ℕ, ◌+◌, ◌-◌, ◌^◌, ◌<◌, ◌≤◌, List, [], ◌∷◌, ◌++◌, length, pos, negsuc, ◌<ℤ◌, None, IfSome, IfOk, OnOk, OnErr, MatchResult, option_map};
 ghost use Rattle.std.specs.List.{AllByRecursion};
-ghost use Rattle.tick_model.specs.Rules.{shift_fault};
+ghost use Rattle.tick_model.specs.Rules.{landed, shift_fault};
 ghost use Rattle.tick_model.specs.Shifts.{moved};
-ghost use Rattle.shift_data.specs.Moves.{IsLawful, canonical};
+ghost use Rattle.shift_data.specs.Moves.{IsLawful, canonical, unapplied};
 ghost use Rattle.shift_data.specs.Pushes.{push_fault};
 ghost use Rattle.shift_data.specs.ShiftLists.{IsShiftList, offset_by};
 
+use crate::apply::moved_keys;
 use crate::canonical::canonical;
 use crate::order::broken;
 use crate::search::{place_of, range_of};
+use crate::unapply::unapplied;
 use row_set::RowSet;
 use std::alloc::{AllocError, Global};
 use std::marker::Model;
@@ -111,6 +113,22 @@ impl ShiftData {
         ensures { option_map breaks result ≡ shift_fault limit self.now keys.now }
     {
         broken(&self.ranges, keys, limit)
+    }
+
+    /// The keys to which these keys move.
+    pub fn apply(&self, keys: &RowSet) -> Result<RowSet, AllocError>
+        requires { IsLawful self.now keys.now }
+        ensures { IfOk result (λ places. places ≡ landed self.now keys.now) }
+    {
+        moved_keys(*self.ranges.allocator(), &self.ranges, keys)
+    }
+
+    /// Those of the survivors whose moved key is in `after`.
+    pub fn unapply(&self, survivors: &RowSet, after: &RowSet) -> Result<RowSet, AllocError>
+        requires { IsLawful self.now survivors.now }
+        ensures { IfOk result (λ keys. keys ≡ unapplied self.now survivors.now after.now) }
+    {
+        unapplied(*self.ranges.allocator(), &self.ranges, survivors, after)
     }
 
     /// The ranges of the rows under these keys: one for each longest stretch of neighbouring rows that move by one delta
