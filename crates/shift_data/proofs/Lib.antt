@@ -1,5 +1,6 @@
 pub mod Applied
 pub mod Asked
+pub mod Kept
 pub mod Keys
 pub mod Lawful
 pub mod Lists
@@ -9,3 +10,4 @@ pub mod Searches
 pub mod Segments
 pub mod ShiftOf
 pub mod Stretched
+pub mod Through

@@ -1,15 +1,16 @@
 -- The stretches of a set of keys, part by part.
-use Rattle.std.proofs.Common.{◌≡◌, refl, ap, sym, ◌∙◌, subst, ◌&&◌, ℕ, ◌+◌, ◌^◌, ◌<◌, ◌≤◌, arith, List, [], ◌∷◌, ◌++◌, map, leb, ℤ, false}
+use Rattle.std.proofs.Common.{◌≡◌, refl, ap, sym, ◌∙◌, subst, ◌&&◌, ℕ, ◌+◌, ◌^◌, ◌<◌, ◌≤◌, arith, List, [], ◌∷◌, ◌++◌, map, leb, ℤ, false, pos, ◌+ℤ◌, ◌-ℤ◌}
 use Rattle.std.specs.List.{AllByRecursion}
 use Rattle.std.proofs.lemmas.List.{map-append}
-use Rattle.key_lists.proofs.Every.{every_both, every_weaker, every-filter, every-map, map_map, map_own, every}
+use Rattle.key_lists.proofs.Every.{every_both, every_weaker, every-filter, every-map, every_unmapped, map_map, map_own, every}
 use Rattle.key_lists.specs.Keys.{IsRising}
 use Rattle.row_set.specs.Sets.{IsKeySet}
 use Rattle.tick_model.specs.declared.update.KeyPair.{KeyPair}
 use Rattle.tick_model.specs.declared.update.ShiftRange.{ShiftRange}
-use Rattle.tick_model.specs.Rules.{is_past}
+use Rattle.tick_model.specs.Rules.{is_past, landed}
 use Rattle.tick_model.specs.Shifts.{delta, stretches, shifted, moved, as_key, delta_at}
-use Rattle.shift_data.specs.Moves.{IsLawful, pair_by, canonical}
+use Rattle.shift_data.specs.Moves.{IsLawful, pair_by, canonical, pair_through, delta_through, canonical_through}
+use Rattle.std.proofs.lemmas.Int.{ints}
 use Rattle.shift_data.proofs.Lawful.{lawful, moves_by, not_past}
 use Rattle.shift_data.specs.declared.parts.Part.{Part}
 use Rattle.shift_data.specs.ShiftLists.{IsShiftList}
@@ -52,3 +53,24 @@ pub canonical_shift : (shifts : List ShiftRange) (keys : List ℕ) → IsKeySet 
 canonical_shift shifts keys set h =
     shift_of_keys (pair_by shifts) keys (λ key. refl) set
     (every_weaker (λ key. is_past (2 ^ 62) (moved shifts key) ≡ false) (λ key. as_key (moved shifts key) < 2 ^ 62) keys (λ key inside. (not_past (2 ^ 62) (moved shifts key) inside).1) (lawful shifts keys h).inside)
+
+-- by two lawful shifts each row goes by the sum of what it moves
+module _ (shifts next : List ShiftRange) (keys : List ℕ) (h : IsLawful shifts keys) (k : IsLawful next (landed shifts keys)) where
+  next_inside : AllByRecursion (λ key. is_past (2 ^ 62) (moved next (as_key (moved shifts key))) ≡ false) keys
+  next_inside = every_unmapped (λ key. is_past (2 ^ 62) (moved next key) ≡ false) (λ key. as_key (moved shifts key)) keys (lawful next (landed shifts keys) k).inside
+
+  pub through_goes : Goes (pair_through shifts next) (delta_through shifts next) keys
+  through_goes = record {
+    old = λ key. refl;
+    by = every_both (λ key. is_past (2 ^ 62) (moved shifts key) ≡ false) (λ key. is_past (2 ^ 62) (moved next (as_key (moved shifts key))) ≡ false) (λ key. delta (pair_through shifts next key) ≡ delta_through shifts next key) keys
+        (λ key first second. twice key (as_key (moved shifts key)) (as_key (moved next (as_key (moved shifts key)))) (delta_at shifts key) (delta_at next (as_key (moved shifts key))) (not_past (2 ^ 62) (moved shifts key) first).0 (not_past (2 ^ 62) (moved next (as_key (moved shifts key))) second).0)
+        (lawful shifts keys h).inside next_inside;
+  }
+    where
+      twice : (key middle last : ℕ) (a b : ℤ) → pos key +ℤ a ≡ pos middle → pos middle +ℤ b ≡ pos last → pos last -ℤ pos key ≡ a +ℤ b
+      twice key middle last a b e f = omega (arith, ints, e, f)
+
+  pub through_shift : IsKeySet keys → IsShiftList (canonical_through shifts next keys)
+  through_shift set =
+      shift_of_keys (pair_through shifts next) keys (λ key. refl) set
+      (every_weaker (λ key. is_past (2 ^ 62) (moved next (as_key (moved shifts key))) ≡ false) (λ key. as_key (moved next (as_key (moved shifts key))) < 2 ^ 62) keys (λ key inside. (not_past (2 ^ 62) (moved next (as_key (moved shifts key))) inside).1) next_inside)

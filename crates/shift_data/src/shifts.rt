@@ -1,14 +1,15 @@
 //! The shift itself: what it is made of, and what it answers.
 ghost use Rattle.std.specs.Prelude.{◌≡◌, ℕ, ◌+◌, ◌-◌, ◌^◌, ◌<◌, ◌≤◌, List, [], ◌∷◌, ◌++◌, length, pos, negsuc, ◌<ℤ◌, None, IfSome, IfOk, OnOk, OnErr, MatchResult, option_map};
 ghost use Rattle.std.specs.List.{AllByRecursion};
+ghost use Rattle.key_lists.specs.Keys.{without};
 ghost use Rattle.tick_model.specs.Rules.{landed, shift_fault};
 ghost use Rattle.tick_model.specs.Shifts.{moved};
-ghost use Rattle.shift_data.specs.Moves.{IsLawful, canonical, unapplied};
+ghost use Rattle.shift_data.specs.Moves.{IsLawful, canonical, canonical_through, unapplied};
 ghost use Rattle.shift_data.specs.Pushes.{push_fault};
 ghost use Rattle.shift_data.specs.ShiftLists.{IsShiftList, offset_by};
 
 use crate::apply::moved_keys;
-use crate::canonical::canonical;
+use crate::canonical::{canonical, canonical_through, canonical_without};
 use crate::order::broken;
 use crate::search::{place_of, range_of};
 use crate::unapply::unapplied;
@@ -138,6 +139,32 @@ impl ShiftData {
         ensures { IfOk result (λ shift. shift ≡ canonical self.now survivors.now) }
     {
         let ranges = canonical(*self.ranges.allocator(), &self.ranges, survivors)?;
+        Ok(ShiftData { ranges })
+    }
+
+    /// The ranges of the rows under these keys but those that are left out. The sets are searched and not walked: the cost
+    /// is that of the ranges of the shift, and of those that are left out where one of them begins or ends.
+    pub fn canonical_without(
+        &self,
+        keys: &RowSet,
+        left_out: &RowSet,
+    ) -> Result<ShiftData, AllocError>
+        requires { IsLawful self.now (without left_out.now keys.now) }
+        ensures { IfOk result (λ shift. shift ≡ canonical self.now (without left_out.now keys.now)) }
+    {
+        let alloc = *self.ranges.allocator();
+        let ranges = canonical_without(alloc, &self.ranges, keys, left_out)?;
+        Ok(ShiftData { ranges })
+    }
+
+    /// The ranges of the rows under these keys, which move by this shift and then by the next.
+    pub fn then(&self, next: &ShiftData, survivors: &RowSet) -> Result<ShiftData, AllocError>
+        requires lawful { IsLawful self.now survivors.now }
+        requires next_lawful { IsLawful next.now (landed self.now survivors.now) }
+        ensures { IfOk result (λ shift. shift ≡ canonical_through self.now next.now survivors.now) }
+    {
+        let alloc = *self.ranges.allocator();
+        let ranges = canonical_through(alloc, &self.ranges, &next.ranges, survivors)?;
         Ok(ShiftData { ranges })
     }
 
