@@ -157,7 +157,7 @@ not_asked_step shifts survivors after from part set h is_not =
       (filter_none (λ key. is_among (as_key (moved shifts key)) after) (within part.first part.last survivors) (every_weaker (λ key. is_among (as_key (moved shifts key)) after ≡ part.asked) (λ key. is_among (as_key (moved shifts key)) after ≡ false) (within part.first part.last survivors) (λ key is. is ∙ is_not) (each_asked shifts survivors after from part h)))
 
 -- where all from first to last are keys
-all_within : (keys : List ℕ) (first last : ℕ) → IsRising keys → ((key : ℕ) → first ≤ key → key ≤ last → is_among key keys ≡ true) → within first last keys ≡ keys_from first last
+pub all_within : (keys : List ℕ) (first last : ℕ) → IsRising keys → ((key : ℕ) → first ≤ key → key ≤ last → is_among key keys ≡ true) → within first last keys ≡ keys_from first last
 all_within keys first last rising whole =
     rising_same (within first last keys) (keys_from first last) (rising_some (λ key. leb first key && leb key last) keys rising) (range_rises first (last + 1 - first))
     (λ key. among-filter (λ key. leb first key && leb key last) key keys ∙ same key ∙ sym (among-in key (record { first = first; last = last })))

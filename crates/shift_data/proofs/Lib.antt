@@ -4,6 +4,7 @@ pub mod Kept
 pub mod Keys
 pub mod Lawful
 pub mod Lists
+pub mod Paired
 pub mod PartFaults
 pub mod Parting
 pub mod Searches

@@ -1,5 +1,6 @@
 pub mod Faults
 pub mod Moves
+pub mod PairRuns
 pub mod Parts
 pub mod Pushes
 pub mod ShiftLists

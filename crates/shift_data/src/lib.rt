@@ -8,6 +8,7 @@
 mod apply;
 mod canonical;
 mod order;
+mod pairs;
 mod parts;
 mod search;
 mod shifts;

@@ -3,14 +3,15 @@ ghost use Rattle.std.specs.Prelude.{◌≡◌, ℕ, ◌+◌, ◌-◌, ◌^◌, �
 ghost use Rattle.std.specs.List.{AllByRecursion};
 ghost use Rattle.key_lists.specs.Keys.{without};
 ghost use Rattle.tick_model.specs.Rules.{landed, shift_fault};
-ghost use Rattle.tick_model.specs.Shifts.{moved};
-ghost use Rattle.shift_data.specs.Moves.{IsLawful, canonical, canonical_through, unapplied};
+ghost use Rattle.tick_model.specs.Shifts.{moved, shifted};
+ghost use Rattle.shift_data.specs.Moves.{IsLawful, canonical, canonical_through, pairs_of, unapplied};
 ghost use Rattle.shift_data.specs.Pushes.{push_fault};
 ghost use Rattle.shift_data.specs.ShiftLists.{IsShiftList, offset_by};
 
 use crate::apply::moved_keys;
 use crate::canonical::{canonical, canonical_through, canonical_without};
 use crate::order::broken;
+use crate::pairs::ranges_of_pairs;
 use crate::search::{place_of, range_of};
 use crate::unapply::unapplied;
 use row_set::RowSet;
@@ -67,6 +68,14 @@ impl ShiftData {
         ShiftData {
             ranges: Vec::new(alloc),
         }
+    }
+
+    /// The ranges of the pairs of two sets of keys, one key by one.
+    pub fn of_pairs(alloc: Global, old: &RowSet, new: &RowSet) -> Result<ShiftData, AllocError>
+        ensures { IfOk result (λ shift. shift ≡ shifted (pairs_of old.now new.now)) }
+    {
+        let ranges = ranges_of_pairs(alloc, old, new)?;
+        Ok(ShiftData { ranges })
     }
 
     /// Puts a range behind the others. After a refusal the shift is as before.
