@@ -4,9 +4,10 @@
 --     ranges_of keys      the longest ranges of rising keys
 --     AreApart low ranges      the ranges ascend from low on, and a key is left out between any two of them
 --     starts_of start ranges      the position at which each range begins, where the first begins at start
+--     Meets low high ranges from to      which ranges meet the keys from low to high
 --     IsStored ranges starts      how a set is kept
-use Rattle.std.specs.Prelude.{◌≡◌, ℕ, ◌+◌, ◌-◌, ◌^◌, ◌<◌, ◌≤◌, ◌==◌, ◌&&◌, Bool, List, [], ◌∷◌, length, nat_le, if◌then◌else◌}
-use Rattle.std.specs.List.{flat_map, range_with_len}
+use Rattle.std.specs.Prelude.{◌≡◌, ℕ, ◌+◌, ◌-◌, ◌^◌, ◌<◌, ◌≤◌, ◌==◌, ◌&&◌, Bool, List, [], ◌∷◌, length, take, drop, slice_range, nat_le, if◌then◌else◌}
+use Rattle.std.specs.List.{AllByRecursion, flat_map, range_with_len}
 use Rattle.row_set.specs.declared.ranges.Range.{Range}
 
 abbrev pub keys_from : ℕ → ℕ → List ℕ
@@ -51,3 +52,12 @@ starts_of start (range ∷ ranges) = start ∷ starts_of (start + length (keys_i
 pub record IsStored (ranges : List Range) (starts : List ℕ) : Type 0 where
   pub apart : AreApart 0 ranges
   pub placed : starts ≡ starts_of 0 ranges
+
+-- the ranges from `from` up to `to` are those that end at low or after it and begin at high or before it
+pub record Meets (low high : ℕ) (ranges : List Range) (from to : ℕ) : Type 0 where
+  pub order : from ≤ to
+  pub within : to ≤ length ranges
+  pub before : AllByRecursion (λ range. range.last < low) (take from ranges)
+  pub lows : AllByRecursion (λ range. low ≤ range.last) (slice_range ranges from to)
+  pub highs : AllByRecursion (λ range. range.first ≤ high) (slice_range ranges from to)
+  pub after : AllByRecursion (λ range. high < range.first) (drop to ranges)

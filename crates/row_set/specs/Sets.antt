@@ -5,7 +5,7 @@
 --     count_below key keys      how many are smaller
 --     found key keys      the position of the key, or where it would stand
 --     moved_key first last delta key      the number to which a key moves, where those from first to last move by delta
-use Rattle.std.specs.Prelude.{ℕ, ◌+◌, ◌-◌, ◌^◌, ◌<◌, ◌==◌, ◌&&◌, Bool, List, [], ◌∷◌, length, filter, map, slice_get, count_by, nat_lt, nat_le, if◌then◌else◌, Option, Result, Ok, Err, ℤ, pos, negsuc, ◌+ℤ◌, ◌≤ℤ◌, ◌<ℤ◌}
+use Rattle.std.specs.Prelude.{ℕ, ◌+◌, ◌-◌, ◌^◌, ◌<◌, ◌==◌, ◌&&◌, Bool, List, [], ◌∷◌, length, filter, map, slice_get, nat_lt, nat_le, if◌then◌else◌, Option, Result, Ok, Err, ℤ, pos, negsuc, ◌+ℤ◌, ◌≤ℤ◌, ◌<ℤ◌}
 use Rattle.std.specs.List.{AllByRecursion}
 use Rattle.key_lists.specs.Keys.{is_among, IsRising}
 
@@ -28,7 +28,7 @@ abbrev pub common : List ℕ → List ℕ → List ℕ
 common keys others = filter (λ key. is_among key others) keys
 
 abbrev pub count_below : ℕ → List ℕ → ℕ
-count_below key = count_by (λ other. nat_lt other key)
+count_below key keys = length (filter (λ other. nat_lt other key) keys)
 
 -- Ok of the key's position, or else Err of the number of smaller keys
 abbrev pub found : ℕ → List ℕ → Result ℕ ℕ

@@ -1,13 +1,23 @@
 //! The parts of the merge of two lists of ranges, by which sets are combined.
-ghost use Rattle.std.specs.Prelude.{◌≡◌, ℕ, ◌-◌, ◌<◌, ◌≤◌};
+ghost use Rattle.std.specs.Prelude.{◌≡◌, ℕ, ◌<◌, ◌≤◌, Bool, min, max};
 ghost use Rattle.key_lists.specs.Keys.{is_among};
-ghost use Rattle.row_set.specs.Ranges.{keys_of};
+ghost use Rattle.row_set.specs.Ranges.{AreApart, keys_of};
 ghost use Rattle.row_set.specs.Choice.{takes, AreAhead};
 
 use crate::ranges::Range;
+use crate::search::ended_before;
 
 /// The number past the greatest key that a set may have.
 pub(crate) const KEYS_END: u64 = 1 << 62;
+
+/// Neighbouring keys that are all held or all left out.
+#[derive(Clone, Copy)]
+pub(crate) struct Stretch {
+    /// Whether they are held.
+    pub(crate) held: bool,
+    /// The key past the last of them.
+    pub(crate) end: u64,
+}
 
 /// Which keys of two sets a third one takes.
 #[derive(Clone, Copy)]
@@ -31,15 +41,22 @@ impl Choice {
             Choice::Both => in_first && in_second,
         }
     }
-}
 
-/// Neighbouring keys that are all held or all left out.
-#[derive(Clone, Copy)]
-pub(crate) struct Stretch {
-    /// Whether they are held.
-    pub(crate) held: bool,
-    /// The key past the last of them.
-    pub(crate) end: u64,
+    /// The key up to which it takes all keys, or none, where stretches of the two sets begin.
+    pub(crate) fn until(self, here: Stretch, there: Stretch) -> u64
+        ensures least { min here.end there.end ≤ result }
+        ensures greatest { result ≤ max here.end there.end }
+        ensures same { (key : ℕ) (in_first in_second : Bool) → key < result
+            → (key < here.end → in_first ≡ here.held)
+            → (key < there.end → in_second ≡ there.held)
+            → takes self in_first in_second ≡ takes self here.held there.held }
+    {
+        match self {
+            Choice::FirstAlone | Choice::Both if !here.held => here.end,
+            Choice::Both if !there.held => there.end,
+            _ => here.end.min(there.end),
+        }
+    }
 }
 
 /// The stretch of keys from `at` on that are all among the keys of the ranges, or all not.
@@ -71,14 +88,15 @@ pub(crate) fn stretch_from(ranges: &[Range], at: u64) -> Stretch
     }
 }
 
-/// The ranges that have keys from `end` on. No more than the first one ends before.
+/// The ranges that have keys from `end` on.
 pub(crate) fn rest_from(ranges: &[Range], end: u64) -> &[Range]
-    requires ahead { AreAhead (end - 1) ranges.now }
+    requires { AreApart 0 ranges.now }
     ensures ahead { AreAhead end result.now }
     ensures same { (key : ℕ) → end ≤ key → is_among key (keys_of result.now) ≡ is_among key (keys_of ranges.now) }
 {
     match ranges {
-        [range, rest @ ..] if range.last < end => rest,
-        _ => ranges,
+        [range, ..] if end <= range.last => ranges,
+        [_, range, ..] if end <= range.last => &ranges[1..],
+        _ => &ranges[ended_before(ranges, end)..],
     }
 }

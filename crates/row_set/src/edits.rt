@@ -1,11 +1,12 @@
 //! Edits of a set's ranges in place, where there is room for them.
-ghost use Rattle.std.specs.Prelude.{◌≡◌, ◌+◌, ◌-◌, ◌^◌, ◌<◌, ◌≤◌, ◌∷◌, [], ◌++◌, length, take, drop, OnOk, vec_len, vec_capacity};
-ghost use Rattle.key_lists.specs.Keys.{without};
+ghost use Rattle.std.specs.Prelude.{◌≡◌, pos, ◌+ℤ◌, ◌+◌, ◌-◌, ◌^◌, ◌<◌, ◌≤◌, ◌∷◌, [], ◌++◌, length, take, drop, OnOk, vec_len, vec_capacity};
+ghost use Rattle.std.specs.List.{AllByRecursion};
+ghost use Rattle.key_lists.specs.Keys.{IsRising, without};
 ghost use Rattle.row_set.specs.Ranges.{AreApart, keys_of, keys_from, starts_of};
-ghost use Rattle.row_set.specs.Sets.{united};
+ghost use Rattle.row_set.specs.Sets.{IsKey, moved_key, moved_keys, united};
 
 use crate::ranges::Range;
-use crate::search::{begun_by, ended_before};
+use crate::search::{count_keys, meeting};
 use std::alloc::AllocError;
 
 /// Makes room for some more ranges and their starts.
@@ -23,27 +24,49 @@ pub(crate) fn make_room(
     starts.reserve(more)
 }
 
+/// Puts a range at an index, in the place of the one there or, where that is one of the last to stay, before it.
+fn put(ranges: &mut Vec<Range>, at: usize, to: usize, range: Range)
+    requires within { at ≤ vec_len ranges.old }
+    requires end { to ≤ vec_len ranges.old }
+    requires room { to ≤ at → vec_len ranges.old < vec_capacity ranges.old }
+    ensures replaced { at < to → ranges.new.items ≡ take at ranges.old.items ++ (range ∷ drop (at + 1) ranges.old.items) }
+    ensures inserted { to ≤ at → ranges.new.items ≡ take at ranges.old.items ++ (range ∷ drop at ranges.old.items) }
+    ensures capacity { vec_capacity ranges.old ≤ vec_capacity ranges.new }
+{
+    if at < to {
+        ranges[at] = range;
+    } else {
+        let _ = ranges.insert(at, range);
+    }
+}
+
+/// Takes out the ranges from `from` up to `to`.
+fn cut(ranges: &mut Vec<Range>, from: usize, to: usize)
+    requires order { from ≤ to }
+    requires within { to ≤ vec_len ranges.old }
+    ensures items { ranges.new.items ≡ take from ranges.old.items ++ drop to ranges.old.items }
+    ensures capacity { vec_capacity ranges.old ≤ vec_capacity ranges.new }
+{
+    let len = ranges.len();
+    ranges.copy_within(to..len, from);
+    ranges.truncate(len - (to - from));
+}
+
 /// Puts other ranges in the place of those from `from` up to `to`. There is room for them.
 fn splice(ranges: &mut Vec<Range>, from: usize, to: usize, others: &[Range])
     requires order { from ≤ to }
     requires within { to ≤ vec_len ranges.old }
     requires room { vec_len ranges.old + length others.now ≤ vec_capacity ranges.old + (to - from) }
     ensures items { ranges.new.items ≡ take from ranges.old.items ++ (others.now ++ drop to ranges.old.items) }
-    ensures capacity { vec_capacity ranges.new ≡ vec_capacity ranges.old }
+    ensures capacity { vec_capacity ranges.old ≤ vec_capacity ranges.new }
 {
     let mut at = from;
     for range in others {
-        if at < to {
-            ranges[at] = *range;
-        } else {
-            let _ = ranges.insert(at, *range);
-        }
+        put(ranges, at, to, *range);
         at += 1;
     }
     if at < to {
-        let len = ranges.len();
-        ranges.copy_within(to..len, at);
-        ranges.truncate(len - (to - at));
+        cut(ranges, at, to);
     }
 }
 
@@ -52,15 +75,12 @@ pub(crate) fn recount(starts: &mut Vec<u64>, ranges: &[Range], from: usize)
     requires within { from ≤ length ranges.now }
     requires before { take from starts.old.items ≡ starts_of 0 (take from ranges.now) }
     requires room { length ranges.now ≤ vec_capacity starts.old }
-    requires small { length (keys_of ranges.now) < 2 ^ 63 }
+    requires apart { AreApart 0 ranges.now }
     ensures starts { starts.new.items ≡ starts_of 0 ranges.now }
-    ensures capacity { vec_capacity starts.new ≡ vec_capacity starts.old }
+    ensures capacity { vec_capacity starts.old ≤ vec_capacity starts.new }
 {
     starts.truncate(from);
-    let mut next = match (ranges[..from].last(), starts.last()) {
-        (Some(range), Some(start)) => *start + (range.last - range.first + 1),
-        _ => 0,
-    };
+    let mut next = count_keys(&ranges[..from], starts);
     for range in &ranges[from..] {
         let _ = starts.push(next);
         next += range.last - range.first + 1;
@@ -78,10 +98,9 @@ pub(crate) fn insert_keys(ranges: &mut Vec<Range>, first: u64, last: u64) -> usi
     ensures within { result ≤ vec_len ranges.new }
     ensures before { take result ranges.new.items ≡ take result ranges.old.items }
     ensures growth { vec_len ranges.new ≤ vec_len ranges.old + 1 }
-    ensures capacity { vec_capacity ranges.new ≡ vec_capacity ranges.old }
+    ensures capacity { vec_capacity ranges.old ≤ vec_capacity ranges.new }
 {
-    let from = ended_before(ranges, first.saturating_sub(1));
-    let to = begun_by(ranges, last + 1);
+    let (from, to) = meeting(ranges, first.saturating_sub(1), last + 1);
     let joined = if from < to {
         Range {
             first: first.min(ranges[from].first),
@@ -105,10 +124,9 @@ pub(crate) fn remove_keys(ranges: &mut Vec<Range>, first: u64, last: u64) -> usi
     ensures within { result ≤ vec_len ranges.new }
     ensures before { take result ranges.new.items ≡ take result ranges.old.items }
     ensures growth { vec_len ranges.new ≤ vec_len ranges.old + 1 }
-    ensures capacity { vec_capacity ranges.new ≡ vec_capacity ranges.old }
+    ensures capacity { vec_capacity ranges.old ≤ vec_capacity ranges.new }
 {
-    let from = ended_before(ranges, first);
-    let to = begun_by(ranges, last);
+    let (from, to) = meeting(ranges, first, last);
     if from == to {
         return ranges.len();
     }
@@ -127,6 +145,44 @@ pub(crate) fn remove_keys(ranges: &mut Vec<Range>, first: u64, last: u64) -> usi
         (true, false) => splice(ranges, from, to, &[left]),
         (false, true) => splice(ranges, from, to, &[right]),
         (false, false) => splice(ranges, from, to, &[]),
+    }
+    from
+}
+
+/// Adds every key of other ranges. The ranges before the index that it gives stay.
+pub(crate) fn insert_ranges(ranges: &mut Vec<Range>, others: &[Range]) -> usize
+    requires apart { AreApart 0 ranges.old.items }
+    requires others_apart { AreApart 0 others.now }
+    requires room { vec_len ranges.old + length others.now ≤ vec_capacity ranges.old }
+    ensures apart { AreApart 0 ranges.new.items }
+    ensures keys { keys_of ranges.new.items ≡ united (keys_of others.now) (keys_of ranges.old.items) }
+    ensures within { result ≤ vec_len ranges.new }
+    ensures before { take result ranges.new.items ≡ take result ranges.old.items }
+    ensures growth { vec_len ranges.new ≤ vec_len ranges.old + length others.now }
+    ensures capacity { vec_capacity ranges.old ≤ vec_capacity ranges.new }
+{
+    let mut from = ranges.len();
+    for range in others {
+        from = from.min(insert_keys(ranges, range.first, range.last));
+    }
+    from
+}
+
+/// Removes every key of other ranges. The ranges before the index that it gives stay.
+pub(crate) fn remove_ranges(ranges: &mut Vec<Range>, others: &[Range]) -> usize
+    requires apart { AreApart 0 ranges.old.items }
+    requires others_apart { AreApart 0 others.now }
+    requires room { vec_len ranges.old + length others.now ≤ vec_capacity ranges.old }
+    ensures apart { AreApart 0 ranges.new.items }
+    ensures keys { keys_of ranges.new.items ≡ without (keys_of others.now) (keys_of ranges.old.items) }
+    ensures within { result ≤ vec_len ranges.new }
+    ensures before { take result ranges.new.items ≡ take result ranges.old.items }
+    ensures growth { vec_len ranges.new ≤ vec_len ranges.old + length others.now }
+    ensures capacity { vec_capacity ranges.old ≤ vec_capacity ranges.new }
+{
+    let mut from = ranges.len();
+    for range in others {
+        from = from.min(remove_keys(ranges, range.first, range.last));
     }
     from
 }
@@ -152,10 +208,9 @@ pub(crate) fn shift_keys(ranges: &mut Vec<Range>, first: u64, last: u64, delta: 
     ensures within { result ≤ vec_len ranges.new }
     ensures before { take result ranges.new.items ≡ take result ranges.old.items }
     ensures growth { vec_len ranges.new ≤ vec_len ranges.old + 2 }
-    ensures capacity { vec_capacity ranges.new ≡ vec_capacity ranges.old }
+    ensures capacity { vec_capacity ranges.old ≤ vec_capacity ranges.new }
 {
-    let mut from = ended_before(ranges, first);
-    let mut to = begun_by(ranges, last);
+    let (mut from, mut to) = meeting(ranges, first, last);
     if from == to {
         return ranges.len();
     }

@@ -1,14 +1,17 @@
 //! The set itself: what it is made of, what it answers and how it is edited.
 ghost use Rattle.std.specs.Prelude.{◌≡◌, ◌^◌, ◌<◌, ◌≤◌, ◌==◌, List, [], length, find, nat_le, IfOk, OnOk, OnErr, slice_get, take, drop};
-ghost use Rattle.key_lists.specs.Keys.{is_among, without};
+ghost use Rattle.std.specs.List.{AllByRecursion};
+ghost use Rattle.key_lists.specs.Keys.{IsRising, is_among, without};
 ghost use Rattle.row_set.specs.Ranges.{AreApart, holds, keys_from, keys_of, ranges_of};
 ghost use Rattle.row_set.specs.Choice.{chosen};
-ghost use Rattle.row_set.specs.Sets.{IsKeySet, count_below, common, found, last_key, united};
+ghost use Rattle.row_set.specs.Sets.{IsKey, moved_key, moved_keys, IsKeySet, count_below, common, found, last_key, united};
 
 use crate::algebra::{Choice, KEYS_END, rest_from, stretch_from};
-use crate::edits::{insert_keys, make_room, recount, remove_keys};
+use crate::edits::{
+    insert_keys, insert_ranges, make_room, recount, remove_keys, remove_ranges, shift_keys,
+};
 use crate::ranges::Range;
-use crate::search::{begun_by, ended_before, keys_before};
+use crate::search;
 use std::alloc::{AllocError, Global};
 use std::marker::Model;
 
@@ -66,8 +69,7 @@ impl RowSet {
         ensures range { result ≡ find (holds key) (ranges_of self.now) }
         ensures keys { IsKeySet self.now }
     {
-        let range = self.ranges.get(ended_before(&self.ranges, key)).copied()?;
-        (range.first <= key).then_some(range)
+        search::range_at(&self.ranges, key)
     }
 
     /// The number of keys.
@@ -75,7 +77,7 @@ impl RowSet {
         ensures count { result ≡ length self.now }
         ensures keys { IsKeySet self.now }
     {
-        keys_before(&self.ranges, &self.starts, self.ranges.len())
+        search::count_keys(&self.ranges, &self.starts)
     }
 
     /// Whether there is no key.
@@ -91,11 +93,7 @@ impl RowSet {
         ensures key { result ≡ slice_get self.now position }
         ensures keys { IsKeySet self.now }
     {
-        let next = self.starts.partition_point(|start| *start <= position);
-        let index = next.checked_sub(1)?;
-        let range = self.ranges[index];
-        let offset = position - self.starts[index];
-        (offset <= range.last - range.first).then(|| range.first + offset)
+        search::key_at(&self.ranges, &self.starts, position)
     }
 
     /// The position of a key, or else, as an error, the number of smaller keys.
@@ -103,12 +101,7 @@ impl RowSet {
         ensures position { result ≡ found key self.now }
         ensures keys { IsKeySet self.now }
     {
-        let index = ended_before(&self.ranges, key);
-        let before = keys_before(&self.ranges, &self.starts, index);
-        match self.ranges.get(index) {
-            Some(range) if range.first <= key => Ok(before + (key - range.first)),
-            _ => Err(before),
-        }
+        search::position_of(&self.ranges, &self.starts, key)
     }
 
     /// The number of smaller keys.
@@ -126,7 +119,7 @@ impl RowSet {
         ensures key { result ≡ slice_get self.now 0 }
         ensures keys { IsKeySet self.now }
     {
-        self.ranges.first().map(|range| range.first)
+        search::first_key(&self.ranges)
     }
 
     /// The greatest key, or None where there is none.
@@ -134,7 +127,7 @@ impl RowSet {
         ensures key { result ≡ last_key self.now }
         ensures keys { IsKeySet self.now }
     {
-        self.ranges.last().map(|range| range.last)
+        search::last_key(&self.ranges)
     }
 
     /// The least key that is not below this one, or None where all are.
@@ -142,8 +135,7 @@ impl RowSet {
         ensures next { result ≡ find (nat_le key) self.now }
         ensures keys { IsKeySet self.now }
     {
-        let range = self.ranges.get(ended_before(&self.ranges, key))?;
-        Some(range.first.max(key))
+        search::next_key(&self.ranges, key)
     }
 
     /// The longest ranges of neighbouring keys, rising.
@@ -187,11 +179,9 @@ impl RowSet {
         ensures ok { OnOk result (self.new ≡ united keys.now self.old) }
         ensures err { OnErr result (self.new ≡ self.old) }
     {
-        make_room(&mut self.ranges, &mut self.starts, keys.ranges.len())?;
-        let mut from = self.ranges.len();
-        for range in &keys.ranges {
-            from = from.min(insert_keys(&mut self.ranges, range.first, range.last));
-        }
+        let others = keys.ranges();
+        make_room(&mut self.ranges, &mut self.starts, others.len())?;
+        let from = insert_ranges(&mut self.ranges, others);
         recount(&mut self.starts, &self.ranges, from);
         Ok(())
     }
@@ -201,11 +191,9 @@ impl RowSet {
         ensures ok { OnOk result (self.new ≡ without keys.now self.old) }
         ensures err { OnErr result (self.new ≡ self.old) }
     {
-        make_room(&mut self.ranges, &mut self.starts, keys.ranges.len())?;
-        let mut from = self.ranges.len();
-        for range in &keys.ranges {
-            from = from.min(remove_keys(&mut self.ranges, range.first, range.last));
-        }
+        let others = keys.ranges();
+        make_room(&mut self.ranges, &mut self.starts, others.len())?;
+        let from = remove_ranges(&mut self.ranges, others);
         recount(&mut self.starts, &self.ranges, from);
         Ok(())
     }
@@ -254,12 +242,13 @@ impl RowSet {
         ensures { IfOk result (λ keys. keys ≡ take count (drop first self.now)) }
     {
         let end = first.saturating_add(count).min(self.len());
+        let mut window = RowSet::new(*self.ranges.allocator());
         if first < end {
-            if let (Some(low), Some(high)) = (self.get(first), self.get(end - 1)) {
-                return self.between(low, high);
-            }
+            let low = self.get(first).unwrap();
+            let high = self.get(end - 1).unwrap();
+            window.insert_range(low, high)?;
         }
-        Ok(RowSet::new(*self.ranges.allocator()))
+        window.intersect(self)
     }
 
     /// An equal set.
@@ -273,34 +262,19 @@ impl RowSet {
         })
     }
 
-    /// The keys from `low` to `high`.
-    fn between(&self, low: u64, high: u64) -> Result<RowSet, AllocError>
-        requires order { low ≤ high }
-        requires small { high < 2 ^ 62 }
-        ensures { IfOk result (λ keys. keys ≡ common self.now (keys_from low high)) }
-    {
-        let from = ended_before(&self.ranges, low);
-        let to = begun_by(&self.ranges, high);
-        let mut kept = RowSet::with_capacity(*self.ranges.allocator(), to - from)?;
-        for range in &self.ranges[from..to] {
-            kept.insert_range(range.first.max(low), range.last.min(high))?;
-        }
-        Ok(kept)
-    }
-
     /// The keys that are in the sets as the choice has it.
     fn combined(&self, other: &RowSet, choice: Choice) -> Result<RowSet, AllocError>
         ensures { IfOk result (λ keys. keys ≡ chosen choice self.now other.now) }
     {
         let room = self.ranges.len().saturating_add(other.ranges.len());
         let mut kept = RowSet::with_capacity(*self.ranges.allocator(), room)?;
-        let mut first = self.ranges.as_slice();
-        let mut second = other.ranges.as_slice();
+        let mut first = self.ranges();
+        let mut second = other.ranges();
         let mut at = 0;
         while at < KEYS_END {
             let here = stretch_from(first, at);
             let there = stretch_from(second, at);
-            let end = here.end.min(there.end);
+            let end = choice.until(here, there);
             if choice.takes(here.held, there.held) {
                 kept.insert_range(at, end - 1)?;
             }

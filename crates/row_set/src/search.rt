@@ -1,7 +1,9 @@
-//! Searches in lists of ranges that ascend with a gap between any two.
-ghost use Rattle.std.specs.Prelude.{◌≡◌, ◌<◌, ◌≤◌, length, take, drop};
+//! Searches in lists of ranges that ascend with a gap between any two, and in the positions at which they begin.
+ghost use Rattle.std.specs.Prelude.{◌≡◌, ◌<◌, ◌≤◌, length, take, drop, find, nat_le, slice_get};
 ghost use Rattle.std.specs.List.{AllByRecursion};
-ghost use Rattle.row_set.specs.Ranges.{AreApart, IsStored, keys_of};
+ghost use Rattle.std.specs.List.Sorted.{IsNonDecreasing, IsPartitionPoint};
+ghost use Rattle.row_set.specs.Ranges.{AreApart, IsStored, Meets, holds, keys_of};
+ghost use Rattle.row_set.specs.Sets.{found, last_key};
 
 use crate::ranges::Range;
 
@@ -25,17 +27,128 @@ pub(crate) fn begun_by(ranges: &[Range], key: u64) -> usize
     ranges.partition_point(|range| range.first <= key)
 }
 
+/// From which one and up to which one the ranges meet the keys from `low` to `high`.
+pub(crate) fn meeting(ranges: &[Range], low: u64, high: u64) -> (usize, usize)
+    requires apart { AreApart 0 ranges.now }
+    requires order { low ≤ high }
+    ensures { Meets low high ranges.now result.0 result.1 }
+{
+    (ended_before(ranges, low), begun_by(ranges, high))
+}
+
+/// The number of keys in all ranges.
+pub(crate) fn count_keys(ranges: &[Range], starts: &[u64]) -> u64
+    requires { IsStored ranges.now starts.now }
+    ensures { result ≡ length (keys_of ranges.now) }
+{
+    if ranges.is_empty() {
+        return 0;
+    }
+    let end = ranges.len() - 1;
+    let range = ranges[end];
+    starts[end] + (range.last - range.first + 1)
+}
+
 /// The number of keys in the ranges before this one.
 pub(crate) fn keys_before(ranges: &[Range], starts: &[u64], index: usize) -> u64
     requires stored { IsStored ranges.now starts.now }
     requires within { index ≤ length ranges.now }
     ensures { result ≡ length (keys_of (take index ranges.now)) }
 {
-    if index < starts.len() {
-        return starts[index];
+    if index < ranges.len() {
+        starts[index]
+    } else {
+        count_keys(ranges, starts)
     }
-    match (ranges.last(), starts.last()) {
-        (Some(range), Some(start)) => *start + (range.last - range.first + 1),
-        _ => 0,
+}
+
+/// The range that holds the key.
+pub(crate) fn range_at(ranges: &[Range], key: u64) -> Option<Range>
+    requires { AreApart 0 ranges.now }
+    ensures { result ≡ find (holds key) ranges.now }
+{
+    let index = ended_before(ranges, key);
+    if index < ranges.len() && ranges[index].first <= key {
+        Some(ranges[index])
+    } else {
+        None
+    }
+}
+
+/// The position of the key among those of the ranges, or else, as an error, the number of smaller ones.
+pub(crate) fn position_of(ranges: &[Range], starts: &[u64], key: u64) -> Result<u64, u64>
+    requires { IsStored ranges.now starts.now }
+    ensures { result ≡ found key (keys_of ranges.now) }
+{
+    let index = ended_before(ranges, key);
+    let before = keys_before(ranges, starts, index);
+    if index < ranges.len() && ranges[index].first <= key {
+        Ok(before + (key - ranges[index].first))
+    } else {
+        Err(before)
+    }
+}
+
+/// The least key of the ranges that is not below this one.
+pub(crate) fn next_key(ranges: &[Range], key: u64) -> Option<u64>
+    requires { AreApart 0 ranges.now }
+    ensures { result ≡ find (nat_le key) (keys_of ranges.now) }
+{
+    let index = ended_before(ranges, key);
+    if index < ranges.len() {
+        Some(ranges[index].first.max(key))
+    } else {
+        None
+    }
+}
+
+/// How many of the rising positions are not past this one.
+fn started_by(starts: &[u64], position: u64) -> usize
+    requires { IsNonDecreasing starts.now }
+    ensures within { result ≤ length starts.now }
+    ensures cut { IsPartitionPoint (λ start. start ≤ position) (λ start. position < start) starts.now result }
+{
+    starts.partition_point(|start| *start <= position)
+}
+
+/// The key at a position.
+pub(crate) fn key_at(ranges: &[Range], starts: &[u64], position: u64) -> Option<u64>
+    requires { IsStored ranges.now starts.now }
+    ensures { result ≡ slice_get (keys_of ranges.now) position }
+{
+    let started = started_by(starts, position);
+    if started == 0 {
+        return None;
+    }
+    let range = ranges[started - 1];
+    let offset = position - starts[started - 1];
+    if offset <= range.last - range.first {
+        Some(range.first + offset)
+    } else {
+        None
+    }
+}
+
+/// The first key of the ranges.
+pub(crate) fn first_key(ranges: &[Range]) -> Option<u64>
+    requires { AreApart 0 ranges.now }
+    ensures { result ≡ slice_get (keys_of ranges.now) 0 }
+{
+    if ranges.is_empty() {
+        None
+    } else {
+        Some(ranges[0].first)
+    }
+}
+
+/// The last key of the ranges.
+pub(crate) fn last_key(ranges: &[Range]) -> Option<u64>
+    requires { AreApart 0 ranges.now }
+    ensures { result ≡ last_key (keys_of ranges.now) }
+{
+    if ranges.is_empty() {
+        None
+    } else {
+        Some(ranges[ranges.len() - 1].last)
     }
 }

@@ -1,0 +1,65 @@
+-- The keys of several ranges, added and removed one range after another.
+use Rattle.std.proofs.Common.{◌≡◌, refl, ap, ap₂, sym, ◌∙◌, subst, Bool, true, false, not, ◌&&◌, ◌||◌, ℕ, zero, suc, ◌+◌, ◌-◌, ◌<◌, ◌≤◌, min, arith, List, [], ◌∷◌, ◌++◌, length, take, drop, get_or, take-take, append-nil, filter}
+use Rattle.std.specs.List.{AllByRecursion}
+use Rattle.std.proofs.lemmas.List.{take_more}
+use Rattle.key_lists.specs.Keys.{is_among, IsRising, without}
+use Rattle.key_lists.proofs.Every.{filter_filter, filter_same, every, filter_all}
+use Rattle.key_lists.proofs.Among.{among-append}
+use Rattle.key_lists.proofs.Rising.{rising_same}
+use Rattle.row_set.specs.declared.ranges.Range.{Range}
+use Rattle.row_set.specs.Ranges.{keys_from, keys_in, keys_of, AreApart}
+use Rattle.row_set.specs.Sets.{united}
+use Rattle.row_set.proofs.Held.{keys_of-append}
+use Rattle.row_set.proofs.Counts.{blank}
+use Rattle.row_set.proofs.United.{among-united, united_rises, or_assoc}
+
+or_turned : (b a o : Bool) → (b || (a || o)) ≡ ((a || b) || o)
+or_turned true true o = refl
+or_turned true false o = refl
+or_turned false true o = refl
+or_turned false false o = refl
+
+united_append : (first second keys : List ℕ) → IsRising keys → united second (united first keys) ≡ united (first ++ second) keys
+united_append first second keys h =
+    rising_same (united second (united first keys)) (united (first ++ second) keys) (united_rises second (united first keys) (united_rises first keys h)) (united_rises (first ++ second) keys h)
+    (λ key.
+        among-united key second (united first keys)
+        ∙ ap (λ b. is_among key second || b) (among-united key first keys)
+        ∙ or_turned (is_among key second) (is_among key first) (is_among key keys)
+        ∙ ap (λ b. b || is_among key keys) (sym (among-append key first second))
+        ∙ sym (among-united key (first ++ second) keys))
+
+not_or : (a b : Bool) → (not a && not b) ≡ not (a || b)
+not_or true b = refl
+not_or false b = refl
+
+without_append : (first second keys : List ℕ) → without second (without first keys) ≡ without (first ++ second) keys
+without_append first second keys =
+    filter_filter (λ key. not (is_among key second)) (λ key. not (is_among key first)) keys
+    ∙ filter_same (λ key. not (is_among key first) && not (is_among key second)) (λ key. not (is_among key (first ++ second))) keys
+    (every (λ key. (not (is_among key first) && not (is_among key second)) ≡ not (is_among key (first ++ second))) keys (λ key. not_or (is_among key first) (is_among key second) ∙ ap not (sym (among-append key first second))))
+
+keys_more : (others : List Range) (i : ℕ) → i < length others → keys_of (take i others) ++ keys_in (get_or others i blank) ≡ keys_of (take (i + 1) others)
+keys_more others i lt =
+    ap (λ those. keys_of (take i others) ++ those) (sym (append-nil (keys_in (get_or others i blank))))
+    ∙ sym (keys_of-append (take i others) (get_or others i blank ∷ []))
+    ∙ ap keys_of (sym (take_more others i blank lt))
+
+pub united_more : (others : List Range) (i : ℕ) (keys : List ℕ) → IsRising keys → i < length others → united (keys_from (get_or others i blank).first (get_or others i blank).last) (united (keys_of (take i others)) keys) ≡ united (keys_of (take (i + 1) others)) keys
+united_more others i keys h lt = united_append (keys_of (take i others)) (keys_in (get_or others i blank)) keys h ∙ ap (λ those. united those keys) (keys_more others i lt)
+
+pub without_more : (others : List Range) (i : ℕ) (keys : List ℕ) → i < length others → without (keys_from (get_or others i blank).first (get_or others i blank).last) (without (keys_of (take i others)) keys) ≡ without (keys_of (take (i + 1) others)) keys
+without_more others i keys lt = without_append (keys_of (take i others)) (keys_in (get_or others i blank)) keys ∙ ap (λ those. without those keys) (keys_more others i lt)
+
+pub without_none : (keys : List ℕ) → keys ≡ without [] keys
+without_none keys = sym (filter_all keys)
+
+-- what stays before both of two places
+pub same_before : {X : Type 0} (n m : ℕ) (xs ys zs : List X) → take n xs ≡ take n ys → take m ys ≡ take m zs → take (min m n) xs ≡ take (min m n) zs
+same_before n m xs ys zs e f =
+    sym (take-take (min m n) n xs (omega arith))
+    ∙ ap (take (min m n)) e
+    ∙ take-take (min m n) n ys (omega arith)
+    ∙ sym (take-take (min m n) m ys (omega arith))
+    ∙ ap (take (min m n)) f
+    ∙ take-take (min m n) m zs (omega arith)

@@ -1,0 +1,13 @@
+pub mod Apart
+pub mod Batches
+pub mod Counts
+pub mod Edges
+pub mod Held
+pub mod Longest
+pub mod Lookups
+pub mod Merged
+pub mod Middles
+pub mod Places
+pub mod Spliced
+pub mod United
+pub mod Windows

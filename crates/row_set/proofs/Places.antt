@@ -1,0 +1,114 @@
+-- Where a search cuts a list of ranges.
+use Rattle.std.proofs.Common.{◌≡◌, refl, ap, sym, ◌∙◌, subst, Bool, true, false, ℕ, zero, suc, ◌+◌, ◌-◌, ◌<◌, ◌≤◌, arith, List, [], ◌∷◌, ◌++◌, length, take, drop, get_or, leb, ltb, leb-true, leb-false, ltb-true, ltb-false, inl, inr}
+use Rattle.std.specs.List.{AllByRecursion, AllWithin}
+use Rattle.std.specs.List.Sorted.{IsPartitionPoint, IsPartitionedBy, IsNonDecreasingBy}
+use Rattle.std.proofs.lemmas.Bool.{cases_lt}
+use Rattle.std.proofs.lemmas.List.{drop-take}
+use Rattle.std.proofs.lemmas.List.Sorted.{IsPartitionedBy-ltb, IsPartitionedBy-leb}
+use Rattle.key_lists.proofs.Every.{every_weaker, all_from}
+use Rattle.row_set.specs.declared.ranges.Range.{Range}
+use Rattle.row_set.specs.Ranges.{IsRangeFrom, AreApart, Meets}
+use Rattle.row_set.proofs.Apart.{each_range}
+
+pub every_take : {X : Type 0} (P : X → Type 0) (xs : List X) (i : ℕ) → ((k : ℕ) (d : X) → k < i → P (get_or xs k d)) → AllByRecursion P (take i xs)
+every_take P xs zero h = tt
+every_take P [] (suc i) h = tt
+every_take P (x ∷ xs) (suc i) h = (h 0 x (omega arith), every_take P xs i (λ k d lt. h (suc k) d (omega arith)))
+
+pub every_drop : {X : Type 0} (P : X → Type 0) (xs : List X) (i : ℕ) → ((k : ℕ) (d : X) → i ≤ k → k < length xs → P (get_or xs k d)) → AllByRecursion P (drop i xs)
+every_drop P [] zero h = tt
+every_drop P (x ∷ xs) zero h = (h 0 x (omega arith) (omega arith), every_drop P xs zero (λ k d le lt. h (suc k) d (omega arith) (omega arith)))
+every_drop P [] (suc i) h = tt
+every_drop P (x ∷ xs) (suc i) h = every_drop P xs i (λ k d le lt. h (suc k) d (omega arith) (omega arith))
+
+pub range_at : (low : ℕ) (ranges : List Range) → AreApart low ranges → (k : ℕ) (d : Range) → k < length ranges → IsRangeFrom low (get_or ranges k d)
+range_at low ranges h = all_from (IsRangeFrom low) ranges (each_range low ranges h)
+
+lasts_rise : (low : ℕ) (ranges : List Range) → AreApart low ranges → IsNonDecreasingBy (λ range. range.last) ranges
+lasts_rise low [] h i j d le lt = absurd (omega arith)
+lasts_rise low (range ∷ ranges) h zero zero d le lt = omega arith
+lasts_rise low (range ∷ ranges) h zero (suc j) d le lt =
+    let there = range_at (range.last + 2) ranges h.1 j d (omega arith) in omega (arith, there.above, there.ascends)
+lasts_rise low (range ∷ ranges) h (suc i) zero d le lt = absurd (omega arith)
+lasts_rise low (range ∷ ranges) h (suc i) (suc j) d le lt = lasts_rise (range.last + 2) ranges h.1 i j d (omega arith) (omega arith)
+
+firsts_rise : (low : ℕ) (ranges : List Range) → AreApart low ranges → IsNonDecreasingBy (λ range. range.first) ranges
+firsts_rise low [] h i j d le lt = absurd (omega arith)
+firsts_rise low (range ∷ ranges) h zero zero d le lt = omega arith
+firsts_rise low (range ∷ ranges) h zero (suc j) d le lt =
+    let there = range_at (range.last + 2) ranges h.1 j d (omega arith) in omega (arith, there.above, h.0.ascends)
+firsts_rise low (range ∷ ranges) h (suc i) zero d le lt = absurd (omega arith)
+firsts_rise low (range ∷ ranges) h (suc i) (suc j) d le lt = firsts_rise (range.last + 2) ranges h.1 i j d (omega arith) (omega arith)
+
+pub lasts_parted : (key : ℕ) (ranges : List Range) → AreApart 0 ranges → IsPartitionedBy (λ range. ltb range.last key) ranges
+lasts_parted key ranges h = IsPartitionedBy-ltb (λ range. range.last) ranges key (lasts_rise 0 ranges h)
+
+pub firsts_parted : (key : ℕ) (ranges : List Range) → AreApart 0 ranges → IsPartitionedBy (λ range. leb range.first key) ranges
+firsts_parted key ranges h = IsPartitionedBy-leb (λ range. range.first) ranges key (firsts_rise 0 ranges h)
+
+-- the two parts that a test cuts a list into
+pub front_part : {X : Type 0} (p : X → Bool) (xs : List X) (i : ℕ) → IsPartitionPoint (λ x. p x ≡ true) (λ x. p x ≡ false) xs i → AllByRecursion (λ x. p x ≡ true) (take i xs)
+front_part p xs i h = every_take (λ x. p x ≡ true) xs i (λ k d lt. h.0 k d (omega arith) lt)
+
+pub back_part : {X : Type 0} (p : X → Bool) (xs : List X) (i : ℕ) → IsPartitionPoint (λ x. p x ≡ true) (λ x. p x ≡ false) xs i → AllByRecursion (λ x. p x ≡ false) (drop i xs)
+back_part p xs i h = every_drop (λ x. p x ≡ false) xs i (λ k d le lt. h.1 k d le lt)
+
+pub ended_part : (key : ℕ) (ranges : List Range) (i : ℕ) → IsPartitionPoint (λ range. ltb range.last key ≡ true) (λ range. ltb range.last key ≡ false) ranges i → AllByRecursion (λ range. range.last < key) (take i ranges)
+ended_part key ranges i h = every_weaker (λ range. ltb range.last key ≡ true) (λ range. range.last < key) (take i ranges) (λ range e. ltb-true range.last key e) (front_part (λ range. ltb range.last key) ranges i h)
+
+pub not_ended_part : (key : ℕ) (ranges : List Range) (i : ℕ) → IsPartitionPoint (λ range. ltb range.last key ≡ true) (λ range. ltb range.last key ≡ false) ranges i → AllByRecursion (λ range. key ≤ range.last) (drop i ranges)
+not_ended_part key ranges i h = every_weaker (λ range. ltb range.last key ≡ false) (λ range. key ≤ range.last) (drop i ranges) (λ range e. ltb-false range.last key e) (back_part (λ range. ltb range.last key) ranges i h)
+
+pub begun_part : (key : ℕ) (ranges : List Range) (i : ℕ) → IsPartitionPoint (λ range. leb range.first key ≡ true) (λ range. leb range.first key ≡ false) ranges i → AllByRecursion (λ range. range.first ≤ key) (take i ranges)
+begun_part key ranges i h = every_weaker (λ range. leb range.first key ≡ true) (λ range. range.first ≤ key) (take i ranges) (λ range e. leb-true range.first key e) (front_part (λ range. leb range.first key) ranges i h)
+
+pub not_begun_part : (key : ℕ) (ranges : List Range) (i : ℕ) → IsPartitionPoint (λ range. leb range.first key ≡ true) (λ range. leb range.first key ≡ false) ranges i → AllByRecursion (λ range. key < range.first) (drop i ranges)
+not_begun_part key ranges i h = every_weaker (λ range. leb range.first key ≡ false) (λ range. key < range.first) (drop i ranges) (λ range e. leb-false range.first key e) (back_part (λ range. leb range.first key) ranges i h)
+
+-- the ranges that a search for both ends finds
+pub every-take : {X : Type 0} (P : X → Type 0) (n : ℕ) (xs : List X) → AllByRecursion P xs → AllByRecursion P (take n xs)
+every-take P zero xs h = tt
+every-take P (suc n) [] h = tt
+every-take P (suc n) (x ∷ xs) h = (h.0, every-take P n xs h.1)
+
+pub every-drop : {X : Type 0} (P : X → Type 0) (n : ℕ) (xs : List X) → AllByRecursion P xs → AllByRecursion P (drop n xs)
+every-drop P zero xs h = h
+every-drop P (suc n) [] h = tt
+every-drop P (suc n) (x ∷ xs) h = every-drop P n xs h.1
+
+every_front_at : {X : Type 0} (P : X → Type 0) (n k : ℕ) (xs : List X) (d : X) → k < n → k < length xs → AllByRecursion P (take n xs) → P (get_or xs k d)
+every_front_at P n k [] d lt within h = absurd (omega arith)
+every_front_at P zero k (x ∷ xs) d lt within h = absurd (omega arith)
+every_front_at P (suc n) zero (x ∷ xs) d lt within h = h.0
+every_front_at P (suc n) (suc k) (x ∷ xs) d lt within h = every_front_at P n k xs d (omega arith) (omega arith) h.1
+
+every_back_at : {X : Type 0} (P : X → Type 0) (n k : ℕ) (xs : List X) (d : X) → n ≤ k → k < length xs → AllByRecursion P (drop n xs) → P (get_or xs k d)
+every_back_at P n k [] d le within h = absurd (omega arith)
+every_back_at P zero zero (x ∷ xs) d le within h = h.0
+every_back_at P zero (suc k) (x ∷ xs) d le within h = every_back_at P zero k xs d (omega arith) (omega arith) h.1
+every_back_at P (suc n) zero (x ∷ xs) d le within h = absurd (omega arith)
+every_back_at P (suc n) (suc k) (x ∷ xs) d le within h = every_back_at P n k xs d (omega arith) (omega arith) h
+
+pub meets : (low high from to : ℕ) (ranges : List Range) → AreApart 0 ranges → low ≤ high → from ≤ length ranges → to ≤ length ranges → AllByRecursion (λ range. range.last < low) (take from ranges) → AllByRecursion (λ range. low ≤ range.last) (drop from ranges) → AllByRecursion (λ range. range.first ≤ high) (take to ranges) → AllByRecursion (λ range. high < range.first) (drop to ranges) → Meets low high ranges from to
+meets low high from to ranges h le from_in to_in before lows highs after =
+    let order : from ≤ to =
+        elim (cases_lt to from) [
+          | inl lt ↦
+              let blank : Range = record { first = 0; last = 0 } in
+              let begins : high < (get_or ranges to blank).first = every_back_at (λ range. high < range.first) to to ranges blank (omega arith) (omega arith) after in
+              let ends : (get_or ranges to blank).last < low = every_front_at (λ range. range.last < low) from to ranges blank lt (omega arith) before in
+              absurd (omega (arith, begins, ends, (range_at 0 ranges h to blank (omega arith)).ascends))
+          | inr ok ↦ ok
+        ] in
+    let whole : from + (to - from) ≡ to = omega arith in
+    record {
+      order = order;
+      within = to_in;
+      before = before;
+      lows = every-take (λ range. low ≤ range.last) (to - from) (drop from ranges) lows;
+      highs =
+          subst (λ those. AllByRecursion (λ range. range.first ≤ high) those)
+          (ap (λ n. drop from (take n ranges)) (sym whole) ∙ drop-take from (to - from) ranges)
+          (every-drop (λ range. range.first ≤ high) from (take to ranges) highs);
+      after = after;
+    }

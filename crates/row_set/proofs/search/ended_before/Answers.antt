@@ -1,0 +1,15 @@
+use Rattle.std.proofs.Common.{◌≡◌, true, false, ltb, rules}
+use Rattle.std.specs.List.Sorted.{IsPartitionPoint}
+use Rattle.std.proofs.lemmas.List.Sorted.{IsPartitionPoint-from_clause}
+use Rattle.row_set.proofs.Places.{lasts_parted, ended_part, not_ended_part}
+use Rattle.row_set.proofs.search.ended_before.Goals as goal
+
+pub returns-clause-ended : goal.returns-clause-ended
+returns-clause-ended c =
+    ended_part c.args.key c.args.ranges.now c.partition_point.result
+    (IsPartitionPoint-from_clause (λ range. ltb range.last c.args.key) c.args.ranges.now c.partition_point.result c.partition_point.ensures.partitioned (lasts_parted c.args.key c.args.ranges.now c.requires) (λ a r f h. search rules))
+
+pub returns-clause-others : goal.returns-clause-others
+returns-clause-others c =
+    not_ended_part c.args.key c.args.ranges.now c.partition_point.result
+    (IsPartitionPoint-from_clause (λ range. ltb range.last c.args.key) c.args.ranges.now c.partition_point.result c.partition_point.ensures.partitioned (lasts_parted c.args.key c.args.ranges.now c.requires) (λ a r f h. search rules))
