@@ -83,9 +83,9 @@ map_with_len f first start (suc n) h =
     let there : start + 0 ≡ start = omega arith in
     ap (λ k. k ∷ map f (range_with_len (first + 1) n)) (ap f here ∙ h 0 (omega arith) ∙ there)
     ∙ ap (λ rest. start ∷ rest) (map_with_len f (first + 1) (start + 1) n (λ i lt.
-        let next : first + 1 + i ≡ first + (i + 1) = omega arith in
-        let on : start + (i + 1) ≡ start + 1 + i = omega arith in
-        ap f next ∙ h (i + 1) (omega arith) ∙ on))
+    let next : first + 1 + i ≡ first + (i + 1) = omega arith in
+    let on : start + (i + 1) ≡ start + 1 + i = omega arith in
+    ap f next ∙ h (i + 1) (omega arith) ∙ on))
 
 pub lands_at : (shifts : List ShiftRange) (delta : ℤ) (first key start : ℕ) → delta_at shifts key ≡ delta → pos first +ℤ delta ≡ pos start → first ≤ key → place shifts key ≡ start + (key - first)
 lands_at shifts delta first key start is at le =
@@ -96,20 +96,20 @@ pub run_lands : (shifts : List ShiftRange) (delta : ℤ) (first last start end :
 run_lands shifts delta first last start end order same at until =
     let long : last + 1 - first ≡ end + 1 - start = omega (arith, ints, at, until) in
     map_with_len (place shifts) first start (last + 1 - first)
-        (λ i lt.
-          let on : start + (first + i - first) ≡ start + i = omega arith in
-          lands_at shifts delta first (first + i) start (same (first + i) (omega arith) (omega arith)) at (omega arith) ∙ on)
+    (λ i lt.
+    let on : start + (first + i - first) ≡ start + i = omega arith in
+    lands_at shifts delta first (first + i) start (same (first + i) (omega arith) (omega arith)) at (omega arith) ∙ on)
     ∙ ap (range_with_len start) long
 
 -- one step along a run
 pub run_step : (shifts : List ShiftRange) (delta : ℤ) (from middle last start end : ℕ) (places whole : List ℕ) → from ≤ middle → middle ≤ last → ((key : ℕ) → from ≤ key → key ≤ middle → delta_at shifts key ≡ delta) → pos from +ℤ delta ≡ pos start → pos middle +ℤ delta ≡ pos end → IsRising whole → places ++ landed shifts (keys_from from last) ≡ whole → united (keys_from start end) places ++ landed shifts (keys_from (middle + 1) last) ≡ whole
 run_step shifts delta from middle last start end places whole order below same at until rising is =
     let parts : landed shifts (keys_from from last) ≡ keys_from start end ++ landed shifts (keys_from (middle + 1) last) =
-        ap (landed shifts) (keys_cut from middle last (omega arith) below)
-        ∙ map-append (place shifts) (keys_from from middle) (keys_from (middle + 1) last)
-        ∙ ap (λ keys. keys ++ landed shifts (keys_from (middle + 1) last)) (run_lands shifts delta from middle start end order same at until) in
+    ap (landed shifts) (keys_cut from middle last (omega arith) below)
+    ∙ map-append (place shifts) (keys_from from middle) (keys_from (middle + 1) last)
+    ∙ ap (λ keys. keys ++ landed shifts (keys_from (middle + 1) last)) (run_lands shifts delta from middle start end order same at until) in
     let all : (places ++ keys_from start end) ++ landed shifts (keys_from (middle + 1) last) ≡ whole =
-        append_assoc places (keys_from start end) (landed shifts (keys_from (middle + 1) last)) ∙ ap (λ keys. places ++ keys) (sym parts) ∙ is in
+    append_assoc places (keys_from start end) (landed shifts (keys_from (middle + 1) last)) ∙ ap (λ keys. places ++ keys) (sym parts) ∙ is in
     ap (λ keys. keys ++ landed shifts (keys_from (middle + 1) last)) (united_past (keys_from start end) places (rising_front (places ++ keys_from start end) (landed shifts (keys_from (middle + 1) last)) (subst IsRising (sym all) rising)))
     ∙ all
 
@@ -140,16 +140,16 @@ pub run_inside : (shifts : List ShiftRange) (keys : List ℕ) (ranges : List Ran
 run_inside shifts keys ranges i range h held lt is =
     every_back (λ key. is_past (2 ^ 62) (moved shifts key) ≡ false) (keys_of (take i ranges)) (keys_in range)
     (every_front (λ key. is_past (2 ^ 62) (moved shifts key) ≡ false) (keys_of (take i ranges) ++ keys_in range) (keys_of (drop (i + 1) ranges))
-      (subst (AllByRecursion (λ key. is_past (2 ^ 62) (moved shifts key) ≡ false)) (taken_parts keys ranges i range held lt is) (lawful shifts keys h).inside))
+    (subst (AllByRecursion (λ key. is_past (2 ^ 62) (moved shifts key) ≡ false)) (taken_parts keys ranges i range held lt is) (lawful shifts keys h).inside))
 
 pub run_rises : (shifts : List ShiftRange) (keys : List ℕ) (ranges : List Range) (i : ℕ) (range : Range) → IsLawful shifts keys → keys_of ranges ≡ keys → i < length ranges → range ≡ get_or ranges i range → IsRising (landed shifts (keys_of (take i ranges)) ++ landed shifts (keys_in range))
 run_rises shifts keys ranges i range h held lt is =
     rising_front (landed shifts (keys_of (take i ranges)) ++ landed shifts (keys_in range)) (landed shifts (keys_of (drop (i + 1) ranges)))
     (subst IsRising
-      (ap (landed shifts) (taken_parts keys ranges i range held lt is)
-       ∙ map-append (place shifts) (keys_of (take i ranges) ++ keys_in range) (keys_of (drop (i + 1) ranges))
-       ∙ ap (λ front. front ++ landed shifts (keys_of (drop (i + 1) ranges))) (map-append (place shifts) (keys_of (take i ranges)) (keys_in range)))
-      (lawful shifts keys h).rising)
+    (ap (landed shifts) (taken_parts keys ranges i range held lt is)
+    ∙ map-append (place shifts) (keys_of (take i ranges) ++ keys_in range) (keys_of (drop (i + 1) ranges))
+    ∙ ap (λ front. front ++ landed shifts (keys_of (drop (i + 1) ranges))) (map-append (place shifts) (keys_of (take i ranges)) (keys_in range)))
+    (lawful shifts keys h).rising)
 
 pub landed_taken : (shifts : List ShiftRange) (ranges : List Range) (i : ℕ) (range : Range) → i < length ranges → range ≡ get_or ranges i range → landed shifts (keys_of (take i ranges)) ++ landed shifts (keys_in range) ≡ landed shifts (keys_of (take (i + 1) ranges))
 landed_taken shifts ranges i range lt is = sym (ap (landed shifts) (keys_taken ranges i range lt is) ∙ map-append (place shifts) (keys_of (take i ranges)) (keys_in range))

@@ -82,9 +82,11 @@ not_held key (first ∷ runs) e =
 pub run_of : (keys : List ℕ) (key : ℕ) (run : Range) → find (holds key) (ranges_of keys) ≡ Some run → (run.first ≤ key) × (key ≤ run.last) × ((other : ℕ) → run.first ≤ other → other ≤ run.last → is_among other keys ≡ true)
 run_of keys key run e =
     let held = run_held key (ranges_of keys) run e in
-    let parts = and_parts (leb run.first key) (leb key run.last) held.0 in
-    (leb-true run.first key parts.0, leb-true key run.last parts.1,
-     λ other above below. ap (is_among other) (sym (keys_of-ranges_of keys)) ∙ among-keys other (ranges_of keys) ∙ held.1 other (holds-true other run above below))
+    let parts = and_parts (leb run.first key) (leb key run.last) held.0 in (
+      leb-true run.first key parts.0,
+      leb-true key run.last parts.1,
+      λ other above below. ap (is_among other) (sym (keys_of-ranges_of keys)) ∙ among-keys other (ranges_of keys) ∙ held.1 other (holds-true other run above below),
+    )
 
 pub no_run : (keys : List ℕ) (key : ℕ) → find (holds key) (ranges_of keys) ≡ None → is_among key keys ≡ false
 no_run keys key e = ap (is_among key) (sym (keys_of-ranges_of keys)) ∙ among-keys key (ranges_of keys) ∙ not_held key (ranges_of keys) e
@@ -154,7 +156,7 @@ pub not_asked_step : (shifts : List ShiftRange) (survivors after : List ℕ) (fr
 not_asked_step shifts survivors after from part set h is_not =
     asked_cut shifts survivors after from part set h
     ∙ ap (λ keys. keys ++ unapplied shifts (from_on (part.last + 1) survivors) after)
-      (filter_none (λ key. is_among (as_key (moved shifts key)) after) (within part.first part.last survivors) (every_weaker (λ key. is_among (as_key (moved shifts key)) after ≡ part.asked) (λ key. is_among (as_key (moved shifts key)) after ≡ false) (within part.first part.last survivors) (λ key is. is ∙ is_not) (each_asked shifts survivors after from part h)))
+    (filter_none (λ key. is_among (as_key (moved shifts key)) after) (within part.first part.last survivors) (every_weaker (λ key. is_among (as_key (moved shifts key)) after ≡ part.asked) (λ key. is_among (as_key (moved shifts key)) after ≡ false) (within part.first part.last survivors) (λ key is. is ∙ is_not) (each_asked shifts survivors after from part h)))
 
 -- where all from first to last are keys
 pub all_within : (keys : List ℕ) (first last : ℕ) → IsRising keys → ((key : ℕ) → first ≤ key → key ≤ last → is_among key keys ≡ true) → within first last keys ≡ keys_from first last
@@ -173,16 +175,16 @@ pub asked_step : (shifts : List ShiftRange) (survivors after : List ℕ) (from :
 asked_step shifts survivors after from part set h is_so =
     asked_cut shifts survivors after from part set h
     ∙ ap (λ keys. keys ++ unapplied shifts (from_on (part.last + 1) survivors) after)
-      (filter_same (λ key. is_among (as_key (moved shifts key)) after) (λ _. true) (within part.first part.last survivors) (every_weaker (λ key. is_among (as_key (moved shifts key)) after ≡ part.asked) (λ key. is_among (as_key (moved shifts key)) after ≡ true) (within part.first part.last survivors) (λ key is. is ∙ is_so) (each_asked shifts survivors after from part h))
-       ∙ filter_all (within part.first part.last survivors)
-       ∙ all_within survivors part.first part.last set.rising (h.whole is_so))
+    (filter_same (λ key. is_among (as_key (moved shifts key)) after) (λ _. true) (within part.first part.last survivors) (every_weaker (λ key. is_among (as_key (moved shifts key)) after ≡ part.asked) (λ key. is_among (as_key (moved shifts key)) after ≡ true) (within part.first part.last survivors) (λ key is. is ∙ is_so) (each_asked shifts survivors after from part h))
+    ∙ filter_all (within part.first part.last survivors)
+    ∙ all_within survivors part.first part.last set.rising (h.whole is_so))
 
 pub asked_more : (shifts : List ShiftRange) (survivors after keys : List ℕ) (from : ℕ) (part : AskedPart) → IsKeySet survivors → IsAskedPart shifts survivors after from part → part.asked ≡ true → keys ++ unapplied shifts (from_on from survivors) after ≡ unapplied shifts survivors after → united (keys_from part.first part.last) keys ++ unapplied shifts (from_on (part.last + 1) survivors) after ≡ unapplied shifts survivors after
 asked_more shifts survivors after keys from part set h is_so is =
     let all : (keys ++ keys_from part.first part.last) ++ unapplied shifts (from_on (part.last + 1) survivors) after ≡ unapplied shifts survivors after =
-        append_assoc keys (keys_from part.first part.last) (unapplied shifts (from_on (part.last + 1) survivors) after)
-        ∙ ap (λ rest. keys ++ rest) (sym (asked_step shifts survivors after from part set h is_so))
-        ∙ is in
+    append_assoc keys (keys_from part.first part.last) (unapplied shifts (from_on (part.last + 1) survivors) after)
+    ∙ ap (λ rest. keys ++ rest) (sym (asked_step shifts survivors after from part set h is_so))
+    ∙ is in
     ap (λ front. front ++ unapplied shifts (from_on (part.last + 1) survivors) after)
-      (united_past (keys_from part.first part.last) keys (rising_front (keys ++ keys_from part.first part.last) (unapplied shifts (from_on (part.last + 1) survivors) after) (subst IsRising (sym all) (rising_some (λ key. is_among (as_key (moved shifts key)) after) survivors set.rising))))
+    (united_past (keys_from part.first part.last) keys (rising_front (keys ++ keys_from part.first part.last) (unapplied shifts (from_on (part.last + 1) survivors) after) (subst IsRising (sym all) (rising_some (λ key. is_among (as_key (moved shifts key)) after) survivors set.rising))))
     ∙ all

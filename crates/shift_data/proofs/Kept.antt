@@ -51,11 +51,11 @@ run_passed left_out keys from key run rising e above held =
     let run_is = run_of left_out key run held in
     find_later from (run.last + 1) (without left_out keys) (omega (arith, run_is.1))
     (every_weaker (λ other. is_among other (without left_out keys) ≡ true) (λ other. from ≤ other → other < run.last + 1 → ⊥) (without left_out keys)
-      (λ other among le lt. elim (cases_lt other key) [
-        | inl before ↦ true≢false (sym among ∙ absent_not_kept left_out keys other (none_between from key keys rising e other le before))
-        | inr past ↦ true≢false (sym among ∙ out_not_kept left_out keys other (run_is.2 other (omega (arith, run_is.0)) (omega arith)))
-      ])
-      (each_among (without left_out keys)))
+    (λ other among le lt. elim (cases_lt other key) [
+      | inl before ↦ true≢false (sym among ∙ absent_not_kept left_out keys other (none_between from key keys rising e other le before))
+      | inr past ↦ true≢false (sym among ∙ out_not_kept left_out keys other (run_is.2 other (omega (arith, run_is.0)) (omega arith)))
+    ])
+    (each_among (without left_out keys)))
 
 -- the first key that is not left out is the first of the others
 find_filter : (p : ℕ → Bool) (from key : ℕ) (xs : List ℕ) → find (leb from) xs ≡ Some key → p key ≡ true → find (leb from) (filter p xs) ≡ Some key
@@ -107,12 +107,12 @@ bound_passed left_out keys whole high key next run h last held some is =
     record {
       below = omega (arith, h.below, last.below, run_is.0);
       all = λ other among le.
-        let parts = kept_is_key left_out keys other among in
-        let until = last.greatest other parts.1 (h.all other among le) in
-        elim (cases_lt other run.first) [
-          | inl before ↦ omega arith
-          | inr inside ↦ absurd (true≢false (sym (run_is.2 other inside (omega (arith, until, run_is.1))) ∙ parts.0))
-        ];
+          let parts = kept_is_key left_out keys other among in
+          let until = last.greatest other parts.1 (h.all other among le) in
+          elim (cases_lt other run.first) [
+            | inl before ↦ omega arith
+            | inr inside ↦ absurd (true≢false (sym (run_is.2 other inside (omega (arith, until, run_is.1))) ∙ parts.0))
+          ];
     }
 
 pub last_found : (left_out keys : List ℕ) (whole high key : ℕ) → IsBound left_out keys whole high → IsLastUpTo keys high key → find (holds key) (ranges_of left_out) ≡ None → IsLastUpTo (without left_out keys) whole key

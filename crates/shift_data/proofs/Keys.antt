@@ -1,6 +1,6 @@
 -- The keys of a rising list from one on, and from one to another.
-use Rattle.std.proofs.Common.{◌≡◌, refl, ap, sym, ◌∙◌, subst, Bool, true, false, cond, ◌&&◌, ◌||◌, ◌==◌, ℕ, zero, suc, ◌+◌, ◌-◌, ◌^◌, ◌<◌, ◌≤◌, arith, List, [], ◌∷◌, ◌++◌, length, leb, ltb, Some, None, Option, true≢false, add-zero, inl, inr}
-use Rattle.std.specs.Prelude.{filter, find, slice_get, fold, IfSome}
+use Rattle.std.proofs.Common.{◌≡◌, refl, ap, sym, ◌∙◌, subst, Bool, true, false, cond, ◌&&◌, ◌||◌, ◌==◌, ℕ, zero, suc, ◌+◌, ◌-◌, ◌^◌, ◌<◌, ◌≤◌, arith, List, [], ◌∷◌, ◌++◌, length, leb, ltb, Some, None, Option, true≢false, inl, inr}
+use Rattle.std.specs.Prelude.{filter, find, slice_get, IfSome}
 use Rattle.std.specs.List.{AllByRecursion}
 use Rattle.std.proofs.lemmas.Bool.{le-leb, lt-leb, leb-true, leb-false, lt-ltb, le-ltb, ltb-true, ltb-false, eq-eqb, eqb-true, ne_eqb, and_left, and_right, and_from, and_parts, or_cases, or_from, or_left, or_right, cases_lt, cases_eq, cases_Bool, false≢true}
 use Rattle.std.proofs.lemmas.Option.{none-some, same_Some}
@@ -60,14 +60,14 @@ pub cut : (keys : List ℕ) (from first last : ℕ) → IsRising keys → from �
 cut keys from first last rising le order none =
     rising_same (from_on from keys) (within first last keys ++ from_on (last + 1) keys) (rising_some (leb from) keys rising)
     (rising-append (last + 1) (within first last keys) (from_on (last + 1) keys)
-      (every_weaker (λ key. (leb first key && leb key last) ≡ true) (λ key. key < last + 1) (within first last keys) (λ key t. omega (arith, leb-true key last (and_parts (leb first key) (leb key last) t).1)) (filter_passes (λ key. leb first key && leb key last) keys))
-      (every_weaker (λ key. leb (last + 1) key ≡ true) (λ key. last + 1 ≤ key) (from_on (last + 1) keys) (λ key t. leb-true (last + 1) key t) (filter_passes (leb (last + 1)) keys))
-      (rising_some (λ key. leb first key && leb key last) keys rising)
-      (rising_some (leb (last + 1)) keys rising))
+    (every_weaker (λ key. (leb first key && leb key last) ≡ true) (λ key. key < last + 1) (within first last keys) (λ key t. omega (arith, leb-true key last (and_parts (leb first key) (leb key last) t).1)) (filter_passes (λ key. leb first key && leb key last) keys))
+    (every_weaker (λ key. leb (last + 1) key ≡ true) (λ key. last + 1 ≤ key) (from_on (last + 1) keys) (λ key t. leb-true (last + 1) key t) (filter_passes (leb (last + 1)) keys))
+    (rising_some (λ key. leb first key && leb key last) keys rising)
+    (rising_some (leb (last + 1)) keys rising))
     (λ key.
-      among-filter (leb from) key keys
-      ∙ same key (is_among key keys) refl
-      ∙ sym (among-append key (within first last keys) (from_on (last + 1) keys) ∙ ap (λ b. b || is_among key (from_on (last + 1) keys)) (among-filter (λ key. leb first key && leb key last) key keys) ∙ ap (λ b. ((leb first key && leb key last) && is_among key keys) || b) (among-filter (leb (last + 1)) key keys)))
+    among-filter (leb from) key keys
+    ∙ same key (is_among key keys) refl
+    ∙ sym (among-append key (within first last keys) (from_on (last + 1) keys) ∙ ap (λ b. b || is_among key (from_on (last + 1) keys)) (among-filter (λ key. leb first key && leb key last) key keys) ∙ ap (λ b. ((leb first key && leb key last) && is_among key keys) || b) (among-filter (leb (last + 1)) key keys)))
   where
     both : (key : ℕ) (here : Bool) (a b c d : Bool) → leb from key ≡ a → leb first key ≡ b → leb key last ≡ c → leb (last + 1) key ≡ d → (a && here) ≡ (((b && c) && here) || (d && here)) → (leb from key && here) ≡ (((leb first key && leb key last) && here) || (leb (last + 1) key && here))
     both key here a b c d ea eb ec ed h = rw (ea, eb, ec, ed) h
@@ -137,16 +137,17 @@ each_within P keys first last h =
     (filter_passes (λ key. leb first key && leb key last) keys)
 
 -- the last of the keys below one
-count_from : (bound start : ℕ) (xs : List ℕ) → fold (λ n x. n + cond (ltb x bound) 1 0) start xs ≡ start + count_below bound xs
-count_from bound start [] = sym (add-zero start)
-count_from bound start (x ∷ xs) =
-    omega (arith, count_from bound (start + cond (ltb x bound) 1 0) xs, count_from bound (0 + cond (ltb x bound) 1 0) xs)
-
 counted : (bound x : ℕ) (xs : List ℕ) → x < bound → count_below bound (x ∷ xs) ≡ 1 + count_below bound xs
-counted bound x xs less = count_from bound (0 + cond (ltb x bound) 1 0) xs ∙ ap (λ b. 0 + cond b 1 0 + count_below bound xs) (lt-ltb x bound less)
+counted bound x xs less =
+    let smaller : List ℕ = filter (λ other. ltb other bound) xs in
+    let one : suc (length smaller) ≡ 1 + length smaller = omega arith in
+    ap (λ b. length (cond b (x ∷ smaller) smaller)) (lt-ltb x bound less) ∙ one
 
 not_counted : (bound x : ℕ) (xs : List ℕ) → bound ≤ x → count_below bound (x ∷ xs) ≡ 0 + count_below bound xs
-not_counted bound x xs more = count_from bound (0 + cond (ltb x bound) 1 0) xs ∙ ap (λ b. 0 + cond b 1 0 + count_below bound xs) (le-ltb x bound more)
+not_counted bound x xs more =
+    let smaller : List ℕ = filter (λ other. ltb other bound) xs in
+    let none : length smaller ≡ 0 + length smaller = omega arith in
+    ap (λ b. length (cond b (x ∷ smaller) smaller)) (le-ltb x bound more) ∙ none
 
 pub count_none : (bound : ℕ) (xs : List ℕ) → AllByRecursion (λ x. bound ≤ x) xs → count_below bound xs ≡ 0
 count_none bound [] h = refl

@@ -57,7 +57,7 @@ module _ (limit : ℕ) (shifts : List ShiftRange) where
         | inl outside ↦ absurd (none-some (ShiftBreaks key key) (sym e ∙ ap (λ t. cond t (Some (ShiftBreaks key key)) (cond (int_le (moved shifts key) (moved shifts before)) (Some (ShiftBreaks before key)) (shift_fault_after limit shifts (Some key) others))) outside))
         | inr inside ↦
             let next : cond (int_le (moved shifts key) (moved shifts before)) (Some (ShiftBreaks before key)) (shift_fault_after limit shifts (Some key) others) ≡ None =
-                sym (ap (λ t. cond t (Some (ShiftBreaks key key)) (cond (int_le (moved shifts key) (moved shifts before)) (Some (ShiftBreaks before key)) (shift_fault_after limit shifts (Some key) others))) inside) ∙ e in
+            sym (ap (λ t. cond t (Some (ShiftBreaks key key)) (cond (int_le (moved shifts key) (moved shifts before)) (Some (ShiftBreaks before key)) (shift_fault_after limit shifts (Some key) others))) inside) ∙ e in
             elim (cases_Bool (int_le (moved shifts key) (moved shifts before))) [
               | inl back ↦ absurd (none-some (ShiftBreaks before key) (sym next ∙ ap (λ t. cond t (Some (ShiftBreaks before key)) (shift_fault_after limit shifts (Some key) others)) back))
               | inr on ↦ lands_more (Some before) key others inside (below limit (moved shifts before) (moved shifts key) b inside on) (lands (Some key) others inside (sym (ap (λ t. cond t (Some (ShiftBreaks before key)) (shift_fault_after limit shifts (Some key) others)) on) ∙ next))

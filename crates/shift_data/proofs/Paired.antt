@@ -28,12 +28,13 @@ front_run keys from first count run set e held some until =
     let here = run_of keys first run held in
     let last : ℕ = first + (count - 1) in
     let past : last + 1 ≡ first + count = omega arith in
-    let long : last + 1 - first ≡ count = omega arith in
-    (cut keys from first last set.rising (leb-true from first there.1) (omega arith) (none_between from first keys set.rising e)
-     ∙ ap (λ front. front ++ from_on (last + 1) keys) (all_within keys first last set.rising (λ key above below. here.2 key (omega (arith, here.0)) (omega arith)))
-     ∙ ap (λ n. range_with_len first n ++ from_on (last + 1) keys) long
-     ∙ ap (λ k. range_with_len first count ++ from_on k keys) past,
-     omega (arith, key_small run.last keys set (here.2 run.last (omega (arith, here.0, here.1)) (omega arith)), until))
+    let long : last + 1 - first ≡ count = omega arith in (
+      cut keys from first last set.rising (leb-true from first there.1) (omega arith) (none_between from first keys set.rising e)
+          ∙ ap (λ front. front ++ from_on (last + 1) keys) (all_within keys first last set.rising (λ key above below. here.2 key (omega (arith, here.0)) (omega arith)))
+          ∙ ap (λ n. range_with_len first n ++ from_on (last + 1) keys) long
+          ∙ ap (λ k. range_with_len first count ++ from_on k keys) past,
+      omega (arith, key_small run.last keys set (here.2 run.last (omega (arith, here.0, here.1)) (omega arith)), until),
+    )
 
 -- pairs of neighbouring keys, and those behind them
 pairs_run : (new_of : ℕ → ℕ) (old new n : ℕ) (olds news : List ℕ) → ((i : ℕ) → i < n → new_of (old + i) ≡ new + i) → pairs_of (range_with_len old n ++ olds) (range_with_len new n ++ news) ≡ map (λ key. let pair : KeyPair = record { old = key; new = new_of key } in pair) (range_with_len old n) ++ pairs_of olds news
@@ -42,10 +43,10 @@ pairs_run new_of old new (suc n) olds news h =
     let first : new_of old ≡ new = let here : old ≡ old + 0 = omega arith in let there : new + 0 ≡ new = omega arith in ap new_of here ∙ h 0 (omega arith) ∙ there in
     ap (λ k. let pair : KeyPair = record { old = old; new = k } in pair ∷ pairs_of (range_with_len (old + 1) n ++ olds) (range_with_len (new + 1) n ++ news)) (sym first)
     ∙ ap (λ rest. let pair : KeyPair = record { old = old; new = new_of old } in pair ∷ rest)
-      (pairs_run new_of (old + 1) (new + 1) n olds news (λ i lt.
-        let next : old + 1 + i ≡ old + (i + 1) = omega arith in
-        let on : new + (i + 1) ≡ new + 1 + i = omega arith in
-        ap new_of next ∙ h (i + 1) (omega arith) ∙ on))
+    (pairs_run new_of (old + 1) (new + 1) n olds news (λ i lt.
+    let next : old + 1 + i ≡ old + (i + 1) = omega arith in
+    let on : new + (i + 1) ≡ new + 1 + i = omega arith in
+    ap new_of next ∙ h (i + 1) (omega arith) ∙ on))
 
 run_spans : (first n : ℕ) → Spans first (first + n) (range_with_len first (suc n))
 run_spans first zero = (refl, omega arith)
@@ -60,7 +61,7 @@ pairs_step old new (suc n) olds news some =
     let last : old + n ≡ old + (suc n - 1) = omega arith in
     ap stretches (pairs_run new_of old new (suc n) olds news (λ i lt. omega arith))
     ∙ stretched (λ key. let pair : KeyPair = record { old = key; new = new_of key } in pair) (λ key. refl) (pos new -ℤ pos old) old (old + n) (range_with_len old (suc n)) (pairs_of olds news) (run_spans old n)
-        (each_from (λ key. pos (new + (key - old)) -ℤ pos key ≡ pos new -ℤ pos old) old (suc n) (λ key above below. omega (arith, ints, above)))
+    (each_from (λ key. pos (new + (key - old)) -ℤ pos key ≡ pos new -ℤ pos old) old (suc n) (λ key above below. omega (arith, ints, above)))
     ∙ ap (λ k. joined (range_by old k (pos new -ℤ pos old)) (stretches (pairs_of olds news))) last
 
 pub pairs_end : (news : List ℕ) (olds : List ℕ) → news ≡ [] → pairs_of olds news ≡ []

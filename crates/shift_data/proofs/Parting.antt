@@ -30,10 +30,10 @@ parted pair move keys from part set goes h =
     ap (λ xs. stretches (map pair xs)) (cut keys from part.first part.last set.rising h.above h.order h.none_before)
     ∙ ap stretches (map-append pair (within part.first part.last keys) (from_on (part.last + 1) keys))
     ∙ stretched pair goes.old part.delta part.first part.last (within part.first part.last keys) (map pair (from_on (part.last + 1) keys))
-        (within_spans keys part.first part.last set.rising h.order h.first h.last)
-        (every_both (λ key. delta (pair key) ≡ move key) (λ key. move key ≡ part.delta) (λ key. delta (pair key) ≡ part.delta) (within part.first part.last keys) (λ key e f. e ∙ f)
-          (every-filter (λ key. delta (pair key) ≡ move key) (λ key. leb part.first key && leb key part.last) keys goes.by)
-          (each_within (λ key. move key ≡ part.delta) keys part.first part.last h.same))
+    (within_spans keys part.first part.last set.rising h.order h.first h.last)
+    (every_both (λ key. delta (pair key) ≡ move key) (λ key. move key ≡ part.delta) (λ key. delta (pair key) ≡ part.delta) (within part.first part.last keys) (λ key e f. e ∙ f)
+    (every-filter (λ key. delta (pair key) ≡ move key) (λ key. leb part.first key && leb key part.last) keys goes.by)
+    (each_within (λ key. move key ≡ part.delta) keys part.first part.last h.same))
 
 -- the ranges are those of a shift, where the keys land on keys
 pub shift_of_keys : (pair : ℕ → KeyPair) (keys : List ℕ) → ((key : ℕ) → (pair key).old ≡ key) → IsKeySet keys → AllByRecursion (λ key. (pair key).new < 2 ^ 62) keys → IsShiftList (shifted (map pair keys))

@@ -51,7 +51,6 @@ drop_at P [] i x lt is h = absurd (omega arith)
 drop_at P (y ∷ xs) zero x lt is h = subst P (sym is) h.0
 drop_at P (y ∷ xs) (suc i) x lt is h = drop_at P xs i x (omega arith) is h
 
-
 -- the segment that begins at a key, by where the search ends
 module _ (shifts : List ShiftRange) (key i : ℕ) (h : IsShiftList shifts) (ended : AllByRecursion (λ range. range.end < key) (take i shifts)) where
   pub segment_held : (range : ShiftRange) → i < length shifts → range ≡ get_or shifts i range → AllByRecursion (λ range. key ≤ range.end) (drop i shifts) → range.begin ≤ key → let segment : Segment = record { last = range.end; delta = range.delta } in IsSegment (delta_at shifts) key segment

@@ -16,3 +16,6 @@ mod stretches;
 mod unapply;
 
 pub use shifts::{Broken, ShiftData, ShiftFault};
+
+#[cfg(test)]
+mod tests;

@@ -18,18 +18,19 @@ loop-part-init c =
 pub loop-part-preserved : goal.loop-part-preserved
 loop-part-preserved c =
     let kept = without c.args.left_out.now c.args.keys.now in
-    let set = kept_set c.args.left_out.now c.args.keys.now c.part_without.ensures.keys in
-    (omega (arith, c.in-Some.ensures.part.small),
-     c.in_ok-add.ensures _
-     ∙ ap (built c.loop-part.stretches.whole.items c.loop-part.stretches.last) (sym (parted (pair_by c.args.shifts.now) (delta_at c.args.shifts.now) kept c.loop-part.from c.in-Some.part set (canonical_goes c.args.shifts.now kept c.requires.lawful) c.in-Some.ensures.part))
-     ∙ c.loop-part.invariant.1)
+    let set = kept_set c.args.left_out.now c.args.keys.now c.part_without.ensures.keys in (
+      omega (arith, c.in-Some.ensures.part.small),
+      c.in_ok-add.ensures _
+          ∙ ap (built c.loop-part.stretches.whole.items c.loop-part.stretches.last) (sym (parted (pair_by c.args.shifts.now) (delta_at c.args.shifts.now) kept c.loop-part.from c.in-Some.part set (canonical_goes c.args.shifts.now kept c.requires.lawful) c.in-Some.ensures.part))
+          ∙ c.loop-part.invariant.1,
+    )
 
 pub returns-clause-shift : goal.returns-clause-shift
 returns-clause-shift c =
     let kept = without c.args.left_out.now c.args.keys.now in
     let set = kept_set c.args.left_out.now c.args.keys.now c.part_without.ensures.keys in
     let whole : built c.loop-part.stretches.whole.items c.loop-part.stretches.last [] ≡ canonical c.args.shifts.now kept =
-        sym (ap (λ keys. built c.loop-part.stretches.whole.items c.loop-part.stretches.last (stretches (map (pair_by c.args.shifts.now) keys))) c.in_default.ensures.none) ∙ c.loop-part.invariant.1 in
+    sym (ap (λ keys. built c.loop-part.stretches.whole.items c.loop-part.stretches.last (stretches (map (pair_by c.args.shifts.now) keys))) c.in_default.ensures.none) ∙ c.loop-part.invariant.1 in
     IfOk-weaker c.into_ranges.result (λ ranges. ranges.items ≡ built c.loop-part.stretches.whole.items c.loop-part.stretches.last []) (λ ranges. IsShiftList ranges.items)
     (λ ranges is. subst IsShiftList (sym (is ∙ whole)) (canonical_shift c.args.shifts.now kept set c.requires.lawful))
     c.into_ranges.ensures

@@ -6,7 +6,7 @@ pub returns-in_err-range-clause-range : goal.returns-in_err-range-clause-range
 returns-in_err-range-clause-range c =
     c.from_residual.ensures
     ∙ found_none c.args.key c.args.shifts.now c.ended_before.result c.ended_before.ensures.ended
-        (missed c.args.shifts.now c.ended_before.result c.get.result c.get.ensures.lookup (sym c.copied.ensures ∙ c.in_err-range.was))
+    (missed c.args.shifts.now c.ended_before.result c.get.result c.get.ensures.lookup (sym c.copied.ensures ∙ c.in_err-range.was))
 
 pub returns-clause-range : goal.returns-clause-range
 returns-clause-range c =

@@ -27,8 +27,8 @@ returns c =
           ∙ ap (λ begin. built w.close.new.self.whole.items (Some (range_by begin end delta)) others) w.begin-is
           ∙ ap (λ whole. built whole (Some (range_by first end delta)) others) w.in_ok-close-in_default.ensures.whole
           ∙ begins old.whole.items old.last first end delta others
-              (λ range is same. elim w.in_default.branch [
-                | in_default-via-in-Some+else-last-part w' ↦ w'.if-last-part.false (ap (λ (r : ShiftRange). of_z w64 r.delta) (same_Some w'.in-Some.last range (sym w'.in-Some.is ∙ is)) ∙ same)
-                | in_default-via-in_default w' ↦ w'.in_default.not-Some range is
-              ])
+          (λ range is same. elim w.in_default.branch [
+            | in_default-via-in-Some+else-last-part w' ↦ w'.if-last-part.false (ap (λ (r : ShiftRange). of_z w64 r.delta) (same_Some w'.in-Some.last range (sym w'.in-Some.is ∙ is)) ∙ same)
+            | in_default-via-in_default w' ↦ w'.in_default.not-Some range is
+          ])
     ])
