@@ -1,11 +1,11 @@
 -- Ranges that ascend with a gap between any two.
-use Rattle.std.proofs.Common.{◌≡◌, refl, ap, sym, ◌∙◌, subst, Bool, true, false, ◌&&◌, ◌||◌, ℕ, zero, suc, ◌+◌, ◌-◌, ◌^◌, ◌<◌, ◌≤◌, arith, List, [], ◌∷◌, ◌++◌, length, take, drop, leb, length-append, true≢false, inl, inr}
-use Rattle.std.specs.List.{AllByRecursion, list_any, range_with_len}
-use Rattle.key_lists.specs.Keys.{is_among, IsRising}
-use Rattle.key_lists.proofs.Every.{every_weaker, every-append}
+use Rattle.std.proofs.Common.{◌≡◌, subst, ℕ, zero, suc, ◌+◌, ◌-◌, ◌^◌, ◌<◌, ◌≤◌, arith, List, [], ◌∷◌, ◌++◌, length, take, drop, length-append}
+use Rattle.std.specs.List.{AllByRecursion}
+use Rattle.key_lists.specs.Keys.{IsRising}
+use Rattle.key_lists.proofs.Every.{every_weaker}
 use Rattle.key_lists.proofs.Rising.{rising-append}
 use Rattle.row_set.specs.declared.ranges.Range.{Range}
-use Rattle.row_set.specs.Ranges.{keys_from, keys_in, keys_of, holds, ranges_of, preceded, IsRangeFrom, AreApart, IsStored}
+use Rattle.row_set.specs.Ranges.{keys_in, keys_of, IsRangeFrom, AreApart, IsStored}
 use Rattle.row_set.specs.Sets.{IsKeySet}
 use Rattle.row_set.proofs.Held.{each_between, each_key, range_rises, length-keys_in}
 
@@ -66,10 +66,10 @@ pub keys_rise : (low : ℕ) (ranges : List Range) → AreApart low ranges → Is
 keys_rise low [] h = tt
 keys_rise low (range ∷ ranges) h =
     rising-append (range.last + 1) (keys_in range) (keys_of ranges)
-        (each_between (λ key. key < range.last + 1) range.first range.last (λ key above below. omega arith))
-        (every_weaker (λ key. range.last + 2 ≤ key) (λ key. range.last + 1 ≤ key) (keys_of ranges) (λ key above. omega (arith, above)) (keys_above (range.last + 2) ranges h.1))
-        (range_rises range.first (range.last + 1 - range.first))
-        (keys_rise (range.last + 2) ranges h.1)
+    (each_between (λ key. key < range.last + 1) range.first range.last (λ key above below. omega arith))
+    (every_weaker (λ key. range.last + 2 ≤ key) (λ key. range.last + 1 ≤ key) (keys_of ranges) (λ key above. omega (arith, above)) (keys_above (range.last + 2) ranges h.1))
+    (range_rises range.first (range.last + 1 - range.first))
+    (keys_rise (range.last + 2) ranges h.1)
 
 pub keys_are_set : (ranges : List Range) → AreApart 0 ranges → IsKeySet (keys_of ranges)
 keys_are_set ranges h = record { rising = keys_rise 0 ranges h; small = keys_small 0 ranges h }

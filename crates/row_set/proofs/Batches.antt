@@ -1,17 +1,16 @@
 -- The keys of several ranges, added and removed one range after another.
-use Rattle.std.proofs.Common.{◌≡◌, refl, ap, ap₂, sym, ◌∙◌, subst, Bool, true, false, not, ◌&&◌, ◌||◌, ℕ, zero, suc, ◌+◌, ◌-◌, ◌<◌, ◌≤◌, min, arith, List, [], ◌∷◌, ◌++◌, length, take, drop, get_or, take-take, append-nil, filter}
-use Rattle.std.specs.List.{AllByRecursion}
+use Rattle.std.proofs.Common.{◌≡◌, refl, ap, sym, ◌∙◌, Bool, true, false, not, ◌&&◌, ◌||◌, ℕ, ◌+◌, ◌<◌, min, arith, List, [], ◌∷◌, ◌++◌, length, take, get_or, take-take, append-nil}
 use Rattle.std.proofs.lemmas.List.{take_more}
 use Rattle.key_lists.specs.Keys.{is_among, IsRising, without}
 use Rattle.key_lists.proofs.Every.{filter_filter, filter_same, every, filter_all}
 use Rattle.key_lists.proofs.Among.{among-append}
 use Rattle.key_lists.proofs.Rising.{rising_same}
 use Rattle.row_set.specs.declared.ranges.Range.{Range}
-use Rattle.row_set.specs.Ranges.{keys_from, keys_in, keys_of, AreApart}
+use Rattle.row_set.specs.Ranges.{keys_from, keys_in, keys_of}
 use Rattle.row_set.specs.Sets.{united}
 use Rattle.row_set.proofs.Held.{keys_of-append}
 use Rattle.row_set.proofs.Counts.{blank}
-use Rattle.row_set.proofs.United.{among-united, united_rises, or_assoc}
+use Rattle.row_set.proofs.United.{among-united, united_rises}
 
 or_turned : (b a o : Bool) → (b || (a || o)) ≡ ((a || b) || o)
 or_turned true true o = refl
@@ -23,11 +22,11 @@ united_append : (first second keys : List ℕ) → IsRising keys → united seco
 united_append first second keys h =
     rising_same (united second (united first keys)) (united (first ++ second) keys) (united_rises second (united first keys) (united_rises first keys h)) (united_rises (first ++ second) keys h)
     (λ key.
-        among-united key second (united first keys)
-        ∙ ap (λ b. is_among key second || b) (among-united key first keys)
-        ∙ or_turned (is_among key second) (is_among key first) (is_among key keys)
-        ∙ ap (λ b. b || is_among key keys) (sym (among-append key first second))
-        ∙ sym (among-united key (first ++ second) keys))
+    among-united key second (united first keys)
+    ∙ ap (λ b. is_among key second || b) (among-united key first keys)
+    ∙ or_turned (is_among key second) (is_among key first) (is_among key keys)
+    ∙ ap (λ b. b || is_among key keys) (sym (among-append key first second))
+    ∙ sym (among-united key (first ++ second) keys))
 
 not_or : (a b : Bool) → (not a && not b) ≡ not (a || b)
 not_or true b = refl

@@ -1,5 +1,5 @@
 -- The positions at which ranges begin, and how many keys there are.
-use Rattle.std.proofs.Common.{◌≡◌, refl, ap, Bool, true, false, true≢false, ◌==◌, sym, ◌∙◌, subst, ℕ, zero, suc, ◌+◌, ◌-◌, ◌^◌, ◌<◌, ◌≤◌, arith, List, [], ◌∷◌, ◌++◌, length, take, drop, get_or, length-append, length-drop, get_or-drop, take_all, ne_eqb}
+use Rattle.std.proofs.Common.{◌≡◌, refl, ap, Bool, false, true≢false, ◌==◌, sym, ◌∙◌, ℕ, zero, suc, ◌+◌, ◌-◌, ◌^◌, ◌<◌, ◌≤◌, arith, List, [], ◌∷◌, ◌++◌, length, take, drop, get_or, length-append, length-drop, get_or-drop, take_all, ne_eqb}
 use Rattle.std.proofs.lemmas.List.{take_more, take_rest}
 use Rattle.row_set.specs.declared.ranges.Range.{Range}
 use Rattle.row_set.specs.Ranges.{keys_in, keys_of, starts_of, AreApart, IsStored}

@@ -1,5 +1,5 @@
 -- What is left of ranges when the keys of one range are removed.
-use Rattle.std.proofs.Common.{◌≡◌, refl, ap, ap₂, sym, ◌∙◌, subst, Bool, true, false, cond, not, ◌&&◌, ◌||◌, ℕ, zero, suc, ◌+◌, ◌-◌, ◌^◌, ◌<◌, ◌≤◌, arith, List, [], ◌∷◌, ◌++◌, length, take, drop, slice_range, get_or, leb, ltb, leb-true, le-leb, lt-ltb, le-ltb, append_assoc, take-append-drop, inl, inr}
+use Rattle.std.proofs.Common.{◌≡◌, refl, ap, ap₂, sym, ◌∙◌, subst, Bool, true, false, cond, not, ◌&&◌, ◌||◌, ℕ, ◌+◌, ◌-◌, ◌^◌, ◌<◌, ◌≤◌, arith, List, [], ◌∷◌, ◌++◌, length, take, drop, slice_range, get_or, leb, ltb, leb-true, le-leb, lt-ltb, le-ltb, append_assoc, take-append-drop, inl, inr}
 use Rattle.std.specs.List.{AllByRecursion, list_any}
 use Rattle.std.proofs.lemmas.Bool.{cases_lt, and_parts, lt-leb, true≢false}
 use Rattle.std.proofs.lemmas.List.{get_or_default}
@@ -10,7 +10,7 @@ use Rattle.key_lists.proofs.Rising.{rising_same, rising_some}
 use Rattle.row_set.specs.declared.ranges.Range.{Range}
 use Rattle.row_set.specs.Ranges.{keys_from, keys_of, holds, AreApart, Meets}
 use Rattle.row_set.proofs.Held.{among-in, among-keys, holds-true, holds_before, holds_after, none_before, none_after}
-use Rattle.row_set.proofs.Apart.{apart-take, apart_raised, apart_weaker, apart-append, keys_rise}
+use Rattle.row_set.proofs.Apart.{apart-take, apart_raised, apart-append, keys_rise}
 use Rattle.row_set.proofs.Counts.{blank}
 use Rattle.row_set.proofs.Lookups.{any-append}
 use Rattle.row_set.proofs.Middles.{span, IsMet, met, any_parts, before_head, after_tail}
@@ -124,13 +124,13 @@ edges_apart first last from to ranges h le small is lt =
     let within : to ≤ length ranges = is.within in
     let meet : IsMet first last (slice_range ranges from to) head tail = met first last from to ranges lt h is in
     apart-append 0 head.first (take from ranges) ((left_edge first head ++ right_edge last tail) ++ drop to ranges) (omega arith)
-        (before_head from ranges (omega (arith, within)) h)
-        (apart-take 0 from ranges h)
-        (subst (λ those. AreApart head.first those) (sym (append_assoc (left_edge first head) (right_edge last tail) (drop to ranges)))
-        (apart-append head.first (last + 1) (left_edge first head) (right_edge last tail ++ drop to ranges) (omega (arith, meet.to_high))
-            (left_ends first last head le)
-            (left_apart first head (omega (arith, meet.order, meet.small)) (omega (arith, le, small)))
-            (right_apart last tail (drop to ranges) meet.small is.after (after_tail to ranges (omega arith) within h))))
+    (before_head from ranges (omega (arith, within)) h)
+    (apart-take 0 from ranges h)
+    (subst (λ those. AreApart head.first those) (sym (append_assoc (left_edge first head) (right_edge last tail) (drop to ranges)))
+    (apart-append head.first (last + 1) (left_edge first head) (right_edge last tail ++ drop to ranges) (omega (arith, meet.to_high))
+    (left_ends first last head le)
+    (left_apart first head (omega (arith, meet.order, meet.small)) (omega (arith, le, small)))
+    (right_apart last tail (drop to ranges) meet.small is.after (after_tail to ranges (omega arith) within h))))
 
 or_kept : (a k m p : Bool) → (k ≡ false → a ≡ false) → (k ≡ false → p ≡ false) → (a || ((k && m) || p)) ≡ (k && (a || (m || p)))
 or_kept a true m p h i = refl
@@ -145,17 +145,17 @@ without_by : (first last from to : ℕ) (others ranges new : List Range) → Are
 without_by first last from to others ranges new h k is same hold =
     rising_same (keys_of new) (without (keys_from first last) (keys_of ranges)) (keys_rise 0 new k) (rising_some (λ key. not (is_among key (keys_from first last))) (keys_of ranges) (keys_rise 0 ranges h))
     (λ key.
-        among-keys key new
-        ∙ ap (list_any (holds key)) same
-        ∙ any-append (holds key) (take from ranges) (others ++ drop to ranges)
-        ∙ ap (λ b. list_any (holds key) (take from ranges) || b) (any-append (holds key) others (drop to ranges))
-        ∙ ap (λ b. list_any (holds key) (take from ranges) || (b || list_any (holds key) (drop to ranges))) (hold key)
-        ∙ or_kept (list_any (holds key) (take from ranges)) (outside first last key) (list_any (holds key) (slice_range ranges from to)) (list_any (holds key) (drop to ranges))
-        (λ e. let in_it = inside_is key first last (not_out (holds key (span first last)) e) in none_before key (take from ranges) (every_weaker (λ range. range.last < first) (λ range. range.last < key) (take from ranges) (λ range below. omega (arith, below, in_it.0)) is.before))
-        (λ e. let in_it = inside_is key first last (not_out (holds key (span first last)) e) in none_after key (drop to ranges) (every_weaker (λ range. last < range.first) (λ range. key < range.first) (drop to ranges) (λ range above. omega (arith, above, in_it.1)) is.after))
-        ∙ ap (λ b. outside first last key && b) (sym (among-keys key ranges ∙ any_parts key from to ranges is.order))
-        ∙ ap (λ b. not b && is_among key (keys_of ranges)) (sym (among-in key (span first last)))
-        ∙ sym (among-filter (λ key. not (is_among key (keys_from first last))) key (keys_of ranges)))
+    among-keys key new
+    ∙ ap (list_any (holds key)) same
+    ∙ any-append (holds key) (take from ranges) (others ++ drop to ranges)
+    ∙ ap (λ b. list_any (holds key) (take from ranges) || b) (any-append (holds key) others (drop to ranges))
+    ∙ ap (λ b. list_any (holds key) (take from ranges) || (b || list_any (holds key) (drop to ranges))) (hold key)
+    ∙ or_kept (list_any (holds key) (take from ranges)) (outside first last key) (list_any (holds key) (slice_range ranges from to)) (list_any (holds key) (drop to ranges))
+    (λ e. let in_it = inside_is key first last (not_out (holds key (span first last)) e) in none_before key (take from ranges) (every_weaker (λ range. range.last < first) (λ range. range.last < key) (take from ranges) (λ range below. omega (arith, below, in_it.0)) is.before))
+    (λ e. let in_it = inside_is key first last (not_out (holds key (span first last)) e) in none_after key (drop to ranges) (every_weaker (λ range. last < range.first) (λ range. key < range.first) (drop to ranges) (λ range above. omega (arith, above, in_it.1)) is.after))
+    ∙ ap (λ b. outside first last key && b) (sym (among-keys key ranges ∙ any_parts key from to ranges is.order))
+    ∙ ap (λ b. not b && is_among key (keys_of ranges)) (sym (among-in key (span first last)))
+    ∙ sym (among-filter (λ key. not (is_among key (keys_from first last))) key (keys_of ranges)))
 
 pub edges_keys : (first last from to : ℕ) (ranges new : List Range) → AreApart 0 ranges → first ≤ last → last < 2 ^ 62 → Meets first last ranges from to → from < to → new ≡ take from ranges ++ ((left_edge first (get_or ranges from blank) ++ right_edge last (get_or ranges (to - 1) blank)) ++ drop to ranges) → keys_of new ≡ without (keys_from first last) (keys_of ranges)
 edges_keys first last from to ranges new h le small is lt same =
@@ -184,7 +184,7 @@ removed first last from to ranges new head tail left right h le small is some at
     let head_is : head ≡ get_or ranges from blank = at_head ∙ get_or_default ranges from head blank (omega (arith, within)) in
     let tail_is : tail ≡ get_or ranges (to - 1) blank = at_tail ∙ get_or_default ranges (to - 1) tail blank (omega (arith, within)) in
     let whole : new ≡ take from ranges ++ ((left_edge first (get_or ranges from blank) ++ right_edge last (get_or ranges (to - 1) blank)) ++ drop to ranges) =
-        same ∙ ap₂ (λ xs ys. take from ranges ++ ((xs ++ ys) ++ drop to ranges)) (sym left_same ∙ ap (left_edge first) head_is) (sym right_same ∙ ap (right_edge last) tail_is) in
+    same ∙ ap₂ (λ xs ys. take from ranges ++ ((xs ++ ys) ++ drop to ranges)) (sym left_same ∙ ap (left_edge first) head_is) (sym right_same ∙ ap (right_edge last) tail_is) in
     (subst (λ those. AreApart 0 those) (sym whole) (edges_apart first last from to ranges h le small is lt), edges_keys first last from to ranges new h le small is lt whole)
 
 -- nothing is met, and nothing is removed

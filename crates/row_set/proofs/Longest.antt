@@ -1,12 +1,12 @@
 -- The longest ranges of the keys of ranges that are apart are these ranges, and the keys of the longest ranges of a set
 -- of keys are this set.
-use Rattle.std.proofs.Common.{◌≡◌, refl, ap, sym, ◌∙◌, subst, Bool, true, false, cond, ◌==◌, ◌||◌, ℕ, zero, suc, ◌+◌, ◌-◌, ◌^◌, ◌<◌, ◌≤◌, arith, List, [], ◌∷◌, ◌++◌, eq-eqb, ne_eqb, inl, inr}
+use Rattle.std.proofs.Common.{◌≡◌, refl, ap, sym, ◌∙◌, subst, cond, ℕ, zero, suc, ◌+◌, ◌-◌, ◌^◌, ◌<◌, ◌≤◌, arith, List, [], ◌∷◌, ◌++◌, eq-eqb, ne_eqb, inl, inr}
 use Rattle.std.specs.List.{AllByRecursion, range_with_len}
 use Rattle.std.proofs.lemmas.Bool.{cases_eq}
 use Rattle.key_lists.specs.Keys.{IsRising}
 use Rattle.key_lists.proofs.Every.{every, every_weaker}
 use Rattle.row_set.specs.declared.ranges.Range.{Range}
-use Rattle.row_set.specs.Ranges.{keys_in, keys_of, ranges_of, preceded, AreApart}
+use Rattle.row_set.specs.Ranges.{keys_of, ranges_of, preceded, AreApart}
 use Rattle.row_set.specs.Sets.{IsKeySet}
 use Rattle.row_set.proofs.Apart.{apart_weaker}
 
@@ -44,16 +44,14 @@ preceded_set key keys (range ∷ ranges) small is h =
     elim (cases_eq (key + 1) range.first) [
       | inl touch ↦
           let more : range.last + 1 - key ≡ suc (range.last + 1 - range.first) = omega (arith, touch, h.0.ascends) in
-          let joined = ap (λ b. cond b (span key range.last ∷ ranges) (span key key ∷ range ∷ ranges)) (eq-eqb (key + 1) range.first touch) in
-          (
+          let joined = ap (λ b. cond b (span key range.last ∷ ranges) (span key key ∷ range ∷ ranges)) (eq-eqb (key + 1) range.first touch) in (
             ap keys_of joined ∙ ap (λ count. range_with_len key count ++ keys_of ranges) more ∙ ap (λ next. key ∷ (range_with_len next (range.last + 1 - range.first) ++ keys_of ranges)) touch ∙ ap (λ rest. key ∷ rest) is,
             subst (λ those. AreApart key those) (sym joined) (record { above = omega arith; ascends = omega (arith, touch, h.0.ascends); small = h.0.small }, h.1),
           )
       | inr gap ↦
           let one : key + 1 - key ≡ 1 = omega arith in
           let next : key + 2 ≤ range.first = omega (arith, gap, h.0.above) in
-          let apart = ap (λ b. cond b (span key range.last ∷ ranges) (span key key ∷ range ∷ ranges)) (ne_eqb (key + 1) range.first gap) in
-          (
+          let apart = ap (λ b. cond b (span key range.last ∷ ranges) (span key key ∷ range ∷ ranges)) (ne_eqb (key + 1) range.first gap) in (
             ap keys_of apart ∙ ap (λ count. range_with_len key count ++ keys_of (range ∷ ranges)) one ∙ ap (λ rest. key ∷ rest) is,
             subst (λ those. AreApart key those) (sym apart) (record { above = omega arith; ascends = omega arith; small = small }, (record { above = next; ascends = h.0.ascends; small = h.0.small }, h.1)),
           )

@@ -1,16 +1,16 @@
 -- What a search finds in ranges that are apart.
-use Rattle.std.proofs.Common.{◌≡◌, refl, ap, sym, ◌∙◌, subst, Bool, true, false, cond, ◌&&◌, ◌||◌, ℕ, zero, suc, ◌+◌, ◌-◌, ◌<◌, ◌≤◌, max, arith, List, [], ◌∷◌, ◌++◌, length, take, drop, get_or, take_all, take-append-drop, length-append, leb, ltb, leb-true, leb-false, le-leb, lt-ltb, le-ltb, Option, Some, None, Ok, Err, Result, is_some, find, filter, slice_get, inl, inr}
+use Rattle.std.proofs.Common.{◌≡◌, refl, ap, sym, ◌∙◌, subst, Bool, true, false, cond, ◌||◌, ℕ, zero, suc, ◌+◌, ◌-◌, ◌<◌, ◌≤◌, max, arith, List, [], ◌∷◌, ◌++◌, length, take, drop, get_or, take_all, take-append-drop, leb, ltb, le-leb, lt-ltb, le-ltb, Some, None, Ok, Err, is_some, find, filter, slice_get, inl, inr}
 use Rattle.std.specs.List.{AllByRecursion, list_any, range_with_len}
-use Rattle.std.proofs.lemmas.Bool.{cases_lt, or_from, lt-leb}
+use Rattle.std.proofs.lemmas.Bool.{cases_lt, lt-leb}
 use Rattle.std.proofs.lemmas.List.{drop_more}
 use Rattle.std.specs.List.Sorted.{IsPartitionPoint, IsNonDecreasing}
 use Rattle.key_lists.specs.Keys.{is_among}
-use Rattle.key_lists.proofs.Every.{every, every_weaker}
+use Rattle.key_lists.proofs.Every.{every_weaker}
 use Rattle.row_set.specs.declared.ranges.Range.{Range}
 use Rattle.row_set.specs.Ranges.{keys_in, keys_of, starts_of, holds, AreApart, IsStored}
 use Rattle.row_set.specs.Sets.{count_below, found, last_key}
-use Rattle.row_set.proofs.Held.{each_from, each_key, holds-true, holds_before, holds_after, among-keys, none_before, none_after, keys_of-append, length-keys_in}
-use Rattle.row_set.proofs.Apart.{apart-drop, apart-take, each_above, each_range, keys_above}
+use Rattle.row_set.proofs.Held.{each_from, each_key, holds-true, holds_before, holds_after, among-keys, keys_of-append}
+use Rattle.row_set.proofs.Apart.{apart-drop, each_above, keys_above}
 use Rattle.row_set.proofs.Counts.{blank, length-keys_all, length-keys_more, stored_at, stored_length}
 use Rattle.row_set.proofs.Places.{range_at}
 

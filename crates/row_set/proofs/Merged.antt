@@ -1,9 +1,9 @@
 -- Two lists of ranges, merged.
-use Rattle.std.proofs.Common.{◌≡◌, refl, ap, ap₂, sym, ◌∙◌, subst, Bool, true, false, cond, not, ◌&&◌, ◌||◌, ℕ, zero, suc, ◌+◌, ◌-◌, ◌^◌, ◌<◌, ◌≤◌, arith, List, [], ◌∷◌, ◌++◌, length, take, drop, get_or, slice_get, take-append-drop, ◌⊎◌, Option, Some, None, inl, inr}
+use Rattle.std.proofs.Common.{◌≡◌, refl, ap, ap₂, sym, ◌∙◌, subst, Bool, true, false, cond, not, ◌||◌, ℕ, ◌+◌, ◌-◌, ◌^◌, ◌<◌, ◌≤◌, arith, List, [], ◌∷◌, length, take, drop, get_or, slice_get, take-append-drop, ◌⊎◌, Some, inl, inr}
 use Rattle.std.specs.List.{AllByRecursion, list_any}
 use Rattle.std.proofs.lemmas.Bool.{cases_Bool, cases_lt, or_left, or_from}
 use Rattle.std.proofs.lemmas.List.{take_rest}
-use Rattle.key_lists.specs.Keys.{is_among, IsRising, without}
+use Rattle.key_lists.specs.Keys.{is_among, IsRising}
 use Rattle.key_lists.proofs.Every.{every_weaker, and_swap}
 use Rattle.key_lists.proofs.Among.{among-filter, of_among}
 use Rattle.key_lists.proofs.Rising.{rising_same, rising_some}
@@ -11,7 +11,7 @@ use Rattle.row_set.specs.declared.ranges.Range.{Range}
 use Rattle.row_set.specs.declared.algebra.Choice.{Choice}
 use Rattle.row_set.specs.declared.algebra.Choice.TheVariants.{Either, FirstAlone, Both}
 use Rattle.row_set.specs.Ranges.{keys_from, keys_of, holds, AreApart}
-use Rattle.row_set.specs.Sets.{IsKeySet, united, common}
+use Rattle.row_set.specs.Sets.{IsKeySet, united}
 use Rattle.row_set.specs.Choice.{takes, chosen, AreAhead}
 use Rattle.row_set.proofs.Held.{among-in, among-keys, holds-true, holds_before, holds_after, none_before, none_after}
 use Rattle.row_set.proofs.Apart.{apart-drop, each_above}
@@ -52,10 +52,10 @@ rest_same key end i ranges ended le =
     ap (λ those. is_among key (keys_of those)) (take_rest ranges i)
     ∙ among-keys key (drop i ranges)
     ∙ sym (
-      among-keys key ranges
-      ∙ ap (list_any (holds key)) (sym (take-append-drop i ranges))
-      ∙ any-append (holds key) (take i ranges) (drop i ranges)
-      ∙ ap (λ b. b || list_any (holds key) (drop i ranges)) (none_before key (take i ranges) (every_weaker (λ range. range.last < end) (λ range. range.last < key) (take i ranges) (λ range below. omega (arith, below, le)) ended))
+    among-keys key ranges
+    ∙ ap (list_any (holds key)) (sym (take-append-drop i ranges))
+    ∙ any-append (holds key) (take i ranges) (drop i ranges)
+    ∙ ap (λ b. b || list_any (holds key) (drop i ranges)) (none_before key (take i ranges) (every_weaker (λ range. range.last < end) (λ range. range.last < key) (take i ranges) (λ range below. omega (arith, below, le)) ended))
     )
 
 pub first_ended : (end : ℕ) (ranges : List Range) → (get_or ranges 0 blank).last < end → AllByRecursion (λ range. range.last < end) (take 1 ranges)
@@ -160,11 +160,11 @@ pub merged_all : (choice : Choice) (keys others : List ℕ) (at : ℕ) (first se
 merged_all choice keys others at first second kept ks os h le =
     rising_same kept (chosen choice keys others) h.rising (chosen_rises choice keys others ks.rising os.rising)
     (λ key.
-        elim (cases_lt key at) [
-          | inl below ↦ h.below key below ∙ sym (among-chosen key choice keys others)
-          | inr above ↦
-              h.above key above
-              ∙ sym (takes_none choice)
-              ∙ sym (ap₂ (takes choice) (none_large key keys ks.small (omega arith)) (none_large key others os.small (omega arith)))
-              ∙ sym (among-chosen key choice keys others)
-        ])
+    elim (cases_lt key at) [
+      | inl below ↦ h.below key below ∙ sym (among-chosen key choice keys others)
+      | inr above ↦
+          h.above key above
+          ∙ sym (takes_none choice)
+          ∙ sym (ap₂ (takes choice) (none_large key keys ks.small (omega arith)) (none_large key others os.small (omega arith)))
+          ∙ sym (among-chosen key choice keys others)
+    ])

@@ -1,16 +1,16 @@
 -- Ranges before some, these, and those after them; and what stands in their place.
-use Rattle.std.proofs.Common.{◌≡◌, refl, ap, sym, ◌∙◌, subst, Bool, true, false, cond, not, ◌&&◌, ◌||◌, ℕ, zero, suc, ◌+◌, ◌-◌, ◌^◌, ◌<◌, ◌≤◌, min, max, arith, List, [], ◌∷◌, ◌++◌, length, take, drop, slice_range, get_or, leb, ltb, le-leb, lt-ltb, le-ltb, length-drop, get_or-drop, append_assoc, append-nil, take-append-drop, inl, inr}
+use Rattle.std.proofs.Common.{◌≡◌, refl, ap, sym, ◌∙◌, subst, Bool, true, false, ◌&&◌, ◌||◌, ℕ, suc, ◌+◌, ◌-◌, ◌^◌, ◌<◌, ◌≤◌, min, max, arith, List, [], ◌∷◌, ◌++◌, length, take, drop, slice_range, get_or, leb, le-leb, length-drop, get_or-drop, take-append-drop, inl, inr}
 use Rattle.std.specs.List.{AllByRecursion, list_any}
 use Rattle.std.proofs.lemmas.Bool.{cases_lt, or_from, or_left, or_right, lt-leb}
 use Rattle.std.proofs.lemmas.List.{take_more, drop_more, drop-drop}
-use Rattle.key_lists.proofs.Every.{every_both, every_weaker, every-append}
+use Rattle.key_lists.proofs.Every.{every_both, every_weaker}
 use Rattle.key_lists.proofs.Rising.{rising_same}
 use Rattle.key_lists.specs.Keys.{is_among}
 use Rattle.row_set.specs.declared.ranges.Range.{Range}
 use Rattle.row_set.specs.Ranges.{keys_from, keys_of, holds, IsRangeFrom, AreApart, Meets}
 use Rattle.row_set.specs.Sets.{united}
 use Rattle.row_set.proofs.Held.{among-in, among-keys, holds-true, holds_before, holds_after, none_before, none_after}
-use Rattle.row_set.proofs.Apart.{apart-take, apart-drop, keys_rise, apart_weaker, apart_raised, apart_front, apart_back, apart_seam, apart-append, each_above, each_range}
+use Rattle.row_set.proofs.Apart.{apart-take, apart-drop, keys_rise, apart_raised, apart_front, apart_back, apart_seam, apart-append, each_above}
 use Rattle.row_set.proofs.Counts.{blank}
 use Rattle.row_set.proofs.Lookups.{any-append, apart_at, split_at}
 use Rattle.row_set.proofs.United.{among-united, united_rises}
@@ -51,6 +51,7 @@ held_in_first key low first rest h le =
     or_false : (b : Bool) → (b || false) ≡ b
     or_false true = refl
     or_false false = refl
+
     and_true : (b : Bool) → (b && true) ≡ b
     and_true true = refl
     and_true false = refl
@@ -173,14 +174,14 @@ united_by : (first last from to : ℕ) (one : Range) (ranges new : List Range) �
 united_by first last from to one ranges new le h k is same =
     rising_same (keys_of new) (united (keys_from first last) (keys_of ranges)) (keys_rise 0 new k) (united_rises (keys_from first last) (keys_of ranges) (keys_rise 0 ranges h))
     (λ key.
-        among-keys key new
-        ∙ ap (list_any (holds key)) is
-        ∙ any-append (holds key) (take from ranges) (one ∷ drop to ranges)
-        ∙ ap (λ b. list_any (holds key) (take from ranges) || (b || list_any (holds key) (drop to ranges))) (same key)
-        ∙ or_moved (list_any (holds key) (take from ranges)) (holds key (span first last)) (list_any (holds key) (middle from to ranges)) (list_any (holds key) (drop to ranges))
-        ∙ ap (λ b. holds key (span first last) || b) (sym (among-keys key ranges ∙ any_parts key from to ranges le))
-        ∙ ap (λ b. b || is_among key (keys_of ranges)) (sym (among-in key (span first last)))
-        ∙ sym (among-united key (keys_from first last) (keys_of ranges)))
+    among-keys key new
+    ∙ ap (list_any (holds key)) is
+    ∙ any-append (holds key) (take from ranges) (one ∷ drop to ranges)
+    ∙ ap (λ b. list_any (holds key) (take from ranges) || (b || list_any (holds key) (drop to ranges))) (same key)
+    ∙ or_moved (list_any (holds key) (take from ranges)) (holds key (span first last)) (list_any (holds key) (middle from to ranges)) (list_any (holds key) (drop to ranges))
+    ∙ ap (λ b. holds key (span first last) || b) (sym (among-keys key ranges ∙ any_parts key from to ranges le))
+    ∙ ap (λ b. b || is_among key (keys_of ranges)) (sym (among-in key (span first last)))
+    ∙ sym (among-united key (keys_from first last) (keys_of ranges)))
 
 pub joined_apart : (first last from to : ℕ) (ranges : List Range) → AreApart 0 ranges → first ≤ last → last < 2 ^ 62 → Meets (first - 1) (last + 1) ranges from to → from < to → AreApart 0 (take from ranges ++ span (min first (get_or ranges from blank).first) (max last (get_or ranges (to - 1) blank).last) ∷ drop to ranges)
 joined_apart first last from to ranges h le small is lt =
@@ -189,10 +190,10 @@ joined_apart first last from to ranges h le small is lt =
     let within : to ≤ length ranges = is.within in
     let meet : IsMet (first - 1) (last + 1) (middle from to ranges) head tail = met (first - 1) (last + 1) from to ranges lt h is in
     placed (min first head.first) (max last tail.last) (take from ranges) (drop to ranges) (omega (arith, le)) (omega (arith, small, meet.small))
-        (every_both (λ range. range.last < first - 1) (λ range. range.last + 2 ≤ head.first) (λ range. range.last + 2 ≤ min first head.first) (take from ranges) (λ range ends begins. omega (arith, ends, begins)) is.before (before_head from ranges (omega (arith, within)) h))
-        (every_both (λ range. last + 1 < range.first) (λ range. tail.last + 2 ≤ range.first) (λ range. max last tail.last + 2 ≤ range.first) (drop to ranges) (λ range ends begins. omega (arith, ends, begins)) is.after (each_above (tail.last + 2) (drop to ranges) (after_tail to ranges (omega arith) within h)))
-        (apart-take 0 from ranges h)
-        (apart-drop 0 to ranges h)
+    (every_both (λ range. range.last < first - 1) (λ range. range.last + 2 ≤ head.first) (λ range. range.last + 2 ≤ min first head.first) (take from ranges) (λ range ends begins. omega (arith, ends, begins)) is.before (before_head from ranges (omega (arith, within)) h))
+    (every_both (λ range. last + 1 < range.first) (λ range. tail.last + 2 ≤ range.first) (λ range. max last tail.last + 2 ≤ range.first) (drop to ranges) (λ range ends begins. omega (arith, ends, begins)) is.after (each_above (tail.last + 2) (drop to ranges) (after_tail to ranges (omega arith) within h)))
+    (apart-take 0 from ranges h)
+    (apart-drop 0 to ranges h)
 
 pub joined_keys : (first last from to : ℕ) (ranges new : List Range) → AreApart 0 ranges → first ≤ last → last < 2 ^ 62 → Meets (first - 1) (last + 1) ranges from to → from < to → new ≡ take from ranges ++ span (min first (get_or ranges from blank).first) (max last (get_or ranges (to - 1) blank).last) ∷ drop to ranges → keys_of new ≡ united (keys_from first last) (keys_of ranges)
 joined_keys first last from to ranges new h le small is lt same =
@@ -204,10 +205,10 @@ joined_keys first last from to ranges new h le small is lt same =
 pub alone_apart : (first last from to : ℕ) (ranges : List Range) → AreApart 0 ranges → first ≤ last → last < 2 ^ 62 → Meets (first - 1) (last + 1) ranges from to → AreApart 0 (take from ranges ++ span first last ∷ drop to ranges)
 alone_apart first last from to ranges h le small is =
     placed first last (take from ranges) (drop to ranges) le small
-        (every_weaker (λ range. range.last < first - 1) (λ range. range.last + 2 ≤ first) (take from ranges) (λ range ends. omega (arith, ends)) is.before)
-        (every_weaker (λ range. last + 1 < range.first) (λ range. last + 2 ≤ range.first) (drop to ranges) (λ range begins. omega (arith, begins)) is.after)
-        (apart-take 0 from ranges h)
-        (apart-drop 0 to ranges h)
+    (every_weaker (λ range. range.last < first - 1) (λ range. range.last + 2 ≤ first) (take from ranges) (λ range ends. omega (arith, ends)) is.before)
+    (every_weaker (λ range. last + 1 < range.first) (λ range. last + 2 ≤ range.first) (drop to ranges) (λ range begins. omega (arith, begins)) is.after)
+    (apart-take 0 from ranges h)
+    (apart-drop 0 to ranges h)
 
 pub alone_keys : (first last from to : ℕ) (ranges new : List Range) → AreApart 0 ranges → first ≤ last → last < 2 ^ 62 → Meets (first - 1) (last + 1) ranges from to → to ≤ from → new ≡ take from ranges ++ span first last ∷ drop to ranges → keys_of new ≡ united (keys_from first last) (keys_of ranges)
 alone_keys first last from to ranges new h le small is none same =

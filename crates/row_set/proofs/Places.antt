@@ -1,6 +1,6 @@
 -- Where a search cuts a list of ranges.
-use Rattle.std.proofs.Common.{◌≡◌, refl, ap, sym, ◌∙◌, subst, Bool, true, false, ℕ, zero, suc, ◌+◌, ◌-◌, ◌<◌, ◌≤◌, arith, List, [], ◌∷◌, ◌++◌, length, take, drop, get_or, leb, ltb, leb-true, leb-false, ltb-true, ltb-false, inl, inr}
-use Rattle.std.specs.List.{AllByRecursion, AllWithin}
+use Rattle.std.proofs.Common.{◌≡◌, ap, sym, ◌∙◌, subst, Bool, true, false, ℕ, zero, suc, ◌+◌, ◌-◌, ◌<◌, ◌≤◌, arith, List, [], ◌∷◌, length, take, drop, get_or, leb, ltb, leb-true, leb-false, ltb-true, ltb-false, inl, inr}
+use Rattle.std.specs.List.{AllByRecursion}
 use Rattle.std.specs.List.Sorted.{IsPartitionPoint, IsPartitionedBy, IsNonDecreasingBy}
 use Rattle.std.proofs.lemmas.Bool.{cases_lt}
 use Rattle.std.proofs.lemmas.List.{drop-take}
@@ -92,14 +92,14 @@ every_back_at P (suc n) (suc k) (x ∷ xs) d le within h = every_back_at P n k x
 pub meets : (low high from to : ℕ) (ranges : List Range) → AreApart 0 ranges → low ≤ high → from ≤ length ranges → to ≤ length ranges → AllByRecursion (λ range. range.last < low) (take from ranges) → AllByRecursion (λ range. low ≤ range.last) (drop from ranges) → AllByRecursion (λ range. range.first ≤ high) (take to ranges) → AllByRecursion (λ range. high < range.first) (drop to ranges) → Meets low high ranges from to
 meets low high from to ranges h le from_in to_in before lows highs after =
     let order : from ≤ to =
-        elim (cases_lt to from) [
-          | inl lt ↦
-              let blank : Range = record { first = 0; last = 0 } in
-              let begins : high < (get_or ranges to blank).first = every_back_at (λ range. high < range.first) to to ranges blank (omega arith) (omega arith) after in
-              let ends : (get_or ranges to blank).last < low = every_front_at (λ range. range.last < low) from to ranges blank lt (omega arith) before in
-              absurd (omega (arith, begins, ends, (range_at 0 ranges h to blank (omega arith)).ascends))
-          | inr ok ↦ ok
-        ] in
+    elim (cases_lt to from) [
+      | inl lt ↦
+          let blank : Range = record { first = 0; last = 0 } in
+          let begins : high < (get_or ranges to blank).first = every_back_at (λ range. high < range.first) to to ranges blank (omega arith) (omega arith) after in
+          let ends : (get_or ranges to blank).last < low = every_front_at (λ range. range.last < low) from to ranges blank lt (omega arith) before in
+          absurd (omega (arith, begins, ends, (range_at 0 ranges h to blank (omega arith)).ascends))
+      | inr ok ↦ ok
+    ] in
     let whole : from + (to - from) ≡ to = omega arith in
     record {
       order = order;

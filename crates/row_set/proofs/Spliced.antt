@@ -1,6 +1,6 @@
 -- A list with other elements in the place of some.
-use Rattle.std.proofs.Common.{◌≡◌, refl, ap, sym, ◌∙◌, subst, ℕ, zero, suc, ◌+◌, ◌-◌, ◌<◌, ◌≤◌, min, arith, List, [], ◌∷◌, ◌++◌, length, take, drop, get_or, length-append, length-drop, length-take-le, append_assoc, append-nil, take_all, take-append-drop}
-use Rattle.std.proofs.lemmas.List.{take_more, take_at, drop_at, drop-drop, drop-append-le}
+use Rattle.std.proofs.Common.{◌≡◌, ap, sym, ◌∙◌, ℕ, ◌+◌, ◌-◌, ◌<◌, ◌≤◌, min, arith, List, [], ◌∷◌, ◌++◌, length, take, drop, get_or, length-append, length-drop, length-take-le, append_assoc, take_all, take-append-drop}
+use Rattle.std.proofs.lemmas.List.{take_more, take_at, drop_at, drop-drop}
 
 -- i of the others stand behind the first `from` elements, where at is the next place, and then what is left of the old ones
 pub record IsSplicing {X : Type 0} (old : List X) (from to : ℕ) (others : List X) (i at : ℕ) (new : List X) : Type 0 where

@@ -1,5 +1,5 @@
 -- The keys of two lists.
-use Rattle.std.proofs.Common.{◌≡◌, refl, ap, sym, ◌∙◌, subst, Bool, true, false, cond, ◌==◌, ◌&&◌, ◌||◌, ℕ, ◌+◌, ◌<◌, ◌≤◌, arith, List, [], ◌∷◌, ltb, ltb-true, ltb-false, eqb-true}
+use Rattle.std.proofs.Common.{◌≡◌, refl, ap, sym, ◌∙◌, Bool, true, false, cond, ◌==◌, ◌||◌, ℕ, ◌<◌, arith, List, [], ◌∷◌, ltb, ltb-true, ltb-false, eqb-true}
 use Rattle.std.specs.List.{AllByRecursion}
 use Rattle.std.proofs.lemmas.Bool.{eqb-false as neq-from}
 use Rattle.key_lists.specs.Keys.{is_among, IsRising}

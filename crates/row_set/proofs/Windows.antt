@@ -1,15 +1,15 @@
 -- The keys at neighbouring positions of a rising list.
-use Rattle.std.proofs.Common.{◌≡◌, refl, ap, ap₂, sym, ◌∙◌, subst, Bool, true, false, cond, ◌&&◌, ◌||◌, ℕ, zero, suc, ◌+◌, ◌-◌, ◌^◌, ◌<◌, ◌≤◌, min, arith, List, [], ◌∷◌, ◌++◌, length, take, drop, slice_get, take-append-drop, take_all, length-drop, Option, Some, None, inl, inr}
+use Rattle.std.proofs.Common.{◌≡◌, refl, ap, sym, ◌∙◌, subst, Bool, true, false, ◌&&◌, ◌||◌, ℕ, zero, suc, ◌+◌, ◌-◌, ◌<◌, ◌≤◌, min, arith, List, [], ◌∷◌, ◌++◌, length, take, drop, slice_get, take-append-drop, take_all, length-drop, Some, inl, inr}
 use Rattle.std.specs.List.{AllByRecursion}
-use Rattle.std.proofs.lemmas.Bool.{cases_Bool, cases_lt, and_left, or_from}
+use Rattle.std.proofs.lemmas.Bool.{cases_Bool, cases_lt}
 use Rattle.std.proofs.lemmas.List.{drop-take, drop-drop, drop_all}
 use Rattle.key_lists.specs.Keys.{is_among, IsRising}
-use Rattle.key_lists.proofs.Every.{every_weaker, every-append}
-use Rattle.key_lists.proofs.Among.{among-append, among_below, among-filter, of_among}
+use Rattle.key_lists.proofs.Every.{every_weaker}
+use Rattle.key_lists.proofs.Among.{among-append, among-filter, of_among}
 use Rattle.key_lists.proofs.Rising.{rising_same, rising_some}
 use Rattle.row_set.specs.Ranges.{keys_from, holds}
 use Rattle.row_set.specs.Sets.{united, common}
-use Rattle.row_set.proofs.Held.{among-in, range_rises, holds-true, holds_before, holds_after}
+use Rattle.row_set.proofs.Held.{among-in, holds-true, holds_before, holds_after}
 use Rattle.row_set.proofs.Places.{every-take, every-drop}
 use Rattle.row_set.proofs.Middles.{span}
 use Rattle.row_set.proofs.United.{among-united, united_rises}
@@ -80,44 +80,46 @@ window_is first last low high keys rising le at_first at_last =
     let lesser : AllByRecursion (λ key. key < low) (take first keys) = rising_before (take first keys) low (drop (suc first) keys) back in
     let greater : AllByRecursion (λ key. high < key) (drop (suc last) keys) = (rising_back (take last keys) (high ∷ drop (suc last) keys) front).0 in
     let from_low : AllByRecursion (λ key. low ≤ key) (drop first keys) =
-        subst (λ those. AllByRecursion (λ key. low ≤ key) those) (sym (drop_get first low keys at_first))
-        (omega arith, every_weaker (λ key. low < key) (λ key. low ≤ key) (drop (suc first) keys) (λ key lt. omega (arith, lt)) (rising_back (take first keys) (low ∷ drop (suc first) keys) back).0) in
+    subst (λ those. AllByRecursion (λ key. low ≤ key) those) (sym (drop_get first low keys at_first))
+    (omega arith, every_weaker (λ key. low < key) (λ key. low ≤ key) (drop (suc first) keys) (λ key lt. omega (arith, lt)) (rising_back (take first keys) (low ∷ drop (suc first) keys) back).0) in
     let to_high : AllByRecursion (λ key. key ≤ high) (take (suc last) keys) = upto_get last high keys at_last (every_weaker (λ key. key < high) (λ key. key ≤ high) (take last keys) (λ key lt. omega (arith, lt)) (rising_before (take last keys) high (drop (suc last) keys) front)) in
     let lows : AllByRecursion (λ key. low ≤ key) window = every-take (λ key. low ≤ key) (suc last - first) (drop first keys) from_low in
     let highs : AllByRecursion (λ key. key ≤ high) window =
-        subst (λ those. AllByRecursion (λ key. key ≤ high) those) (ap (λ n. drop first (take n keys)) (sym whole) ∙ drop-take first (suc last - first) keys)
-        (every-drop (λ key. key ≤ high) first (take (suc last) keys) to_high) in
+    subst (λ those. AllByRecursion (λ key. key ≤ high) those) (ap (λ n. drop first (take n keys)) (sym whole) ∙ drop-take first (suc last - first) keys)
+    (every-drop (λ key. key ≤ high) first (take (suc last) keys) to_high) in
     let parts : take first keys ++ (window ++ drop (suc last) keys) ≡ keys =
-        ap (λ n. take first keys ++ (window ++ drop n keys)) (sym whole)
-        ∙ ap (λ rest. take first keys ++ (window ++ rest)) (sym (drop-drop (suc last - first) first keys))
-        ∙ ap (λ rest. take first keys ++ rest) (take-append-drop (suc last - first) (drop first keys))
-        ∙ take-append-drop first keys in
+    ap (λ n. take first keys ++ (window ++ drop n keys)) (sym whole)
+    ∙ ap (λ rest. take first keys ++ (window ++ rest)) (sym (drop-drop (suc last - first) first keys))
+    ∙ ap (λ rest. take first keys ++ rest) (take-append-drop (suc last - first) (drop first keys))
+    ∙ take-append-drop first keys in
     let rises : IsRising (common (united (keys_from low high) []) keys) = rising_some (λ key. is_among key keys) (united (keys_from low high) []) (united_rises (keys_from low high) [] tt) in
     rising_same window (common (united (keys_from low high) []) keys) (rising-take (suc last - first) (drop first keys) (rising-drop first keys rising)) rises
     (λ key.
-        let all : is_among key keys ≡ (is_among key (take first keys) || (is_among key window || is_among key (drop (suc last) keys))) =
-            ap (is_among key) (sym parts) ∙ among-append key (take first keys) (window ++ drop (suc last) keys) ∙ ap (λ b. is_among key (take first keys) || b) (among-append key window (drop (suc last) keys)) in
-        let right : is_among key (common (united (keys_from low high) []) keys) ≡ (is_among key keys && holds key (span low high)) =
-            among-filter (λ k. is_among k keys) key (united (keys_from low high) []) ∙ ap (λ b. is_among key keys && b) (among-united key (keys_from low high) [] ∙ or_false (is_among key (keys_from low high)) ∙ among-in key (span low high)) in
-        elim (cases_lt key low) [
-          | inl before ↦ not_among (λ k. low ≤ k) key window lows (λ k. omega (arith, k, before)) ∙ sym (right ∙ ap (λ b. is_among key keys && b) (holds_before key (span low high) before) ∙ and_false (is_among key keys))
-          | inr from ↦
-              elim (cases_lt high key) [
-                | inl after ↦ not_among (λ k. k ≤ high) key window highs (λ k. omega (arith, k, after)) ∙ sym (right ∙ ap (λ b. is_among key keys && b) (holds_after key (span low high) after) ∙ and_false (is_among key keys))
-                | inr to ↦
-                    three (is_among key (take first keys)) (is_among key window) (is_among key (drop (suc last) keys))
-                    (not_among (λ k. k < low) key (take first keys) lesser (λ k. omega (arith, k, from)))
-                    (not_among (λ k. high < k) key (drop (suc last) keys) greater (λ k. omega (arith, k, to)))
-                    ∙ sym (right ∙ ap (λ b. is_among key keys && b) (holds-true key (span low high) from to) ∙ and_true (is_among key keys) ∙ all)
-              ]
-        ])
+    let all : is_among key keys ≡ (is_among key (take first keys) || (is_among key window || is_among key (drop (suc last) keys))) =
+    ap (is_among key) (sym parts) ∙ among-append key (take first keys) (window ++ drop (suc last) keys) ∙ ap (λ b. is_among key (take first keys) || b) (among-append key window (drop (suc last) keys)) in
+    let right : is_among key (common (united (keys_from low high) []) keys) ≡ (is_among key keys && holds key (span low high)) =
+    among-filter (λ k. is_among k keys) key (united (keys_from low high) []) ∙ ap (λ b. is_among key keys && b) (among-united key (keys_from low high) [] ∙ or_false (is_among key (keys_from low high)) ∙ among-in key (span low high)) in
+    elim (cases_lt key low) [
+      | inl before ↦ not_among (λ k. low ≤ k) key window lows (λ k. omega (arith, k, before)) ∙ sym (right ∙ ap (λ b. is_among key keys && b) (holds_before key (span low high) before) ∙ and_false (is_among key keys))
+      | inr from ↦
+          elim (cases_lt high key) [
+            | inl after ↦ not_among (λ k. k ≤ high) key window highs (λ k. omega (arith, k, after)) ∙ sym (right ∙ ap (λ b. is_among key keys && b) (holds_after key (span low high) after) ∙ and_false (is_among key keys))
+            | inr to ↦
+                three (is_among key (take first keys)) (is_among key window) (is_among key (drop (suc last) keys))
+                (not_among (λ k. k < low) key (take first keys) lesser (λ k. omega (arith, k, from)))
+                (not_among (λ k. high < k) key (drop (suc last) keys) greater (λ k. omega (arith, k, to)))
+                ∙ sym (right ∙ ap (λ b. is_among key keys && b) (holds-true key (span low high) from to) ∙ and_true (is_among key keys) ∙ all)
+          ]
+    ])
   where
     or_false : (b : Bool) → (b || false) ≡ b
     or_false true = refl
     or_false false = refl
+
     and_false : (b : Bool) → (b && false) ≡ false
     and_false true = refl
     and_false false = refl
+
     and_true : (b : Bool) → (b && true) ≡ b
     and_true true = refl
     and_true false = refl
@@ -164,11 +166,13 @@ low_to_high first last low high keys rising le at_first at_last =
   where
     some_is : (x y : ℕ) → Some x ≡ Some y → x ≡ y
     some_is x y e = cc
+
     at : (P : ℕ → Type 0) (n x : ℕ) (xs : List ℕ) → slice_get xs n ≡ Some x → AllByRecursion P xs → P x
     at P zero x [] e h = cc
     at P zero x (y ∷ xs) e h = subst P (some_is y x e) h.0
     at P (suc n) x [] e h = cc
     at P (suc n) x (y ∷ xs) e h = at P n x xs e h.1
+
     get_drop : (n m x : ℕ) (xs : List ℕ) → n ≤ m → slice_get xs m ≡ Some x → slice_get (drop n xs) (m - n) ≡ Some x
     get_drop zero m x xs le e = let same : m - 0 ≡ m = omega arith in ap (slice_get xs) same ∙ e
     get_drop (suc n) m x [] le e = cc

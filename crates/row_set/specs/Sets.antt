@@ -4,8 +4,7 @@
 --     common keys others      the keys that are among the others too
 --     count_below key keys      how many are smaller
 --     found key keys      the position of the key, or where it would stand
---     moved_key first last delta key      the number to which a key moves, where those from first to last move by delta
-use Rattle.std.specs.Prelude.{ℕ, ◌+◌, ◌-◌, ◌^◌, ◌<◌, ◌==◌, ◌&&◌, Bool, List, [], ◌∷◌, length, filter, map, slice_get, nat_lt, nat_le, if◌then◌else◌, Option, Result, Ok, Err, ℤ, pos, negsuc, ◌+ℤ◌, ◌≤ℤ◌, ◌<ℤ◌}
+use Rattle.std.specs.Prelude.{ℕ, ◌-◌, ◌^◌, ◌<◌, ◌==◌, List, [], ◌∷◌, length, filter, slice_get, nat_lt, if◌then◌else◌, Option, Result, Ok, Err}
 use Rattle.std.specs.List.{AllByRecursion}
 use Rattle.key_lists.specs.Keys.{is_among, IsRising}
 
@@ -37,20 +36,3 @@ found key keys = if is_among key keys then Ok (count_below key keys) else Err (c
 -- the last key, if there is one
 abbrev pub last_key : List ℕ → Option ℕ
 last_key keys = slice_get keys (length keys - 1)
-
-abbrev pub moved_key : ℕ → ℕ → ℤ → ℕ → ℤ
-moved_key first last delta key = if nat_le first key && nat_le key last then pos key +ℤ delta else pos key
-
--- the key that a number is, or 0
-abbrev pub as_key : ℤ → ℕ
-as_key (pos n) = n
-as_key (negsuc n) = 0
-
--- the keys, of which those from first to last have moved by delta
-abbrev pub moved_keys : ℕ → ℕ → ℤ → List ℕ → List ℕ
-moved_keys first last delta = map (λ key. as_key (moved_key first last delta key))
-
--- the number is one that a key may be
-pub record IsKey (number : ℤ) : Type 0 where
-  pub whole : pos 0 ≤ℤ number
-  pub small : number <ℤ pos (2 ^ 62)

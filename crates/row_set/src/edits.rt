@@ -1,9 +1,8 @@
 //! Edits of a set's ranges in place, where there is room for them.
-ghost use Rattle.std.specs.Prelude.{◌≡◌, pos, ◌+ℤ◌, ◌+◌, ◌-◌, ◌^◌, ◌<◌, ◌≤◌, ◌∷◌, [], ◌++◌, length, take, drop, OnOk, vec_len, vec_capacity};
-ghost use Rattle.std.specs.List.{AllByRecursion};
-ghost use Rattle.key_lists.specs.Keys.{IsRising, without};
+ghost use Rattle.std.specs.Prelude.{◌≡◌, ◌+◌, ◌-◌, ◌^◌, ◌<◌, ◌≤◌, ◌∷◌, [], ◌++◌, length, take, drop, OnOk, vec_len, vec_capacity};
+ghost use Rattle.key_lists.specs.Keys.{without};
 ghost use Rattle.row_set.specs.Ranges.{AreApart, keys_of, keys_from, starts_of};
-ghost use Rattle.row_set.specs.Sets.{IsKey, moved_key, moved_keys, united};
+ghost use Rattle.row_set.specs.Sets.{united};
 
 use crate::ranges::Range;
 use crate::search::{count_keys, meeting};
@@ -185,88 +184,4 @@ pub(crate) fn remove_ranges(ranges: &mut Vec<Range>, others: &[Range]) -> usize
         from = from.min(remove_keys(ranges, range.first, range.last));
     }
     from
-}
-
-/// The key that a key moves to.
-fn moved(key: u64, delta: i64) -> u64
-    requires small { key < 2 ^ 62 }
-    requires lands { IsKey (pos key +ℤ delta) }
-    ensures { pos result ≡ pos key +ℤ delta }
-{
-    (key as i64 + delta) as u64
-}
-
-/// Moves every key from `first` to `last` by delta. The ranges before the index that it gives stay.
-pub(crate) fn shift_keys(ranges: &mut Vec<Range>, first: u64, last: u64, delta: i64) -> usize
-    requires apart { AreApart 0 ranges.old.items }
-    requires order { first ≤ last }
-    requires in_bounds { AllByRecursion (λ key. IsKey (moved_key first last delta key)) (keys_of ranges.old.items) }
-    requires rising { IsRising (moved_keys first last delta (keys_of ranges.old.items)) }
-    requires room { vec_len ranges.old + 2 ≤ vec_capacity ranges.old }
-    ensures apart { AreApart 0 ranges.new.items }
-    ensures keys { keys_of ranges.new.items ≡ moved_keys first last delta (keys_of ranges.old.items) }
-    ensures within { result ≤ vec_len ranges.new }
-    ensures before { take result ranges.new.items ≡ take result ranges.old.items }
-    ensures growth { vec_len ranges.new ≤ vec_len ranges.old + 2 }
-    ensures capacity { vec_capacity ranges.old ≤ vec_capacity ranges.new }
-{
-    let (mut from, mut to) = meeting(ranges, first, last);
-    if from == to {
-        return ranges.len();
-    }
-    let touched = from.saturating_sub(1);
-    if ranges[from].first < first {
-        split(ranges, from, first);
-        from += 1;
-        to += 1;
-    }
-    if last < ranges[to - 1].last {
-        split(ranges, to - 1, last + 1);
-    }
-    for index in from..to {
-        let range = ranges[index];
-        ranges[index] = Range {
-            first: moved(range.first, delta),
-            last: moved(range.last, delta),
-        };
-    }
-    join(ranges, to);
-    join(ranges, from);
-    touched
-}
-
-/// Makes two ranges of one, the second from `key` on.
-fn split(ranges: &mut Vec<Range>, index: usize, key: u64)
-    requires within { index < vec_len ranges.old }
-    requires room { vec_len ranges.old < vec_capacity ranges.old }
-    requires inside { 0 < key }
-{
-    let range = ranges[index];
-    let left = Range {
-        first: range.first,
-        last: key - 1,
-    };
-    let right = Range {
-        first: key,
-        last: range.last,
-    };
-    splice(ranges, index, index + 1, &[left, right]);
-}
-
-/// Makes one range of the two that meet at an index, where they touch.
-fn join(ranges: &mut Vec<Range>, index: usize)
-    requires within { index ≤ vec_len ranges.old }
-{
-    if index == 0 || index == ranges.len() {
-        return;
-    }
-    let left = ranges[index - 1];
-    let right = ranges[index];
-    if left.last + 1 == right.first {
-        let joined = Range {
-            first: left.first,
-            last: right.last,
-        };
-        splice(ranges, index - 1, index + 1, &[joined]);
-    }
 }

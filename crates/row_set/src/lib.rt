@@ -11,6 +11,8 @@ mod edits;
 mod ranges;
 mod rows;
 mod search;
+#[cfg(test)]
+mod tests;
 
 pub use ranges::Range;
 pub use rows::RowSet;

@@ -29,16 +29,14 @@ whole c =
           let head_is : w.index.result.now ≡ get_or items from blank = w.index.ensures ∙ get_or_default items from w.index.result.now blank (omega (arith, lt, within)) in
           let tail_is : w.index-then-from-to.result.now ≡ get_or items (to - 1) blank = w.index-then-from-to.ensures ∙ get_or_default items (to - 1) w.index-then-from-to.result.now blank (omega (arith, lt, within)) in
           let one : c.if-from-to.joined ≡ span (min first (get_or items from blank).first) (max last (get_or items (to - 1) blank).last) =
-              w.joined-is ∙ ap₂ span (w.min.ensures ∙ ap (λ (range : Range). min first range.first) head_is) (w.max.ensures ∙ ap (λ (range : Range). max last range.last) tail_is) in
+          w.joined-is ∙ ap₂ span (w.min.ensures ∙ ap (λ (range : Range). min first range.first) head_is) (w.max.ensures ∙ ap (λ (range : Range). max last range.last) tail_is) in
           let same : new ≡ take from items ++ span (min first (get_or items from blank).first) (max last (get_or items (to - 1) blank).last) ∷ drop to items =
-              c.splice.ensures.items ∙ ap (λ range. take from items ++ range ∷ drop to items) one in
-          (
+          c.splice.ensures.items ∙ ap (λ range. take from items ++ range ∷ drop to items) one in (
             subst (λ those. AreApart 0 those) (sym same) (joined_apart first last from to items c.requires.apart c.requires.order c.requires.small is lt),
             joined_keys first last from to items new c.requires.apart c.requires.order c.requires.small is lt same,
           )
       | else-from-to w ↦
-          let same : new ≡ take from items ++ span first last ∷ drop to items = c.splice.ensures.items ∙ ap (λ range. take from items ++ range ∷ drop to items) w.joined-is in
-          (
+          let same : new ≡ take from items ++ span first last ∷ drop to items = c.splice.ensures.items ∙ ap (λ range. take from items ++ range ∷ drop to items) w.joined-is in (
             subst (λ those. AreApart 0 those) (sym same) (alone_apart first last from to items c.requires.apart c.requires.order c.requires.small is),
             alone_keys first last from to items new c.requires.apart c.requires.order c.requires.small is w.if-from-to.false same,
           )

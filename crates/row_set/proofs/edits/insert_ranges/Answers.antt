@@ -1,10 +1,8 @@
-use Rattle.std.proofs.Common.{◌≡◌, ◌≤◌, ◌+◌, ◌<◌, ap, sym, ◌∙◌, subst, take, length, get_or, min, vec_len, arith, refl}
-use Rattle.key_lists.specs.Keys.{IsRising, without}
-use Rattle.row_set.specs.declared.ranges.Range.{Range}
+use Rattle.std.proofs.Common.{◌≡◌, ap, sym, ◌∙◌, subst, take, get_or, arith}
 use Rattle.row_set.specs.Ranges.{keys_from, keys_of}
 use Rattle.row_set.specs.Sets.{united}
 use Rattle.row_set.proofs.Apart.{keys_rise}
-use Rattle.row_set.proofs.Batches.{same_before, united_more, without_none}
+use Rattle.row_set.proofs.Batches.{same_before, united_more}
 use Rattle.row_set.proofs.Counts.{blank}
 use Rattle.row_set.proofs.Places.{range_at}
 use Rattle.row_set.proofs.edits.insert_ranges.Goals as goal

@@ -1,5 +1,4 @@
-use Rattle.std.proofs.Common.{◌≡◌, ◌≤◌, ◌+◌, take, length, vec_len, vec_capacity}
-use Rattle.key_lists.specs.Keys.{without}
+use Rattle.std.proofs.Common.{◌≡◌, ◌≤◌, ◌+◌, take, vec_len, vec_capacity}
 use Rattle.row_set.specs.Ranges.{AreApart, keys_of}
 use Rattle.row_set.specs.Sets.{united}
 use Rattle.row_set.proofs.edits.insert_ranges.Given as goal

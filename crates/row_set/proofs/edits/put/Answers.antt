@@ -1,4 +1,4 @@
-use Rattle.std.proofs.Common.{◌<◌, length, vec_len, arith, add-one}
+use Rattle.std.proofs.Common.{◌<◌, length, arith, add-one}
 use Rattle.std.proofs.lemmas.List.{set_split}
 use Rattle.row_set.proofs.edits.put.Goals as goal
 

@@ -1,4 +1,4 @@
-use Rattle.std.proofs.Common.{◌≡◌, ◌+◌, ◌-◌, ◌^◌, ◌<◌, ◌≤◌, ◌∷◌, ◌++◌, [], cond, is_ok, true, ap, sym, ◌∙◌, subst, length, take, drop, get_or, length-take-le, take_all, vec_len, vec_capacity, Fits, w64, arith}
+use Rattle.std.proofs.Common.{◌≡◌, ◌+◌, ◌-◌, ◌^◌, ◌<◌, ◌≤◌, ◌∷◌, ◌++◌, [], cond, is_ok, true, ap, sym, ◌∙◌, subst, length, take, get_or, length-take-le, take_all, Fits, w64, arith}
 use Rattle.row_set.specs.declared.ranges.Range.{Range}
 use Rattle.row_set.specs.Ranges.{starts_of, keys_of}
 use Rattle.row_set.proofs.Apart.{apart-take}
@@ -12,8 +12,7 @@ count_keys-next-requires c =
 
 pub loop-range-init : goal.loop-range-init
 loop-range-init c =
-    let same : c.args.from ≡ c.args.from + 0 = omega arith in
-    (
+    let same : c.args.from ≡ c.args.from + 0 = omega arith in (
       subst (λ k. AreCounted c.args.ranges.now k c.count_keys-next.result c.truncate.new.self.items) same (record { placed = c.truncate.ensures.items ∙ c.requires.before; count = c.count_keys-next.ensures }),
       omega (arith, c.truncate.ensures.capacity),
     )
@@ -52,11 +51,10 @@ loop-range-preserved c =
     let size : length starts ≡ k = ap length c.loop-range.invariant.0.placed ∙ length-starts 0 (take k ranges) ∙ length-take-le k ranges (omega (arith, within)) in
     let ok : is_ok c.push.result ≡ true = c.push.ensures.succeeds (omega (arith, size, within, c.loop-range.starts.ok.0, c.requires.room, c.loop-range.invariant.1)) in
     let pushed : c.push.new.self.items ≡ starts ++ next ∷ [] = c.push.ensures.items ∙ ap (λ b. cond b (starts ++ next ∷ []) starts) ok in
-    let same : k + 1 ≡ c.args.from + (i + 1) = omega arith in
-    (
+    let same : k + 1 ≡ c.args.from + (i + 1) = omega arith in (
       subst (λ (range : Range). AreCounted ranges (c.args.from + (i + 1)) (next + (range.last - range.first + 1)) c.push.new.self.items) (sym (rest_at c.args.from i ranges))
-      (subst (λ those. AreCounted ranges (c.args.from + (i + 1)) (next + ((get_or ranges k blank).last - (get_or ranges k blank).first + 1)) those) (sym pushed)
-      (subst (λ n. AreCounted ranges n (next + ((get_or ranges k blank).last - (get_or ranges k blank).first + 1)) (starts ++ next ∷ [])) same (counted_more ranges k next starts c.requires.apart within c.loop-range.invariant.0))),
+          (subst (λ those. AreCounted ranges (c.args.from + (i + 1)) (next + ((get_or ranges k blank).last - (get_or ranges k blank).first + 1)) those) (sym pushed)
+          (subst (λ n. AreCounted ranges n (next + ((get_or ranges k blank).last - (get_or ranges k blank).first + 1)) (starts ++ next ∷ [])) same (counted_more ranges k next starts c.requires.apart within c.loop-range.invariant.0))),
       omega (arith, c.push.ensures.capacity, c.loop-range.invariant.1),
     )
 

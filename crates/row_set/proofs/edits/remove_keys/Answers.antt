@@ -1,4 +1,4 @@
-use Rattle.std.proofs.Common.{◌≡◌, ◌+◌, ◌∷◌, [], subst, sym}
+use Rattle.std.proofs.Common.{◌≡◌, ◌+◌, ◌∷◌, [], subst}
 use Rattle.row_set.specs.Ranges.{AreApart, Meets, keys_of, keys_from}
 use Rattle.key_lists.specs.Keys.{without}
 use Rattle.row_set.proofs.Middles.{span}

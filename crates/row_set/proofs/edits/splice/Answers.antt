@@ -1,4 +1,4 @@
-use Rattle.std.proofs.Common.{◌≡◌, ◌≤◌, ◌<◌, length, vec_len, arith, inl, inr}
+use Rattle.std.proofs.Common.{◌≡◌, ◌≤◌, length, arith, inl, inr}
 use Rattle.std.proofs.lemmas.Bool.{cases_lt}
 use Rattle.row_set.proofs.Counts.{blank}
 use Rattle.row_set.proofs.Spliced.{splicing_replaces, splicing_inserts, splicing_cut}
@@ -14,8 +14,7 @@ loop-range-preserved c =
     let at = c.loop-range.at in
     let new = c.loop-range.ranges.items in
     let within : to ≤ length old = omega (arith, c.requires.within, c.args.ranges.now.ok.0) in
-    let begins : from ≤ length old = omega (arith, c.requires.order) in
-    (
+    let begins : from ≤ length old = omega (arith, c.requires.order) in (
       elim (cases_lt at to) [
         | inl lt ↦ splicing_replaces old from to others i at new c.put.new.ranges.items blank c.loop-range.invariant.0 begins within c.loop-range-test.true lt (c.put.ensures.replaced lt)
         | inr le ↦ splicing_inserts old from to others i at new c.put.new.ranges.items blank c.loop-range.invariant.0 begins within c.loop-range-test.true le (c.put.ensures.inserted le)

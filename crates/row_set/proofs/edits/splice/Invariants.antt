@@ -1,4 +1,4 @@
-use Rattle.std.proofs.Common.{◌≡◌, ◌≤◌, ◌+◌, ◌++◌, min, take, drop, length, vec_capacity}
+use Rattle.std.proofs.Common.{◌≤◌, vec_capacity}
 use Rattle.row_set.proofs.Spliced.{IsSplicing}
 use Rattle.row_set.proofs.edits.splice.Given as goal
 

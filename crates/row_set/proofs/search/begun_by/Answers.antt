@@ -1,4 +1,4 @@
-use Rattle.std.proofs.Common.{◌≡◌, true, false, leb, rules}
+use Rattle.std.proofs.Common.{leb, rules}
 use Rattle.std.proofs.lemmas.List.Sorted.{IsPartitionPoint-from_clause}
 use Rattle.row_set.proofs.Places.{firsts_parted, begun_part, not_begun_part}
 use Rattle.row_set.proofs.search.begun_by.Goals as goal

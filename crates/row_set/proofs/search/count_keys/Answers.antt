@@ -1,4 +1,4 @@
-use Rattle.std.proofs.Common.{◌<◌, ◌-◌, ◌≤◌, length, get_or, arith}
+use Rattle.std.proofs.Common.{◌<◌, ◌-◌, length, arith}
 use Rattle.row_set.proofs.Counts.{blank, count_from_end, few_keys, some_from_test, stored_length}
 use Rattle.row_set.proofs.Places.{range_at}
 use Rattle.row_set.proofs.search.count_keys.Goals as goal

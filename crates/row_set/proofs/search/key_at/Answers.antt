@@ -1,4 +1,4 @@
-use Rattle.std.proofs.Common.{◌≡◌, ◌-◌, ◌+◌, ◌<◌, ◌≤◌, sym, ap, ◌∙◌, length, take, get_or, slice_get, Some, arith}
+use Rattle.std.proofs.Common.{◌≡◌, ◌-◌, ◌+◌, ◌<◌, ◌≤◌, sym, ap, ◌∙◌, length, take, get_or, slice_get, arith}
 use Rattle.row_set.specs.Ranges.{keys_of}
 use Rattle.row_set.proofs.Counts.{blank, stored_at, stored_length}
 use Rattle.row_set.proofs.Places.{range_at}

@@ -1,4 +1,4 @@
-use Rattle.std.proofs.Common.{◌<◌, ◌≤◌, ◌∙◌, ap, sym, length, arith, take_all}
+use Rattle.std.proofs.Common.{◌∙◌, ap, sym, length, arith, take_all}
 use Rattle.row_set.specs.Ranges.{keys_of}
 use Rattle.row_set.proofs.Counts.{stored_at, stored_length}
 use Rattle.row_set.proofs.search.keys_before.Goals as goal

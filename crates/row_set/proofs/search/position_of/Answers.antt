@@ -1,4 +1,4 @@
-use Rattle.std.proofs.Common.{◌≤◌, ◌-◌, ◌+◌, ◌<◌, ◌^◌, sym, take, arith}
+use Rattle.std.proofs.Common.{◌≤◌, sym, take, arith}
 use Rattle.row_set.proofs.Apart.{apart-take}
 use Rattle.row_set.proofs.Counts.{few_keys}
 use Rattle.row_set.proofs.Lookups.{apart_at, every_at, found_in, found_between, found_past}

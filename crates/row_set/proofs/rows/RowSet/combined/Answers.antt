@@ -1,8 +1,8 @@
-use Rattle.std.proofs.Common.{◌≡◌, ◌<◌, ◌≤◌, ◌^◌, ◌-◌, cond, Bool, true, false, sym, ap, ◌∙◌, arith}
-use Rattle.row_set.specs.Ranges.{keys_from, keys_of}
+use Rattle.std.proofs.Common.{◌≡◌, ◌<◌, ◌≤◌, ◌^◌, ◌-◌, cond, sym, ap, ◌∙◌, arith}
+use Rattle.row_set.specs.Ranges.{keys_from}
 use Rattle.row_set.specs.Sets.{united}
 use Rattle.row_set.specs.Choice.{takes}
-use Rattle.row_set.proofs.Merged.{IsMerged, merged_more, merged_all}
+use Rattle.row_set.proofs.Merged.{merged_more, merged_all}
 use Rattle.row_set.proofs.rows.RowSet.combined.Goals as goal
 use Rattle.row_set.proofs.rows.RowSet.combined.Goals.{then-takes+in_ok-insert_range, else-takes}
 
@@ -18,14 +18,14 @@ loop-at-preserved c =
     let further : at < end = omega (arith, least, c.stretch_from-here.ensures.begins, c.stretch_from-there.ensures.begins) in
     let small : end ≤ 2 ^ 62 = omega (arith, greatest, c.stretch_from-here.ensures.ends, c.stretch_from-there.ensures.ends) in
     let is : c.if-takes.kept ≡ cond (takes c.args.choice here.held there.held) (united (keys_from at (end - 1)) kept) kept =
-        elim c.if-takes.branch [
-          | then-takes+in_ok-insert_range w ↦ w.kept-is ∙ w.in_ok-insert_range.ensures.ok ∙ sym (ap (λ b. cond b (united (keys_from at (end - 1)) kept) kept) (sym c.takes.ensures ∙ w.if-takes.true))
-          | else-takes w ↦ w.kept-is ∙ sym (ap (λ b. cond b (united (keys_from at (end - 1)) kept) kept) (sym c.takes.ensures ∙ w.if-takes.false))
-        ] in
+    elim c.if-takes.branch [
+      | then-takes+in_ok-insert_range w ↦ w.kept-is ∙ w.in_ok-insert_range.ensures.ok ∙ sym (ap (λ b. cond b (united (keys_from at (end - 1)) kept) kept) (sym c.takes.ensures ∙ w.if-takes.true))
+      | else-takes w ↦ w.kept-is ∙ sym (ap (λ b. cond b (united (keys_from at (end - 1)) kept) kept) (sym c.takes.ensures ∙ w.if-takes.false))
+    ] in
     merged_more c.args.choice c.args.self.now c.args.other.now at end c.loop-at.first.now c.loop-at.second.now c.rest_from-first.result.now c.rest_from-second.result.now kept c.if-takes.kept here.held there.held
-        c.loop-at.invariant further small
-        (λ key from below. c.until-end.ensures.same key _ _ below (λ lt. c.stretch_from-here.ensures.same key from lt) (λ lt. c.stretch_from-there.ensures.same key from lt))
-        c.rest_from-first.ensures.ahead c.rest_from-first.ensures.same c.rest_from-second.ensures.ahead c.rest_from-second.ensures.same is
+    c.loop-at.invariant further small
+    (λ key from below. c.until-end.ensures.same key _ _ below (λ lt. c.stretch_from-here.ensures.same key from lt) (λ lt. c.stretch_from-there.ensures.same key from lt))
+    c.rest_from-first.ensures.ahead c.rest_from-first.ensures.same c.rest_from-second.ensures.ahead c.rest_from-second.ensures.same is
 
 pub returns : goal.returns
 returns c =

@@ -14,5 +14,5 @@ recount-requires-clause-before c =
 pub recount-requires-clause-room : goal.recount-requires-clause-room
 recount-requires-clause-room c =
     let before : vec_len c.make_room.new.ranges ≡ vec_len c.make_room.new.starts =
-        omega (arith, c.make_room.new.ranges.ok.0, c.make_room.new.starts.ok.0, ap length c.make_room.ensures.ranges, ap length c.make_room.ensures.starts, stored_length c.self.inside.ranges.items c.self.inside.starts.items c.self.invariant) in
+    omega (arith, c.make_room.new.ranges.ok.0, c.make_room.new.starts.ok.0, ap length c.make_room.ensures.ranges, ap length c.make_room.ensures.starts, stored_length c.self.inside.ranges.items c.self.inside.starts.items c.self.invariant) in
     omega (arith, before, c.deref.ensures.len, c.insert_ranges-from.ensures.growth, c.in_ok-make_room.ensures.starts_room)

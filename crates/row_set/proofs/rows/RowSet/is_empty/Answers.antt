@@ -1,4 +1,4 @@
-use Rattle.std.proofs.Common.{◌≡◌, ◌==◌, ◌∙◌, ap, sym, length, vec_len, arith}
+use Rattle.std.proofs.Common.{◌≡◌, ◌==◌, ◌∙◌, ap, length, vec_len, arith}
 use Rattle.row_set.proofs.Apart.{stored_set}
 use Rattle.row_set.proofs.Counts.{empty_alike}
 use Rattle.row_set.proofs.rows.RowSet.is_empty.Goals as goal

@@ -1,4 +1,4 @@
-use Rattle.std.proofs.Common.{◌≡◌, ◌∙◌, ap, sym, find}
+use Rattle.std.proofs.Common.{◌∙◌, ap, sym, find}
 use Rattle.row_set.specs.Ranges.{holds, ranges_of}
 use Rattle.row_set.proofs.Apart.{stored_set}
 use Rattle.row_set.proofs.Longest.{ranges_of-keys_of}

@@ -1,4 +1,4 @@
-use Rattle.std.proofs.Common.{◌≡◌, ◌∙◌, ap, sym}
+use Rattle.std.proofs.Common.{◌∙◌, ap, sym}
 use Rattle.row_set.specs.Ranges.{keys_of, ranges_of}
 use Rattle.row_set.proofs.Apart.{stored_set}
 use Rattle.row_set.proofs.Longest.{ranges_of-keys_of}
