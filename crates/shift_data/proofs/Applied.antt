@@ -1,16 +1,15 @@
 -- Runs of neighbouring keys, and where they move.
-use Rattle.std.proofs.Common.{◌≡◌, refl, ap, sym, ◌∙◌, subst, Bool, true, false, cond, ◌==◌, ℕ, zero, suc, ◌+◌, ◌-◌, ◌^◌, ◌<◌, ◌≤◌, arith, List, [], ◌∷◌, ◌++◌, map, length, take, drop, get_or, ltb, pos, negsuc, ℤ, ◌+ℤ◌, append_assoc, inl, inr, w64, SFits, to_z, of_z}
-use Rattle.std.specs.Prelude.{◌≤ℤ◌, ◌<ℤ◌}
-use Rattle.std.specs.List.{AllByRecursion, range_with_len, flat_map}
+use Rattle.std.proofs.Common.{◌≡◌, refl, ap, sym, ◌∙◌, subst, false, cond, ◌==◌, ℕ, zero, suc, ◌+◌, ◌-◌, ◌^◌, ◌<◌, ◌≤◌, arith, List, [], ◌∷◌, ◌++◌, map, length, take, drop, get_or, pos, ℤ, ◌+ℤ◌, append_assoc, w64, SFits, to_z, of_z}
+use Rattle.std.specs.List.{AllByRecursion, range_with_len}
 use Rattle.std.proofs.lemmas.Bool.{lt-ltb, le-ltb, ne_eqb}
 use Rattle.std.proofs.lemmas.Int.{ints, to_z-of_z}
 use Rattle.std.proofs.lemmas.List.{map-append, take_more}
 use Rattle.std.proofs.lemmas.Grind.{flat_map-append}
 use Rattle.key_lists.specs.Keys.{IsRising}
-use Rattle.key_lists.proofs.Every.{every_weaker, every-append, all_from}
+use Rattle.key_lists.proofs.Every.{every-append, all_from}
 use Rattle.row_set.specs.declared.ranges.Range.{Range}
 use Rattle.row_set.specs.Ranges.{keys_from, keys_in, keys_of, AreApart, IsRangeFrom}
-use Rattle.row_set.specs.Sets.{united, with_key, IsKeySet}
+use Rattle.row_set.specs.Sets.{united, with_key}
 use Rattle.row_set.proofs.Apart.{each_range}
 use Rattle.row_set.proofs.Held.{among-in, holds-true}
 use Rattle.key_lists.proofs.Among.{of_among}

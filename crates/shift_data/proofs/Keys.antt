@@ -1,14 +1,14 @@
 -- The keys of a rising list from one on, and from one to another.
-use Rattle.std.proofs.Common.{◌≡◌, refl, ap, sym, ◌∙◌, subst, Bool, true, false, cond, ◌&&◌, ◌||◌, ◌==◌, ℕ, zero, suc, ◌+◌, ◌-◌, ◌^◌, ◌<◌, ◌≤◌, arith, List, [], ◌∷◌, ◌++◌, length, leb, ltb, Some, None, Option, true≢false, inl, inr}
+use Rattle.std.proofs.Common.{◌≡◌, refl, ap, sym, ◌∙◌, Bool, true, false, cond, ◌&&◌, ◌||◌, ◌==◌, ℕ, zero, suc, ◌+◌, ◌<◌, ◌≤◌, arith, List, [], ◌∷◌, ◌++◌, length, leb, ltb, Some, None, true≢false, inl, inr}
 use Rattle.std.specs.Prelude.{filter, find, slice_get, IfSome}
 use Rattle.std.specs.List.{AllByRecursion}
-use Rattle.std.proofs.lemmas.Bool.{le-leb, lt-leb, leb-true, leb-false, lt-ltb, le-ltb, ltb-true, ltb-false, eq-eqb, eqb-true, ne_eqb, and_left, and_right, and_from, and_parts, or_cases, or_from, or_left, or_right, cases_lt, cases_eq, cases_Bool, false≢true}
+use Rattle.std.proofs.lemmas.Bool.{le-leb, lt-leb, leb-true, lt-ltb, le-ltb, eq-eqb, eqb-true, and_right, and_from, and_parts, or_cases, or_from, or_left, or_right, cases_lt}
 use Rattle.std.proofs.lemmas.Option.{none-some, same_Some}
 use Rattle.key_lists.specs.Keys.{is_among, IsRising}
-use Rattle.key_lists.proofs.Every.{every, every_weaker, every-filter, filter_passes, filter_same, filter_all}
-use Rattle.key_lists.proofs.Among.{among_below, among_own, among_past, among-filter, among-append, each_among, of_among}
+use Rattle.key_lists.proofs.Every.{every, every_weaker, filter_passes, filter_same, filter_all}
+use Rattle.key_lists.proofs.Among.{among_below, among_own, among_past, among-filter, among-append, of_among}
 use Rattle.key_lists.proofs.Rising.{rising_some, rising-append, rising_same}
-use Rattle.row_set.specs.Sets.{count_below, IsKeySet}
+use Rattle.row_set.specs.Sets.{count_below}
 use Rattle.shift_data.specs.Parts.{from_on, within}
 
 -- what a search for the first key that passes a test says

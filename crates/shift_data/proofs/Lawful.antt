@@ -1,6 +1,6 @@
 -- What a lawful shift does to the keys.
-use Rattle.std.proofs.Common.{◌≡◌, refl, ap, sym, ◌∙◌, subst, Bool, true, false, cond, ◌&&◌, ◌||◌, ℕ, ◌+◌, ◌-◌, ◌^◌, ◌<◌, ◌≤◌, arith, List, [], ◌∷◌, ◌++◌, map, leb, ltb, Some, None, Option, pos, negsuc, ℤ, ◌+ℤ◌, ◌-ℤ◌, leb-false, inl, inr}
-use Rattle.std.specs.Prelude.{IfSome, int_le, int_lt, ◌<ℤ◌}
+use Rattle.std.proofs.Common.{◌≡◌, refl, ap, sym, ◌∙◌, false, cond, ℕ, ◌^◌, ◌<◌, arith, List, [], ◌∷◌, Some, None, Option, pos, negsuc, ℤ, ◌+ℤ◌, ◌-ℤ◌, leb-false, inl, inr}
+use Rattle.std.specs.Prelude.{IfSome, int_le, int_lt}
 use Rattle.std.specs.List.{AllByRecursion}
 use Rattle.std.proofs.lemmas.Bool.{or_parts, cases_Bool, true≢false}
 use Rattle.std.proofs.lemmas.Option.{none-some}
@@ -8,9 +8,8 @@ use Rattle.std.proofs.lemmas.Int.{ints}
 use Rattle.key_lists.specs.Keys.{IsRising}
 use Rattle.key_lists.proofs.Every.{every_weaker, every-map}
 use Rattle.tick_model.specs.declared.update.ShiftRange.{ShiftRange}
-use Rattle.tick_model.specs.declared.update.UpdateFault.{UpdateFault}
 use Rattle.tick_model.specs.declared.update.UpdateFault.TheVariants.{ShiftBreaks}
-use Rattle.tick_model.specs.Shifts.{moved, as_key, delta_at}
+use Rattle.tick_model.specs.Shifts.{moved, as_key}
 use Rattle.tick_model.specs.Rules.{is_past, shift_fault_after, shift_fault, landed}
 
 -- a number that is a key below the limit

@@ -1,5 +1,5 @@
 -- Shifts that are put together from ranges.
-use Rattle.std.proofs.Common.{◌≡◌, refl, ap, sym, ◌∙◌, subst, Bool, true, false, cond, ℕ, zero, suc, ◌+◌, ◌-◌, ◌^◌, ◌<◌, ◌≤◌, arith, List, [], ◌∷◌, ◌++◌, length, take, drop, map, pos}
+use Rattle.std.proofs.Common.{◌≡◌, refl, ap, sym, ◌∙◌, subst, true, false, cond, ℕ, suc, ◌+◌, ◌-◌, ◌^◌, ◌<◌, ◌≤◌, arith, List, [], ◌∷◌, ◌++◌, length, pos}
 use Rattle.std.specs.Prelude.{slice_get, Option, Some, None, IfSome}
 use Rattle.std.specs.List.{AllByRecursion}
 use Rattle.std.specs.Option.{option_or}
@@ -7,11 +7,10 @@ use Rattle.std.proofs.Common.{ℤ, negsuc, ltb, leb, ltb-false, leb-false, inl, 
 use Rattle.std.specs.Prelude.{◌<ℤ◌}
 use Rattle.std.proofs.lemmas.Bool.{cases_Bool}
 use Rattle.std.proofs.lemmas.Option.{none-some}
-use Rattle.shift_data.specs.declared.shifts.ShiftFault.{ShiftFault}
 use Rattle.shift_data.specs.declared.shifts.ShiftFault.TheVariants.{Backward, NotAscending, ZeroDelta}
 use Rattle.shift_data.specs.Pushes.{push_fault, not_past}
 use Rattle.std.specs.Ordering.{int_eq}
-use Rattle.key_lists.proofs.Every.{every_weaker, every-append, every-map, every_both}
+use Rattle.key_lists.proofs.Every.{every_weaker, every-append, every-map}
 use Rattle.tick_model.specs.declared.update.ShiftRange.{ShiftRange}
 use Rattle.tick_model.specs.Printable.{IsShift, IsShiftRange}
 use Rattle.shift_data.specs.ShiftLists.{IsShiftList, offset_range, offset_by}

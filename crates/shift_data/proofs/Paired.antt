@@ -1,16 +1,16 @@
 -- The pairs of two sets of keys.
-use Rattle.std.proofs.Common.{◌≡◌, refl, ap, sym, ◌∙◌, subst, true, ℕ, zero, suc, ◌+◌, ◌-◌, ◌^◌, ◌<◌, ◌≤◌, arith, List, [], ◌∷◌, ◌++◌, map, leb, Some, None, pos, ℤ, ◌-ℤ◌}
+use Rattle.std.proofs.Common.{◌≡◌, refl, ap, sym, ◌∙◌, subst, ℕ, zero, suc, ◌+◌, ◌-◌, ◌^◌, ◌<◌, ◌≤◌, arith, List, [], ◌∷◌, ◌++◌, map, leb, Some, pos, ◌-ℤ◌}
 use Rattle.std.specs.Prelude.{find}
 use Rattle.std.specs.List.{AllByRecursion, range_with_len}
 use Rattle.std.proofs.lemmas.Bool.{leb-true}
 use Rattle.std.proofs.lemmas.Int.{ints}
-use Rattle.key_lists.specs.Keys.{is_among, IsRising}
+use Rattle.key_lists.specs.Keys.{IsRising}
 use Rattle.row_set.specs.declared.ranges.Range.{Range}
-use Rattle.row_set.specs.Ranges.{keys_from, holds, ranges_of}
+use Rattle.row_set.specs.Ranges.{holds, ranges_of}
 use Rattle.row_set.specs.Sets.{IsKeySet}
 use Rattle.row_set.proofs.Held.{each_from}
 use Rattle.tick_model.specs.declared.update.KeyPair.{KeyPair}
-use Rattle.tick_model.specs.Shifts.{delta, stretches, shifted}
+use Rattle.tick_model.specs.Shifts.{stretches, shifted}
 use Rattle.shift_data.specs.ShiftLists.{IsShiftList}
 use Rattle.shift_data.specs.Moves.{pairs_of}
 use Rattle.shift_data.specs.Parts.{from_on}

@@ -1,5 +1,5 @@
 -- The stretches of a set of keys, part by part.
-use Rattle.std.proofs.Common.{◌≡◌, refl, ap, sym, ◌∙◌, subst, ◌&&◌, ℕ, ◌+◌, ◌^◌, ◌<◌, ◌≤◌, arith, List, [], ◌∷◌, ◌++◌, map, leb, ℤ, false, pos, ◌+ℤ◌, ◌-ℤ◌}
+use Rattle.std.proofs.Common.{◌≡◌, refl, ap, sym, ◌∙◌, subst, ◌&&◌, ℕ, ◌+◌, ◌^◌, ◌<◌, arith, List, map, leb, ℤ, false, pos, ◌+ℤ◌, ◌-ℤ◌}
 use Rattle.std.specs.List.{AllByRecursion}
 use Rattle.std.proofs.lemmas.List.{map-append}
 use Rattle.key_lists.proofs.Every.{every_both, every_weaker, every-filter, every-map, every_unmapped, map_map, map_own, every}

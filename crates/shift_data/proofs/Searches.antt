@@ -1,5 +1,5 @@
 -- Where a search cuts the ranges of a shift, and which range holds a key.
-use Rattle.std.proofs.Common.{◌≡◌, refl, ap, sym, ◌∙◌, subst, Bool, true, false, cond, ℕ, zero, suc, ◌<◌, ◌≤◌, arith, List, [], ◌∷◌, length, take, drop, get_or, leb, ltb, ltb-true, ltb-false, Option, Some, None, inl, inr}
+use Rattle.std.proofs.Common.{◌≡◌, refl, ap, sym, ◌∙◌, subst, Bool, true, false, cond, ℕ, zero, suc, ◌<◌, ◌≤◌, arith, List, [], ◌∷◌, length, take, drop, get_or, leb, ltb, ltb-true, ltb-false, Option, Some, None}
 use Rattle.std.specs.Prelude.{find, IfSome, option_copied}
 use Rattle.std.specs.Bool.{then_some}
 use Rattle.std.specs.Slice.{IsItemAt}

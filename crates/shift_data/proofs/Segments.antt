@@ -1,8 +1,8 @@
 -- The numbers and keys that move by one delta.
-use Rattle.std.proofs.Common.{◌≡◌, refl, ap, sym, ◌∙◌, subst, Bool, true, false, cond, ◌&&◌, ℕ, zero, suc, ◌+◌, ◌-◌, ◌^◌, ◌<◌, ◌≤◌, arith, List, [], ◌∷◌, length, take, drop, get_or, leb, Some, None, Option, pos, negsuc, ℤ, inl, inr, w64, SFits}
+use Rattle.std.proofs.Common.{◌≡◌, refl, ap, sym, ◌∙◌, subst, true, ℕ, zero, suc, ◌+◌, ◌-◌, ◌^◌, ◌<◌, ◌≤◌, arith, List, [], ◌∷◌, length, take, drop, get_or, leb, Some, None, Option, pos, negsuc, ℤ, w64, SFits}
 use Rattle.std.specs.Prelude.{find, slice_get, IfSome, option_map, unwrap_or, ◌<ℤ◌}
 use Rattle.std.specs.List.{AllByRecursion}
-use Rattle.std.proofs.lemmas.Bool.{leb-true, and_parts}
+use Rattle.std.proofs.lemmas.Bool.{leb-true}
 use Rattle.std.proofs.lemmas.Int.{ints}
 use Rattle.key_lists.specs.Keys.{is_among, IsRising}
 use Rattle.key_lists.proofs.Every.{every_weaker, all_from}
@@ -14,7 +14,7 @@ use Rattle.tick_model.specs.Shifts.{holds, delta_at}
 use Rattle.shift_data.specs.declared.parts.Part.{Part}
 use Rattle.shift_data.specs.declared.parts.Segment.{Segment}
 use Rattle.shift_data.specs.ShiftLists.{IsShiftList}
-use Rattle.shift_data.specs.Parts.{from_on, within, IsSegment, IsPart, IsLastUpTo}
+use Rattle.shift_data.specs.Parts.{IsSegment, IsPart, IsLastUpTo}
 use Rattle.shift_data.proofs.Keys.{find_key, none_between, last_below}
 use Rattle.shift_data.proofs.Searches.{find_past, find_here, find_none, holds_within, holds_not_after}
 

@@ -1,5 +1,5 @@
 -- The ranges of rising pairs of keys are those of a shift.
-use Rattle.std.proofs.Common.{◌≡◌, refl, ap, sym, ◌∙◌, subst, Bool, true, false, cond, not, ℕ, suc, ◌+◌, ◌-◌, ◌^◌, ◌<◌, ◌≤◌, arith, List, [], ◌∷◌, map, pos, negsuc, ℤ, ◌-ℤ◌}
+use Rattle.std.proofs.Common.{◌≡◌, refl, true, false, cond, ℕ, ◌+◌, ◌-◌, ◌^◌, ◌<◌, ◌≤◌, arith, List, [], ◌∷◌, map, pos, negsuc, ◌-ℤ◌}
 use Rattle.std.specs.Prelude.{filter, ◌<ℤ◌}
 use Rattle.std.specs.List.{AllByRecursion}
 use Rattle.std.specs.Ordering.{int_eq}

@@ -1,5 +1,5 @@
 -- Stretches of pairs that are put together from the left.
-use Rattle.std.proofs.Common.{◌≡◌, refl, ap, sym, ◌∙◌, subst, Bool, true, false, cond, not, ℕ, List, [], ◌∷◌, ◌++◌, map, pos, ℤ, Some, None, Option, append_assoc, true≢false, w64, to_z, of_z, SFits}
+use Rattle.std.proofs.Common.{◌≡◌, refl, ap, sym, ◌∙◌, Bool, true, false, cond, ℕ, List, [], ◌∷◌, ◌++◌, map, ℤ, Some, None, Option, append_assoc, w64, to_z, of_z, SFits}
 use Rattle.std.specs.Prelude.{filter}
 use Rattle.std.specs.List.{AllByRecursion}
 use Rattle.std.specs.Ordering.{int_eq}
@@ -8,8 +8,8 @@ use Rattle.std.proofs.lemmas.Bool.{false_from_ne_true}
 use Rattle.std.proofs.lemmas.Int.{to_z-of_z}
 use Rattle.tick_model.specs.declared.update.ShiftRange.{ShiftRange}
 use Rattle.tick_model.specs.declared.update.KeyPair.{KeyPair}
-use Rattle.tick_model.specs.Shifts.{delta, one, extend, stretches, shifted}
-use Rattle.shift_data.specs.Stretches.{joined, led_by, is_moving, built}
+use Rattle.tick_model.specs.Shifts.{delta, one, extend, stretches}
+use Rattle.shift_data.specs.Stretches.{joined, is_moving, built}
 use Rattle.shift_data.proofs.Keys.{Spans}
 
 abbrev pub range_by : ℕ → ℕ → ℤ → ShiftRange

@@ -1,6 +1,6 @@
-use Rattle.std.proofs.Common.{◌≡◌, sym, ap, ◌∙◌, arith, ◌++◌, w64, pos, ◌+ℤ◌, false, ◌^◌, ◌≤◌}
+use Rattle.std.proofs.Common.{arith, ◌++◌, w64, ◌≤◌}
 use Rattle.std.proofs.lemmas.Int.{to_z-of_z}
-use Rattle.tick_model.specs.Rules.{is_past, landed}
+use Rattle.tick_model.specs.Rules.{landed}
 use Rattle.row_set.specs.Ranges.{keys_in}
 use Rattle.shift_data.proofs.Applied.{key_inside, landing_is, run_step}
 use Rattle.shift_data.proofs.Segments.{fits_delta}

@@ -1,9 +1,9 @@
-use Rattle.std.proofs.Common.{◌≡◌, sym, ap, ◌∙◌, get_or, subst, ◌++◌}
+use Rattle.std.proofs.Common.{sym, get_or, subst, ◌++◌}
 use Rattle.key_lists.specs.Keys.{IsRising}
 use Rattle.row_set.specs.declared.ranges.Range.{Range}
 use Rattle.row_set.specs.Ranges.{keys_in}
 use Rattle.tick_model.specs.Rules.{landed}
-use Rattle.shift_data.proofs.Applied.{own_default, range_of_set, run_inside, run_rises, landed_taken}
+use Rattle.shift_data.proofs.Applied.{own_default, range_of_set, run_inside, run_rises}
 use Rattle.shift_data.proofs.apply.moved_keys.Goals as goal
 
 pub move_run-requires-clause-order : goal.move_run-requires-clause-order

@@ -1,4 +1,4 @@
-use Rattle.std.proofs.Common.{◌≡◌, sym, ap, ◌∙◌, Some, None, arith, ◌+◌}
+use Rattle.std.proofs.Common.{sym, ap, ◌∙◌, Some, arith, ◌+◌}
 use Rattle.std.proofs.lemmas.Option.{none-some, same_Some}
 use Rattle.std.proofs.Common.{subst}
 use Rattle.tick_model.specs.Rules.{shift_fault_after, shift_fault}

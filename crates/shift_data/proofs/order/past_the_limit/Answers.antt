@@ -1,9 +1,9 @@
-use Rattle.std.proofs.Common.{◌≡◌, sym, ap, ◌∙◌, Some, None, cond, ltb, leb, pos, ◌-ℤ◌, w64}
+use Rattle.std.proofs.Common.{◌≡◌, sym, ap, ◌∙◌, Some, None, cond, pos, ◌-ℤ◌, w64}
 use Rattle.std.proofs.lemmas.Int.{to_z-of_z}
 use Rattle.shift_data.proofs.Segments.{fits_delta}
-use Rattle.std.specs.Prelude.{option_map, find}
+use Rattle.std.specs.Prelude.{option_map}
 use Rattle.std.proofs.lemmas.Bool.{lt-ltb, le-ltb}
-use Rattle.shift_data.specs.Faults.{breaks, past_fault}
+use Rattle.shift_data.specs.Faults.{breaks}
 use Rattle.shift_data.proofs.PartFaults.{past_found, own_fault, up_to}
 use Rattle.shift_data.proofs.order.past_the_limit.Goals as goal
 

@@ -1,7 +1,5 @@
-use Rattle.std.proofs.Common.{◌≡◌, sym, ap, ◌∙◌, arith, leb, Some, None, [], leb-true, ℕ, ◌+◌}
-use Rattle.std.specs.Prelude.{find}
+use Rattle.std.proofs.Common.{sym, ap, ◌∙◌, arith, leb, leb-true, ℕ, ◌+◌}
 use Rattle.std.proofs.lemmas.Bool.{true≢false}
-use Rattle.row_set.specs.Ranges.{holds, ranges_of}
 use Rattle.shift_data.specs.Moves.{pairs_of}
 use Rattle.shift_data.specs.Parts.{from_on}
 use Rattle.shift_data.proofs.Asked.{run_of, no_run}

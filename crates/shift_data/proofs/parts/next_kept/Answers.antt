@@ -1,4 +1,4 @@
-use Rattle.std.proofs.Common.{◌≡◌, sym, ap, ◌∙◌, arith, leb, leb-true, Some, None}
+use Rattle.std.proofs.Common.{◌≡◌, sym, ◌∙◌, arith, leb, leb-true, Some}
 use Rattle.std.specs.Prelude.{find}
 use Rattle.shift_data.proofs.Keys.{find_key}
 use Rattle.shift_data.proofs.Kept.{run_passed, first_kept, none_kept, run_small}

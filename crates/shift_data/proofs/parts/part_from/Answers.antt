@@ -1,5 +1,4 @@
-use Rattle.std.proofs.Common.{◌≡◌, leb, w64, sym, ap, ◌∙◌}
-use Rattle.std.specs.Prelude.{find}
+use Rattle.std.proofs.Common.{leb, w64, sym, ◌∙◌}
 use Rattle.std.proofs.lemmas.Int.{to_z-of_z}
 use Rattle.shift_data.proofs.Keys.{find_none, find_key}
 use Rattle.shift_data.proofs.Segments.{fits_delta, part_made, key_small}

@@ -1,4 +1,4 @@
-use Rattle.std.proofs.Common.{◌≡◌, sym, ap, ◌∙◌, arith, w64, ◌+ℤ◌, subst}
+use Rattle.std.proofs.Common.{arith, w64, ◌+ℤ◌, subst}
 use Rattle.std.specs.Prelude.{IfSome}
 use Rattle.shift_data.specs.Parts.{IsLastUpTo}
 use Rattle.std.proofs.lemmas.Int.{to_z-of_z}

@@ -1,4 +1,4 @@
-use Rattle.std.proofs.Common.{◌≡◌, leb, w64, sym, ap, ◌∙◌}
+use Rattle.std.proofs.Common.{leb, w64, sym, ◌∙◌}
 use Rattle.std.proofs.lemmas.Int.{to_z-of_z}
 use Rattle.key_lists.specs.Keys.{without}
 use Rattle.shift_data.proofs.Keys.{find_none, find_key}

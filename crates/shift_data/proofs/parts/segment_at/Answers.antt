@@ -1,4 +1,4 @@
-use Rattle.std.proofs.Common.{◌≡◌, w64, sym, ap, ◌∙◌, Some, Option}
+use Rattle.std.proofs.Common.{w64, ap}
 use Rattle.std.specs.Prelude.{option_copied}
 use Rattle.std.proofs.lemmas.Int.{to_z-of_z}
 use Rattle.shift_data.proofs.Searches.{missed, got}

@@ -1,5 +1,5 @@
-use Rattle.std.proofs.Common.{ap, sym, ◌∙◌}
-use Rattle.shift_data.proofs.Searches.{missed, got, found_none, found_some, found_is}
+use Rattle.std.proofs.Common.{sym, ◌∙◌}
+use Rattle.shift_data.proofs.Searches.{missed, got, found_none, found_some}
 use Rattle.shift_data.proofs.search.range_of.Goals as goal
 
 pub returns-in_err-range-clause-range : goal.returns-in_err-range-clause-range

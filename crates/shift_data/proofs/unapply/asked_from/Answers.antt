@@ -1,4 +1,4 @@
-use Rattle.std.proofs.Common.{◌≡◌, sym, ap, ◌∙◌, arith, leb, pos, ◌+ℤ◌, w64, Some}
+use Rattle.std.proofs.Common.{◌≡◌, sym, ◌∙◌, arith, leb, w64, Some}
 use Rattle.row_set.specs.Ranges.{holds, ranges_of}
 use Rattle.std.specs.Prelude.{find}
 use Rattle.std.proofs.lemmas.Bool.{true≢false}

@@ -1,4 +1,4 @@
-use Rattle.std.proofs.Common.{◌≡◌, sym, ap, ◌∙◌, subst, arith, leb, leb-true, true, ℕ}
+use Rattle.std.proofs.Common.{◌≡◌, sym, ◌∙◌, subst, arith, leb, leb-true, true}
 use Rattle.key_lists.specs.Keys.{is_among}
 use Rattle.shift_data.proofs.Keys.{find_key, none_between, none_from}
 use Rattle.shift_data.proofs.unapply.gap_from.Goals as goal

@@ -1,4 +1,4 @@
-use Rattle.std.proofs.Common.{◌≡◌, sym, ap, ◌∙◌, arith, ◌++◌, ◌+◌}
+use Rattle.std.proofs.Common.{sym, ap, ◌∙◌, arith, ◌++◌, ◌+◌}
 use Rattle.shift_data.specs.Moves.{unapplied}
 use Rattle.shift_data.specs.Parts.{from_on}
 use Rattle.shift_data.proofs.Asked.{asked_more, not_asked_step}

@@ -1,5 +1,4 @@
-use Rattle.std.proofs.Common.{◌≡◌, ◌-◌, ◌^◌, ◌≤◌, ◌++◌, ℕ, ◌<◌}
-use Rattle.std.specs.List.{AllByRecursion}
+use Rattle.std.proofs.Common.{◌≡◌, ◌-◌, ◌^◌, ◌≤◌, ◌++◌}
 use Rattle.shift_data.specs.Moves.{unapplied}
 use Rattle.shift_data.specs.Parts.{from_on}
 use Rattle.shift_data.proofs.unapply.unapplied.Given as goal

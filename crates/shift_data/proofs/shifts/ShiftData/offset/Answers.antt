@@ -1,7 +1,4 @@
-use Rattle.std.proofs.Common.{◌≡◌, ◌∙◌, sym, ap, subst, take, length, arith}
-use Rattle.std.specs.List.{AllByRecursion}
 use Rattle.std.proofs.lemmas.List.{take_all}
-use Rattle.shift_data.specs.ShiftLists.{IsShiftList, offset_by}
 use Rattle.shift_data.proofs.Lists.{list-offset}
 use Rattle.shift_data.proofs.shifts.ShiftData.offset.Goals as goal
 
