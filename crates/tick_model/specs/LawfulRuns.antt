@@ -22,6 +22,7 @@ use Rattle.tick_model.specs.declared.update.KeyRange.{KeyRange}
 use Rattle.tick_model.specs.Tables.{keys}
 use Rattle.tick_model.specs.Evaluation.{is_source}
 use Rattle.tick_model.specs.Plans.{is_lawful, columns_at}
+use Rattle.tick_model.specs.Numbers.{HasPlanNumbers}
 use Rattle.tick_model.specs.Printable.{IsShift, IsShiftRange, fit_columns, names_text}
 use Rattle.tick_model.specs.Changes.{is_none}
 
@@ -103,6 +104,7 @@ AreTexts (text ∷ texts) = (is_none text ≡ false) × AllByRecursion (λ later
 
 pub record IsLawfulRun (run : Run) : Type 0 where
   pub plan : is_lawful run.plan ≡ true
+  pub numbers : HasPlanNumbers run.plan
   pub ranks : AllByRecursion (λ node. has_op_ranks (length run.texts) node.op ≡ true) run.plan.nodes
   pub opening : AreOpenings (sources_of run.plan.nodes) (length run.texts) run.opening
   pub steps : length run.batches ≤ 100000

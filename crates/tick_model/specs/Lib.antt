@@ -11,6 +11,7 @@ pub mod Lawful
 pub mod LawfulRuns
 pub mod Merge
 pub mod Names
+pub mod Numbers
 pub mod Plans
 pub mod Printable
 pub mod Rules

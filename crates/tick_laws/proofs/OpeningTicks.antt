@@ -1,0 +1,158 @@
+-- The first step of a lawful run: each node's change is a tick from an empty table, which keeps nothing.
+use Rattle.std.proofs.Common.{◌≡◌, refl, ap, sym, ◌∙◌, subst, ℕ, zero, suc, ◌+◌, ◌<◌, inl, inr, arith, true, List, [], ◌∷◌, ◌++◌, map, filter, length, get_or}
+use Rattle.std.specs.Prelude.{filter_map, fold}
+use Rattle.std.specs.List.{AllByRecursion, enumerate_from}
+use Rattle.std.proofs.lemmas.Bool.{cases_lt}
+use Rattle.tick_model.specs.declared.feed.Run.{Run}
+use Rattle.tick_model.specs.declared.plan.Node.{Node}
+use Rattle.tick_model.specs.declared.plan.Op.{Op}
+use Rattle.tick_model.specs.declared.plan.Op.TheVariants.{Source, Keep, View, Join, Agg, Merge, Sort, Head, Tail, AsOf}
+use Rattle.tick_model.specs.declared.plan.Plan.{Plan}
+use Rattle.tick_model.specs.declared.table.PlainRow.{PlainRow}
+use Rattle.tick_model.specs.declared.table.PlainTable.{PlainTable}
+use Rattle.tick_model.specs.declared.update.KeyPair.{KeyPair}
+use Rattle.tick_model.specs.Tables.{IsTable, cells_at, same_cells}
+use Rattle.tick_model.specs.Updates.{IsTick, Tick, both_in}
+use Rattle.tick_model.specs.Agg.{key_cells}
+use Rattle.tick_model.specs.Merge.{merged_pairs, pair_from, region}
+use Rattle.tick_model.specs.Sort.{place_pair, same_place, in_order}
+use Rattle.tick_model.specs.Evaluation.{table_at, table_of, no_table, inputs_of, is_source, source_number}
+use Rattle.tick_model.specs.LawfulRuns.{IsLawfulRun}
+use Rattle.tick_model.specs.Sources.{opened, no_tick, tick_at, source_ticks, sources}
+use Rattle.tick_model.specs.States.{empty_at, kept_by, state, tick, tick_node}
+use Rattle.key_lists.proofs.Every.{every_weaker, every-map}
+use Rattle.tick_laws.specs.Reached.{IsReached, IsTickFrom}
+use Rattle.tick_laws.proofs.EvalNodes.{outcome_is, source_outcome}
+use Rattle.tick_laws.proofs.TickNodes.{tick_cases, tick_from, tick_is}
+use Rattle.tick_laws.proofs.LawfulPlans.{columns_at-node}
+use Rattle.tick_laws.proofs.LawfulSources.{lawful_tables, source_fits}
+use Rattle.tick_laws.proofs.Paired.{no_node}
+use Rattle.tick_laws.proofs.ReachedTables.{lesser_inputs, bounded_at, reached_tables}
+use Rattle.tick_laws.proofs.SourceTicks.{source_new, source_tick}
+
+-- the width of the empty table is the number of the node's columns
+width_empty : (plan : Plan) (nodes : List Node) (n : ℕ) → n < length nodes → (empty_at (record plan { nodes = nodes }) n).width ≡ length (get_or nodes n no_node).columns
+width_empty plan [] n h = absurd (omega (arith, h))
+width_empty plan (node ∷ nodes) zero h = refl
+width_empty plan (node ∷ nodes) (suc n) h = width_empty plan nodes n (omega (arith, h))
+
+-- a tick that begins with no rows, and so keeps none
+record IsOpening (tick : Tick) : Type 0 where
+  no_rows : tick.old.rows ≡ []
+  no_pairs : tick.kept ≡ []
+
+no_merged : (old new : ℕ) (ticks : List Tick) → AllByRecursion IsOpening ticks → merged_pairs old new ticks ≡ []
+no_merged old new [] h = refl
+no_merged old new (t ∷ ticks) h =
+    ap (λ kept. map (pair_from old new) kept ++ merged_pairs (old + region t.old) (new + region t.new) ticks) h.0.no_pairs
+    ∙ no_merged (old + region t.old) (new + region t.new) ticks h.1
+
+-- nothing is kept of nothing
+none_kept : (op : Op) (tick : ℕ → Tick) (old new : PlainTable) → AllByRecursion (λ i. IsOpening (tick i)) (inputs_of op) → kept_by op tick old new ≡ []
+none_kept Source tick old new h = refl
+none_kept (Keep input test) tick old new h = ap (both_in old new) h.0.no_pairs
+none_kept (View input exprs) tick old new h = h.0.no_pairs
+none_kept (Join left right on taken choice) tick old new h = h.0.no_pairs
+none_kept (Agg input by aggs) tick old new h = ap (λ kept. filter (λ (pair : KeyPair). same_cells (key_cells by (cells_at pair.old (tick input).old.rows)) (key_cells by (cells_at pair.new (tick input).new.rows))) (both_in old new kept)) h.0.no_pairs
+none_kept (Merge inputs) tick old new h = no_merged 0 0 (map tick inputs) (every-map IsOpening tick inputs h)
+none_kept (Sort input by) tick old new h =
+    ap (λ (rows : List PlainRow). filter_map (place_pair (in_order by (tick input).new.rows) (filter (same_place by (tick input)) (tick input).kept)) (enumerate_from 0 (in_order by rows))) h.0.no_rows
+none_kept (Head input rows) tick old new h = ap (both_in old new) h.0.no_pairs
+none_kept (Tail input rows) tick old new h = ap (both_in old new) h.0.no_pairs
+none_kept (AsOf left right on at taken) tick old new h = h.0.no_pairs
+
+-- the ticks of the sources
+opened_opening : (opening : List PlainTable) (place : ℕ) → IsOpening (get_or (map opened opening) place no_tick)
+opened_opening [] place = record { no_rows = refl; no_pairs = refl }
+opened_opening (table ∷ opening) zero = record { no_rows = refl; no_pairs = refl }
+opened_opening (table ∷ opening) (suc place) = opened_opening opening place
+
+opened_width : (opening : List PlainTable) (place : ℕ) → (get_or (map opened opening) place no_tick).old.width ≡ (get_or (map opened opening) place no_tick).new.width
+opened_width [] place = refl
+opened_width (table ∷ opening) zero = refl
+opened_width (table ∷ opening) (suc place) = opened_width opening place
+
+-- a table without rows
+empty_is : (table : PlainTable) (width : ℕ) → table.width ≡ width → table.rows ≡ [] → let empty : PlainTable = record { width = width; rows = [] } in table ≡ empty
+empty_is table width w r =
+    ap (λ w. let t : PlainTable = record { width = w; rows = table.rows } in t) w
+    ∙ ap (λ rows. let t : PlainTable = record { width = width; rows = rows } in t) r
+
+-- a tick that keeps nothing, from a table without rows
+from_empty : (width : ℕ) (new : PlainTable) (kept : List KeyPair) → IsTable new → new.width ≡ width → kept ≡ [] → let empty : PlainTable = record { width = width; rows = [] } in IsTick (tick_from empty new kept)
+from_empty width new kept t w k =
+    let empty : PlainTable = record { width = width; rows = [] } in
+    subst (λ kept. IsTick (tick_from empty new kept)) (sym k)
+    (record { old_table = record { rows = tt; rising = tt }; new_table = t; one_width = w; of_old = tt; of_new = tt; rising_old = tt; rising_new = tt })
+
+module _ (run : Run) (h : IsLawfulRun run) (r : IsReached run 0) where
+  abbrev nodes : List Node
+  nodes = run.plan.nodes
+
+  abbrev own_ticks : List Tick
+  own_ticks = source_ticks run 0
+
+  abbrev old_table : ℕ → PlainTable
+  old_table = empty_at run.plan
+
+  abbrev new_at : ℕ → PlainTable
+  new_at = table_at (state run 0)
+
+  abbrev T : List Tick
+  T = fold (tick_node nodes own_ticks old_table new_at) [] nodes
+
+  lesser : (n : ℕ) → n < length nodes → AllByRecursion (λ input. input < n) (inputs_of (get_or nodes n no_node).op)
+  lesser n = lesser_inputs run.plan h.plan n no_node
+
+  record IsOpened (n : ℕ) (tick : Tick) : Type 0 where
+    from : IsTickFrom (old_table n) (new_at n) tick
+    opening : IsOpening tick
+
+  source_opened : (n : ℕ) → n < length nodes → is_source (get_or nodes n no_node) ≡ true → IsOpened n (tick_at own_ticks (source_number nodes n))
+  source_opened n less is =
+      let place = source_number nodes n in
+      let own = tick_at own_ticks place in
+      let fits = source_fits run h 0 r.batches n less is in
+      let opening = opened_opening run.opening place in
+      let width : own.old.width ≡ (old_table n).width =
+      opened_width run.opening place ∙ ap (λ (table : PlainTable). table.width) (source_new own_ticks place) ∙ fits.bounded.width_is ∙ sym (width_empty run.plan nodes n less)
+      in
+      record {
+        from = record {
+          is_tick = source_tick run (lawful_tables run h) 0 r.batches place;
+          old_is = empty_is own.old (old_table n).width width opening.no_rows;
+          new_is = source_new own_ticks place ∙ ap table_of (sym (outcome_is nodes no_node (sources run 0) lesser n less ∙ source_outcome (get_or nodes n no_node).op (get_or (sources run 0) place no_table) (state run 0) is));
+        };
+        opening = opening;
+      }
+
+  operator_opened : (n : ℕ) → n < length nodes → ((k : ℕ) → k < n → IsOpened k (get_or T k no_tick)) → IsOpened n (tick_from (old_table n) (new_at n) (kept_by (get_or nodes n no_node).op (tick_at T) (old_table n) (new_at n)))
+  operator_opened n less before =
+      let op = (get_or nodes n no_node).op in
+      let tables = reached_tables run h 0 r in
+      let none = none_kept op (tick_at T) (old_table n) (new_at n)
+      (every_weaker (λ i. i < n) (λ i. IsOpening (tick_at T i)) (inputs_of op) (λ i below. (before i below).opening) (lesser n less))
+      in
+      let width : (new_at n).width ≡ (old_table n).width =
+      (bounded_at run h 0 r.batches n less (tables.each n less)).width_is ∙ ap length (columns_at-node nodes no_node n less) ∙ sym (width_empty run.plan nodes n less)
+      in
+      record {
+        from = record { is_tick = from_empty (old_table n).width (new_at n) (kept_by op (tick_at T) (old_table n) (new_at n)) (tables.tables n) width none; old_is = refl; new_is = refl };
+        opening = record { no_rows = refl; no_pairs = none };
+      }
+
+  opened_before : (m n : ℕ) → n < m → n < length nodes → IsOpened n (get_or T n no_tick)
+  opened_before zero n less within = absurd (omega (arith, less))
+  opened_before (suc m) n less within =
+      elim (cases_lt n m) [
+        | inl before ↦ opened_before m n before within
+        | inr last ↦
+            subst (IsOpened n) (sym (tick_is nodes no_node own_ticks old_table new_at n within (lesser n within)))
+            (elim (tick_cases (get_or nodes n no_node).op (tick_at own_ticks (source_number nodes n)) T (old_table n) (new_at n)) [
+              | inl own ↦ subst (IsOpened n) (sym own.1) (source_opened n within own.0)
+              | inr made ↦ subst (IsOpened n) (sym made.1) (operator_opened n within (λ k below. opened_before m k (omega (arith, below, less)) (omega (arith, below, within))))
+            ])
+      ]
+
+  pub opening_ticks : (n : ℕ) → n < length nodes → IsTickFrom (old_table n) (new_at n) (tick run 0 n)
+  opening_ticks n less = (opened_before (suc n) n (omega arith) less).from

@@ -1,0 +1,95 @@
+-- Each operator makes a tick of its inputs' ticks.
+use Rattle.std.proofs.Common.{◌≡◌, refl, ap, sym, ◌∙◌, subst, ℕ, ◌+◌, true, List, [], ◌∷◌, map, length}
+use Rattle.std.specs.List.{AllByRecursion}
+use Rattle.tick_model.specs.declared.plan.Op.{Op}
+use Rattle.tick_model.specs.declared.plan.Op.TheVariants.{Source, Keep, View, Join, Agg, Merge, Sort, Head, Tail, AsOf}
+use Rattle.tick_model.specs.declared.table.PlainRow.{PlainRow}
+use Rattle.tick_model.specs.declared.table.PlainTable.{PlainTable}
+use Rattle.key_lists.specs.Keys.{is_among, IsRising}
+use Rattle.tick_model.specs.Tables.{keys, cells_at, same_cells, IsTable}
+use Rattle.tick_model.specs.Updates.{Tick, IsTick, both_in, old_keys, new_keys}
+use Rattle.tick_model.specs.Agg.{key_cells}
+use Rattle.tick_model.specs.Evaluation.{inputs_of, result}
+use Rattle.tick_model.specs.Merge.{merged_rows, width_of, region}
+use Rattle.tick_laws.specs.Operated.{operated}
+use Rattle.key_lists.proofs.Every.{every_weaker, every-map, filter_all, map_map}
+use Rattle.tick_laws.proofs.Kept.{some_both_in}
+use Rattle.tick_laws.proofs.Merged.{IsPart, apart, apart_rising, apart_among, keys-merged_rows, old_keys-merged, new_keys-merged, old_part, new_part}
+use Rattle.tick_laws.proofs.Placed.{sort_keeps}
+use Rattle.tick_laws.proofs.TickNodes.{tick_from}
+
+pub all_both_in : (input : Tick) (old new : PlainTable) → IsTick input → IsTable old → IsTable new → new.width ≡ old.width → IsTick (tick_from old new (both_in old new input.kept))
+all_both_in input old new h o n w = subst (λ kept. IsTick (tick_from old new kept)) (filter_all (both_in old new input.kept)) (some_both_in (λ _. true) input old new h o n w)
+
+-- a table of the same keys keeps the same pairs
+same_keys : (input : Tick) (old new : PlainTable) → IsTick input → IsTable old → IsTable new → new.width ≡ old.width → keys old.rows ≡ keys input.old.rows → keys new.rows ≡ keys input.new.rows → IsTick (tick_from old new input.kept)
+same_keys input old new h o n w e f = record {
+  old_table = o;
+  new_table = n;
+  one_width = w;
+  of_old = subst (λ ks. AllByRecursion (λ key. is_among key ks ≡ true) (old_keys input.kept)) (sym e) h.of_old;
+  of_new = subst (λ ks. AllByRecursion (λ key. is_among key ks ≡ true) (new_keys input.kept)) (sym f) h.of_new;
+  rising_old = h.rising_old;
+  rising_new = h.rising_new;
+}
+
+pub keys_mapped : (f : PlainRow → PlainRow) (rows : List PlainRow) → ((row : PlainRow) → (f row).key ≡ row.key) → keys (map f rows) ≡ keys rows
+keys_mapped f [] h = refl
+keys_mapped f (row ∷ rows) h = ap (λ key. key ∷ keys (map f rows)) (h row) ∙ ap (λ rest. row.key ∷ rest) (keys_mapped f rows h)
+
+merge_width : (tick : ℕ → Tick) (inputs : List ℕ) → AllByRecursion (λ n. IsTick (tick n)) inputs → width_of (map (λ n. (tick n).new) inputs) ≡ width_of (map (λ n. (tick n).old) inputs)
+merge_width tick [] h = refl
+merge_width tick (input ∷ inputs) h = h.0.one_width
+
+merge_keeps : (tick : ℕ → Tick) (inputs : List ℕ) → AllByRecursion (λ n. IsTick (tick n)) inputs → IsTable (result (Merge inputs) (λ n. (tick n).old)) → IsTable (result (Merge inputs) (λ n. (tick n).new)) → IsTick (operated (Merge inputs) tick)
+merge_keeps tick inputs h o n = record {
+  old_table = o;
+  new_table = n;
+  one_width = merge_width tick inputs h;
+  of_old = subst (AllByRecursion (λ key. is_among key (keys (merged_rows 0 (map (λ n. (tick n).old) inputs))) ≡ true)) (sym (old_keys-merged 0 0 ticks))
+      (subst (λ ks. AllByRecursion (λ key. is_among key ks ≡ true) (apart (λ (t : Tick). old_keys t.kept) (λ (t : Tick). region t.old) 0 ticks)) (sym old_side)
+      (apart_among (λ (t : Tick). keys t.old.rows) (λ (t : Tick). old_keys t.kept) (λ (t : Tick). region t.old) 0 ticks olds));
+  of_new = subst (AllByRecursion (λ key. is_among key (keys (merged_rows 0 (map (λ n. (tick n).new) inputs))) ≡ true)) (sym (new_keys-merged 0 0 ticks))
+      (subst (λ ks. AllByRecursion (λ key. is_among key ks ≡ true) (apart (λ (t : Tick). new_keys t.kept) (λ (t : Tick). region t.new) 0 ticks)) (sym new_side)
+      (apart_among (λ (t : Tick). keys t.new.rows) (λ (t : Tick). new_keys t.kept) (λ (t : Tick). region t.new) 0 ticks news));
+  rising_old = subst IsRising (sym (old_keys-merged 0 0 ticks)) (apart_rising (λ (t : Tick). keys t.old.rows) (λ (t : Tick). old_keys t.kept) (λ (t : Tick). region t.old) 0 ticks olds);
+  rising_new = subst IsRising (sym (new_keys-merged 0 0 ticks)) (apart_rising (λ (t : Tick). keys t.new.rows) (λ (t : Tick). new_keys t.kept) (λ (t : Tick). region t.new) 0 ticks news);
+}
+  where
+    ticks : List Tick
+    ticks = map tick inputs
+
+    all_ticks : (P : Tick → Type 0) → ((t : Tick) → IsTick t → P t) → AllByRecursion P (map tick inputs)
+    all_ticks P f = every-map P tick inputs (every_weaker (λ n. IsTick (tick n)) (λ n. P (tick n)) inputs (λ n t. f (tick n) t) h)
+
+    olds : AllByRecursion (IsPart (λ (t : Tick). keys t.old.rows) (λ (t : Tick). old_keys t.kept) (λ (t : Tick). region t.old)) (map tick inputs)
+    olds = all_ticks (IsPart (λ (t : Tick). keys t.old.rows) (λ (t : Tick). old_keys t.kept) (λ (t : Tick). region t.old)) old_part
+
+    news : AllByRecursion (IsPart (λ (t : Tick). keys t.new.rows) (λ (t : Tick). new_keys t.kept) (λ (t : Tick). region t.new)) (map tick inputs)
+    news = all_ticks (IsPart (λ (t : Tick). keys t.new.rows) (λ (t : Tick). new_keys t.kept) (λ (t : Tick). region t.new)) new_part
+
+    old_side : keys (merged_rows 0 (map (λ n. (tick n).old) inputs)) ≡ apart (λ (t : Tick). keys t.old.rows) (λ (t : Tick). region t.old) 0 (map tick inputs)
+    old_side = ap (λ tables. keys (merged_rows 0 tables)) (sym (map_map (λ (t : Tick). t.old) tick inputs)) ∙ keys-merged_rows (λ (t : Tick). t.old) 0 (map tick inputs)
+
+    new_side : keys (merged_rows 0 (map (λ n. (tick n).new) inputs)) ≡ apart (λ (t : Tick). keys t.new.rows) (λ (t : Tick). region t.new) 0 (map tick inputs)
+    new_side = ap (λ tables. keys (merged_rows 0 tables)) (sym (map_map (λ (t : Tick). t.new) tick inputs)) ∙ keys-merged_rows (λ (t : Tick). t.new) 0 (map tick inputs)
+
+-- an operator's kept pairs are a tick's, where its inputs' are and its results are tables
+pub operator_keeps : (op : Op) (tick : ℕ → Tick) → AllByRecursion (λ n. IsTick (tick n)) (inputs_of op) → IsTable (result op (λ n. (tick n).old)) → IsTable (result op (λ n. (tick n).new)) → IsTick (operated op tick)
+operator_keeps Source tick h o n = record { old_table = o; new_table = n; one_width = refl; of_old = tt; of_new = tt; rising_old = tt; rising_new = tt }
+operator_keeps (Keep input test) tick h o n = all_both_in (tick input) (result (Keep input test) (λ n. (tick n).old)) (result (Keep input test) (λ n. (tick n).new)) h.0 o n h.0.one_width
+operator_keeps (View input exprs) tick h o n =
+    same_keys (tick input) (result (View input exprs) (λ n. (tick n).old)) (result (View input exprs) (λ n. (tick n).new)) h.0 o n (ap (λ w. w + length exprs) h.0.one_width)
+    (keys_mapped _ (tick input).old.rows (λ row. refl)) (keys_mapped _ (tick input).new.rows (λ row. refl))
+operator_keeps (Join left right on taken choice) tick h o n =
+    same_keys (tick left) (result (Join left right on taken choice) (λ n. (tick n).old)) (result (Join left right on taken choice) (λ n. (tick n).new)) h.0 o n (ap (λ w. w + length taken) h.0.one_width)
+    (keys_mapped _ (tick left).old.rows (λ row. refl)) (keys_mapped _ (tick left).new.rows (λ row. refl))
+operator_keeps (Agg input by aggs) tick h o n =
+    some_both_in (λ pair. same_cells (key_cells by (cells_at pair.old (tick input).old.rows)) (key_cells by (cells_at pair.new (tick input).new.rows))) (tick input) (result (Agg input by aggs) (λ n. (tick n).old)) (result (Agg input by aggs) (λ n. (tick n).new)) h.0 o n refl
+operator_keeps (Merge inputs) tick h o n = merge_keeps tick inputs h o n
+operator_keeps (Sort input by) tick h o n = sort_keeps by (tick input) h.0 o n
+operator_keeps (Head input count) tick h o n = all_both_in (tick input) (result (Head input count) (λ n. (tick n).old)) (result (Head input count) (λ n. (tick n).new)) h.0 o n h.0.one_width
+operator_keeps (Tail input count) tick h o n = all_both_in (tick input) (result (Tail input count) (λ n. (tick n).old)) (result (Tail input count) (λ n. (tick n).new)) h.0 o n h.0.one_width
+operator_keeps (AsOf left right on at taken) tick h o n =
+    same_keys (tick left) (result (AsOf left right on at taken) (λ n. (tick n).old)) (result (AsOf left right on at taken) (λ n. (tick n).new)) h.0 o n (ap (λ w. w + length taken) h.0.one_width)
+    (keys_mapped _ (tick left).old.rows (λ row. refl)) (keys_mapped _ (tick left).new.rows (λ row. refl))

@@ -1,0 +1,70 @@
+-- The ticks of a plan's nodes, each from those of its inputs.
+use Rattle.std.proofs.Common.{◌≡◌, refl, ap, ◌∙◌, ℕ, ◌<◌, ◌⊎◌, inl, inr, arith, true, false, List, [], take, length, get_or, length-take-le}
+use Rattle.std.specs.Prelude.{fold}
+use Rattle.std.specs.List.{AllByRecursion}
+use Rattle.std.proofs.lemmas.List.{get_or-take}
+use Rattle.tick_model.specs.declared.plan.Node.{Node}
+use Rattle.tick_model.specs.declared.plan.Op.{Op}
+use Rattle.tick_model.specs.declared.plan.Op.TheVariants.{Source, Keep, View, Join, Agg, Merge, Sort, Head, Tail, AsOf}
+use Rattle.tick_model.specs.declared.table.PlainTable.{PlainTable}
+use Rattle.tick_model.specs.declared.update.KeyPair.{KeyPair}
+use Rattle.tick_model.specs.Updates.{Tick}
+use Rattle.tick_model.specs.Merge.{merge_pairs}
+use Rattle.tick_model.specs.Evaluation.{inputs_of, source_number}
+use Rattle.tick_model.specs.Sources.{no_tick, tick_at}
+use Rattle.tick_model.specs.States.{kept_by, tick_of, tick_node}
+use Rattle.key_lists.proofs.Every.{every_weaker, map_same}
+use Rattle.tick_laws.proofs.EvalNodes.{is_source_op}
+use Rattle.tick_laws.proofs.Grown.{made_at, length-grown}
+
+abbrev pub tick_from : PlainTable → PlainTable → List KeyPair → Tick
+tick_from old new kept = record { old = old; new = new; kept = kept }
+
+-- a node's tick is its source's, or that of its operator
+pub tick_cases : (op : Op) (own : Tick) (done : List Tick) (old new : PlainTable)
+    → ((is_source_op op ≡ true) × (tick_of op own done old new ≡ own)) ⊎ ((is_source_op op ≡ false) × (tick_of op own done old new ≡ tick_from old new (kept_by op (tick_at done) old new)))
+tick_cases Source own done old new = inl (refl, refl)
+tick_cases (Keep input test) own done old new = inr (refl, refl)
+tick_cases (View input exprs) own done old new = inr (refl, refl)
+tick_cases (Join left right on taken choice) own done old new = inr (refl, refl)
+tick_cases (Agg input by aggs) own done old new = inr (refl, refl)
+tick_cases (Merge inputs) own done old new = inr (refl, refl)
+tick_cases (Sort input by) own done old new = inr (refl, refl)
+tick_cases (Head input rows) own done old new = inr (refl, refl)
+tick_cases (Tail input rows) own done old new = inr (refl, refl)
+tick_cases (AsOf left right on at taken) own done old new = inr (refl, refl)
+
+-- an operator reads the ticks of its inputs alone
+tick_same : (op : Op) (own : Tick) (done others : List Tick) (old new : PlainTable) → AllByRecursion (λ i. tick_at done i ≡ tick_at others i) (inputs_of op) → tick_of op own done old new ≡ tick_of op own others old new
+tick_same Source own done others old new h = refl
+tick_same (Keep input test) own done others old new h = ap (λ t. tick_from old new (kept_by (Keep input test) (λ _. t) old new)) h.0
+tick_same (View input exprs) own done others old new h = ap (λ t. tick_from old new (kept_by (View input exprs) (λ _. t) old new)) h.0
+tick_same (Join left right on taken choice) own done others old new h = ap (λ t. tick_from old new (kept_by (Join left right on taken choice) (λ _. t) old new)) h.0
+tick_same (Agg input by aggs) own done others old new h = ap (λ t. tick_from old new (kept_by (Agg input by aggs) (λ _. t) old new)) h.0
+tick_same (Merge inputs) own done others old new h = ap (λ ts. tick_from old new (merge_pairs ts)) (map_same (tick_at done) (tick_at others) inputs h)
+tick_same (Sort input by) own done others old new h = ap (λ t. tick_from old new (kept_by (Sort input by) (λ _. t) old new)) h.0
+tick_same (Head input rows) own done others old new h = ap (λ t. tick_from old new (kept_by (Head input rows) (λ _. t) old new)) h.0
+tick_same (Tail input rows) own done others old new h = ap (λ t. tick_from old new (kept_by (Tail input rows) (λ _. t) old new)) h.0
+tick_same (AsOf left right on at taken) own done others old new h = ap (λ t. tick_from old new (kept_by (AsOf left right on at taken) (λ _. t) old new)) h.0
+
+module _ (nodes : List Node) (d : Node) (own : List Tick) (old new : ℕ → PlainTable) where
+  abbrev T : List Tick
+  T = fold (tick_node nodes own old new) [] nodes
+
+  abbrev op_at : ℕ → Op
+  op_at n = (get_or nodes n d).op
+
+  pub length_ticks : length T ≡ length nodes
+  length_ticks = length-grown no_tick d (λ done node. tick_of node.op (tick_at own (source_number nodes (length done))) done (old (length done)) (new (length done))) [] nodes ∙ omega arith
+
+  made_tick : (n : ℕ) → n < length nodes → get_or T n no_tick ≡ tick_of (op_at n) (tick_at own (source_number nodes n)) (take n T) (old n) (new n)
+  made_tick n h =
+      made_at no_tick d (λ done node. tick_of node.op (tick_at own (source_number nodes (length done))) done (old (length done)) (new (length done))) [] nodes n n h (omega arith)
+      ∙ ap (λ k. tick_of (op_at n) (tick_at own (source_number nodes k)) (take n T) (old k) (new k)) (length-take-le n T (omega (arith, length_ticks, h)))
+
+  -- a node's tick is that of its operator over all ticks
+  pub tick_is : (n : ℕ) → n < length nodes → AllByRecursion (λ input. input < n) (inputs_of (op_at n)) → get_or T n no_tick ≡ tick_of (op_at n) (tick_at own (source_number nodes n)) T (old n) (new n)
+  tick_is n h lesser =
+      made_tick n h
+      ∙ tick_same (op_at n) (tick_at own (source_number nodes n)) (take n T) T (old n) (new n)
+      (every_weaker (λ i. i < n) (λ i. tick_at (take n T) i ≡ tick_at T i) (inputs_of (op_at n)) (λ i less. get_or-take n T i no_tick less) lesser)

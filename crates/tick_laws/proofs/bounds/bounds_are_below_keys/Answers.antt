@@ -1,0 +1,6 @@
+use Rattle.tick_laws.proofs.LawfulPlans.{lawful_plan}
+use Rattle.tick_laws.proofs.Paired.{no_node}
+use Rattle.tick_laws.proofs.bounds.bounds_are_below_keys.Goals as goal
+
+pub returns : goal.returns
+returns c plan h = (lawful_plan plan no_node h).bounds
