@@ -45,7 +45,7 @@ key_past (other ∷ old) key keys h =
     ∙ ap (λ t. cond t (other ∷ (old ++ keys)) (other ∷ with_key key (old ++ keys))) (ne_eqb key other (λ e. omega arith))
     ∙ ap (λ rest. other ∷ rest) (key_past old key keys h.1)
 
-append_none : (xs : List ℕ) → xs ++ [] ≡ xs
+pub append_none : (xs : List ℕ) → xs ++ [] ≡ xs
 append_none [] = refl
 append_none (x ∷ xs) = ap (λ ys. x ∷ ys) (append_none xs)
 

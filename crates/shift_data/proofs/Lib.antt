@@ -1,5 +1,6 @@
 pub mod Applied
 pub mod Asked
+pub mod InPlace
 pub mod Kept
 pub mod Keys
 pub mod Lawful

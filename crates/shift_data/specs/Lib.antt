@@ -1,5 +1,6 @@
 pub mod Faults
 pub mod Moves
+pub mod Movers
 pub mod PairRuns
 pub mod Parts
 pub mod Pushes

@@ -7,6 +7,7 @@
 
 mod apply;
 mod canonical;
+mod in_place;
 mod order;
 mod pairs;
 mod parts;

@@ -1,15 +1,16 @@
 //! The shift itself: what it is made of, and what it answers.
-ghost use Rattle.std.specs.Prelude.{◌≡◌, ℕ, ◌+◌, ◌-◌, ◌^◌, ◌<◌, ◌≤◌, List, [], ◌∷◌, ◌++◌, length, pos, negsuc, ◌<ℤ◌, None, IfSome, IfOk, OnOk, OnErr, MatchResult, option_map};
+ghost use Rattle.std.specs.Prelude.{◌≡◌, ℕ, ◌+◌, ◌-◌, ◌^◌, ◌<◌, ◌≤◌, List, [], ◌∷◌, ◌++◌, length, pos, negsuc, ◌<ℤ◌, None, IfSome, IfOk, OnOk, OnErr, MatchResult, option_map, false};
 ghost use Rattle.std.specs.List.{AllByRecursion};
 ghost use Rattle.key_lists.specs.Keys.{without};
-ghost use Rattle.tick_model.specs.Rules.{landed, shift_fault};
-ghost use Rattle.tick_model.specs.Shifts.{moved, shifted};
+ghost use Rattle.tick_model.specs.Rules.{is_past, landed, shift_fault};
+ghost use Rattle.tick_model.specs.Shifts.{as_key, moved, shifted};
 ghost use Rattle.shift_data.specs.Moves.{IsLawful, canonical, canonical_through, pairs_of, unapplied};
 ghost use Rattle.shift_data.specs.Pushes.{push_fault};
 ghost use Rattle.shift_data.specs.ShiftLists.{IsShiftList, offset_by};
 
 use crate::apply::moved_keys;
 use crate::canonical::{canonical, canonical_through, canonical_without};
+use crate::in_place::move_keys;
 use crate::order::broken;
 use crate::pairs::ranges_of_pairs;
 use crate::search::{place_of, range_of};
@@ -116,6 +117,16 @@ impl ShiftData {
         }
     }
 
+    /// The key to which a row moves that stays.
+    pub fn landing(&self, key: u64) -> u64
+        requires key { key < 2 ^ 62 }
+        requires inside { is_past (2 ^ 62) (moved self.now key) ≡ false }
+        ensures place { result ≡ as_key (moved self.now key) }
+        ensures shift { IsShiftList self.now }
+    {
+        self.moved(key) as u64
+    }
+
     /// Whether every key moves to one below the limit and the moved keys rise: then None. Else the least key that does not
     /// move so, with the key before it where it moves not past that one, and else with itself.
     pub fn keeps_order(&self, keys: &RowSet, limit: u64) -> Option<Broken>
@@ -131,6 +142,15 @@ impl ShiftData {
         ensures { IfOk result (λ places. places ≡ landed self.now keys.now) }
     {
         moved_keys(*self.ranges.allocator(), &self.ranges, keys)
+    }
+
+    /// Moves the keys in place, and touches no ranges of keys but those that move. After a refusal some of the keys that
+    /// move may be absent.
+    pub fn apply_in_place(&self, keys: &mut RowSet) -> Result<(), AllocError>
+        requires { IsLawful self.now keys.old }
+        ensures { OnOk result (keys.new ≡ landed self.now keys.old) }
+    {
+        move_keys(*self.ranges.allocator(), &self.ranges, keys)
     }
 
     /// Those of the survivors whose moved key is in `after`.

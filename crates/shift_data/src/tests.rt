@@ -59,6 +59,9 @@ fn order_is_broken(rt: HostRuntime) -> Result<(), Fail> {
     let shift = shift(rt.alloc())?;
     assert_eq!(rt; shift.moved(1), 6);
     assert_eq!(rt; shift.moved(3), 3);
+    if shift.moved(1) >= 0 && shift.moved(1) < 9 {
+        assert_eq!(rt; shift.landing(1), 6);
+    }
     let mut keys = keys(rt.alloc(), 1, 1)?;
     keys.insert_range(3, 3)?;
     let broken = Broken {
@@ -81,6 +84,9 @@ fn keys_move(rt: HostRuntime) -> Result<(), Fail> {
     let after = keys(rt.alloc(), 6, 6)?;
     let asked = shift.unapply(&survivors, &after)?;
     assert_eq!(rt; asked.ranges(), [run(1, 1)].as_slice());
+    let mut moved = survivors.copy()?;
+    shift.apply_in_place(&mut moved)?;
+    assert_eq!(rt; moved.ranges(), places.ranges());
     let pairs = ShiftData::of_pairs(rt.alloc(), &survivors, &places)?;
     assert_eq!(rt; pairs.ranges(), [range(1, 2, 5)].as_slice());
     Ok(())
@@ -96,6 +102,20 @@ fn ranges_become_canonical(rt: HostRuntime) -> Result<(), Fail> {
     }
     let canonical = shift.canonical(&survivors)?;
     assert_eq!(rt; canonical.ranges(), [range(2, 2, 5)].as_slice());
+    Ok(())
+}
+
+#[test]
+fn keys_are_left_out(rt: HostRuntime) -> Result<(), Fail> {
+    let shift = shift(rt.alloc())?;
+    let all = keys(rt.alloc(), 0, 2)?;
+    let left_out = keys(rt.alloc(), 2, 3)?;
+    let survivors = all.minus(&left_out)?;
+    if let Some(broken) = shift.keeps_order(&survivors, LIMIT) {
+        return Err(Fail::from(broken));
+    }
+    let canonical = shift.canonical_without(&all, &left_out)?;
+    assert_eq!(rt; canonical.ranges(), [range(1, 1, 5)].as_slice());
     Ok(())
 }
 
