@@ -4,16 +4,18 @@ pub mod Changes
 pub mod Choices
 pub mod Clock
 pub mod Evaluation
+pub mod Extremes
 pub mod Formulas
 pub mod HeadTail
 pub mod Join
-pub mod Lawful
+pub mod Fits
 pub mod LawfulRuns
 pub mod Merge
 pub mod Names
 pub mod Numbers
 pub mod Plans
 pub mod Printable
+pub mod Ready
 pub mod Rules
 pub mod Shifts
 pub mod Slices
@@ -21,6 +23,7 @@ pub mod Sort
 pub mod Sources
 pub mod Spoiled
 pub mod States
+pub mod Stops
 pub mod Tables
 pub mod Texts
 pub mod Updates

@@ -6,7 +6,6 @@ use Rattle.std.specs.List.{range_with_len, position_or_len, AllByRecursion}
 use Rattle.tick_model.specs.declared.feed.Block.{Block}
 use Rattle.tick_model.specs.declared.update.KeyRange.{KeyRange}
 use Rattle.tick_model.specs.declared.feed.Run.{Run}
-use Rattle.tick_model.specs.declared.update.ShiftRange.{ShiftRange}
 use Rattle.tick_model.specs.declared.plan.Plan.{Plan}
 use Rattle.tick_model.specs.declared.table.PlainTable.{PlainTable}
 use Rattle.key_lists.specs.Keys.{IsRising}

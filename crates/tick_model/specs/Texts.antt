@@ -4,7 +4,7 @@
 --     updates_text run last      the changes of the printed nodes, up to a step
 --     snapshots_text run choice      the snapshots at the steps that a choice gives
 --     summary_text run step      how many records the changes have, and how many rows each node has at a step
-use Rattle.std.specs.Prelude.{ℕ, ◌+◌, ◌*◌, ◌%◌, ◌==◌, ◌||◌, Bool, List, [], ◌∷◌, ◌++◌, map, flat_map, drop, length, ℤ, codes, slice_index, slice_index_or, if◌then◌else◌}
+use Rattle.std.specs.Prelude.{ℕ, ◌+◌, ◌*◌, ◌%◌, ◌==◌, ◌||◌, Bool, List, [], ◌∷◌, ◌++◌, map, flat_map, drop, length, ℤ, codes, slice_index_or, if◌then◌else◌}
 use Rattle.std.specs.List.{list_any, range_with_len}
 use Rattle.std.specs.Fmt.{decimal, signed_decimal}
 use Rattle.key_lists.specs.Keys.{runs}

@@ -1,0 +1,104 @@
+-- The key bounds of a plan's nodes, one node after the other.
+use Rattle.std.proofs.Common.{◌≡◌, refl, ap, sym, ◌∙◌, Bool, true, false, ◌&&◌, ℕ, zero, suc, ◌+◌, ◌<◌, ◌≤◌, arith, List, [], ◌∷◌, ◌++◌, length, sum, take, get_or, append_assoc, length-append, length-take}
+use Rattle.std.specs.Prelude.{fold, nat_lt}
+use Rattle.std.specs.List.{All, AllByRecursion, list_all}
+use Rattle.std.proofs.lemmas.Bool.{le-ltb}
+use Rattle.std.proofs.lemmas.Bool.Decides.{Decides-by_and, Decides-ltb}
+use Rattle.std.proofs.lemmas.List.{append-nil, get_or_append_left}
+use Rattle.std.proofs.Math.Seq.{get_or-append_seam}
+use Rattle.key_lists.proofs.Every.{every_weaker, map_same}
+use Rattle.std.proofs.lemmas.List.Folds.{list_all-append}
+use Rattle.std.proofs.lemmas.List.Sums.{fold_more}
+use Rattle.tick_model.specs.declared.plan.Node.{Node}
+use Rattle.tick_model.specs.declared.plan.Op.{Op}
+use Rattle.tick_model.specs.declared.plan.Op.TheVariants.{Source, Keep, View, Join, Agg, Merge, Sort, Head, Tail, AsOf}
+use Rattle.tick_model.specs.Evaluation.{inputs_of}
+use Rattle.tick_model.specs.Plans.{bound_of, with_bound, key_bounds}
+
+-- later nodes put their bounds behind
+pub bounds_go_on : (nodes : List Node) (bounds : List ℕ) → (others : List ℕ) × (fold with_bound bounds nodes ≡ bounds ++ others)
+bounds_go_on [] bounds = ([], sym (append-nil bounds))
+bounds_go_on (node ∷ nodes) bounds =
+    let bound = bound_of node.op (λ input. get_or bounds input 0) in
+    let more = bounds_go_on nodes (with_bound bounds node) in
+    (bound ∷ more.0, more.1 ∙ append_assoc bounds (bound ∷ []) more.0)
+
+-- the bounds of the first nodes stand first
+pub first_bounds : (nodes : List Node) (n : ℕ) → (others : List ℕ) × (key_bounds nodes ≡ key_bounds (take n nodes) ++ others)
+first_bounds nodes n = from nodes n []
+  where
+    from : (nodes : List Node) (n : ℕ) (bounds : List ℕ) → (others : List ℕ) × (fold with_bound bounds nodes ≡ fold with_bound bounds (take n nodes) ++ others)
+    from nodes zero bounds = bounds_go_on nodes bounds
+    from [] (suc n) bounds = ([], sym (append-nil bounds))
+    from (node ∷ nodes) (suc n) bounds = from nodes n (with_bound bounds node)
+
+-- one bound more
+pub bounds_more : (nodes : List Node) (n : ℕ) (node : Node) → n < length nodes → node ≡ get_or nodes n node → key_bounds (take (n + 1) nodes) ≡ with_bound (key_bounds (take n nodes)) node
+bounds_more nodes n node within here = fold_more with_bound [] nodes n node within ∙ ap (with_bound (key_bounds (take n nodes))) (sym here)
+
+-- one bound that fails settles the answer
+pub bound_fails : (limit : ℕ) (nodes : List Node) (n : ℕ) (node : Node) (bounds : List ℕ) (bound : ℕ) → n < length nodes → node ≡ get_or nodes n node → bounds ≡ key_bounds (take n nodes)
+    → bound ≡ bound_of node.op (λ input. get_or bounds input 0) → limit ≤ bound → list_all (λ bound. nat_lt bound limit) (key_bounds nodes) ≡ false
+bound_fails limit nodes n node bounds bound within here known own past =
+    let more = first_bounds nodes (n + 1) in
+    let test : List ℕ → Bool = list_all (λ bound. nat_lt bound limit) in
+    ap test (more.1 ∙ ap (λ first. first ++ more.0) (bounds_more nodes n node within here ∙ ap (λ bounds. with_bound bounds node) (sym known) ∙ ap (λ bound. bounds ++ bound ∷ []) (sym own)))
+    ∙ list_all-append (λ bound. nat_lt bound limit) (bounds ++ bound ∷ []) more.0
+    ∙ ap (λ b. b && test more.0) (list_all-append (λ bound. nat_lt bound limit) bounds (bound ∷ []) ∙ ap (λ b. test bounds && (b && true)) (le-ltb bound limit past) ∙ and_false (test bounds))
+  where
+    and_false : (a : Bool) → (a && false) ≡ false
+    and_false true = refl
+    and_false false = refl
+
+pub bounds_pass : (limit : ℕ) (bounds : List ℕ) → All (λ bound. bound < limit) bounds → list_all (λ bound. nat_lt bound limit) bounds ≡ true
+bounds_pass limit bounds h = (Decides-by_and (λ bound. nat_lt bound limit) (λ bound. bound < limit) (list_all (λ bound. nat_lt bound limit)) (λ bound. Decides-ltb bound limit) refl (λ _ _. refl) bounds).1 h
+
+-- the bound of a node
+abbrev pub key_bound : List Node → ℕ → ℕ
+key_bound nodes node = get_or (key_bounds nodes) node 0
+
+pub length-key_bounds : (nodes : List Node) → length (key_bounds nodes) ≡ length nodes
+length-key_bounds nodes = let none : 0 + length nodes ≡ length nodes = omega arith in from nodes [] ∙ none
+  where
+    from : (nodes : List Node) (bounds : List ℕ) → length (fold with_bound bounds nodes) ≡ length bounds + length nodes
+    from [] bounds = omega arith
+    from (node ∷ nodes) bounds =
+        let bound = bound_of node.op (λ input. get_or bounds input 0) in
+        from nodes (with_bound bounds node) ∙ ap (λ n. n + length nodes) (length-append bounds (bound ∷ [])) ∙ omega arith
+
+-- an operator's bound is that of its inputs' bounds alone
+bound_same : (op : Op) (f g : ℕ → ℕ) → AllByRecursion (λ input. f input ≡ g input) (inputs_of op) → bound_of op f ≡ bound_of op g
+bound_same Source f g h = refl
+bound_same (Keep from test) f g h = h.0
+bound_same (View from exprs) f g h = h.0
+bound_same (Join left right on take choice) f g h = h.0
+bound_same (Agg from by aggs) f g h = h.0
+bound_same (Merge inputs) f g h = ap sum (map_same f g inputs h)
+bound_same (Sort from by) f g h = refl
+bound_same (Head from rows) f g h = h.0
+bound_same (Tail from rows) f g h = h.0
+bound_same (AsOf left right on at take) f g h = h.0
+
+-- a node's bound is that of its operator over its inputs' bounds
+pub bound_here : (nodes : List Node) (n : ℕ) (node : Node) → n < length nodes → node ≡ get_or nodes n node → AllByRecursion (λ input. input < n) (inputs_of node.op) → key_bound nodes n ≡ bound_of node.op (key_bound nodes)
+bound_here nodes n node within here lesser =
+    let known = key_bounds (take n nodes) in
+    let own = bound_of node.op (λ input. get_or known input 0) in
+    let more = first_bounds nodes (n + 1) in
+    let count : length known ≡ n = length-key_bounds (take n nodes) ∙ length-take n nodes ∙ omega arith in
+    let all : key_bounds nodes ≡ (known ++ own ∷ []) ++ more.0 = more.1 ∙ ap (λ first. first ++ more.0) (bounds_more nodes n node within here) in
+    let places : length (known ++ own ∷ []) ≡ length known + 1 = length-append known (own ∷ []) in
+    ap (λ bounds. get_or bounds n 0) all
+    ∙ get_or_append_left (known ++ own ∷ []) more.0 0 n (omega (arith, places, count))
+    ∙ ap (λ k. get_or (known ++ own ∷ []) k 0) (sym count)
+    ∙ get_or-append_seam known own [] 0
+    ∙ bound_same node.op (λ input. get_or known input 0) (key_bound nodes)
+    (every_weaker (λ input. input < n) (λ input. get_or known input 0 ≡ key_bound nodes input) (inputs_of node.op)
+    (λ input before.
+    let low : input < length known = omega (arith, before, count) in
+    sym (get_or_append_left known (own ∷ []) 0 input low) ∙ sym (get_or_append_left (known ++ own ∷ []) more.0 0 input (omega (arith, low, places))) ∙ ap (λ bounds. get_or bounds input 0) (sym all))
+    lesser)
+
+pub bound_below : (limit : ℕ) (nodes : List Node) (n : ℕ) → list_all (λ bound. nat_lt bound limit) (key_bounds nodes) ≡ true → n < length nodes → key_bound nodes n < limit
+bound_below limit nodes n h within =
+    (Decides-by_and (λ bound. nat_lt bound limit) (λ bound. bound < limit) (list_all (λ bound. nat_lt bound limit)) (λ bound. Decides-ltb bound limit) refl (λ _ _. refl) (key_bounds nodes)).0 h n 0 (omega (arith, length-key_bounds nodes))

@@ -1,0 +1,668 @@
+//! The evaluator, the test of plans and the words of published tables on worked examples.
+
+use crate::evaluate::{EvalStop, evaluate};
+use crate::items::Items;
+use crate::kinds::{kind_of, test_fits};
+use crate::name::Name;
+use crate::plan::{
+    Agg, Choice, ColumnSpec, Comparison, Expr, Kind, Node, OnPair, Op, Plan, Pred, Published,
+    SortBy,
+};
+use crate::published::published_words;
+use crate::table::{NodeFault, PlainRow, PlainTable};
+use std::alloc::{AllocError, Global};
+use std::process::Abort;
+use std::test::Fail;
+
+/// The last node of a plan, over the source 0, and over the source 1 where it takes two tables.
+#[derive(Clone, Copy)]
+enum Last {
+    AboveTen(u32),
+    UnknownText,
+    PlusOne,
+    Down,
+    Head(u32, u32),
+    Tail,
+    Totals,
+    AllAggregates,
+    Merged(u32),
+    Join(Choice),
+    AsOf,
+}
+
+/// Columns, of which `:text` marks those of texts, and rows, each with its key first.
+#[derive(Clone, Copy)]
+struct Source {
+    columns: &'static str,
+    rows: &'static str,
+}
+
+/// What a plan of sources and one node more gives.
+#[derive(Clone, Copy)]
+struct Case {
+    shows: &'static str,
+    first: Source,
+    second: Option<Source>,
+    last: Last,
+    columns: &'static str,
+    rows: &'static str,
+}
+
+const LEFT: Source = Source {
+    columns: "sym",
+    rows: "0 0",
+};
+
+const TWO_EQUAL: Source = Source {
+    columns: "sym px",
+    rows: "1 0 1/2 0 2",
+};
+
+const TRADES: Source = Source {
+    columns: "sym ts",
+    rows: "0 0 15/1 0 5",
+};
+
+const CASES: [Case; 22] = [
+    Case {
+        shows: "a row passes",
+        first: Source {
+            columns: "qty",
+            rows: "1 20",
+        },
+        second: None,
+        last: Last::AboveTen(0),
+        columns: "qty",
+        rows: "1 20",
+    },
+    Case {
+        shows: "a row fails",
+        first: Source {
+            columns: "qty",
+            rows: "4 5",
+        },
+        second: None,
+        last: Last::AboveTen(0),
+        columns: "qty",
+        rows: "",
+    },
+    Case {
+        shows: "a sum wraps to null",
+        first: Source {
+            columns: "a",
+            rows: "0 9223372036854775807/1 null/2 1",
+        },
+        second: None,
+        last: Last::PlusOne,
+        columns: "a b",
+        rows: "0 9223372036854775807 null/1 null null/2 1 2",
+    },
+    Case {
+        shows: "two rows in order",
+        first: Source {
+            columns: "qty",
+            rows: "0 5/1 20",
+        },
+        second: None,
+        last: Last::Down,
+        columns: "qty",
+        rows: "0 20/1 5",
+    },
+    Case {
+        shows: "three rows in order",
+        first: Source {
+            columns: "qty",
+            rows: "0 5/1 20/2 10",
+        },
+        second: None,
+        last: Last::Down,
+        columns: "qty",
+        rows: "0 20/1 10/2 5",
+    },
+    Case {
+        shows: "equal rows stay in order",
+        first: Source {
+            columns: "qty x",
+            rows: "0 5 1/1 5 2/2 7 3",
+        },
+        second: None,
+        last: Last::Down,
+        columns: "qty x",
+        rows: "0 7 3/1 5 1/2 5 2",
+    },
+    Case {
+        shows: "groups",
+        first: Source {
+            columns: "sym qty",
+            rows: "0 0 1/1 1 2/2 0 3",
+        },
+        second: None,
+        last: Last::Totals,
+        columns: "sym total",
+        rows: "0 0 4/1 1 2",
+    },
+    Case {
+        shows: "a group without its first row",
+        first: Source {
+            columns: "sym qty",
+            rows: "1 1 2/2 0 3",
+        },
+        second: None,
+        last: Last::Totals,
+        columns: "sym total",
+        rows: "1 1 2/2 0 3",
+    },
+    Case {
+        shows: "no rows",
+        first: Source {
+            columns: "sym qty",
+            rows: "",
+        },
+        second: None,
+        last: Last::Totals,
+        columns: "sym total",
+        rows: "",
+    },
+    Case {
+        shows: "all aggregates",
+        first: Source {
+            columns: "a",
+            rows: "3 9223372036854775807/4 null/7 1",
+        },
+        second: None,
+        last: Last::AllAggregates,
+        columns: "n s lo hi a1 a2",
+        rows: "3 3 null 1 9223372036854775807 9223372036854775807 1",
+    },
+    Case {
+        shows: "a region is full",
+        first: Source {
+            columns: "x",
+            rows: "65535 1",
+        },
+        second: Some(Source {
+            columns: "x",
+            rows: "0 2",
+        }),
+        last: Last::Merged(1),
+        columns: "x",
+        rows: "65535 1/65536 2",
+    },
+    Case {
+        shows: "a region grows",
+        first: Source {
+            columns: "x",
+            rows: "65535 1/65536 3",
+        },
+        second: Some(Source {
+            columns: "x",
+            rows: "0 2",
+        }),
+        last: Last::Merged(1),
+        columns: "x",
+        rows: "65535 1/65536 3/131072 2",
+    },
+    Case {
+        shows: "a table merged with itself",
+        first: Source {
+            columns: "x",
+            rows: "0 1/2 2",
+        },
+        second: None,
+        last: Last::Merged(0),
+        columns: "x",
+        rows: "0 1/2 2/65536 1/65538 2",
+    },
+    Case {
+        shows: "no match",
+        first: LEFT,
+        second: Some(Source {
+            columns: "sym px",
+            rows: "",
+        }),
+        last: Last::Join(Choice::Error),
+        columns: "sym px",
+        rows: "0 0 null",
+    },
+    Case {
+        shows: "one match",
+        first: LEFT,
+        second: Some(Source {
+            columns: "sym px",
+            rows: "5 0 9",
+        }),
+        last: Last::Join(Choice::Error),
+        columns: "sym px",
+        rows: "0 0 9",
+    },
+    Case {
+        shows: "the first match",
+        first: LEFT,
+        second: Some(TWO_EQUAL),
+        last: Last::Join(Choice::First),
+        columns: "sym px",
+        rows: "0 0 1",
+    },
+    Case {
+        shows: "the last match",
+        first: LEFT,
+        second: Some(TWO_EQUAL),
+        last: Last::Join(Choice::Last),
+        columns: "sym px",
+        rows: "0 0 2",
+    },
+    Case {
+        shows: "quotes before",
+        first: TRADES,
+        second: Some(Source {
+            columns: "sym ts px",
+            rows: "0 0 10 100/1 0 20 200",
+        }),
+        last: Last::AsOf,
+        columns: "sym ts px",
+        rows: "0 0 15 100/1 0 5 null",
+    },
+    Case {
+        shows: "a later quote",
+        first: TRADES,
+        second: Some(Source {
+            columns: "sym ts px",
+            rows: "0 0 10 100/1 0 20 200/2 0 12 110",
+        }),
+        last: Last::AsOf,
+        columns: "sym ts px",
+        rows: "0 0 15 110/1 0 5 null",
+    },
+    Case {
+        shows: "equal times",
+        first: Source {
+            columns: "sym ts",
+            rows: "0 0 10/1 1 10",
+        },
+        second: Some(Source {
+            columns: "sym ts px",
+            rows: "0 0 10 100/1 0 10 150",
+        }),
+        last: Last::AsOf,
+        columns: "sym ts px",
+        rows: "0 0 10 150/1 1 10 null",
+    },
+    Case {
+        shows: "the first two",
+        first: Source {
+            columns: "x",
+            rows: "0 1/1 2/2 3",
+        },
+        second: None,
+        last: Last::Head(0, 2),
+        columns: "x",
+        rows: "0 1/1 2",
+    },
+    Case {
+        shows: "the last two",
+        first: Source {
+            columns: "x",
+            rows: "0 1/1 2/2 3",
+        },
+        second: None,
+        last: Last::Tail,
+        columns: "x",
+        rows: "1 2/2 3",
+    },
+];
+
+const DUPLICATE: Case = Case {
+    shows: "two matches",
+    first: LEFT,
+    second: Some(TWO_EQUAL),
+    last: Last::Join(Choice::Error),
+    columns: "sym px",
+    rows: "",
+};
+
+const LAWFUL: Case = Case {
+    shows: "a script",
+    first: Source {
+        columns: "sym:text qty",
+        rows: "",
+    },
+    second: None,
+    last: Last::AboveTen(1),
+    columns: "sym:text qty",
+    rows: "",
+};
+
+const UNLAWFUL: [Case; 6] = [
+    Case {
+        shows: "a reserved word",
+        first: Source {
+            columns: "from",
+            rows: "",
+        },
+        second: None,
+        last: Last::Tail,
+        columns: "from",
+        rows: "",
+    },
+    Case {
+        shows: "a name twice",
+        first: Source {
+            columns: "a a",
+            rows: "",
+        },
+        second: None,
+        last: Last::Tail,
+        columns: "a a",
+        rows: "",
+    },
+    Case {
+        shows: "its own input",
+        first: Source {
+            columns: "a",
+            rows: "",
+        },
+        second: None,
+        last: Last::Head(1, 2),
+        columns: "a",
+        rows: "",
+    },
+    Case {
+        shows: "too many rows",
+        first: Source {
+            columns: "a",
+            rows: "",
+        },
+        second: None,
+        last: Last::Head(0, 4_194_305),
+        columns: "a",
+        rows: "",
+    },
+    Case {
+        shows: "a text without its rank",
+        first: Source {
+            columns: "a:text",
+            rows: "",
+        },
+        second: None,
+        last: Last::UnknownText,
+        columns: "a:text",
+        rows: "",
+    },
+    Case {
+        shows: "a text and a long",
+        first: Source {
+            columns: "sym:text qty",
+            rows: "",
+        },
+        second: None,
+        last: Last::AboveTen(0),
+        columns: "sym:text qty",
+        rows: "",
+    },
+];
+
+fn list<T: Copy>(alloc: Global, items: &[T]) -> Result<Items<T>, AllocError> {
+    Ok(Items::of(items.to_vec(alloc)?))
+}
+
+fn above_ten(column: u32) -> Pred {
+    Pred::Compare(Comparison::Gt, Expr::Cell(column), Expr::Number(10))
+}
+
+fn plus_one(alloc: Global) -> Result<Expr, AllocError> {
+    let first = Box::new(alloc, Expr::Cell(0))?;
+    let one = Box::new(alloc, Expr::Number(1))?;
+    Ok(Expr::Add(first, one))
+}
+
+fn join(alloc: Global, choice: Choice) -> Result<Op, AllocError> {
+    let on = list(alloc, &[OnPair { left: 0, right: 0 }])?;
+    let take = list(alloc, &[1])?;
+    Ok(Op::Join {
+        left: 0,
+        right: 1,
+        on,
+        take,
+        choice,
+    })
+}
+
+fn as_of(alloc: Global) -> Result<Op, AllocError> {
+    let on = list(alloc, &[OnPair { left: 0, right: 0 }])?;
+    let take = list(alloc, &[2])?;
+    Ok(Op::AsOf {
+        left: 0,
+        right: 1,
+        on,
+        at: OnPair { left: 1, right: 1 },
+        take,
+    })
+}
+
+fn totals(alloc: Global) -> Result<Op, AllocError> {
+    let by = list(alloc, &[0])?;
+    let aggs = list(alloc, &[Agg::Sum(1)])?;
+    Ok(Op::Agg { input: 0, by, aggs })
+}
+
+fn all_aggregates(alloc: Global) -> Result<Op, AllocError> {
+    let aggs = list(
+        alloc,
+        &[
+            Agg::Count,
+            Agg::Sum(0),
+            Agg::Min(0),
+            Agg::Max(0),
+            Agg::First(0),
+            Agg::Last(0),
+        ],
+    )?;
+    Ok(Op::Agg {
+        input: 0,
+        by: Items::new(alloc),
+        aggs,
+    })
+}
+
+fn operator(alloc: Global, last: Last) -> Result<Op, AllocError> {
+    Ok(match last {
+        Last::AboveTen(column) => Op::Keep {
+            input: 0,
+            test: above_ten(column),
+        },
+        Last::UnknownText => Op::Keep {
+            input: 0,
+            test: Pred::Compare(Comparison::Eq, Expr::Literal(0), Expr::Null),
+        },
+        Last::PlusOne => Op::View {
+            input: 0,
+            exprs: Items::of(vec![in alloc; plus_one(alloc)?]?),
+        },
+        Last::Down => Op::Sort {
+            input: 0,
+            by: list(
+                alloc,
+                &[SortBy {
+                    column: 0,
+                    descending: true,
+                }],
+            )?,
+        },
+        Last::Head(input, rows) => Op::Head { input, rows },
+        Last::Tail => Op::Tail { input: 0, rows: 2 },
+        Last::Totals => totals(alloc)?,
+        Last::AllAggregates => all_aggregates(alloc)?,
+        Last::Merged(other) => Op::Merge {
+            inputs: list(alloc, &[0, other])?,
+        },
+        Last::Join(choice) => join(alloc, choice)?,
+        Last::AsOf => as_of(alloc)?,
+    })
+}
+
+fn column(alloc: Global, word: &str) -> Result<ColumnSpec, AllocError> {
+    let (name, kind) = match word.split_once(':') {
+        Some((name, _)) => (name, Kind::Text),
+        None => (word, Kind::Long),
+    };
+    Ok(ColumnSpec {
+        name: Name::of(String::from_str(alloc, name)?),
+        kind,
+    })
+}
+
+fn columns(alloc: Global, text: &str) -> Result<Items<ColumnSpec>, AllocError> {
+    let mut columns = Items::new(alloc);
+    for word in text.split(' ') {
+        columns.push(column(alloc, word)?)?;
+    }
+    Ok(columns)
+}
+
+fn node(alloc: Global, name: &str, text: &str, op: Op) -> Result<Node, AllocError> {
+    let name = Name::of(String::from_str(alloc, name)?);
+    Ok(Node {
+        name,
+        columns: columns(alloc, text)?,
+        op,
+    })
+}
+
+fn plan(alloc: Global, case: &Case) -> Result<Plan, AllocError> {
+    let mut nodes = Items::new(alloc);
+    nodes.push(node(alloc, "u", case.first.columns, Op::Source)?)?;
+    if let Some(second) = case.second {
+        nodes.push(node(alloc, "v", second.columns, Op::Source)?)?;
+    }
+    nodes.push(node(alloc, "x", case.columns, operator(alloc, case.last)?)?)?;
+    Ok(Plan {
+        nodes,
+        printed: Items::new(alloc),
+        published: Items::new(alloc),
+    })
+}
+
+fn row(alloc: Global, text: &str) -> Result<PlainRow, Fail> {
+    let (key, cells) = text.split_once(' ').ok_or("no cells")?;
+    let key = key.parse::<u64>()?;
+    let mut row = PlainRow {
+        key,
+        cells: Items::new(alloc),
+    };
+    for cell in cells.split(' ') {
+        let cell = if cell == "null" {
+            i64::MIN
+        } else {
+            cell.parse::<i64>()?
+        };
+        row.cells.push(cell)?;
+    }
+    Ok(row)
+}
+
+fn rows(alloc: Global, text: &str) -> Result<Items<PlainRow>, Fail> {
+    let mut rows = Items::new(alloc);
+    if text.is_empty() {
+        return Ok(rows);
+    }
+    for line in text.split('/') {
+        rows.push(row(alloc, line)?)?;
+    }
+    Ok(rows)
+}
+
+fn table(alloc: Global, source: Source) -> Result<PlainTable, Fail> {
+    let width = u32::try_from(columns(alloc, source.columns)?.len())?;
+    Ok(PlainTable {
+        width,
+        rows: rows(alloc, source.rows)?,
+    })
+}
+
+fn sources(alloc: Global, case: &Case) -> Result<Items<PlainTable>, Fail> {
+    let mut tables = Items::new(alloc);
+    tables.push(table(alloc, case.first)?)?;
+    if let Some(second) = case.second {
+        tables.push(table(alloc, second)?)?;
+    }
+    Ok(tables)
+}
+
+fn same_rows(rows: &[PlainRow], others: &[PlainRow]) -> bool {
+    if rows.len() != others.len() {
+        return false;
+    }
+    for (row, other) in rows.iter().zip(others) {
+        if row.key != other.key || row.cells.as_slice() != other.cells.as_slice() {
+            return false;
+        }
+    }
+    true
+}
+
+/// Whether a case's plan gives its rows, or why it gives none.
+fn outcome(rt: &impl Abort, alloc: Global, case: &Case) -> Result<Result<bool, EvalStop>, Fail> {
+    let plan = plan(alloc, case)?;
+    let sources = sources(alloc, case)?;
+    let wanted = rows(alloc, case.rows)?;
+    assert!(rt; plan.lawful());
+    assert!(rt; plan.fits(&sources));
+    Ok(match evaluate(alloc, &plan, &sources) {
+        Err(stop) => Err(stop),
+        Ok(evaluated) => match evaluated.tables.as_slice().last() {
+            Some(last) => Ok(same_rows(last.rows.as_slice(), wanted.as_slice())),
+            None => Ok(false),
+        },
+    })
+}
+
+#[test]
+fn operators_give_their_tables(rt: HostRuntime) -> Result<(), Fail> {
+    for case in &CASES {
+        let shows = case.shows;
+        assert_eq!(rt; outcome(&rt, rt.alloc(), case)?, Ok(true), "{shows}");
+    }
+    Ok(())
+}
+
+#[test]
+fn two_matches_of_a_left_row_are_a_fault(rt: HostRuntime) -> Result<(), Fail> {
+    let kind = NodeFault::DuplicateRight {
+        left_key: 0,
+        first: 1,
+        second: 2,
+    };
+    assert_eq!(rt;
+        outcome(&rt, rt.alloc(), &DUPLICATE)?,
+        Err(EvalStop::Node { node: 2, kind })
+    );
+    Ok(())
+}
+
+#[test]
+fn plans_are_lawful_by_their_rules(rt: HostRuntime) -> Result<(), Fail> {
+    assert!(rt; plan(rt.alloc(), &LAWFUL)?.lawful());
+    for case in &UNLAWFUL {
+        let shows = case.shows;
+        assert!(rt; !plan(rt.alloc(), case)?.lawful(), "{shows}");
+    }
+    Ok(())
+}
+
+#[test]
+fn kinds_and_words_are_those_of_the_rules(rt: HostRuntime) -> Result<(), Fail> {
+    let kinds = [Kind::Text, Kind::Long];
+    assert_eq!(rt; kind_of(&plus_one(rt.alloc())?, &kinds), None);
+    let against_null = Pred::Compare(Comparison::Eq, Expr::Cell(0), Expr::Null);
+    assert!(rt; test_fits(&against_null, &kinds));
+    let published = list(
+        rt.alloc(),
+        &[Published {
+            node: 0,
+            width: 1,
+            limit: 262_143,
+        }],
+    )?;
+    assert_eq!(rt; published_words(&published), 1_048_576);
+    Ok(())
+}

@@ -1,0 +1,11 @@
+pub mod AddedRows
+pub mod Apart
+pub mod Backwards
+pub mod CellRows
+pub mod ChangesBack
+pub mod Digits
+pub mod Quoting
+pub mod RowsBack
+pub mod RowsUnder
+pub mod RunsBack
+pub mod ToldRows

@@ -1,0 +1,64 @@
+-- Rows under their keys, with their cells one after the other.
+use Rattle.std.proofs.Common.{◌≡◌, refl, ap, ◌∙◌, true, ℕ, zero, suc, ◌+◌, ◌*◌, ◌^◌, ◌<◌, arith, List, [], ◌∷◌, ◌++◌, length, length-drop, take, drop}
+use Rattle.std.specs.Prelude.{ℤ, flat_map, FitsSigned}
+use Rattle.std.specs.Int.{w64}
+use Rattle.std.specs.List.{AllByRecursion}
+use Rattle.std.proofs.lemmas.List.{drop-drop, take-append-drop}
+use Rattle.tick_model.specs.declared.plan.ColumnSpec.{ColumnSpec}
+use Rattle.tick_model.specs.declared.table.PlainRow.{PlainRow}
+use Rattle.tick_model.specs.Changes.{rows_under}
+use Rattle.tick_model.specs.Printable.{fit_columns}
+use Rattle.tick_model.specs.Tables.{keys}
+use Rattle.update_text.proofs.RowsBack.{IsToldRow}
+
+pub every-take : {X : Type 0} (P : X → Type 0) (n : ℕ) (xs : List X) → AllByRecursion P xs → AllByRecursion P (take n xs)
+every-take P zero xs h = tt
+every-take P (suc n) [] h = tt
+every-take P (suc n) (x ∷ xs) h = (h.0, every-take P n xs h.1)
+
+pub every-drop : {X : Type 0} (P : X → Type 0) (n : ℕ) (xs : List X) → AllByRecursion P xs → AllByRecursion P (drop n xs)
+every-drop P zero xs h = h
+every-drop P (suc n) [] h = tt
+every-drop P (suc n) (x ∷ xs) h = every-drop P n xs h.1
+
+pub every_front : {X : Type 0} (P : X → Type 0) (xs ys : List X) → AllByRecursion P (xs ++ ys) → AllByRecursion P xs
+every_front P [] ys h = tt
+every_front P (x ∷ xs) ys h = (h.0, every_front P xs ys h.1)
+
+pub every_back : {X : Type 0} (P : X → Type 0) (xs ys : List X) → AllByRecursion P (xs ++ ys) → AllByRecursion P ys
+every_back P [] ys h = h
+every_back P (x ∷ xs) ys h = every_back P xs ys h.1
+
+pub keys_under : (width : ℕ) (ks : List ℕ) (cells : List ℤ) → keys (rows_under width ks cells) ≡ ks
+keys_under width [] cells = refl
+keys_under width (k ∷ ks) cells = ap (λ others. k ∷ others) (keys_under width ks (drop width cells))
+
+pub rows_under-append : (width : ℕ) (ks ls : List ℕ) (cells : List ℤ) →
+    rows_under width (ks ++ ls) cells ≡ rows_under width ks cells ++ rows_under width ls (drop (width * length ks) cells)
+rows_under-append width [] ls cells = let e : 0 ≡ width * 0 = omega arith in ap (λ k. rows_under width ls (drop k cells)) e
+rows_under-append width (k ∷ ks) ls cells =
+    let e : width + width * length ks ≡ width * length (k ∷ ks) = omega arith in
+    let first : PlainRow = record { key = k; cells = take width cells } in
+    ap (λ rows. first ∷ rows) (rows_under-append width ks ls (drop width cells)
+    ∙ ap (λ more. rows_under width ks (drop width cells) ++ rows_under width ls more) (drop-drop (width * length ks) width cells ∙ ap (λ n. drop n cells) e))
+
+none_long : {X : Type 0} (xs : List X) → length xs ≡ 0 → [] ≡ xs
+none_long [] h = refl
+none_long (x ∷ xs) h = absurd (omega arith)
+
+-- the cells are those of the rows
+pub cells_under : (width : ℕ) (ks : List ℕ) (cells : List ℤ) → length cells ≡ width * length ks → flat_map (λ row. row.cells) (rows_under width ks cells) ≡ cells
+cells_under width [] cells h = none_long cells (omega arith)
+cells_under width (k ∷ ks) cells h =
+    ap (λ rest. take width cells ++ rest) (cells_under width ks (drop width cells) (omega (arith, length-drop width cells)))
+    ∙ take-append-drop width cells
+
+-- each row under keys is one that a record tells
+pub told_under : (columns : List ColumnSpec) (texts : List (List ℕ)) (width : ℕ) (ks : List ℕ) (cells : List ℤ) →
+    AllByRecursion (λ key. key < 2 ^ 62) ks → AllByRecursion (FitsSigned w64) cells →
+    AllByRecursion (λ row. fit_columns (length texts) columns row.cells ≡ true) (rows_under width ks cells) → AllByRecursion (IsToldRow columns texts) (rows_under width ks cells)
+told_under columns texts width [] cells below numbers fit = tt
+told_under columns texts width (k ∷ ks) cells below numbers fit = (
+  record { key = below.0; numbers = every-take (FitsSigned w64) width cells numbers; fit = fit.0 },
+  told_under columns texts width ks (drop width cells) below.1 (every-drop (FitsSigned w64) width cells numbers) fit.1,
+)

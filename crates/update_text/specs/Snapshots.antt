@@ -1,0 +1,37 @@
+-- Tables as words, read back.
+--     AreWordsOf shown words table      the words are those of a table with these columns
+--     rows_told count size words      so many rows, each of so many words
+--     snapshot_shown caller call step shown texts rows      the records of a snapshot
+use Rattle.std.specs.Prelude.{◌≡◌, ℕ, zero, suc, List, [], ◌∷◌, codes, map, take, drop, length}
+use Rattle.std.specs.Fmt.{decimal}
+use Rattle.std.specs.Int.{w64, cast_signed}
+use Rattle.std.specs.List.{AllByRecursion}
+use Rattle.tick_model.specs.declared.table.PlainRow.{PlainRow}
+use Rattle.tick_model.specs.declared.table.PlainTable.{PlainTable}
+use Rattle.tick_model.specs.Tables.{HasCells}
+use Rattle.tick_model.specs.Texts.{snapshot_of}
+use Rattle.tick_model.specs.Words.{words}
+use Rattle.update_text.specs.declared.shown.Shown.{Shown}
+
+-- the words are those of this table, whose rows have a cell for each column, and whose cells are numbers of 64 bits
+pub record AreWordsOf (shown : Shown) (told : List ℕ) (table : PlainTable) : Type 0 where
+  pub same : told ≡ words table
+  pub whole : AllByRecursion (λ row. length row.cells ≡ length shown.columns) table.rows
+  pub numbers : HasCells table
+
+-- the row that words tell: its key, and then its cells
+abbrev pub row_told : List ℕ → PlainRow
+row_told [] = record { key = 0; cells = [] }
+row_told (key ∷ cells) = record { key = key; cells = map (cast_signed w64) cells }
+
+abbrev pub rows_told : ℕ → ℕ → List ℕ → List PlainRow
+rows_told zero size told = []
+rows_told (suc count) size told = row_told (take size told) ∷ rows_told count size (drop size told)
+
+-- the first record of a snapshot
+abbrev pub snap_record : ℕ → ℕ → ℕ → List ℕ → List (List ℕ)
+snap_record caller call step name = codes "snap" ∷ decimal caller ∷ decimal call ∷ decimal step ∷ name ∷ []
+
+-- a snapshot's records, of these rows
+abbrev pub snapshot_shown : ℕ → ℕ → ℕ → Shown → List (List ℕ) → List PlainRow → List (List (List ℕ))
+snapshot_shown caller call step shown texts rows = snapshot_of caller call step shown.name shown.columns texts rows

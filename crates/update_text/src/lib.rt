@@ -1,0 +1,26 @@
+//! The printed records of changes and of snapshots.
+//!
+//! A record is a line of fields, joined by commas. A field that holds a comma, a double quote, a carriage return or a line feed stands in
+//! double quotes, with each double quote in it doubled. The definitions of all texts stand in `tick_model`, in `specs/Texts.antt`.
+//!
+//! Each call makes its text whole and then writes it as one piece, so that after an error a prefix of that text was written.
+#![tactic(auto)]
+
+mod fault;
+mod fields;
+mod laws;
+mod record;
+mod rows;
+mod shown;
+mod snapshots;
+mod updates;
+
+pub use fault::WriteFault;
+pub use laws::update_text_is_one_to_one;
+pub use record::write_fields;
+pub use shown::Shown;
+pub use snapshots::write_snapshot;
+pub use updates::write_added;
+
+#[cfg(test)]
+mod tests;
