@@ -72,7 +72,7 @@ right_none key last tail below =
     ]
 
 -- the edges hold the keys that the ranges hold, but for those that are removed
-edges_hold : (key first last : ℕ) (ranges : List Range) (head tail : Range) → first ≤ last → IsMet first last ranges head tail → list_any (holds key) (left_edge first head ++ right_edge last tail) ≡ (outside first last key && list_any (holds key) ranges)
+pub edges_hold : (key first last : ℕ) (ranges : List Range) (head tail : Range) → first ≤ last → IsMet first last ranges head tail → list_any (holds key) (left_edge first head ++ right_edge last tail) ≡ (outside first last key && list_any (holds key) ranges)
 edges_hold key first last ranges head tail le is =
     any-append (holds key) (left_edge first head) (right_edge last tail)
     ∙ elim (cases_lt key first) [
@@ -96,7 +96,7 @@ edges_hold key first last ranges head tail le is =
           ]
     ]
 
-left_apart : (first : ℕ) (head : Range) → head.first < 2 ^ 62 → first < 2 ^ 62 → AreApart head.first (left_edge first head)
+pub left_apart : (first : ℕ) (head : Range) → head.first < 2 ^ 62 → first < 2 ^ 62 → AreApart head.first (left_edge first head)
 left_apart first head small low =
     elim (cases_lt head.first first) [
       | inl edge ↦ subst (λ b. AreApart head.first (cond b (span head.first (first - 1) ∷ []) [])) (sym (lt-ltb head.first first edge)) (record { above = omega arith; ascends = omega arith; small = omega arith }, tt)
@@ -110,7 +110,7 @@ left_ends first bound head le =
       | inr none ↦ subst (λ b. AllByRecursion (λ range. range.last + 2 ≤ bound + 1) (cond b (span head.first (first - 1) ∷ []) [])) (sym (le-ltb head.first first none)) tt
     ]
 
-right_apart : (last : ℕ) (tail : Range) (after : List Range) → tail.last < 2 ^ 62 → AllByRecursion (λ range. last < range.first) after → AreApart (tail.last + 2) after → AreApart (last + 1) (right_edge last tail ++ after)
+pub right_apart : (last : ℕ) (tail : Range) (after : List Range) → tail.last < 2 ^ 62 → AllByRecursion (λ range. last < range.first) after → AreApart (tail.last + 2) after → AreApart (last + 1) (right_edge last tail ++ after)
 right_apart last tail after small past h =
     elim (cases_lt last tail.last) [
       | inl edge ↦ subst (λ b. AreApart (last + 1) (cond b (span (last + 1) tail.last ∷ []) [] ++ after)) (sym (lt-ltb last tail.last edge)) (record { above = omega arith; ascends = omega arith; small = small }, h)

@@ -3,11 +3,14 @@ pub mod Batches
 pub mod Counts
 pub mod Edges
 pub mod Held
+pub mod Joined
 pub mod Longest
 pub mod Lookups
 pub mod Merged
 pub mod Middles
+pub mod Parted
 pub mod Places
+pub mod Shifted
 pub mod Spliced
 pub mod United
 pub mod Windows

@@ -1,5 +1,5 @@
 -- A list with other elements in the place of some.
-use Rattle.std.proofs.Common.{◌≡◌, ap, sym, ◌∙◌, ℕ, ◌+◌, ◌-◌, ◌<◌, ◌≤◌, min, arith, List, [], ◌∷◌, ◌++◌, length, take, drop, get_or, length-append, length-drop, length-take-le, append_assoc, take_all, take-append-drop}
+use Rattle.std.proofs.Common.{◌≡◌, ap, sym, ◌∙◌, ℕ, ◌+◌, ◌-◌, ◌<◌, ◌≤◌, min, arith, List, [], ◌∷◌, ◌++◌, length, take, drop, get_or, length-append, length-drop, length-take-le, append_assoc, take_all, take-append-drop, get_or-drop}
 use Rattle.std.proofs.lemmas.List.{take_more, take_at, drop_at, drop-drop}
 
 -- i of the others stand behind the first `from` elements, where at is the next place, and then what is left of the old ones
@@ -84,3 +84,15 @@ splicing_cut old from to others i at new newer h within all lt is =
     ∙ ap (λ back. (take from old ++ take i others) ++ back) (ap (λ n. drop n new) (sym whole) ∙ sym (drop-drop (to - at) at new) ∙ ap (drop (to - at)) (ap (drop at) h.items ∙ back_at (take from old) (take i others) (drop (min at to) old) at size ∙ ap (λ n. drop n old) here) ∙ drop-drop (to - at) at old ∙ ap (λ n. drop n old) whole)
     ∙ append_assoc (take from old) (take i others) (drop to old)
     ∙ ap (λ those. take from old ++ (those ++ drop to old)) (take_all i others (omega arith))
+
+-- what still stands at its place
+pub splicing_read : {X : Type 0} (old : List X) (from to : ℕ) (others : List X) (i at : ℕ) (new : List X) (d : X) → IsSplicing old from to others i at new → from ≤ length old → i ≤ length others → at < to → get_or new at d ≡ get_or old at d
+splicing_read old from to others i at new d h within le lt =
+    let here : min at to ≡ at = omega arith in
+    let same : at + 0 ≡ at = omega arith in
+    let size : length (take from old) + length (take i others) ≡ at = omega (arith, length-take-le from old within, length-take-le i others le, h.place) in
+    ap (λ n. get_or new n d) (sym same)
+    ∙ sym (get_or-drop at new 0 d)
+    ∙ ap (λ rest. get_or rest 0 d) (ap (drop at) h.items ∙ back_at (take from old) (take i others) (drop (min at to) old) at size ∙ ap (λ n. drop n old) here)
+    ∙ get_or-drop at old 0 d
+    ∙ ap (λ n. get_or old n d) same

@@ -30,7 +30,7 @@ within_get (suc n) x [] e = cc
 within_get (suc n) x (y ∷ xs) e = omega (arith, within_get n x xs e)
 
 -- the parts of a rising list
-rising_front : (xs ys : List ℕ) → IsRising (xs ++ ys) → IsRising xs
+pub rising_front : (xs ys : List ℕ) → IsRising (xs ++ ys) → IsRising xs
 rising_front [] ys h = tt
 rising_front (x ∷ xs) ys h = (front xs h.0, rising_front xs ys h.1)
   where
@@ -38,7 +38,7 @@ rising_front (x ∷ xs) ys h = (front xs h.0, rising_front xs ys h.1)
     front [] k = tt
     front (z ∷ zs) k = (k.0, front zs k.1)
 
-rising_back : (xs ys : List ℕ) → IsRising (xs ++ ys) → IsRising ys
+pub rising_back : (xs ys : List ℕ) → IsRising (xs ++ ys) → IsRising ys
 rising_back [] ys h = h
 rising_back (x ∷ xs) ys h = rising_back xs ys h.1
 

@@ -1,3 +1,4 @@
 pub mod Choice
+pub mod Moves
 pub mod Ranges
 pub mod Sets

@@ -52,7 +52,7 @@ fn cut(ranges: &mut Vec<Range>, from: usize, to: usize)
 }
 
 /// Puts other ranges in the place of those from `from` up to `to`. There is room for them.
-fn splice(ranges: &mut Vec<Range>, from: usize, to: usize, others: &[Range])
+pub(crate) fn splice(ranges: &mut Vec<Range>, from: usize, to: usize, others: &[Range])
     requires order { from ≤ to }
     requires within { to ≤ vec_len ranges.old }
     requires room { vec_len ranges.old + length others.now ≤ vec_capacity ranges.old + (to - from) }

@@ -11,6 +11,7 @@ mod edits;
 mod ranges;
 mod rows;
 mod search;
+mod shifts;
 #[cfg(test)]
 mod tests;
 

@@ -1,14 +1,17 @@
 //! The set itself: what it is made of, what it answers and how it is edited.
 ghost use Rattle.std.specs.Prelude.{◌≡◌, ◌^◌, ◌<◌, ◌≤◌, ◌==◌, List, [], length, find, nat_le, IfOk, OnOk, OnErr, slice_get, take, drop};
-ghost use Rattle.key_lists.specs.Keys.{is_among, without};
+ghost use Rattle.std.specs.List.{AllByRecursion};
+ghost use Rattle.key_lists.specs.Keys.{IsRising, is_among, without};
 ghost use Rattle.row_set.specs.Ranges.{AreApart, holds, keys_from, keys_of, ranges_of};
 ghost use Rattle.row_set.specs.Choice.{chosen};
+ghost use Rattle.row_set.specs.Moves.{IsKey, moved_key, moved_keys};
 ghost use Rattle.row_set.specs.Sets.{IsKeySet, count_below, common, found, last_key, united};
 
 use crate::algebra::{Choice, KEYS_END, rest_from, stretch_from};
 use crate::edits::{insert_keys, insert_ranges, make_room, recount, remove_keys, remove_ranges};
 use crate::ranges::Range;
 use crate::search;
+use crate::shifts::shift_keys;
 use std::alloc::{AllocError, Global};
 use std::marker::Model;
 
@@ -191,6 +194,22 @@ impl RowSet {
         let others = keys.ranges();
         make_room(&mut self.ranges, &mut self.starts, others.len())?;
         let from = remove_ranges(&mut self.ranges, others);
+        recount(&mut self.starts, &self.ranges, from);
+        Ok(())
+    }
+
+    /// Moves every key from `first` to `last` by `delta`, where the keys stay keys and rise. After a refusal the set is as
+    /// before.
+    pub fn shift_range(&mut self, first: u64, last: u64, delta: i64) -> Result<(), AllocError>
+        requires order { first ≤ last }
+        requires small { last < 2 ^ 62 }
+        requires in_bounds { AllByRecursion (λ key. IsKey (moved_key first last delta key)) self.old }
+        requires rising { IsRising (moved_keys first last delta self.old) }
+        ensures ok { OnOk result (self.new ≡ moved_keys first last delta self.old) }
+        ensures err { OnErr result (self.new ≡ self.old) }
+    {
+        make_room(&mut self.ranges, &mut self.starts, 2)?;
+        let from = shift_keys(&mut self.ranges, first, last, delta);
         recount(&mut self.starts, &self.ranges, from);
         Ok(())
     }

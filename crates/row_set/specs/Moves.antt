@@ -1,0 +1,33 @@
+-- Keys and ranges that move.
+--     moved_key first last delta key      the number to which a key moves, where those from first to last move by delta
+--     moved_keys first last delta keys      the keys, of which those from first to last have moved
+--     IsKey number      the number is one that a key may be
+--     moved_range first last delta range      what a range has from first to last, moved
+use Rattle.std.specs.Prelude.{ℕ, ◌^◌, ◌&&◌, List, map, min, max, nat_le, if◌then◌else◌, ℤ, pos, negsuc, ◌+ℤ◌, ◌≤ℤ◌, ◌<ℤ◌}
+use Rattle.row_set.specs.declared.ranges.Range.{Range}
+
+abbrev pub moved_key : ℕ → ℕ → ℤ → ℕ → ℤ
+moved_key first last delta key = if nat_le first key && nat_le key last then pos key +ℤ delta else pos key
+
+-- the key that a number is, or 0
+abbrev pub as_key : ℤ → ℕ
+as_key (pos n) = n
+as_key (negsuc n) = 0
+
+abbrev pub moved_keys : ℕ → ℕ → ℤ → List ℕ → List ℕ
+moved_keys first last delta = map (λ key. as_key (moved_key first last delta key))
+
+pub record IsKey (number : ℤ) : Type 0 where
+  pub whole : pos 0 ≤ℤ number
+  pub small : number <ℤ pos (2 ^ 62)
+
+abbrev pub moved_range : ℕ → ℕ → ℤ → Range → Range
+moved_range first last delta range = record {
+  first = as_key (pos (max range.first first) +ℤ delta);
+  last = as_key (pos (min range.last last) +ℤ delta);
+}
+
+-- both ends of what a range has from first to last are keys once they have moved
+pub record Lands (first last : ℕ) (delta : ℤ) (range : Range) : Type 0 where
+  pub first_key : IsKey (pos (max range.first first) +ℤ delta)
+  pub last_key : IsKey (pos (min range.last last) +ℤ delta)
