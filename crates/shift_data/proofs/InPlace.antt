@@ -1,0 +1,143 @@
+-- Keys that are moved in place.
+use Rattle.std.proofs.Common.{◌≡◌, refl, ap, sym, ◌∙◌, subst, Bool, true, false, cond, not, ◌&&◌, ◌||◌, ◌==◌, ℕ, ◌+◌, ◌≤◌, arith, List, [], ◌∷◌, ◌++◌, leb, Some, pos, ℤ, ◌+ℤ◌, append_assoc, w64, SFits, to_z, of_z}
+use Rattle.std.specs.Prelude.{filter, find}
+use Rattle.std.specs.Ordering.{int_eq}
+use Rattle.std.specs.Cmp.{signed_Decides}
+use Rattle.std.proofs.lemmas.Bool.{leb-true, not_from_true, not_from_false, false_from_ne_true}
+use Rattle.std.proofs.lemmas.Int.{to_z-of_z}
+use Rattle.std.proofs.lemmas.List.{map-append}
+use Rattle.key_lists.specs.Keys.{is_among, IsRising, without}
+use Rattle.key_lists.proofs.Every.{every_weaker, filter_same, filter_none, filter_all}
+use Rattle.key_lists.proofs.Among.{among-filter, each_among}
+use Rattle.key_lists.proofs.Rising.{rising_some, rising_same, rising-filter}
+use Rattle.row_set.specs.declared.ranges.Range.{Range}
+use Rattle.row_set.specs.Ranges.{keys_from, holds, ranges_of}
+use Rattle.row_set.specs.Sets.{IsKeySet, united}
+use Rattle.row_set.proofs.United.{among-united, united_rises}
+use Rattle.tick_model.specs.declared.update.ShiftRange.{ShiftRange}
+use Rattle.tick_model.specs.Rules.{landed}
+use Rattle.tick_model.specs.Shifts.{as_key, delta_at}
+use Rattle.shift_data.specs.declared.parts.Part.{Part}
+use Rattle.shift_data.specs.declared.parts.Segment.{Segment}
+use Rattle.shift_data.specs.Moves.{IsLawful}
+use Rattle.shift_data.specs.Movers.{movers, IsMove}
+use Rattle.shift_data.specs.Parts.{from_on, within, IsSegment}
+use Rattle.shift_data.proofs.Applied.{rising_front, united_past, run_lands}
+use Rattle.shift_data.proofs.Asked.{run_of, all_within, filter-append}
+use Rattle.shift_data.proofs.Keys.{cut, each_within, find_key, none_between}
+use Rattle.shift_data.proofs.Lawful.{lawful, place}
+
+-- the part that begins with the first key from one on
+pub move_made : (move : ℕ → ℤ) (keys : List ℕ) (from first : ℕ) (run : Range) (segment : Segment) (last : ℕ) → IsKeySet keys → find (leb from) keys ≡ Some first → find (holds first) (ranges_of keys) ≡ Some run → IsSegment move first segment → first ≤ last → last ≤ segment.last → (int_eq segment.delta (pos 0) ≡ false → last ≤ run.last) → let part : Part = record { first = first; last = last; delta = segment.delta } in IsMove move keys from part
+move_made move keys from first run segment last set e held s order until in_run =
+    let there = find_key (leb from) keys first e in
+    let here = run_of keys first run held in
+    record {
+      above = leb-true from first there.1;
+      order = order;
+      small = omega (arith, s.small);
+      first = there.0;
+      none_before = none_between from first keys set.rising e;
+      same = λ key above below. s.same key above (omega arith);
+      whole = λ moves key above below. here.2 key (omega (arith, here.0)) (omega (arith, in_run moves));
+    }
+
+-- what leaves and what stays, part by part
+module _ (shifts : List ShiftRange) (keys : List ℕ) (from : ℕ) (part : Part) (set : IsKeySet keys) (h : IsMove (delta_at shifts) keys from part) where
+  movers_cut : movers (delta_at shifts) (from_on from keys) ≡ movers (delta_at shifts) (within part.first part.last keys) ++ movers (delta_at shifts) (from_on (part.last + 1) keys)
+  movers_cut =
+      ap (movers (delta_at shifts)) (cut keys from part.first part.last set.rising h.above h.order h.none_before)
+      ∙ filter-append (λ key. not (int_eq (delta_at shifts key) (pos 0))) (within part.first part.last keys) (from_on (part.last + 1) keys)
+
+  pub staying_step : int_eq part.delta (pos 0) ≡ true → movers (delta_at shifts) (from_on from keys) ≡ movers (delta_at shifts) (from_on (part.last + 1) keys)
+  staying_step stays =
+      movers_cut
+      ∙ ap (λ xs. xs ++ movers (delta_at shifts) (from_on (part.last + 1) keys))
+      (filter_none (λ key. not (int_eq (delta_at shifts key) (pos 0))) (within part.first part.last keys)
+      (each_within (λ key. not (int_eq (delta_at shifts key) (pos 0)) ≡ false) keys part.first part.last (λ key above below. ap (λ d. not (int_eq d (pos 0))) (h.same key above below) ∙ not_from_true (int_eq part.delta (pos 0)) stays)))
+
+  pub moving_step : int_eq part.delta (pos 0) ≡ false → movers (delta_at shifts) (from_on from keys) ≡ keys_from part.first part.last ++ movers (delta_at shifts) (from_on (part.last + 1) keys)
+  moving_step moves =
+      movers_cut
+      ∙ ap (λ xs. xs ++ movers (delta_at shifts) (from_on (part.last + 1) keys))
+      (filter_same (λ key. not (int_eq (delta_at shifts key) (pos 0))) (λ _. true) (within part.first part.last keys)
+      (each_within (λ key. not (int_eq (delta_at shifts key) (pos 0)) ≡ true) keys part.first part.last (λ key above below. ap (λ d. not (int_eq d (pos 0))) (h.same key above below) ∙ not_from_false (int_eq part.delta (pos 0)) moves))
+      ∙ filter_all (within part.first part.last keys)
+      ∙ all_within keys part.first part.last set.rising (h.whole moves))
+
+  pub left_more : (left : List ℕ) → int_eq part.delta (pos 0) ≡ false → left ++ movers (delta_at shifts) (from_on from keys) ≡ movers (delta_at shifts) keys → united (keys_from part.first part.last) left ++ movers (delta_at shifts) (from_on (part.last + 1) keys) ≡ movers (delta_at shifts) keys
+  left_more left moves is =
+      let rest : List ℕ = movers (delta_at shifts) (from_on (part.last + 1) keys) in
+      let all : (left ++ keys_from part.first part.last) ++ rest ≡ movers (delta_at shifts) keys =
+      append_assoc left (keys_from part.first part.last) rest ∙ ap (λ xs. left ++ xs) (sym (moving_step moves)) ∙ is in
+      ap (λ xs. xs ++ rest) (united_past (keys_from part.first part.last) left (rising_front (left ++ keys_from part.first part.last) rest (subst IsRising (sym all) (rising_some (λ key. not (int_eq (delta_at shifts key) (pos 0))) keys set.rising))))
+      ∙ all
+
+  pub came_more : (came : List ℕ) (start end : ℕ) → IsLawful shifts keys → int_eq part.delta (pos 0) ≡ false → pos part.first +ℤ part.delta ≡ pos start → pos part.last +ℤ part.delta ≡ pos end → came ++ landed shifts (movers (delta_at shifts) (from_on from keys)) ≡ landed shifts (movers (delta_at shifts) keys) → united (keys_from start end) came ++ landed shifts (movers (delta_at shifts) (from_on (part.last + 1) keys)) ≡ landed shifts (movers (delta_at shifts) keys)
+  came_more came start end law moves at until is =
+      let rest : List ℕ = landed shifts (movers (delta_at shifts) (from_on (part.last + 1) keys)) in
+      let step : landed shifts (movers (delta_at shifts) (from_on from keys)) ≡ keys_from start end ++ rest =
+      ap (landed shifts) (moving_step moves)
+      ∙ map-append (place shifts) (keys_from part.first part.last) (movers (delta_at shifts) (from_on (part.last + 1) keys))
+      ∙ ap (λ xs. xs ++ rest) (run_lands shifts part.delta part.first part.last start end h.order h.same at until) in
+      let all : (came ++ keys_from start end) ++ rest ≡ landed shifts (movers (delta_at shifts) keys) =
+      append_assoc came (keys_from start end) rest ∙ ap (λ xs. came ++ xs) (sym step) ∙ is in
+      ap (λ xs. xs ++ rest) (united_past (keys_from start end) came (rising_front (came ++ keys_from start end) rest (subst IsRising (sym all) (rising-filter (place shifts) (λ key. not (int_eq (delta_at shifts key) (pos 0))) keys (lawful shifts keys law).rising))))
+      ∙ all
+
+-- the keys that stay with those that came are the moved keys
+
+staying_place : (shifts : List ShiftRange) (key : ℕ) → int_eq (delta_at shifts key) (pos 0) ≡ true → place shifts key ≡ key
+staying_place shifts key stays = let same : key + 0 ≡ key = omega arith in ap (λ d. as_key (pos key +ℤ d)) ((signed_Decides (delta_at shifts key) (pos 0)).0 stays) ∙ same
+
+or_front : (a b c : Bool) → (a || (b || c)) ≡ ((a || b) || c)
+or_front true b c = refl
+or_front false b c = refl
+
+or_middle : (a b c : Bool) → (a || (b || c)) ≡ (b || (a || c))
+or_middle true true c = refl
+or_middle true false c = refl
+or_middle false true c = refl
+or_middle false false c = refl
+
+among_moved : (shifts : List ShiftRange) (key : ℕ) (xs : List ℕ) → (is_among key (landed shifts (movers (delta_at shifts) xs)) || is_among key (filter (λ key. int_eq (delta_at shifts key) (pos 0)) xs)) ≡ is_among key (landed shifts xs)
+among_moved shifts key [] = refl
+among_moved shifts key (x ∷ xs) =
+    (elim (int_eq (delta_at shifts x) (pos 0)) as (λ b. int_eq (delta_at shifts x) (pos 0) ≡ b → (is_among key (landed shifts (cond (not b) (x ∷ movers (delta_at shifts) xs) (movers (delta_at shifts) xs))) || is_among key (cond b (x ∷ filter (λ key. int_eq (delta_at shifts key) (pos 0)) xs) (filter (λ key. int_eq (delta_at shifts key) (pos 0)) xs))) ≡ ((place shifts x == key) || is_among key (landed shifts xs))) [
+      | true ↦ λ e.
+          or_middle (is_among key (landed shifts (movers (delta_at shifts) xs))) (x == key) (is_among key (filter (λ key. int_eq (delta_at shifts key) (pos 0)) xs))
+          ∙ ap (λ b. (x == key) || b) (among_moved shifts key xs)
+          ∙ ap (λ k. (k == key) || is_among key (landed shifts xs)) (sym (staying_place shifts x e))
+      | false ↦ λ e.
+          sym (or_front (place shifts x == key) (is_among key (landed shifts (movers (delta_at shifts) xs))) (is_among key (filter (λ key. int_eq (delta_at shifts key) (pos 0)) xs)))
+          ∙ ap (λ b. (place shifts x == key) || b) (among_moved shifts key xs)
+    ]) refl
+
+-- without those that move, the others are left
+movers_left : (shifts : List ShiftRange) (keys : List ℕ) → without (movers (delta_at shifts) keys) keys ≡ filter (λ key. int_eq (delta_at shifts key) (pos 0)) keys
+movers_left shifts keys =
+    filter_same (λ key. not (is_among key (movers (delta_at shifts) keys))) (λ key. int_eq (delta_at shifts key) (pos 0)) keys
+    (every_weaker (λ key. is_among key keys ≡ true) (λ key. not (is_among key (movers (delta_at shifts) keys)) ≡ int_eq (delta_at shifts key) (pos 0)) keys
+    (λ key among. ap not (among-filter (λ key. not (int_eq (delta_at shifts key) (pos 0))) key keys ∙ ap (λ b. not (int_eq (delta_at shifts key) (pos 0)) && b) among) ∙ twice (int_eq (delta_at shifts key) (pos 0)))
+    (each_among keys))
+  where
+    twice : (b : Bool) → not (not b && true) ≡ b
+    twice true = refl
+    twice false = refl
+
+pub moved_in_place : (shifts : List ShiftRange) (keys left came : List ℕ) → IsKeySet keys → IsLawful shifts keys → left ≡ movers (delta_at shifts) keys → came ≡ landed shifts (movers (delta_at shifts) keys) → united came (without left keys) ≡ landed shifts keys
+moved_in_place shifts keys left came set law is_left is_came =
+    ap (λ xs. united xs (without left keys)) is_came
+    ∙ ap (λ xs. united (landed shifts (movers (delta_at shifts) keys)) (without xs keys)) is_left
+    ∙ ap (united (landed shifts (movers (delta_at shifts) keys))) (movers_left shifts keys)
+    ∙ rising_same (united (landed shifts (movers (delta_at shifts) keys)) (filter (λ key. int_eq (delta_at shifts key) (pos 0)) keys)) (landed shifts keys)
+    (united_rises (landed shifts (movers (delta_at shifts) keys)) (filter (λ key. int_eq (delta_at shifts key) (pos 0)) keys) (rising_some (λ key. int_eq (delta_at shifts key) (pos 0)) keys set.rising))
+    (lawful shifts keys law).rising
+    (λ key. among-united key (landed shifts (movers (delta_at shifts) keys)) (filter (λ key. int_eq (delta_at shifts key) (pos 0)) keys) ∙ among_moved shifts key keys)
+
+-- a delta whose bits are 0
+pub zero_bits : (delta : ℤ) → SFits w64 delta → of_z w64 delta ≡ 0 → int_eq delta (pos 0) ≡ true
+zero_bits delta fits e = (signed_Decides delta (pos 0)).1 (sym (to_z-of_z w64 delta fits) ∙ ap (to_z w64) e)
+
+pub nonzero_bits : (delta : ℤ) → (of_z w64 delta ≡ 0 → ⊥) → int_eq delta (pos 0) ≡ false
+nonzero_bits delta h = false_from_ne_true (int_eq delta (pos 0)) (λ e. h (ap (of_z w64) ((signed_Decides delta (pos 0)).0 e)))

@@ -1,0 +1,15 @@
+pub mod Applied
+pub mod Asked
+pub mod InPlace
+pub mod Kept
+pub mod Keys
+pub mod Lawful
+pub mod Lists
+pub mod Paired
+pub mod PartFaults
+pub mod Parting
+pub mod Searches
+pub mod Segments
+pub mod ShiftOf
+pub mod Stretched
+pub mod Through

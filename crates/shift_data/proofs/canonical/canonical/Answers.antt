@@ -1,0 +1,29 @@
+use Rattle.std.proofs.Common.{◌≡◌, sym, ap, ◌∙◌, arith, [], map, subst}
+use Rattle.std.proofs.lemmas.Result.{IfOk-weaker}
+use Rattle.tick_model.specs.Shifts.{stretches, delta_at}
+use Rattle.shift_data.specs.Moves.{canonical, pair_by}
+use Rattle.shift_data.specs.ShiftLists.{IsShiftList}
+use Rattle.shift_data.specs.Stretches.{built}
+use Rattle.shift_data.proofs.Keys.{from_none}
+use Rattle.shift_data.proofs.Parting.{parted, canonical_goes, canonical_shift}
+use Rattle.shift_data.proofs.canonical.canonical.Goals as goal
+
+pub loop-part-init : goal.loop-part-init
+loop-part-init c =
+    (omega arith, c.new-stretches.ensures _ ∙ ap (λ keys. canonical c.args.shifts.now keys) (from_none c.args.survivors.now))
+
+pub loop-part-preserved : goal.loop-part-preserved
+loop-part-preserved c = (
+  omega (arith, c.in-Some.ensures.part.small),
+  c.in_ok-add.ensures _
+      ∙ ap (built c.loop-part.stretches.whole.items c.loop-part.stretches.last) (sym (parted (pair_by c.args.shifts.now) (delta_at c.args.shifts.now) c.args.survivors.now c.loop-part.from c.in-Some.part c.part_from.ensures.keys (canonical_goes c.args.shifts.now c.args.survivors.now c.requires.lawful) c.in-Some.ensures.part))
+      ∙ c.loop-part.invariant.1,
+)
+
+pub returns-clause-shift : goal.returns-clause-shift
+returns-clause-shift c =
+    let whole : built c.loop-part.stretches.whole.items c.loop-part.stretches.last [] ≡ canonical c.args.shifts.now c.args.survivors.now =
+    sym (ap (λ keys. built c.loop-part.stretches.whole.items c.loop-part.stretches.last (stretches (map (pair_by c.args.shifts.now) keys))) c.in_default.ensures.none) ∙ c.loop-part.invariant.1 in
+    IfOk-weaker c.into_ranges.result (λ ranges. ranges.items ≡ built c.loop-part.stretches.whole.items c.loop-part.stretches.last []) (λ ranges. IsShiftList ranges.items)
+    (λ ranges is. subst IsShiftList (sym (is ∙ whole)) (canonical_shift c.args.shifts.now c.args.survivors.now c.part_from.ensures.keys c.requires.lawful))
+    c.into_ranges.ensures

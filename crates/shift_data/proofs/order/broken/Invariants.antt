@@ -1,0 +1,19 @@
+use Rattle.std.proofs.Common.{◌≡◌, ◌-◌, ◌^◌, ◌≤◌}
+use Rattle.std.specs.Prelude.{IfSome}
+use Rattle.std.specs.Option.{ForSome}
+use Rattle.tick_model.specs.Shifts.{delta_at}
+use Rattle.tick_model.specs.Rules.{shift_fault_after, shift_fault}
+use Rattle.shift_data.specs.Faults.{IsPlaced}
+use Rattle.shift_data.specs.Parts.{from_on}
+use Rattle.shift_data.proofs.PartFaults.{last_of}
+use Rattle.shift_data.proofs.order.broken.Given as goal
+
+abbrev pub invariant-loop-part : goal.invariant-loop-part
+invariant-loop-part l =
+    (l.from ≤ 2 ^ 62)
+    × ForSome l.before IsPlaced
+    × IfSome l.before (λ part. delta_at l.shifts part.last ≡ part.delta)
+    × (shift_fault_after l.limit l.shifts (last_of l.before) (from_on l.from l.keys) ≡ shift_fault l.limit l.shifts l.keys)
+
+abbrev pub decreases-loop-part : goal.decreases-loop-part
+decreases-loop-part l = 2 ^ 62 - l.from
