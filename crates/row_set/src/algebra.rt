@@ -42,6 +42,15 @@ impl Choice {
         }
     }
 
+    /// How many ranges to make room for at first, where the two sets have these many. There may be more in the end.
+    pub(crate) fn room(self, first: usize, second: usize) -> usize {
+        match self {
+            Choice::Either => first.saturating_add(second),
+            Choice::FirstAlone => first,
+            Choice::Both => first.min(second),
+        }
+    }
+
     /// The key up to which it takes all keys, or none, where stretches of the two sets begin.
     pub(crate) fn until(self, here: Stretch, there: Stretch) -> u64
         ensures least { min here.end there.end ≤ result }

@@ -264,10 +264,10 @@ impl RowSet {
     fn combined(&self, other: &RowSet, choice: Choice) -> Result<RowSet, AllocError>
         ensures { IfOk result (λ keys. keys ≡ chosen choice self.now other.now) }
     {
-        let room = self.ranges.len().saturating_add(other.ranges.len());
-        let mut kept = RowSet::with_capacity(*self.ranges.allocator(), room)?;
         let mut first = self.ranges();
         let mut second = other.ranges();
+        let room = choice.room(first.len(), second.len());
+        let mut kept = RowSet::with_capacity(*self.ranges.allocator(), room)?;
         let mut at = 0;
         while at < KEYS_END {
             let here = stretch_from(first, at);
