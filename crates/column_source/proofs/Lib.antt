@@ -1,0 +1,13 @@
+pub mod EntryLists
+pub mod SlotLists
+pub mod Parts
+pub mod Listings
+pub mod NoteLists
+pub mod Noting
+pub mod Longer
+pub mod Replaced
+pub mod Dropping
+pub mod Clearing
+pub mod Leaving
+pub mod Cutting
+pub mod Moving

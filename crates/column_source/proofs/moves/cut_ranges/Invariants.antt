@@ -1,0 +1,10 @@
+use Rattle.std.proofs.Common.{take}
+use Rattle.std.specs.List.{AllByRecursion}
+use Rattle.column_source.specs.Moves.{KeepsRows, IsBesideRange}
+use Rattle.column_source.proofs.moves.cut_ranges.Given as goal
+
+abbrev pub invariant-loop-range : goal.invariant-loop-range
+invariant-loop-range l = record {
+  same : KeepsRows l.initial.blocks.items l.blocks.items;
+  beside : AllByRecursion (λ range. AllByRecursion (IsBesideRange range) l.blocks.items) (take l.range-index l.ranges);
+}

@@ -1,0 +1,6 @@
+pub mod Blocks
+pub mod Entries
+pub mod Notes
+pub mod Slots
+pub mod Drops
+pub mod Moves

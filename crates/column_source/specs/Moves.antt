@@ -1,0 +1,48 @@
+-- Rows that move to other keys.
+use Rattle.std.specs.Prelude.{ℕ, suc, ◌+◌, ◌-◌, ◌^◌, ◌<◌, ◌≤◌, ◌≡◌, ◌⊎◌, min, List, ◌∷◌, ◌++◌, take, drop, pos, ◌≤ℤ◌}
+use Rattle.std.specs.List.{AllByRecursion}
+use Rattle.tick_model.specs.declared.update.ShiftRange.{ShiftRange}
+use Rattle.tick_model.specs.Shifts.{moved, as_key}
+use Rattle.column_source.specs.declared.block.Block.{Block}
+use Rattle.column_source.specs.Blocks.{IsBlock, AreApart, rows_of, rows, kept}
+
+-- the rows of a block stand on one side of a key
+abbrev pub IsBeside : ℕ → Block → Type 0
+IsBeside key block = (key ≤ block.first) ⊎ AllByRecursion (λ entry. entry.key < key) (rows_of block)
+
+abbrev pub IsBesideRange : ShiftRange → Block → Type 0
+IsBesideRange range block = IsBeside range.begin block × IsBeside (range.end + 1) block
+
+-- two blocks in place of the one at an index
+pub record IsSplit (place : ℕ) (block : Block) (index : ℕ) (old new : List Block) : Type 0 where
+  pub left : Block
+  pub right : Block
+  pub list : new ≡ take index old ++ left ∷ right ∷ drop (suc index) old
+  pub left_slots : left.slots.items ≡ take place block.slots.items
+  pub left_first : left.first ≡ block.first
+  pub left_before : left.first_before ≡ block.first_before
+  pub left_len : left.len_before ≡ min place block.len_before
+  pub right_slots : right.slots.items ≡ drop place block.slots.items
+  pub right_first : right.first ≡ block.first + place
+  pub right_before : right.first_before ≡ block.first_before + min place block.len_before
+  pub right_len : right.len_before ≡ block.len_before - min place block.len_before
+
+-- other blocks of the same rows
+pub record KeepsRows (old new : List Block) : Type 0 where
+  pub rows : rows new ≡ rows old
+  pub kept : kept new ≡ kept old
+  pub sound : AllByRecursion IsBlock new
+  pub apart : AreApart 0 old → AreApart 0 new
+
+pub record IsCut (key : ℕ) (old new : List Block) : Type 0 where
+  pub same : KeepsRows old new
+  pub beside : AllByRecursion (IsBeside key) new
+  pub others : (other : ℕ) → AllByRecursion (IsBeside other) old → AllByRecursion (IsBeside other) new
+
+-- a block begins where a row stands that moves to a key
+pub record IsMovable (shifts : List ShiftRange) (block : Block) : Type 0 where
+  pub small : block.first < 2 ^ 62
+  pub lands : pos 0 ≤ℤ moved shifts block.first
+
+abbrev pub moved_block : List ShiftRange → Block → Block
+moved_block shifts block = record block { first = as_key (moved shifts block.first) }

@@ -1,0 +1,78 @@
+//! A block of neighbouring rows.
+ghost use Rattle.std.specs.Prelude.{◌≡◌, ◌+◌, ◌-◌, ◌<◌, ◌≤◌, length, nat_le, OnOk, OnErr};
+ghost use Rattle.column_source.specs.Entries.{put};
+ghost use Rattle.column_source.specs.Slots.{slot_at};
+
+use std::alloc::AllocError;
+
+/// At most this many slots are in one block.
+pub(crate) const BLOCK_LEN: usize = 512;
+
+/// A run of slots under neighbouring keys, each with the cell of a row or empty. The first has a row.
+#[derive(Drop)]
+pub(crate) struct Block {
+    /// The key of the first slot.
+    pub(crate) first: u64,
+    /// The key that the first slot had when the step began.
+    pub(crate) first_before: u64,
+    /// So many slots, from the first on, were there when the step began.
+    pub(crate) len_before: usize,
+    pub(crate) slots: Vec<Option<i64>>,
+}
+
+impl Block {
+    ghost use Rattle.column_source.specs.Blocks.{IsBlock, IsWritten, begun_block, rows_of, kept_of};
+
+    /// The cell of a slot, or None where it is empty or past the last.
+    pub(crate) fn slot(&self, place: u64) -> Option<i64>
+        ensures { result ≡ slot_at self.now.slots.items place }
+    {
+        self.slots.get(place as usize).copied().flatten()
+    }
+
+    /// Whether the slots that were there when the step began ended at the key or before it.
+    pub(crate) fn had_ended_by(&self, key: u64) -> bool
+        ensures { result ≡ nat_le (self.now.first_before + self.now.len_before) key }
+    {
+        self.first_before <= key && self.len_before as u64 <= key - self.first_before
+    }
+
+    /// Makes the rows of now those that were there when the step began; the next block begins at `end`.
+    pub(crate) fn begin(&mut self, end: u64)
+        ensures { self.new ≡ begun_block end self.old }
+    {
+        self.first_before = self.first;
+        self.len_before = self
+            .slots
+            .len()
+            .min(end.saturating_sub(self.first) as usize);
+    }
+
+    /// Puts a cell into a slot.
+    pub(crate) fn write(&mut self, place: usize, cell: i64)
+        requires { place < length self.old.slots.items }
+        ensures { IsWritten self.old place (Some cell) self.new }
+    {
+        self.slots[place] = Some(cell);
+    }
+
+    /// Puts a row behind the last slot, at a place, with empty slots before it.
+    pub(crate) fn extend(&mut self, place: usize, cell: i64) -> Result<(), AllocError>
+        requires sound { IsBlock self.old }
+        requires behind { length self.old.slots.items ≤ place }
+        requires room { place < 512 }
+        ensures ok { OnOk result (rows_of self.new ≡ put (self.old.first + place) cell (rows_of self.old)) }
+        ensures err { OnErr result (rows_of self.new ≡ rows_of self.old) }
+        ensures kept { kept_of self.new ≡ kept_of self.old }
+        ensures sound { IsBlock self.new }
+        ensures first { self.new.first ≡ self.old.first }
+        ensures first_before { self.new.first_before ≡ self.old.first_before }
+        ensures len_before { self.new.len_before ≡ self.old.len_before }
+    {
+        for _empty in self.slots.len()..place {
+            self.slots.push(None)?;
+        }
+        self.slots.push(Some(cell))?;
+        Ok(())
+    }
+}

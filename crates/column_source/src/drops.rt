@@ -1,0 +1,209 @@
+//! Rows that are left out of the blocks of a column.
+ghost use Rattle.std.specs.Prelude.{◌≡◌, ℕ, ◌+◌, ◌^◌, ◌<◌, ◌≤◌, List, Option, ℤ, length, take, IsSome, OnOk, OnErr};
+ghost use Rattle.std.specs.List.{AllByRecursion};
+ghost use Rattle.column_source.specs.Entries.{Ascend};
+ghost use Rattle.column_source.specs.Notes.{note_under, restored};
+ghost use Rattle.column_source.specs.Blocks.{IsBlock, IsColumn, AtBlock, AreApart, rows_of, kept_of, rows, kept};
+ghost use Rattle.column_source.specs.Drops.{AreNoted, AreOutside, Leaves, LeavesAll, LeavesBlock, cleared, left_by, leading, outside};
+
+use crate::block::Block;
+use crate::directory::{Notes, begun_by, note};
+use row_set::Range;
+use std::alloc::AllocError;
+
+/// How many empty slots come before the first row.
+pub(crate) fn leading(slots: &[Option<i64>]) -> usize
+    ensures leading { result ≡ leading slots.now }
+    ensures within { result ≤ length slots.now }
+{
+    let mut empty = 0;
+    while empty < slots.len() && slots[empty].is_none() {
+        empty += 1;
+    }
+    empty
+}
+
+/// Notes the rows of a block under the keys from first to last.
+fn note_block(
+    blocks: &[Block],
+    notes: &mut Notes,
+    index: usize,
+    first: u64,
+    last: u64,
+) -> Result<(), AllocError>
+    requires column { IsColumn blocks.now notes.old.entries }
+    requires within { index < length blocks.now }
+    requires begun { AtBlock blocks.now index (λ block. block.first ≤ last) }
+    requires small { last < 2 ^ 62 }
+    ensures before { restored notes.new.entries (kept blocks.now) ≡ restored notes.old.entries (kept blocks.now) }
+    ensures noted { OnOk result (AtBlock blocks.now index (AreNoted first last notes.new.entries)) }
+    ensures stays { (key : ℕ) → IsSome (note_under key notes.old.entries) → IsSome (note_under key notes.new.entries) }
+    ensures column { IsColumn blocks.now notes.new.entries }
+{
+    let block = &blocks[index];
+    let from = first.saturating_sub(block.first) as usize;
+    let to = block.slots.len().min((last - block.first) as usize + 1);
+    for place in from..to {
+        if block.slots[place].is_some() {
+            note(blocks, notes, index, place)?;
+        }
+    }
+    Ok(())
+}
+
+/// Notes the rows under the keys from first to last.
+pub(crate) fn note_rows(
+    blocks: &[Block],
+    notes: &mut Notes,
+    first: u64,
+    last: u64,
+) -> Result<(), AllocError>
+    requires column { IsColumn blocks.now notes.old.entries }
+    requires small { last < 2 ^ 62 }
+    ensures before { restored notes.new.entries (kept blocks.now) ≡ restored notes.old.entries (kept blocks.now) }
+    ensures noted { OnOk result (AllByRecursion (AreNoted first last notes.new.entries) blocks.now) }
+    ensures stays { (key : ℕ) → IsSome (note_under key notes.old.entries) → IsSome (note_under key notes.new.entries) }
+    ensures column { IsColumn blocks.now notes.new.entries }
+{
+    let mut index = begun_by(blocks, first).saturating_sub(1);
+    while index < blocks.len() && blocks[index].first <= last {
+        note_block(blocks, notes, index, first, last)?;
+        index += 1;
+    }
+    Ok(())
+}
+
+/// Empties the slots under the keys from first to last.
+fn clear(block: &mut Block, first: u64, last: u64)
+    requires begun { block.old.first ≤ last }
+    requires small { last < 2 ^ 62 }
+    ensures slots { block.new.slots.items ≡ cleared first last block.old.first block.old.slots.items }
+    ensures first { block.new.first ≡ block.old.first }
+    ensures first_before { block.new.first_before ≡ block.old.first_before }
+    ensures len_before { block.new.len_before ≡ block.old.len_before }
+{
+    let from = first.saturating_sub(block.first) as usize;
+    let to = block.slots.len().min((last - block.first) as usize + 1);
+    for place in from..to {
+        block.slots[place] = None;
+    }
+}
+
+/// Leaves out the rows of a block under the keys from first to last.
+fn leave_block(block: &mut Block, first: u64, last: u64)
+    requires sound { IsBlock block.old }
+    requires begun { block.old.first ≤ last }
+    requires small { last < 2 ^ 62 }
+    ensures { LeavesBlock first last block.old block.new }
+{
+    clear(block, first, last);
+    trim(block);
+}
+
+/// Takes off the empty slots before the first row.
+fn trim(block: &mut Block)
+    requires first { block.old.first < 2 ^ 62 }
+    requires short { length block.old.slots.items ≤ 512 }
+    requires kept_within { block.old.len_before ≤ length block.old.slots.items }
+    requires small_before { block.old.first_before + block.old.len_before ≤ 2 ^ 62 }
+    ensures rows { rows_of block.new ≡ rows_of block.old }
+    ensures kept { kept_of block.new ≡ kept_of block.old }
+    ensures noted { (first last : ℕ) (notes : List (ℕ × Option ℤ)) → AreNoted first last notes block.old → AreNoted first last notes block.new }
+    ensures sound { 0 < length block.new.slots.items → IsBlock block.new }
+    ensures begin { block.old.first_before ≤ block.new.first_before }
+    ensures end { block.new.first_before + block.new.len_before ≡ block.old.first_before + block.old.len_before }
+{
+    let empty = leading(&block.slots);
+    let left = block.slots.len() - empty;
+    block.slots.rotate_left(empty);
+    block.slots.truncate(left);
+    block.first += empty as u64;
+    let gone = empty.min(block.len_before);
+    block.first_before += gone as u64;
+    block.len_before -= gone;
+}
+
+/// Leaves out the rows of the block at an index under the keys from first to last, and the block where none is left;
+/// returns the index of the next block.
+fn leave_at(blocks: &mut Vec<Block>, index: usize, first: u64, last: u64) -> usize
+    requires sound { AllByRecursion IsBlock blocks.old.items }
+    requires within { index < length blocks.old.items }
+    requires begun { AtBlock blocks.old.items index (λ block. block.first ≤ last) }
+    requires small { last < 2 ^ 62 }
+    ensures leaves { Leaves first last blocks.old.items blocks.new.items }
+    ensures sound { AllByRecursion IsBlock blocks.new.items }
+    ensures within { result ≤ length blocks.new.items }
+    ensures nearer { length blocks.new.items + index < length blocks.old.items + result }
+    ensures done { AreOutside first last (rows (take index blocks.old.items)) → AreOutside first last (rows (take result blocks.new.items)) }
+{
+    let block = &mut blocks[index];
+    leave_block(block, first, last);
+    if block.slots.is_empty() {
+        blocks.remove(index);
+        return index;
+    }
+    index + 1
+}
+
+/// Leaves out the rows under the keys from first to last.
+pub(crate) fn leave_rows(blocks: &mut Vec<Block>, first: u64, last: u64)
+    requires sound { AllByRecursion IsBlock blocks.old.items }
+    requires ascend { Ascend (rows blocks.old.items) }
+    requires small { last < 2 ^ 62 }
+    ensures rows { rows blocks.new.items ≡ outside first last (rows blocks.old.items) }
+    ensures leaves { Leaves first last blocks.old.items blocks.new.items }
+    ensures sound { AllByRecursion IsBlock blocks.new.items }
+{
+    let mut index = begun_by(blocks, first).saturating_sub(1);
+    while index < blocks.len() && blocks[index].first <= last {
+        index = leave_at(blocks, index, first, last);
+    }
+}
+
+/// Notes the rows of all ranges.
+pub(crate) fn note_ranges(
+    blocks: &[Block],
+    notes: &mut Notes,
+    ranges: &[Range],
+) -> Result<(), AllocError>
+    requires column { IsColumn blocks.now notes.old.entries }
+    requires small { AllByRecursion (λ range. range.last < 2 ^ 62) ranges.now }
+    ensures before { restored notes.new.entries (kept blocks.now) ≡ restored notes.old.entries (kept blocks.now) }
+    ensures noted { OnOk result (AllByRecursion (λ range. AllByRecursion (AreNoted range.first range.last notes.new.entries) blocks.now) ranges.now) }
+    ensures column { IsColumn blocks.now notes.new.entries }
+{
+    for range in ranges {
+        note_rows(blocks, notes, range.first, range.last)?;
+    }
+    Ok(())
+}
+
+/// Leaves out the rows of all ranges.
+pub(crate) fn leave_ranges(blocks: &mut Vec<Block>, ranges: &[Range])
+    requires sound { AllByRecursion IsBlock blocks.old.items }
+    requires ascend { Ascend (rows blocks.old.items) }
+    requires small { AllByRecursion (λ range. range.last < 2 ^ 62) ranges.now }
+    ensures leaves { LeavesAll ranges.now blocks.old.items blocks.new.items }
+{
+    for range in ranges {
+        leave_rows(blocks, range.first, range.last);
+    }
+}
+
+/// Leaves out the rows under the keys of all ranges, from the rows of now alone.
+pub(crate) fn drop_ranges(
+    blocks: &mut Vec<Block>,
+    notes: &mut Notes,
+    ranges: &[Range],
+) -> Result<(), AllocError>
+    requires column { IsColumn blocks.old.items notes.old.entries }
+    requires small { AllByRecursion (λ range. range.last < 2 ^ 62) ranges.now }
+    ensures ok { OnOk result (rows blocks.new.items ≡ left_by ranges.now (rows blocks.old.items)) }
+    ensures err { OnErr result (rows blocks.new.items ≡ rows blocks.old.items) }
+    ensures before { restored notes.new.entries (kept blocks.new.items) ≡ restored notes.old.entries (kept blocks.old.items) }
+    ensures column { IsColumn blocks.new.items notes.new.entries }
+{
+    note_ranges(blocks, notes, ranges)?;
+    leave_ranges(blocks, ranges);
+    Ok(())
+}

@@ -1,0 +1,12 @@
+//! The cells of one column by row key, as they are and as they were when the step began.
+#![tactic(auto)]
+
+mod block;
+mod cells;
+mod directory;
+mod drops;
+mod moves;
+#[cfg(test)]
+mod tests;
+
+pub use cells::Column;
