@@ -5,7 +5,6 @@ use Rattle.std.proofs.lemmas.Bool.{eqb-false}
 use Rattle.tick_model.specs.declared.update.ShiftRange.{ShiftRange}
 use Rattle.tick_model.specs.Printable.{IsShift}
 use Rattle.tick_model.specs.Shifts.{moved}
-use Rattle.column_source.specs.declared.block.Block.{Block}
 use Rattle.column_source.specs.Moves.{moved_block, IsMovable}
 use Rattle.column_source.proofs.Cutting.{moved_more, held_moved, abs_key}
 use Rattle.column_source.proofs.Leaving.{no_items}
