@@ -1,0 +1,5 @@
+pub mod Absent
+pub mod ColumnLists
+pub mod KeysAfter
+pub mod LawfulParts
+pub mod Occupied
