@@ -1,4 +1,5 @@
 pub mod Absent
+pub mod CoalescedKeys
 pub mod ColumnLists
 pub mod KeysAfter
 pub mod LawfulParts

@@ -4,6 +4,7 @@
 //! after the other, make one.
 #![tactic(auto)]
 
+mod coalesce;
 mod columns;
 mod search;
 mod update;

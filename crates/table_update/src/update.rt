@@ -2,7 +2,7 @@
 
 ghost use Rattle.std.specs.Prelude.{◌≡◌, ◌^◌, ◌≤◌, ◌⊎◌, ◌++◌, Some, None, find, not, IfOk, IfErr, OnOk};
 ghost use Rattle.key_lists.specs.Keys.{is_among};
-ghost use Rattle.row_set.specs.Sets.{common};
+ghost use Rattle.row_set.specs.Sets.{IsKeySet, common};
 ghost use Rattle.shift_data.specs.Moves.{IsLawful};
 ghost use Rattle.tick_laws.specs.Checked.{keys_after};
 ghost use Rattle.tick_laws.specs.Replaced.{no_update};
@@ -63,22 +63,28 @@ impl Update {
 
     /// The keys of the rows that go, as they were.
     pub fn removed(&self) -> &RowSet
-        ensures { result.now ≡ self.now.removed }
+        ensures keys { result.now ≡ self.now.removed }
+        ensures set { IsKeySet self.now.removed }
     {
+        let _ = self.removed.ranges();
         &self.removed
     }
 
     /// The keys of the rows that come.
     pub fn added(&self) -> &RowSet
-        ensures { result.now ≡ self.now.added }
+        ensures keys { result.now ≡ self.now.added }
+        ensures set { IsKeySet self.now.added }
     {
+        let _ = self.added.ranges();
         &self.added
     }
 
     /// The keys of the rows that stay and differ, as they are after the step.
     pub fn modified(&self) -> &RowSet
-        ensures { result.now ≡ self.now.modified }
+        ensures keys { result.now ≡ self.now.modified }
+        ensures set { IsKeySet self.now.modified }
     {
+        let _ = self.modified.ranges();
         &self.modified
     }
 
@@ -129,9 +135,6 @@ impl Update {
         let shifted = self.shifted();
         keys.remove_all(removed)?;
         shifted.apply_in_place(keys)?;
-        if added.is_empty() {
-            return Ok(());
-        }
         keys.insert_all(added)
     }
 

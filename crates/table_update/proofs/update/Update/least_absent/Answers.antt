@@ -13,6 +13,6 @@ pub returns : goal.returns
 returns c =
     let places = landed c.args.self.now.shifted c.args.survivors.now in
     let modified = c.args.self.now.modified in
-    let here : c.in_ok-occupied.field-0 ≡ common modified places = c.in_ok-occupied.ensures ∙ ap (λ keys. common keys places) c.modified-modified.ensures in
-    let present : c.in_ok-present.present ≡ united (common modified places) c.args.self.now.added = c.in_ok-present.ensures ∙ ap₂ united here c.added.ensures in
-    c.least_absent.ensures ∙ ap₂ least c.modified-modified.ensures present ∙ absent_places modified places c.args.self.now.added
+    let here : c.in_ok-occupied.field-0 ≡ common modified places = c.in_ok-occupied.ensures ∙ ap (λ keys. common keys places) c.modified-modified.ensures.keys in
+    let present : c.in_ok-present.present ≡ united (common modified places) c.args.self.now.added = c.in_ok-present.ensures ∙ ap₂ united here c.added.ensures.keys in
+    c.least_absent.ensures ∙ ap₂ least c.modified-modified.ensures.keys present ∙ absent_places modified places c.args.self.now.added

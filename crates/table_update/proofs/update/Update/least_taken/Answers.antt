@@ -9,5 +9,5 @@ use Rattle.table_update.proofs.update.Update.least_taken.Goals as goal
 pub returns : goal.returns
 returns c =
     let places = landed c.args.self.now.shifted c.args.survivors.now in
-    let taken : c.in_ok-taken.taken ≡ common c.args.self.now.added places = c.in_ok-taken.ensures ∙ ap (λ keys. common keys places) c.added.ensures in
+    let taken : c.in_ok-taken.taken ≡ common c.args.self.now.added places = c.in_ok-taken.ensures ∙ ap (λ keys. common keys places) c.added.ensures.keys in
     c.first.ensures.key ∙ ap (λ keys. slice_get keys 0) taken ∙ get-filter (λ key. is_among key places) c.args.self.now.added
