@@ -7,8 +7,8 @@ use Rattle.table_update.specs.Coalesced.{kept_by_both}
 use Rattle.table_update.proofs.CoalescedKeys.{kept_keys, kept_lawful, kept_of_old, kept_pairs, places_lawful}
 use Rattle.table_update.proofs.update.Update.shifted_with.Goals as goal
 
-pub then-requires-clause-first : goal.then-requires-clause-first
-then-requires-clause-first c =
+pub then-requires-clause-lawful : goal.then-requires-clause-first
+then-requires-clause-lawful c =
     let old = c.args.old.now in
     let first = c.args.self.now in
     let next = c.args.next.now in
@@ -17,8 +17,8 @@ then-requires-clause-first c =
     let kept : c.in_ok-kept.kept ≡ kept_keys old first next f n = c.in_ok-kept.ensures ∙ ap (λ keys. without keys old) c.requires.removed ∙ kept_of_old old first next f n c.requires.old in
     rw (c.shifted.ensures, kept) (kept_lawful old first next f n)
 
-pub then-requires-clause-second : goal.then-requires-clause-second
-then-requires-clause-second c =
+pub then-requires-clause-next_lawful : goal.then-requires-clause-second
+then-requires-clause-next_lawful c =
     let old = c.args.old.now in
     let first = c.args.self.now in
     let next = c.args.next.now in
