@@ -261,10 +261,10 @@ module _ (old : List ℕ) (first next : Update) (f : update_fault (2 ^ 62) old f
       (united_rises first.removed gone (rising_some asked stay (rising_some (λ key. not (is_among key first.removed)) old rising)))
       (rising_some (λ key. not (is_among key kept_keys)) old rising)
       (λ key.
-        among-united key first.removed gone
-        ∙ ap (λ b. is_among key first.removed || b) (among-filter asked key stay ∙ ap (λ b. asked key && b) (stays key))
-        ∙ removed_test (is_among key first.removed) (is_among key old) (asked key) (was_old key)
-        ∙ sym (among-filter (λ key. not (is_among key kept_keys)) key old ∙ ap (λ b. not b && is_among key old) (among-filter is_kept key stay ∙ ap (λ b. is_kept key && b) (stays key))))
+      among-united key first.removed gone
+      ∙ ap (λ b. is_among key first.removed || b) (among-filter asked key stay ∙ ap (λ b. asked key && b) (stays key))
+      ∙ removed_test (is_among key first.removed) (is_among key old) (asked key) (was_old key)
+      ∙ sym (among-filter (λ key. not (is_among key kept_keys)) key old ∙ ap (λ b. not b && is_among key old) (among-filter is_kept key stay ∙ ap (λ b. is_kept key && b) (stays key))))
       ∙ ap (λ keys. without keys old) (sym old_kept)
     where
       asked : ℕ → Bool
@@ -287,9 +287,9 @@ module _ (old : List ℕ) (first next : Update) (f : update_fault (2 ^ 62) old f
       (rising_some (λ key. not (is_among key (without kept_keys old))) old rising)
       (rising_some is_kept stay (rising_some (λ key. not (is_among key first.removed)) old rising))
       (λ key.
-        among-filter (λ key. not (is_among key (without kept_keys old))) key old
-        ∙ ap (λ b. not b && is_among key old) (among-filter (λ key. not (is_among key kept_keys)) key old)
-        ∙ kept_test (is_among key kept_keys) (is_among key old) (was_old key))
+      among-filter (λ key. not (is_among key (without kept_keys old))) key old
+      ∙ ap (λ b. not b && is_among key old) (among-filter (λ key. not (is_among key kept_keys)) key old)
+      ∙ kept_test (is_among key kept_keys) (is_among key old) (was_old key))
     where
       was_old : (key : ℕ) → is_among key kept_keys ≡ true → is_among key old ≡ true
       was_old key here =
@@ -326,9 +326,9 @@ module _ (old : List ℕ) (first next : Update) (f : update_fault (2 ^ 62) old f
         (rising_some (λ key. not (is_among key next.removed)) places old_places)
         (rising_some (λ key. not (is_new key)) stay_on stay_on_rises)
         (λ key.
-          among-filter (λ key. not (is_among key next.removed)) key places
-          ∙ stayed_test (is_new key) (is_among key places) (is_among key next.removed) (is_apart key)
-          ∙ sym (among-filter (λ key. not (is_new key)) key stay_on ∙ ap (λ b. not (is_new key) && b) (among-filter (λ key. not (is_among key next.removed)) key middle ∙ ap (λ b. not (is_among key next.removed) && b) (in_between key))))
+        among-filter (λ key. not (is_among key next.removed)) key places
+        ∙ stayed_test (is_new key) (is_among key places) (is_among key next.removed) (is_apart key)
+        ∙ sym (among-filter (λ key. not (is_new key)) key stay_on ∙ ap (λ b. not (is_new key) && b) (among-filter (λ key. not (is_among key next.removed)) key middle ∙ ap (λ b. not (is_among key next.removed) && b) (in_between key))))
 
     pub new_stay : without next.removed first.added ≡ filter is_new stay_on
     new_stay =
@@ -336,9 +336,9 @@ module _ (old : List ℕ) (first next : Update) (f : update_fault (2 ^ 62) old f
         (rising_some (λ key. not (is_among key next.removed)) first.added added_rise)
         (rising_some is_new stay_on stay_on_rises)
         (λ key.
-          among-filter (λ key. not (is_among key next.removed)) key first.added
-          ∙ came_test (is_new key) (is_among key places) (is_among key next.removed)
-          ∙ sym (among-filter is_new key stay_on ∙ ap (λ b. is_new key && b) (among-filter (λ key. not (is_among key next.removed)) key middle ∙ ap (λ b. not (is_among key next.removed) && b) (in_between key))))
+        among-filter (λ key. not (is_among key next.removed)) key first.added
+        ∙ came_test (is_new key) (is_among key places) (is_among key next.removed)
+        ∙ sym (among-filter is_new key stay_on ∙ ap (λ b. is_new key && b) (among-filter (λ key. not (is_among key next.removed)) key middle ∙ ap (λ b. not (is_among key next.removed) && b) (in_between key))))
 
     pub new_lawful : IsLawful next.shifted (without next.removed first.added)
     new_lawful = subst (IsLawful next.shifted) (sym new_stay) (lawful_some next.shifted is_new stay_on next_rules.shifted)
@@ -372,9 +372,9 @@ module _ (old : List ℕ) (first next : Update) (f : update_fault (2 ^ 62) old f
         (united_rises carried next.added next_added_rise)
         (rising_some (λ key. not (is_among key both)) (keys_after middle next) (keys_after-rise (2 ^ 62) middle next (record { breaks_none = n; added_rise = next_added_rise })))
         (λ key.
-          among-united key carried next.added
-          ∙ added_test (is_among key next.added) (is_among key next_places) (is_among key carried) (comes key) (is_place key)
-          ∙ sym (among-filter (λ key. not (is_among key both)) key (keys_after middle next) ∙ ap₂ (λ b c. not b && c) (kept_or_new key) (among-put_keys key next.added next_places)))
+        among-united key carried next.added
+        ∙ added_test (is_among key next.added) (is_among key next_places) (is_among key carried) (comes key) (is_place key)
+        ∙ sym (among-filter (λ key. not (is_among key both)) key (keys_after middle next) ∙ ap₂ (λ b c. not b && c) (kept_or_new key) (among-put_keys key next.added next_places)))
         ∙ ap (λ keys. without keys (keys_after middle next)) (sym new_kept)
       where
         both : List ℕ
@@ -397,9 +397,9 @@ module _ (old : List ℕ) (first next : Update) (f : update_fault (2 ^ 62) old f
           (rising_some (λ key. not (is_among key next.removed)) first.modified modified_rise)
           (rising_some was_modified (without next.removed places) (rising_some (λ key. not (is_among key next.removed)) places old_places))
           (λ key.
-            among-filter (λ key. not (is_among key next.removed)) key first.modified
-            ∙ among_test (was_modified key) (is_among key places) (is_among key next.removed) (modified_stays (2 ^ 62) old first rules key)
-            ∙ sym (among-filter was_modified key (without next.removed places) ∙ ap (λ b. was_modified key && b) (among-filter (λ key. not (is_among key next.removed)) key places)))
+          among-filter (λ key. not (is_among key next.removed)) key first.modified
+          ∙ among_test (was_modified key) (is_among key places) (is_among key next.removed) (modified_stays (2 ^ 62) old first rules key)
+          ∙ sym (among-filter was_modified key (without next.removed places) ∙ ap (λ b. was_modified key && b) (among-filter (λ key. not (is_among key next.removed)) key places)))
           ∙ ap (filter was_modified) (sym kept_places)
 
       pub modified_lawful : IsLawful next.shifted (without next.removed first.modified)
@@ -422,9 +422,9 @@ module _ (old : List ℕ) (first next : Update) (f : update_fault (2 ^ 62) old f
           (united_rises (landed next.shifted (without next.removed first.modified)) (without carried next.modified) (rising_some (λ key. not (is_among key carried)) next.modified next_modified_rise))
           (places_rise next.shifted (filter is_changed kept_place) (lawful_some next.shifted is_changed kept_place places_lawful))
           (λ key.
-            among-united key (landed next.shifted (without next.removed first.modified)) (without carried next.modified)
-            ∙ ap₂ (λ a b. a || b) (ap (λ keys. is_among key (landed next.shifted keys)) modified_kept) (changed key)
-            ∙ sym (either_places next_place was_modified (λ key. is_among (next_place key) next.modified) key kept_place))
+          among-united key (landed next.shifted (without next.removed first.modified)) (without carried next.modified)
+          ∙ ap₂ (λ a b. a || b) (ap (λ keys. is_among key (landed next.shifted keys)) modified_kept) (changed key)
+          ∙ sym (either_places next_place was_modified (λ key. is_among (next_place key) next.modified) key kept_place))
           ∙ sym modified_are
         where
           changed : (key : ℕ) → is_among key (without carried next.modified) ≡ is_among key (map next_place (filter (λ key. is_among (next_place key) next.modified) kept_place))

@@ -85,13 +85,13 @@ pub columns-union : (bits others : ℕ) → columns_of (bit_or bits others) ≡ 
 columns-union bits others =
     columns_are (bit_or bits others) (united (columns_of bits) (columns_of others)) (united_rises (columns_of bits) (columns_of others) (columns_rise others))
     (λ column less.
-      ap (λ n. n == 1) (bit_at_or bits others column)
-      ∙ greater (bit_at bits column) (bit_at others column) (bit_at-lt bits column) (bit_at-lt others column)
-      ∙ ap₂ (λ a b. a || b) (sym (among-columns column bits less)) (sym (among-columns column others less))
-      ∙ sym (among-united column (columns_of bits) (columns_of others)))
+    ap (λ n. n == 1) (bit_at_or bits others column)
+    ∙ greater (bit_at bits column) (bit_at others column) (bit_at-lt bits column) (bit_at-lt others column)
+    ∙ ap₂ (λ a b. a || b) (sym (among-columns column bits less)) (sym (among-columns column others less))
+    ∙ sym (among-united column (columns_of bits) (columns_of others)))
     (λ column more.
-      among-united column (columns_of bits) (columns_of others)
-      ∙ or_from (is_among column (columns_of bits)) (is_among column (columns_of others)) (past_columns column bits more) (past_columns column others more))
+    among-united column (columns_of bits) (columns_of others)
+    ∙ or_from (is_among column (columns_of bits)) (is_among column (columns_of others)) (past_columns column bits more) (past_columns column others more))
 
 -- only the number 0 has no columns
 pub is_none-columns : (bits : ℕ) → bits < 2 ^ 32 → (bits == 0) ≡ is_none (columns_of bits)
@@ -109,7 +109,7 @@ is_none-columns bits small =
     zero_bits e =
         same_from_bits_below 32 bits 0 small (omega arith)
         (λ column less.
-          let unset = eqb-false (bit_at bits column) 1 (sym (among-columns column bits less) ∙ ap (is_among column) e) in
-          let bit = bit_at-lt bits column in
-          let zero_bit : bit_at bits column ≡ 0 = omega (arith, unset, bit) in
-          zero_bit ∙ sym (bit_at-zero column))
+        let unset = eqb-false (bit_at bits column) 1 (sym (among-columns column bits less) ∙ ap (is_among column) e) in
+        let bit = bit_at-lt bits column in
+        let zero_bit : bit_at bits column ≡ 0 = omega (arith, unset, bit) in
+        zero_bit ∙ sym (bit_at-zero column))

@@ -37,7 +37,7 @@ module _ (limit : ℕ) (shifts : List ShiftRange) where
         | inl past ↦ absurd (none-some (ShiftBreaks key key) (sym e ∙ ap (λ t. cond t (Some (ShiftBreaks key key)) (cond (int_le (moved shifts key) (moved shifts before)) (Some (ShiftBreaks before key)) (shift_fault_after limit shifts (Some key) keys))) past))
         | inr inside ↦
             let next : cond (int_le (moved shifts key) (moved shifts before)) (Some (ShiftBreaks before key)) (shift_fault_after limit shifts (Some key) keys) ≡ None =
-                sym (ap (λ t. cond t (Some (ShiftBreaks key key)) (cond (int_le (moved shifts key) (moved shifts before)) (Some (ShiftBreaks before key)) (shift_fault_after limit shifts (Some key) keys))) inside) ∙ e in
+            sym (ap (λ t. cond t (Some (ShiftBreaks key key)) (cond (int_le (moved shifts key) (moved shifts before)) (Some (ShiftBreaks before key)) (shift_fault_after limit shifts (Some key) keys))) inside) ∙ e in
             elim (cases_Bool (int_le (moved shifts key) (moved shifts before))) [
               | inl back ↦ absurd (none-some (ShiftBreaks before key) (sym next ∙ ap (λ t. cond t (Some (ShiftBreaks before key)) (shift_fault_after limit shifts (Some key) keys)) back))
               | inr on ↦ (inside, inside_after (Some key) keys (sym (ap (λ t. cond t (Some (ShiftBreaks before key)) (shift_fault_after limit shifts (Some key) keys)) on) ∙ next))

@@ -44,10 +44,10 @@ absent_places modified places added =
     find_same (λ key. not (is_among key (united (common modified places) added))) (λ key. not (is_among key (places ++ added))) modified
     (every_weaker (λ key. is_among key modified ≡ true) (λ key. not (is_among key (united (common modified places) added)) ≡ not (is_among key (places ++ added))) modified
     (λ key here.
-      ap not
-      (among-united key (common modified places) added
-      ∙ ap (λ b. b || is_among key added) (among-filter (λ key. is_among key places) key modified ∙ ap (λ b. is_among key places && b) here ∙ and_true (is_among key places))
-      ∙ sym (among-append key places added)))
+    ap not
+    (among-united key (common modified places) added
+    ∙ ap (λ b. b || is_among key added) (among-filter (λ key. is_among key places) key modified ∙ ap (λ b. is_among key places && b) here ∙ and_true (is_among key places))
+    ∙ sym (among-append key places added)))
     (each_among modified))
   where
     and_true : (b : Bool) → (b && true) ≡ b

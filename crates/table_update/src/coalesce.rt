@@ -50,9 +50,11 @@ impl Update {
         requires old { IsRising old.now }
         ensures { IfOk result (λ keys. keys ≡ removed_by_both old.now self.now next.now) }
     {
-        let survivors = old.minus(self.removed())?;
-        let gone = self.shifted().unapply(&survivors, next.removed())?;
-        self.removed().union(&gone)
+        let removed = self.removed();
+        let gone = self
+            .shifted()
+            .unapply_without(old, removed, next.removed())?;
+        removed.union(&gone)
     }
 
     /// Where the rows move that are not removed by either.

@@ -7,6 +7,8 @@
 mod coalesce;
 mod columns;
 mod search;
+#[cfg(test)]
+mod tests;
 mod update;
 
 pub use columns::ColumnSet;

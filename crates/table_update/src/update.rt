@@ -1,7 +1,7 @@
 //! The update itself: its parts, the keys before and after it, and whether it may be applied.
 
 ghost use Rattle.std.specs.Prelude.{◌≡◌, ◌^◌, ◌≤◌, ◌⊎◌, ◌++◌, Some, None, find, not, IfOk, IfErr, OnOk};
-ghost use Rattle.key_lists.specs.Keys.{is_among};
+ghost use Rattle.key_lists.specs.Keys.{is_among, without};
 ghost use Rattle.row_set.specs.Sets.{IsKeySet, common};
 ghost use Rattle.shift_data.specs.Moves.{IsLawful};
 ghost use Rattle.tick_laws.specs.Checked.{keys_after};
@@ -39,11 +39,11 @@ impl Model for Update {
     ghost Value = { Update };
 
     ghost view = { λ update. record {
-        removed = update.removed;
-        added = update.added;
-        modified = update.modified;
-        shifted = update.shifted;
-        columns = update.columns;
+      removed = update.removed;
+      added = update.added;
+      modified = update.modified;
+      shifted = update.shifted;
+      columns = update.columns;
     } };
 }
 
@@ -153,9 +153,9 @@ impl Update {
         requires { update_fault (2 ^ 62) old.now self.now ≡ None }
         ensures { IfOk result (λ keys. keys ≡ old_modified old.now self.now) }
     {
-        let shifted = self.shifted();
-        let survivors = old.minus(self.removed())?;
-        shifted.unapply(&survivors, self.modified())
+        let modified = self.modified();
+        self.shifted()
+            .unapply_without(old, self.removed(), modified)
     }
 
     /// Whether the update may be applied to a table with these keys, where the keys of the rows that move are to stay below
@@ -182,26 +182,25 @@ impl Update {
         if let Some(key) = least_absent(removed, old) {
             return Ok(Some(UpdateFault::RemovedAbsent { key }));
         }
-        let survivors = old.minus(removed)?;
         let shifted = self.shifted();
-        if let Some(broken) = shifted.keeps_order(&survivors, limit) {
+        if let Some(broken) = shifted.keeps_order_without(old, removed, limit) {
             return Ok(Some(UpdateFault::ShiftBreaks {
                 first: broken.first,
                 second: broken.second,
             }));
         }
-        self.places_fault(&survivors)
+        self.places_fault(old)
     }
 
     /// The first rule that the added and the modified keys break.
-    fn places_fault(&self, survivors: &RowSet) -> Result<Option<UpdateFault>, AllocError>
-        requires { IsLawful self.now.shifted survivors.now }
-        ensures { IfOk result (λ fault. fault ≡ places_fault survivors.now self.now) }
+    fn places_fault(&self, old: &RowSet) -> Result<Option<UpdateFault>, AllocError>
+        requires { IsLawful self.now.shifted (without self.now.removed old.now) }
+        ensures { IfOk result (λ fault. fault ≡ places_fault (without self.now.removed old.now) self.now) }
     {
-        if let Some(key) = self.least_taken(survivors)? {
+        if let Some(key) = self.least_taken(old)? {
             return Ok(Some(UpdateFault::AddedTaken { key }));
         }
-        if let Some(key) = self.least_absent(survivors)? {
+        if let Some(key) = self.least_absent(old)? {
             return Ok(Some(UpdateFault::ModifiedAbsent { key }));
         }
         if let Some(key) = self.least_new()? {
@@ -211,22 +210,22 @@ impl Update {
     }
 
     /// The least added key that is that of a row that stays.
-    fn least_taken(&self, survivors: &RowSet) -> Result<Option<u64>, AllocError>
-        requires { IsLawful self.now.shifted survivors.now }
-        ensures { IfOk result (λ least. least ≡ find (λ key. is_among key (landed self.now.shifted survivors.now)) self.now.added) }
+    fn least_taken(&self, old: &RowSet) -> Result<Option<u64>, AllocError>
+        requires { IsLawful self.now.shifted (without self.now.removed old.now) }
+        ensures { IfOk result (λ least. least ≡ find (λ key. is_among key (landed self.now.shifted (without self.now.removed old.now))) self.now.added) }
     {
-        let taken = self.occupied(survivors, self.added())?;
+        let taken = self.occupied(old, self.added())?;
         Ok(taken.first())
     }
 
     /// The least modified key that is neither that of a row that stays nor added.
-    fn least_absent(&self, survivors: &RowSet) -> Result<Option<u64>, AllocError>
-        requires { IsLawful self.now.shifted survivors.now }
+    fn least_absent(&self, old: &RowSet) -> Result<Option<u64>, AllocError>
+        requires { IsLawful self.now.shifted (without self.now.removed old.now) }
         ensures { IfOk result (λ least. least
-            ≡ find (λ key. not (is_among key (landed self.now.shifted survivors.now ++ self.now.added))) self.now.modified) }
+            ≡ find (λ key. not (is_among key (landed self.now.shifted (without self.now.removed old.now) ++ self.now.added))) self.now.modified) }
     {
         let modified = self.modified();
-        let present = self.occupied(survivors, modified)?.union(self.added())?;
+        let present = self.occupied(old, modified)?.union(self.added())?;
         Ok(least_absent(modified, &present))
     }
 
@@ -238,16 +237,16 @@ impl Update {
         Ok(new.first())
     }
 
-    /// Those of the keys to which survivors move.
-    fn occupied(&self, survivors: &RowSet, keys: &RowSet) -> Result<RowSet, AllocError>
-        requires { IsLawful self.now.shifted survivors.now }
-        ensures { IfOk result (λ places. places ≡ common keys.now (landed self.now.shifted survivors.now)) }
+    /// Those of the keys to which rows move that stay.
+    fn occupied(&self, old: &RowSet, keys: &RowSet) -> Result<RowSet, AllocError>
+        requires { IsLawful self.now.shifted (without self.now.removed old.now) }
+        ensures { IfOk result (λ places. places ≡ common keys.now (landed self.now.shifted (without self.now.removed old.now))) }
     {
         if keys.is_empty() {
             return keys.copy();
         }
         let shifted = self.shifted();
-        let before = shifted.unapply(survivors, keys)?;
+        let before = shifted.unapply_without(old, self.removed(), keys)?;
         shifted.apply(&before)
     }
 }

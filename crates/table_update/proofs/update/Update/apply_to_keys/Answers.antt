@@ -13,5 +13,5 @@ returns c =
     let survivors : c.remove_all.new.self ≡ without update.removed old = c.in_ok-remove_all.ensures.ok ∙ ap (λ keys. without keys old) c.removed-removed.ensures.keys in
     let places : c.apply_in_place.new.keys ≡ landed update.shifted (without update.removed old) = c.in_ok-apply_in_place.ensures ∙ ap₂ landed c.shifted-shifted.ensures survivors in
     let keys : united c.added-added.result.now c.apply_in_place.new.keys ≡ keys_after old update =
-        ap₂ united c.added-added.ensures.keys places ∙ keys_after_edits old update c.requires c.added-added.ensures.set.rising in
+    ap₂ united c.added-added.ensures.keys places ∙ keys_after_edits old update c.requires c.added-added.ensures.set.rising in
     subst (λ keys. OnOk c.insert_all.result (c.insert_all.new.self ≡ keys)) keys c.insert_all.ensures.ok

@@ -33,11 +33,11 @@ returns c =
     let n = c.requires.follows in
     let rising = c.added.ensures.set.rising in
     let carried : c.in_ok-carried.carried ≡ landed next.shifted (without next.removed first.added) =
-        c.in_ok-carried.ensures ∙ ap (λ keys. landed next.shifted (without next.removed keys)) c.added.ensures.keys in
+    c.in_ok-carried.ensures ∙ ap (λ keys. landed next.shifted (without next.removed keys)) c.added.ensures.keys in
     let modified : c.in_ok-modified.modified ≡ modified_by_both old first next =
-        c.in_ok-modified.ensures.keys ∙ ap₂ (modified_after next) c.modified.ensures.keys carried ∙ united_modified old first next f n rising c.modified.ensures.set.rising c.modified_after.ensures.set in
+    c.in_ok-modified.ensures.keys ∙ ap₂ (modified_after next) c.modified.ensures.keys carried ∙ united_modified old first next f n rising c.modified.ensures.set.rising c.modified_after.ensures.set in
     let added : c.in_ok-added.added ≡ added_by_both old first next =
-        c.in_ok-added.ensures ∙ ap₂ united carried c.added-2.ensures.keys ∙ united_added old first next f n rising c.added-2.ensures.set.rising in
+    c.in_ok-added.ensures ∙ ap₂ united carried c.added-2.ensures.keys ∙ united_added old first next f n rising c.added-2.ensures.set.rising in
     ap (λ keys. made keys c.in_ok-added.added c.in_ok-modified.modified c.in_ok-shifted.shifted c.columns_with-columns.result) c.in_ok-removed.ensures
     ∙ ap₂ (λ keys others. made (removed_by_both old first next) keys others c.in_ok-shifted.shifted c.columns_with-columns.result) added modified
     ∙ ap₂ (λ shift columns. made (removed_by_both old first next) (added_by_both old first next) (modified_by_both old first next) shift columns) c.in_ok-shifted.ensures
