@@ -109,16 +109,15 @@ module _ (shifts : List ShiftRange) (survivors after : List ℕ) (from first : �
     same = λ key above below among. ap (λ k. is_among k after) (lands key above (omega arith)) ∙ gap (start + (key - first)) (omega arith) (omega arith);
   }
 
-  pub part_asked : (run asked : Range) (last : ℕ) → find (holds first) (ranges_of survivors) ≡ Some run → find (holds start) (ranges_of after) ≡ Some asked → last ≤ segment.last → last ≤ run.last → last ≤ first + (asked.last - start) → first ≤ last → let part : AskedPart = record { first = first; last = last; asked = true } in IsAskedPart shifts survivors after from part
-  part_asked run asked last held wanted until in_run in_asked order =
-      let here = run_of survivors first run held in
+  pub part_asked : (asked : Range) (last : ℕ) → ((key : ℕ) → first ≤ key → key ≤ last → is_among key survivors ≡ true) → find (holds start) (ranges_of after) ≡ Some asked → last ≤ segment.last → last ≤ first + (asked.last - start) → first ≤ last → let part : AskedPart = record { first = first; last = last; asked = true } in IsAskedPart shifts survivors after from part
+  part_asked asked last held wanted until in_asked order =
       let there = run_of after start asked wanted in
       record {
         above = leb-true from first (find_key (leb from) survivors first e).1;
         order = order;
         small = omega (arith, s.small);
         none_before = none_between from first survivors set.rising e;
-        whole = λ _ key above below. here.2 key (omega (arith, here.0)) (omega arith);
+        whole = λ _ key above below. held key above below;
         same = λ key above below among. ap (λ k. is_among k after) (lands key above (omega arith)) ∙ there.2 (start + (key - first)) (omega (arith, there.0)) (omega (arith, there.1));
       }
 

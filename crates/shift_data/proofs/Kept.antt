@@ -23,7 +23,7 @@ kept_set left_out keys set = record {
 }
 
 -- a key that is left out is none of the others, and one that is not is
-among_kept : (left_out keys : List ℕ) (key : ℕ) → is_among key (without left_out keys) ≡ (not (is_among key left_out) && is_among key keys)
+pub among_kept : (left_out keys : List ℕ) (key : ℕ) → is_among key (without left_out keys) ≡ (not (is_among key left_out) && is_among key keys)
 among_kept left_out keys key = among-filter (λ key. not (is_among key left_out)) key keys
 
 out_not_kept : (left_out keys : List ℕ) (key : ℕ) → is_among key left_out ≡ true → is_among key (without left_out keys) ≡ false
@@ -96,7 +96,7 @@ pub record IsBound (left_out keys : List ℕ) (whole high : ℕ) : Type 0 where
   pub below : high ≤ whole
   pub all : (key : ℕ) → is_among key (without left_out keys) ≡ true → key ≤ whole → key ≤ high
 
-kept_is_key : (left_out keys : List ℕ) (key : ℕ) → is_among key (without left_out keys) ≡ true → (is_among key left_out ≡ false) × (is_among key keys ≡ true)
+pub kept_is_key : (left_out keys : List ℕ) (key : ℕ) → is_among key (without left_out keys) ≡ true → (is_among key left_out ≡ false) × (is_among key keys ≡ true)
 kept_is_key left_out keys key h =
     let parts = and_parts (not (is_among key left_out)) (is_among key keys) (sym (among_kept left_out keys key) ∙ h) in
     (not-true (is_among key left_out) parts.0, parts.1)
@@ -125,3 +125,7 @@ last_found left_out keys whole high key h last held = record {
 -- the end of a run is a key
 pub run_small : (keys : List ℕ) (key : ℕ) (run : Range) → IsKeySet keys → find (holds key) (ranges_of keys) ≡ Some run → (key ≤ run.last) × (run.last < 2 ^ 62)
 run_small keys key run set held = let is = run_of keys key run held in (is.1, key_small run.last keys set (is.2 run.last (omega (arith, is.0, is.1)) (omega arith)))
+
+-- a run of keys of which none is left out
+pub run_kept : (left_out keys : List ℕ) (key : ℕ) → is_among key keys ≡ true → is_among key left_out ≡ false → is_among key (without left_out keys) ≡ true
+run_kept left_out keys key here kept = among_kept left_out keys key ∙ and_from (not (is_among key left_out)) (is_among key keys) (not_from_false (is_among key left_out) kept) here

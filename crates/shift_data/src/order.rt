@@ -1,27 +1,33 @@
 //! Whether a shift keeps the order of a set of keys.
 ghost use Rattle.std.specs.Prelude.{◌≡◌, ◌-◌, ◌^◌, ◌<◌, ◌≤◌, pos, negsuc, ◌+ℤ◌, ◌-ℤ◌, ◌<ℤ◌, ◌≤ℤ◌, false, option_map};
 ghost use Rattle.std.specs.Option.{ForSome};
+ghost use Rattle.key_lists.specs.Keys.{without};
 ghost use Rattle.row_set.specs.Sets.{IsKeySet};
 ghost use Rattle.tick_model.specs.Rules.{is_past, shift_fault};
 ghost use Rattle.shift_data.specs.ShiftLists.{IsShiftList};
 ghost use Rattle.shift_data.specs.Faults.{breaks, fault_in, past_fault, IsPlaced};
 
-use crate::parts::{Part, part_from};
+use crate::parts::{Part, next_kept, part_without};
 use crate::search::place_of;
 use crate::shifts::Broken;
 use row_set::RowSet;
 use tick_model::update::ShiftRange;
 
-/// The least key that the shift leads past the limit, or not past the key before it.
-pub(crate) fn broken(shifts: &[ShiftRange], keys: &RowSet, limit: u64) -> Option<Broken>
+/// The least of the keys, but those that are left out, that the shift leads past the limit, or not past the key before it.
+pub(crate) fn broken(
+    shifts: &[ShiftRange],
+    keys: &RowSet,
+    left_out: &RowSet,
+    limit: u64,
+) -> Option<Broken>
     requires shifts { IsShiftList shifts.now }
     requires limit { limit ≤ 2 ^ 62 }
-    ensures { option_map breaks result ≡ shift_fault limit shifts.now keys.now }
+    ensures { option_map breaks result ≡ shift_fault limit shifts.now (without left_out.now keys.now) }
 {
     let mut before = None;
     let mut from = 0;
-    while let Some(part) = part_from(shifts, keys, from) {
-        let broken = broken_at(keys, before, part, limit);
+    while let Some(part) = part_without(shifts, keys, left_out, from) {
+        let broken = broken_at(keys, left_out, before, part, limit);
         if broken.is_some() {
             return broken;
         }
@@ -32,12 +38,18 @@ pub(crate) fn broken(shifts: &[ShiftRange], keys: &RowSet, limit: u64) -> Option
 }
 
 /// The least key of a part that breaks the order behind the part before it.
-fn broken_at(keys: &RowSet, before: Option<Part>, part: Part, limit: u64) -> Option<Broken>
+fn broken_at(
+    keys: &RowSet,
+    left_out: &RowSet,
+    before: Option<Part>,
+    part: Part,
+    limit: u64,
+) -> Option<Broken>
     requires limit { limit ≤ 2 ^ 62 }
     requires before { ForSome before IsPlaced }
     requires part { IsPlaced part }
     requires order { part.first ≤ part.last }
-    ensures { option_map breaks result ≡ fault_in limit before part keys.now }
+    ensures { option_map breaks result ≡ fault_in limit before part (without left_out.now keys.now) }
 {
     let place = place_of(part.first, part.delta);
     if is_past(limit, place) {
@@ -51,18 +63,18 @@ fn broken_at(keys: &RowSet, before: Option<Part>, part: Part, limit: u64) -> Opt
             first: before.last,
             second: part.first,
         }),
-        _ => past_the_limit(keys, part, limit),
+        _ => past_the_limit(keys, left_out, part, limit),
     }
 }
 
 /// The least key of a part that moves past the limit, where the first of them does not.
-fn past_the_limit(keys: &RowSet, part: Part, limit: u64) -> Option<Broken>
+fn past_the_limit(keys: &RowSet, left_out: &RowSet, part: Part, limit: u64) -> Option<Broken>
     requires limit { limit ≤ 2 ^ 62 }
     requires part { IsPlaced part }
     requires inside { is_past limit (pos part.first +ℤ part.delta) ≡ false }
-    ensures { option_map breaks result ≡ past_fault limit part keys.now }
+    ensures { option_map breaks result ≡ past_fault limit part (without left_out.now keys.now) }
 {
-    let key = keys.next_from(key_reaching(limit, part.delta))?;
+    let key = next_kept(keys, left_out, key_reaching(limit, part.delta))?;
     if part.last < key {
         return None;
     }

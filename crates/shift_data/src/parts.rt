@@ -115,10 +115,11 @@ pub(crate) fn part_without(
     left_out: &RowSet,
     from: u64,
 ) -> Option<Part>
-    requires shifts { IsShiftList shifts.now }
-    requires from { from ≤ 2 ^ 62 }
+    requires { IsShiftList shifts.now }
     ensures none { IfNone result (from_on from (without left_out.now keys.now) ≡ []) }
     ensures part { IfSome result (IsPart (delta_at shifts.now) (without left_out.now keys.now) from) }
+    ensures up { IfSome result (λ part. part.delta <ℤ pos (2 ^ 62)) }
+    ensures down { IfSome result (λ part. negsuc (2 ^ 62 - 1) <ℤ part.delta) }
     ensures keys { IsKeySet keys.now }
 {
     let first = next_kept(keys, left_out, from)?;
@@ -132,8 +133,7 @@ pub(crate) fn part_without(
 }
 
 /// The first key from `from` on that is not left out.
-fn next_kept(keys: &RowSet, left_out: &RowSet, mut from: u64) -> Option<u64>
-    requires { from ≤ 2 ^ 62 }
+pub(crate) fn next_kept(keys: &RowSet, left_out: &RowSet, mut from: u64) -> Option<u64>
     ensures key { result ≡ find (nat_le from) (without left_out.now keys.now) }
     ensures keys { IsKeySet keys.now }
 {

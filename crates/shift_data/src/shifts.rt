@@ -133,7 +133,22 @@ impl ShiftData {
         requires { limit ≤ 2 ^ 62 }
         ensures { option_map breaks result ≡ shift_fault limit self.now keys.now }
     {
-        broken(&self.ranges, keys, limit)
+        let none = RowSet::new(*self.ranges.allocator());
+        broken(&self.ranges, keys, &none, limit)
+    }
+
+    /// The same of the keys but those that are left out. The sets are searched and not walked: the cost is that of the ranges
+    /// of the shift, and of those that are left out where one of them begins or ends.
+    pub fn keeps_order_without(
+        &self,
+        keys: &RowSet,
+        left_out: &RowSet,
+        limit: u64,
+    ) -> Option<Broken>
+        requires { limit ≤ 2 ^ 62 }
+        ensures { option_map breaks result ≡ shift_fault limit self.now (without left_out.now keys.now) }
+    {
+        broken(&self.ranges, keys, left_out, limit)
     }
 
     /// The keys to which these keys move.
@@ -158,7 +173,23 @@ impl ShiftData {
         requires { IsLawful self.now survivors.now }
         ensures { IfOk result (λ keys. keys ≡ unapplied self.now survivors.now after.now) }
     {
-        unapplied(*self.ranges.allocator(), &self.ranges, survivors, after)
+        let alloc = *self.ranges.allocator();
+        unapplied(alloc, &self.ranges, survivors, &RowSet::new(alloc), after)
+    }
+
+    /// Those of the keys, but those that are left out, whose moved key is in `after`. The sets are searched and not walked: the
+    /// cost is that of the ranges of the shift, of those that are left out, and of those that move to keys in `after`.
+    pub fn unapply_without(
+        &self,
+        keys: &RowSet,
+        left_out: &RowSet,
+        after: &RowSet,
+    ) -> Result<RowSet, AllocError>
+        requires { IsLawful self.now (without left_out.now keys.now) }
+        ensures { IfOk result (λ asked. asked ≡ unapplied self.now (without left_out.now keys.now) after.now) }
+    {
+        let alloc = *self.ranges.allocator();
+        unapplied(alloc, &self.ranges, keys, left_out, after)
     }
 
     /// The ranges of the rows under these keys: one for each longest stretch of neighbouring rows that move by one delta

@@ -110,12 +110,13 @@ fn keys_are_left_out(rt: HostRuntime) -> Result<(), Fail> {
     let shift = shift(rt.alloc())?;
     let all = keys(rt.alloc(), 0, 2)?;
     let left_out = keys(rt.alloc(), 2, 3)?;
-    let survivors = all.minus(&left_out)?;
-    if let Some(broken) = shift.keeps_order(&survivors, LIMIT) {
+    if let Some(broken) = shift.keeps_order_without(&all, &left_out, LIMIT) {
         return Err(Fail::from(broken));
     }
     let canonical = shift.canonical_without(&all, &left_out)?;
     assert_eq!(rt; canonical.ranges(), [range(1, 1, 5)].as_slice());
+    let asked = shift.unapply_without(&all, &left_out, &keys(rt.alloc(), 6, 9)?)?;
+    assert_eq!(rt; asked.ranges(), [run(1, 1)].as_slice());
     Ok(())
 }
 

@@ -1,6 +1,7 @@
 //! The keys of a set that move to the keys of another.
 ghost use Rattle.std.specs.Prelude.{◌≡◌, ℕ, ◌+◌, ◌^◌, ◌<◌, ◌≤◌, IfOk, IfSome, IfNone, [], true, false};
 ghost use Rattle.key_lists.specs.Keys.{is_among};
+ghost use Rattle.key_lists.specs.Keys.{without};
 ghost use Rattle.row_set.specs.Sets.{IsKeySet};
 ghost use Rattle.shift_data.specs.ShiftLists.{IsShiftList};
 ghost use Rattle.shift_data.specs.Moves.{IsLawful, unapplied};
@@ -8,7 +9,7 @@ ghost use Rattle.shift_data.specs.Parts.{from_on};
 ghost use Rattle.shift_data.specs.Wanted.{IsAskedPart};
 
 use crate::apply::landing;
-use crate::parts::segment_at;
+use crate::parts::{next_kept, segment_at};
 use row_set::RowSet;
 use std::alloc::{AllocError, Global};
 use tick_model::update::ShiftRange;
@@ -21,42 +22,44 @@ pub(crate) struct AskedPart {
     pub(crate) asked: bool,
 }
 
-/// Those of the survivors whose moved key is in `after`.
+/// Those of the keys, but those that are left out, whose moved key is in `after`.
 pub(crate) fn unapplied(
     alloc: Global,
     shifts: &[ShiftRange],
-    survivors: &RowSet,
+    keys: &RowSet,
+    left_out: &RowSet,
     after: &RowSet,
 ) -> Result<RowSet, AllocError>
     requires shifts { IsShiftList shifts.now }
-    requires lawful { IsLawful shifts.now survivors.now }
-    ensures { IfOk result (λ keys. keys ≡ unapplied shifts.now survivors.now after.now) }
+    requires lawful { IsLawful shifts.now (without left_out.now keys.now) }
+    ensures { IfOk result (λ asked. asked ≡ unapplied shifts.now (without left_out.now keys.now) after.now) }
 {
-    let mut keys = RowSet::with_capacity(alloc, 0)?;
+    let mut asked = RowSet::with_capacity(alloc, 0)?;
     let mut from = 0;
-    while let Some(part) = asked_from(shifts, survivors, after, from) {
+    while let Some(part) = asked_from(shifts, keys, left_out, after, from) {
         if part.asked {
-            keys.insert_range(part.first, part.last)?;
+            asked.insert_range(part.first, part.last)?;
         }
         from = part.last + 1;
     }
-    Ok(keys)
+    Ok(asked)
 }
 
 /// The first part from `from` on.
 fn asked_from(
     shifts: &[ShiftRange],
-    survivors: &RowSet,
+    keys: &RowSet,
+    left_out: &RowSet,
     after: &RowSet,
     from: u64,
 ) -> Option<AskedPart>
     requires shifts { IsShiftList shifts.now }
-    requires lawful { IsLawful shifts.now survivors.now }
-    ensures none { IfNone result (from_on from survivors.now ≡ []) }
-    ensures part { IfSome result (IsAskedPart shifts.now survivors.now after.now from) }
-    ensures keys { IsKeySet survivors.now }
+    requires lawful { IsLawful shifts.now (without left_out.now keys.now) }
+    ensures none { IfNone result (from_on from (without left_out.now keys.now) ≡ []) }
+    ensures part { IfSome result (IsAskedPart shifts.now (without left_out.now keys.now) after.now from) }
+    ensures keys { IsKeySet keys.now }
 {
-    let first = survivors.next_from(from)?;
+    let first = next_kept(keys, left_out, from)?;
     let segment = segment_at(shifts, first);
     let place = landing(first, segment.delta);
     let ahead = gap_from(after, place);
@@ -67,11 +70,13 @@ fn asked_from(
             asked: false,
         });
     }
-    let run = survivors.range_at(first)?;
+    let run = keys.range_at(first)?;
+    let free = gap_from(left_out, first);
     let asked = after.range_at(place)?;
+    let kept = run.last.min(first.saturating_add(free - 1));
     Some(AskedPart {
         first,
-        last: segment.last.min(run.last).min(first + (asked.last - place)),
+        last: segment.last.min(kept).min(first + (asked.last - place)),
         asked: true,
     })
 }

@@ -1,6 +1,7 @@
 use Rattle.std.proofs.Common.{◌≡◌, ◌-◌, ◌^◌, ◌≤◌}
 use Rattle.std.specs.Prelude.{IfSome}
 use Rattle.std.specs.Option.{ForSome}
+use Rattle.key_lists.specs.Keys.{without}
 use Rattle.tick_model.specs.Shifts.{delta_at}
 use Rattle.tick_model.specs.Rules.{shift_fault_after, shift_fault}
 use Rattle.shift_data.specs.Faults.{IsPlaced}
@@ -13,7 +14,7 @@ invariant-loop-part l =
     (l.from ≤ 2 ^ 62)
     × ForSome l.before IsPlaced
     × IfSome l.before (λ part. delta_at l.shifts part.last ≡ part.delta)
-    × (shift_fault_after l.limit l.shifts (last_of l.before) (from_on l.from l.keys) ≡ shift_fault l.limit l.shifts l.keys)
+    × (shift_fault_after l.limit l.shifts (last_of l.before) (from_on l.from (without l.left_out l.keys)) ≡ shift_fault l.limit l.shifts (without l.left_out l.keys))
 
 abbrev pub decreases-loop-part : goal.decreases-loop-part
 decreases-loop-part l = 2 ^ 62 - l.from

@@ -6,7 +6,7 @@ use Rattle.shift_data.proofs.parts.next_kept.Goals as goal
 
 pub returns-in_err-key-clause-key : goal.returns-in_err-key-clause-key
 returns-in_err-key-clause-key c =
-    c.from_residual.ensures ∙ sym (sym c.loop-key.invariant.1 ∙ none_kept c.args.left_out.now c.args.keys.now c.loop-key.from (sym c.next_from.ensures.next ∙ c.in_err-key.was))
+    c.from_residual.ensures ∙ sym (sym c.loop-key.invariant ∙ none_kept c.args.left_out.now c.args.keys.now c.loop-key.from (sym c.next_from.ensures.next ∙ c.in_err-key.was))
 
 pub overflow_add-from : goal.overflow_add-from
 overflow_add-from c =
@@ -23,11 +23,9 @@ pub loop-key-preserved : goal.loop-key-preserved
 loop-key-preserved c =
     let e : find (leb c.loop-key.from) c.args.keys.now ≡ Some c.in_ok-key.key = sym c.next_from.ensures.next ∙ c.in_ok-key.was in
     let held = sym c.range_at.ensures.range ∙ c.in-Some.is in
-    let above = leb-true c.loop-key.from c.in_ok-key.key (find_key (leb c.loop-key.from) c.args.keys.now c.in_ok-key.key e).1 in (
-      omega (arith, (run_small c.args.left_out.now c.in_ok-key.key c.in-Some.run' c.range_at.ensures.keys held).1),
-      sym (run_passed c.args.left_out.now c.args.keys.now c.loop-key.from c.in_ok-key.key c.in-Some.run' c.next_from.ensures.keys.rising e above held) ∙ c.loop-key.invariant.1,
-    )
+    let above = leb-true c.loop-key.from c.in_ok-key.key (find_key (leb c.loop-key.from) c.args.keys.now c.in_ok-key.key e).1 in
+    sym (run_passed c.args.left_out.now c.args.keys.now c.loop-key.from c.in_ok-key.key c.in-Some.run' c.next_from.ensures.keys.rising e above held) ∙ c.loop-key.invariant
 
 pub returns-in-None-clause-key : goal.returns-in-None-clause-key
 returns-in-None-clause-key c =
-    sym (sym c.loop-key.invariant.1 ∙ first_kept c.args.left_out.now c.args.keys.now c.loop-key.from c.in_ok-key.key (sym c.next_from.ensures.next ∙ c.in_ok-key.was) (sym c.range_at.ensures.range ∙ c.in-None.is))
+    sym (sym c.loop-key.invariant ∙ first_kept c.args.left_out.now c.args.keys.now c.loop-key.from c.in_ok-key.key (sym c.next_from.ensures.next ∙ c.in_ok-key.was) (sym c.range_at.ensures.range ∙ c.in-None.is))

@@ -1,0 +1,6 @@
+pub mod Absent
+pub mod CoalescedKeys
+pub mod ColumnLists
+pub mod KeysAfter
+pub mod LawfulParts
+pub mod Occupied

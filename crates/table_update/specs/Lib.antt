@@ -1,0 +1,3 @@
+pub mod Coalesced
+pub mod Columns
+pub mod Kept

@@ -1,0 +1,109 @@
+//! Two updates of a table, one after the other, as one.
+
+ghost use Rattle.std.specs.Prelude.{◌≡◌, IfOk};
+ghost use Rattle.key_lists.specs.Keys.{IsRising, without};
+ghost use Rattle.shift_data.specs.Moves.{IsLawful};
+ghost use Rattle.tick_model.specs.Rules.{landed};
+ghost use Rattle.tick_model.specs.Shifts.{shifted};
+ghost use Rattle.table_update.specs.Coalesced.{Follow, coalesced, columns_of_both, kept_by_both, modified_after, removed_by_both};
+
+use crate::columns::ColumnSet;
+use crate::update::Update;
+use row_set::RowSet;
+use shift_data::ShiftData;
+use std::alloc::AllocError;
+
+impl Update {
+    /// The update that this one and then the next one make of a table with the old keys. Its modified rows are those that
+    /// either of them modifies and both keep, whether or not they differ in the end.
+    pub fn coalesce(self, next: &Update, old: &RowSet) -> Result<Update, AllocError>
+        requires { Follow old.now self next.now }
+        ensures { IfOk result (λ update. update ≡ coalesced old.now self next.now) }
+    {
+        self.followed_by(next, old)
+    }
+
+    /// The update that this one and then the next one make.
+    fn followed_by(&self, next: &Update, old: &RowSet) -> Result<Update, AllocError>
+        requires { Follow old.now self.now next.now }
+        ensures { IfOk result (λ update. update ≡ coalesced old.now self.now next.now) }
+    {
+        let _ = old.ranges();
+        let carried = next.places_of(self.added())?;
+        let removed = self.removed_with(next, old)?;
+        let shifted = self.shifted_with(next, old, &removed)?;
+        let modified = next.modified_after(self.modified(), &carried)?;
+        let columns = self.columns_with(next, &modified);
+        let added = carried.union(next.added())?;
+        Ok(Update {
+            removed,
+            added,
+            modified,
+            shifted,
+            columns,
+        })
+    }
+
+    /// The old keys of the rows that this update or the next one removes.
+    fn removed_with(&self, next: &Update, old: &RowSet) -> Result<RowSet, AllocError>
+        requires follow { Follow old.now self.now next.now }
+        requires old { IsRising old.now }
+        ensures { IfOk result (λ keys. keys ≡ removed_by_both old.now self.now next.now) }
+    {
+        let removed = self.removed();
+        let gone = self
+            .shifted()
+            .unapply_without(old, removed, next.removed())?;
+        removed.union(&gone)
+    }
+
+    /// Where the rows move that are not removed by either.
+    fn shifted_with(
+        &self,
+        next: &Update,
+        old: &RowSet,
+        removed: &RowSet,
+    ) -> Result<ShiftData, AllocError>
+        requires follow { Follow old.now self.now next.now }
+        requires old { IsRising old.now }
+        requires added { IsRising self.now.added }
+        requires removed { removed.now ≡ removed_by_both old.now self.now next.now }
+        ensures { IfOk result (λ shift. shift ≡ shifted (kept_by_both old.now self.now next.now)) }
+    {
+        let kept = old.minus(removed)?;
+        self.shifted().then(next.shifted(), &kept)
+    }
+
+    /// The keys that the update modifies, but for these others, and those to which it moves the keys that were modified
+    /// before.
+    fn modified_after(&self, modified: &RowSet, others: &RowSet) -> Result<RowSet, AllocError>
+        requires { IsLawful self.now.shifted (without self.now.removed modified.now) }
+        ensures keys { IfOk result (λ keys. keys ≡ modified_after self.now modified.now others.now) }
+        ensures set { IsRising self.now.modified }
+    {
+        let own = self.modified();
+        let kept = self.places_of(modified)?;
+        let changed = own.minus(others)?;
+        kept.union(&changed)
+    }
+
+    /// Where those of the keys move that the update does not remove.
+    fn places_of(&self, keys: &RowSet) -> Result<RowSet, AllocError>
+        requires { IsLawful self.now.shifted (without self.now.removed keys.now) }
+        ensures { IfOk result (λ places. places ≡ landed self.now.shifted (without self.now.removed keys.now)) }
+    {
+        let kept = keys.minus(self.removed())?;
+        self.shifted().apply(&kept)
+    }
+
+    /// The columns of both updates, and none where these modified rows are none.
+    fn columns_with(&self, next: &Update, modified: &RowSet) -> ColumnSet
+        ensures { result ≡ columns_of_both modified.now self.now next.now }
+    {
+        if modified.is_empty() {
+            ColumnSet::none()
+        } else {
+            self.columns().union(next.columns())
+        }
+    }
+}
