@@ -1,5 +1,5 @@
 -- A table to which rows are added under keys past all others.
-use Rattle.std.proofs.Common.{◌≡◌, ℕ, ◌+◌, ◌<◌, ◌≤◌, ◌^◌, List, [], ◌∷◌, ◌++◌, map, filter, Bool, true, false, not, Option, Some, None, ℤ, pos, refl, sym, ap, ◌∙◌, length, subst, cond, eqb, ltb, leb, append_assoc, arith, add-zero}
+use Rattle.std.proofs.Common.{◌≡◌, ℕ, ◌<◌, List, [], ◌∷◌, ◌++◌, map, filter, Bool, true, false, not, Option, Some, None, ℤ, pos, refl, sym, ap, ◌∙◌, subst, cond, eqb, ltb, arith, add-zero}
 use Rattle.std.specs.Prelude.{◌&&◌, ◌||◌, flat_map, find, option_map, unwrap_or, if◌then◌else◌}
 use Rattle.std.specs.List.{AllByRecursion, list_any, range_with_len, cons_option}
 use Rattle.std.specs.Ordering.{int_eq}
@@ -7,13 +7,12 @@ use Rattle.std.proofs.lemmas.Int.{ints}
 use Rattle.std.proofs.lemmas.Bool.Decides.{Decides-int_eq}
 use Rattle.std.proofs.lemmas.List.Elements.{filter-append}
 use Rattle.std.specs.Cmp.Rules.{signed_items}
-use Rattle.std.proofs.lemmas.Bool.{or_from, or_parts, eqb-true, eq-eqb, ne_eqb, lt-ltb, le-ltb, and_from, cond-true, cond-false}
+use Rattle.std.proofs.lemmas.Bool.{or_from, or_parts, eqb-true, ne_eqb, lt-ltb, le-ltb, cond-true, cond-false}
 use Rattle.key_lists.specs.Keys.{is_among, IsRising, without}
 use Rattle.key_lists.proofs.Among.{among-append, each_among}
 use Rattle.key_lists.proofs.Rising.{as_filter, rising-filter}
 use Rattle.key_lists.proofs.Every.{every, every_weaker, every_both, every-map, every-filter, every_unmapped, filter-map, map_own, filter_none, filter_all, filter_same}
 use Rattle.tick_model.specs.declared.table.PlainRow.{PlainRow}
-use Rattle.tick_model.specs.declared.table.PlainTable.{PlainTable}
 use Rattle.tick_model.specs.declared.update.KeyPair.{KeyPair}
 use Rattle.tick_model.specs.declared.update.ShiftRange.{ShiftRange}
 use Rattle.tick_model.specs.Tables.{cell, same_cells, keys, row_at, cells_at}

@@ -1,28 +1,24 @@
 -- What the program's answers come to.
-use Rattle.std.proofs.Common.{◌≡◌, ℕ, ◌≤◌, List, [], ◌∷◌, Bool, true, false, Option, Some, None, Result, Ok, Err, refl, sym, ap, ◌∙◌, subst, inl, inr, cond}
-use Rattle.std.specs.Prelude.{◌⊎◌, IsTrue, IsSomeAnd, OnOk, OnErr}
+use Rattle.std.proofs.Common.{◌≡◌, ℕ, List, [], ◌∷◌, Bool, true, Option, Some, None, Result, Ok, Err, refl, sym, ap, ◌∙◌, subst, inl, inr}
+use Rattle.std.specs.Prelude.{IsTrue, OnOk, OnErr}
 use Rattle.std.specs.Io.KnownBytes.{append_known}
 use Rattle.std.specs.List.{list_any}
 use Rattle.std.specs.Str.{bytes_eq}
 use Rattle.std.proofs.lemmas.Bool.{or_left, or_right}
 use Rattle.std.proofs.lemmas.Slice.Eq.{bytes_eq-Decides}
 use Rattle.tick_io.specs.Written.{AppendsPrefix}
-use Rattle.tick_model.specs.Texts.{record_text}
 use Rattle.update_text.specs.declared.fault.WriteFault.{WriteFault}
 use Rattle.update_text.specs.declared.fault.WriteFault.TheVariants.{Memory, Failed}
 use Rattle.feed_run.specs.declared.feed.Record.{Record}
-use Rattle.feed_run.specs.declared.program.Form.{Form}
-use Rattle.feed_run.specs.declared.program.Form.TheVariants.{Words, Script as ScriptForm, Feed as FeedForm}
+use Rattle.feed_run.specs.declared.program.Form.TheVariants.{Script as ScriptForm, Feed as FeedForm}
 use Rattle.feed_run.specs.declared.program.Refusal.{Refusal}
 use Rattle.feed_run.specs.declared.program.Refusal.TheVariants.{Memory as OutOfMemory, Unread, NotBuilt}
 use Rattle.feed_run.specs.declared.script.Script.{Script}
-use Rattle.feed_run.specs.Answers.{IsScriptOf, IsNotScript, IsFeedOf, IsNotFeed, status_of_write, Ends, EndsByRefusal, EndsByVerdict, EndsByLoad, Answers}
-use Rattle.feed_run.specs.Feeds.{feed_of}
-use Rattle.feed_run.specs.Headline.{feed_after, files_from, IsOneOf, IsOfVerdict, TellsVerdict, TellsLoadFault, AllowedText, OfVerdict, OfLoad, allowed_text, WritesPrefix, WritesPrefixOrNothing}
+use Rattle.feed_run.specs.Answers.{IsScriptOf, IsNotScript, IsFeedOf, IsNotFeed, status_of_write, Ends, EndsByRefusal, Answers}
+use Rattle.feed_run.specs.Headline.{feed_after, files_from, IsOneOf, TellsVerdict, TellsLoadFault, OfVerdict, OfLoad, WritesPrefix, WritesPrefixOrNothing}
 use Rattle.feed_run.specs.Prints.{run_text}
-use Rattle.feed_run.specs.Scripts.{script_of}
 use Rattle.feed_run.specs.Verdicts.{Verdict, Usage, Unbuilt, Done, script_verdict, plan_verdict, feed_verdict, records_verdict, status_of}
-use Rattle.feed_run.specs.Wholes.{whole, unread_record, IsLawful}
+use Rattle.feed_run.specs.Wholes.{IsLawful}
 use Rattle.feed_run.proofs.RunLemmas.{run, verdict_done, run_whole}
 use Rattle.feed_run.proofs.Soundness.{sound}
 

@@ -1,5 +1,5 @@
 -- The rows of a step.
-use Rattle.std.proofs.Common.{◌≡◌, ℕ, ◌+◌, ◌<◌, List, [], ◌∷◌, ◌++◌, map, take, get_or, Bool, true, false, Option, Some, None, refl, sym, ap, ◌∙◌, length, subst}
+use Rattle.std.proofs.Common.{◌≡◌, ℕ, ◌+◌, ◌<◌, List, [], ◌∷◌, ◌++◌, map, take, get_or, true, false, Option, Some, None, refl, sym, ap, ◌∙◌, length, subst}
 use Rattle.std.specs.Prelude.{if◌then◌else◌}
 use Rattle.std.specs.List.{AllByRecursion, cons_option, filter_map}
 use Rattle.std.specs.Option.{option_to_list}
@@ -10,7 +10,7 @@ use Rattle.tick_model.specs.declared.table.PlainRow.{PlainRow}
 use Rattle.tick_model.specs.Formulas.{truth, IsTestWithin}
 use Rattle.feed_run.specs.declared.feed.Record.{Record}
 use Rattle.feed_run.specs.declared.feed.Record.TheVariants.{Block, Row, End}
-use Rattle.feed_run.specs.Runs.{coded_row, coded_cell, kept_row, added_row, passing_row, passing_rows, HasWidth, FitsTest}
+use Rattle.feed_run.specs.Runs.{coded_row, coded_cell, passing_rows, HasWidth, FitsTest}
 
 -- a loop over records that takes what each of them gives
 filter_map-one : {X Y : Type 0} (f : X → Option Y) (x : X) (o : Option Y) → f x ≡ o → filter_map f (x ∷ []) ≡ option_to_list o

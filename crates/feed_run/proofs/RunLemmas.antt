@@ -1,8 +1,8 @@
 -- What a run prints, and that no step of it is spoiled.
-use Rattle.std.proofs.Common.{◌≡◌, ℕ, zero, suc, ◌+◌, ◌<◌, ◌≤◌, ◌^◌, List, [], ◌∷◌, ◌++◌, map, filter, Bool, true, false, not, Option, Some, None, ℤ, pos, ◌+ℤ◌, refl, sym, ap, ◌∙◌, length, get_or, subst, cond, eqb, ltb, leb, append_assoc, length-append, arith, add-one}
-use Rattle.std.specs.Prelude.{◌&&◌, ◌||◌, flat_map, find, int_le, option_map, unwrap_or, if◌then◌else◌, is_some}
+use Rattle.std.proofs.Common.{◌≡◌, ℕ, zero, suc, ◌+◌, ◌<◌, ◌≤◌, ◌^◌, List, [], ◌∷◌, ◌++◌, map, filter, Bool, true, false, Option, Some, None, pos, refl, sym, ap, ◌∙◌, length, get_or, subst, cond, ltb, leb, append_assoc, length-append, arith, add-one}
+use Rattle.std.specs.Prelude.{flat_map, find, int_le, option_map, if◌then◌else◌, is_some}
 use Rattle.std.specs.Option.{option_or}
-use Rattle.std.specs.List.{AllByRecursion, filter_map, cons_option, range_with_len, list_all}
+use Rattle.std.specs.List.{AllByRecursion, cons_option, range_with_len}
 use Rattle.std.proofs.lemmas.Bool.{le-ltb, lt-leb, or_from, cond-false}
 use Rattle.std.proofs.lemmas.Int.{ints}
 use Rattle.std.proofs.lemmas.List.{length-map}
@@ -22,15 +22,15 @@ use Rattle.tick_model.specs.declared.update.UpdateFault.TheVariants.{AddedTaken}
 use Rattle.tick_model.specs.Tables.{keys}
 use Rattle.tick_model.specs.Shifts.{moved, as_key, composed}
 use Rattle.tick_model.specs.Rules.{is_past, shift_fault_after, shift_fault, landed, update_fault}
-use Rattle.tick_model.specs.Updates.{Tick, Update, adding, shifting, modifying, removing, rows_at, kept_pair, pairs, both_in}
-use Rattle.tick_model.specs.Changes.{change_of, told_keys}
+use Rattle.tick_model.specs.Updates.{Tick, Update, adding, shifting, modifying, removing, rows_at, kept_pair, pairs}
+use Rattle.tick_model.specs.Changes.{change_of}
 use Rattle.tick_model.specs.Evaluation.{Outcome, Table, eval, table_at}
 use Rattle.tick_model.specs.Where.{where_table}
 use Rattle.tick_model.specs.Formulas.{truth}
 use Rattle.tick_model.specs.Sources.{update_of, carried, same_key, unchanged, after_blocks, record_of, source_ticks, sources, new_table, tick_at, block_fault, blocks_fault, batch_fault, too_many, blocks_of as step_blocks}
 use Rattle.tick_model.specs.States.{state, ticks_between, tick}
-use Rattle.tick_model.specs.Spoiled.{Cause, ByBatch, node_fault, publication_fault, spoiled_by, first_spoiled}
-use Rattle.tick_model.specs.Texts.{record_text, records_text, change_records, node_records, step_records, updates_text, done_record, snapshots_text}
+use Rattle.tick_model.specs.Spoiled.{Cause, ByBatch, node_fault, spoiled_by, first_spoiled}
+use Rattle.tick_model.specs.Texts.{record_text, records_text, change_records, node_records, step_records, updates_text, done_record}
 use Rattle.update_text.specs.Added.{adding_alone}
 use Rattle.feed_run.specs.declared.feed.Record.{Record}
 use Rattle.feed_run.specs.declared.feed.Record.TheVariants.{Block, Row, End}
@@ -38,10 +38,10 @@ use Rattle.feed_run.specs.declared.script.Script.{Script}
 use Rattle.feed_run.specs.Scripts.{plan_of}
 use Rattle.feed_run.specs.Feeds.{is_step, steps_of}
 use Rattle.feed_run.specs.Prints.{step_text, steps_text, run_text}
-use Rattle.feed_run.specs.Runs.{texts_of, added_rows, blocks_of, batch_of, run_of, passing_row, passing_rows, kept_row, coded_row}
+use Rattle.feed_run.specs.Runs.{texts_of, added_rows, blocks_of, batch_of, run_of, passing_rows, coded_row}
 use Rattle.feed_run.specs.Verdicts.{Done, run_verdict, steps_verdict}
 use Rattle.feed_run.specs.Wholes.{whole}
-use Rattle.feed_run.proofs.Growth.{same, grown, adding-end, shifting-none, modifying-none, rows_at-none, rows_at-own, moved-none, composed-same, without-none, below_rest, past_none, change-passing, IsRising-front, keys-append, front}
+use Rattle.feed_run.proofs.Growth.{same, grown, adding-end, shifting-none, modifying-none, rows_at-none, rows_at-own, moved-none, composed-same, without-none, below_rest, past_none, change-passing, IsRising-front, front}
 use Rattle.feed_run.proofs.RowLemmas.{append-nil}
 
 -- the run, and the rows up to a step

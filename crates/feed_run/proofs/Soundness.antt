@@ -1,7 +1,7 @@
 -- What is so of the records of each feed that is taken.
-use Rattle.std.proofs.Common.{◌≡◌, ℕ, zero, suc, ◌+◌, ◌-◌, ◌<◌, ◌≤◌, ◌^◌, List, [], ◌∷◌, ◌++◌, map, drop, Bool, true, false, not, Option, Some, None, refl, sym, ap, ◌∙◌, length, get_or, subst, cond, eqb, ltb, leb, append_assoc, length-append, arith}
-use Rattle.std.specs.Prelude.{◌&&◌, ◌||◌, flat_map, option_map, unwrap_or, if◌then◌else◌, IsSome, codes}
-use Rattle.std.specs.List.{AllByRecursion, list_all, list_any, filter_map, cons_option, slice_split, onto_first, zip, enumerate_from}
+use Rattle.std.proofs.Common.{◌≡◌, ℕ, zero, suc, ◌+◌, ◌<◌, ◌≤◌, ◌^◌, List, [], ◌∷◌, ◌++◌, map, drop, Bool, true, false, not, Option, Some, None, refl, sym, ap, ◌∙◌, length, get_or, subst, eqb, ltb, leb, append_assoc, length-append, arith}
+use Rattle.std.specs.Prelude.{◌&&◌, flat_map, option_map, unwrap_or, if◌then◌else◌, IsSome, codes}
+use Rattle.std.specs.List.{AllByRecursion, list_all, list_any, slice_split, onto_first, zip, enumerate_from}
 use Rattle.std.specs.Str.{bytes_eq, all_ascii_digits, is_utf8}
 use Rattle.std.specs.Str.Parse.{digits_value}
 use Rattle.std.proofs.lemmas.Bool.{and_parts, ltb-true, leb-true, eqb-true}
@@ -13,7 +13,6 @@ use Rattle.std.proofs.lemmas.Slice.Zip.{length-zip}
 use Rattle.key_lists.specs.Keys.{IsRising}
 use Rattle.key_lists.proofs.Every.{every_weaker}
 use Rattle.tick_model.specs.declared.plan.ColumnSpec.{ColumnSpec}
-use Rattle.tick_model.specs.declared.table.PlainRow.{PlainRow}
 use Rattle.tick_model.specs.Changes.{is_none}
 use Rattle.tick_model.specs.Tables.{keys}
 use Rattle.feed_run.specs.declared.feed.RawCell.{RawCell}
@@ -22,10 +21,10 @@ use Rattle.feed_run.specs.declared.feed.Record.{Record}
 use Rattle.feed_run.specs.declared.feed.Record.TheVariants.{Block, Row, End}
 use Rattle.feed_run.specs.declared.script.TableLine.{TableLine}
 use Rattle.feed_run.specs.Tokens.{ended, lines_of, pieces_at, with_first, all_some, number_below, key_of}
-use Rattle.feed_run.specs.Feeds.{cell_in, cells_of, row_with, row_of, block_record, end_record, record_from, record_of, record_at, records_in, ends_step, steps_in, steps_of, is_step, are_steps, row_key, row_keys, is_above, rise_after, are_lawful, lawful_records, records_from, is_plain, feed_of}
-use Rattle.feed_run.specs.Runs.{texts_of, added_row, added_rows, HasWidth}
-use Rattle.feed_run.proofs.Growth.{front, back, IsRising-front, keys-append}
-use Rattle.feed_run.proofs.RunLemmas.{step_at, added, upto, IsSound}
+use Rattle.feed_run.specs.Feeds.{cell_in, cells_of, row_with, row_of, block_record, end_record, record_from, record_at, records_in, ends_step, steps_in, steps_of, is_step, are_steps, row_keys, rise_after, are_lawful, lawful_records, records_from, is_plain, feed_of}
+use Rattle.feed_run.specs.Runs.{texts_of, added_rows, HasWidth}
+use Rattle.feed_run.proofs.Growth.{front, IsRising-front, keys-append}
+use Rattle.feed_run.proofs.RunLemmas.{added, upto, IsSound}
 
 if_some : {X : Type 0} (b : Bool) (o : Option X) (x : X) → (if b then o else None) ≡ Some x → (b ≡ true) × (o ≡ Some x)
 if_some true o x e = (refl, e)

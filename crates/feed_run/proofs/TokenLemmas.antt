@@ -1,5 +1,5 @@
 -- What the tests and readings of tokens come to.
-use Rattle.std.proofs.Common.{◌≡◌, ℕ, ◌+◌, ◌-◌, ◌<◌, ◌≤◌, ◌^◌, List, [], ◌∷◌, ◌++◌, map, Bool, true, false, Option, Some, None, Result, Ok, Err, ℤ, pos, neg_ℤ, refl, sym, ap, ◌∙◌, subst, length, cond, get_or, take, drop, eqb, ltb, leb, rules, arith}
+use Rattle.std.proofs.Common.{◌≡◌, ℕ, ◌+◌, ◌<◌, ◌≤◌, ◌^◌, List, [], ◌∷◌, ◌++◌, map, Bool, true, false, Option, Some, None, Result, Ok, Err, ℤ, pos, neg_ℤ, refl, sym, ap, ◌∙◌, subst, length, cond, get_or, take, drop, eqb, ltb, leb, arith}
 use Rattle.std.specs.Prelude.{option_map, ◌&&◌, ◌||◌, not, if◌then◌else◌}
 use Rattle.std.specs.Borrow.{Bor}
 use Rattle.std.specs.Char.{is_ascii_digit}
@@ -11,7 +11,7 @@ use Rattle.std.proofs.lemmas.Bool.{cond-true, cond-false, le-leb, lt-ltb, ltb-tr
 use Rattle.std.proofs.lemmas.List.{map-append, take_more, take-append-drop, take_all, at_drop_more}
 use Rattle.std.proofs.lemmas.Str.Parse.{IsNumeralModel, numerals_by_value, tells_all_ascii_digits}
 use Rattle.tick_model.specs.Changes.{is_none}
-use Rattle.feed_run.specs.Tokens.{ended, with_first, all_some, number_below, natural_of, short_natural, long_of, key_of}
+use Rattle.feed_run.specs.Tokens.{ended, with_first, all_some, number_below, short_natural, long_of, key_of}
 
 pub list_all-digits : (bytes : List ℕ) → list_all is_ascii_digit bytes ≡ all_ascii_digits bytes
 list_all-digits [] = refl

@@ -1,6 +1,6 @@
 -- What the words after the program's name ask for.
 --     command words      the command, or none where the words are of no command
-use Rattle.std.specs.Prelude.{ℕ, ◌==◌, ◌&&◌, ◌||◌, Bool, true, not, List, [], ◌∷◌, Option, Some, None, codes, if◌then◌else◌}
+use Rattle.std.specs.Prelude.{ℕ, ◌==◌, ◌&&◌, Bool, true, not, List, [], ◌∷◌, Option, Some, None, codes, if◌then◌else◌}
 use Rattle.std.specs.Str.{bytes_eq}
 use Rattle.feed_run.specs.declared.command.Request.{Request}
 use Rattle.feed_run.specs.declared.command.Request.TheVariants.{Run as RunRequest, NotBuilt as NotBuiltRequest}

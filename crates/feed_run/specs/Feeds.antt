@@ -1,7 +1,7 @@
 -- The feeds that are built: steps in which rows are added to a table, under keys that rise over the whole feed.
 --     feed_of table bytes      the records of a feed, or none where it is not built
 --     steps_of records      the records of each step
-use Rattle.std.specs.Prelude.{ℕ, ◌+◌, ◌==◌, ◌&&◌, ◌||◌, Bool, true, false, not, List, [], ◌∷◌, Option, Some, None, ℤ, map, length, nat_lt, nat_le, option_map, unwrap_or, codes, if◌then◌else◌}
+use Rattle.std.specs.Prelude.{ℕ, ◌==◌, ◌&&◌, Bool, true, false, not, List, [], ◌∷◌, Option, Some, None, map, length, nat_lt, nat_le, option_map, unwrap_or, codes, if◌then◌else◌}
 use Rattle.std.specs.List.{slice_split, list_any, list_all, filter_map, zip, enumerate_from}
 use Rattle.std.specs.Str.{bytes_eq, is_utf8}
 use Rattle.tick_model.specs.declared.plan.ColumnSpec.{ColumnSpec}

@@ -3,7 +3,7 @@
 --     TellsLoadFault failed reached old new      a load of a file failed that has to be read, and the record that says so was written
 --     WritesPrefix verdict failed reached old new      a prefix of an allowed text was written
 --     IsComplete verdict status      memory ran out, or the status is that of the verdict
-use Rattle.std.specs.Prelude.{◌≡◌, ◌⊎◌, ℕ, Bool, true, List, [], ◌∷◌, Option, Some, None}
+use Rattle.std.specs.Prelude.{◌≡◌, ◌⊎◌, ℕ, true, List, [], ◌∷◌, Option, Some, None}
 use Rattle.std.specs.Io.KnownBytes.{append_known}
 use Rattle.std.specs.List.{list_any}
 use Rattle.std.specs.Str.{bytes_eq}

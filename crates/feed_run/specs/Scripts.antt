@@ -1,16 +1,15 @@
 -- The scripts that are built: a table, a filter of its rows, and the filter's name to be printed.
 --     script_of bytes      what a script says, or none where it is not built
 --     plan_of script      its plan
-use Rattle.std.specs.Prelude.{ℕ, ◌&&◌, ◌||◌, Bool, true, false, not, List, [], ◌∷◌, Option, Some, None, ℤ, map, length, position, nat_lt, nat_le, option_map, codes, if◌then◌else◌}
+use Rattle.std.specs.Prelude.{ℕ, ◌&&◌, ◌||◌, Bool, false, not, List, [], ◌∷◌, Option, Some, None, ℤ, map, length, position, nat_lt, nat_le, codes, if◌then◌else◌}
 use Rattle.std.specs.Str.{bytes_eq, is_utf8}
 use Rattle.tick_model.specs.declared.plan.ColumnSpec.{ColumnSpec}
 use Rattle.tick_model.specs.declared.plan.Comparison.{Comparison}
 use Rattle.tick_model.specs.declared.plan.Comparison.TheVariants.{Eq, Ne, Lt, Le, Gt, Ge}
-use Rattle.tick_model.specs.declared.plan.Expr.{Expr, Cell, Number}
+use Rattle.tick_model.specs.declared.plan.Expr.{Cell, Number}
 use Rattle.tick_model.specs.declared.plan.Kind.{Kind}
 use Rattle.tick_model.specs.declared.plan.Kind.TheVariants.{Long, Text}
 use Rattle.tick_model.specs.declared.plan.Node.{Node}
-use Rattle.tick_model.specs.declared.plan.Op.{Op}
 use Rattle.tick_model.specs.declared.plan.Op.TheVariants.{Source, Keep}
 use Rattle.tick_model.specs.declared.plan.Plan.{Plan}
 use Rattle.tick_model.specs.declared.plan.Pred.{Pred, Compare}

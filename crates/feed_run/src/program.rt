@@ -214,8 +214,8 @@ fn answer<I: Inputs, S: Sink>(alloc: Global, words: &[String], inputs: &mut I, o
 
 /// All that the program does, from the words after its name to the status with which it ends.
 ///
-/// The words, the script and the feed decide a verdict, of which status and bytes are told. Status 1 is want of memory, 3 a file that could
-/// not be read, and 10 output that could not be written.
+/// The words, the script and the feed decide a verdict, which gives the status and the bytes written. Beside these, status 1 says that memory
+/// ran out, 3 that a file could not be read, and 10 that the output could not be written.
 pub fn tick_main<R: Threads + Wait + Sync, I: Inputs, S: Sink, G: Gate>(
     _rt: &R,
     alloc: Global,
@@ -224,14 +224,40 @@ pub fn tick_main<R: Threads + Wait + Sync, I: Inputs, S: Sink, G: Gate>(
     out: &mut S,
     _gate: &G,
 ) -> u8
-    ensures verdict { IsTrue I.told → TellsVerdict (verdict (map string_bytes words.now) (I.content inputs.old)) result (S.bytes out.old) (S.bytes out.new) }
+    // Where memory did not run out, and no load and no write failed.
+    ensures verdict { IsTrue I.told
+        → TellsVerdict (verdict (map string_bytes words.now) (I.content inputs.old)) result
+        (S.bytes out.old) (S.bytes out.new) }
+
+    // Where a file could not be read.
     ensures load_counted { result ≡ 3 → SomeName (LoadFailed I.failures inputs.old inputs.new) }
-    ensures load_fault { result ≡ 3 → IsTrue I.told → TellsLoadFault (LoadFailed I.failures inputs.old inputs.new) (IsRead (map string_bytes words.now) (I.content inputs.old)) (S.bytes out.old) (S.bytes out.new) }
+    ensures load_fault { result ≡ 3 → IsTrue I.told
+        → TellsLoadFault (LoadFailed I.failures inputs.old inputs.new)
+        (IsRead (map string_bytes words.now) (I.content inputs.old))
+        (S.bytes out.old) (S.bytes out.new) }
+
+    // Where the output could not be written.
     ensures write_counted { result ≡ 10 → Rose (S.failures out.old) (S.failures out.new) }
-    ensures write_fault { result ≡ 10 → IsTrue I.told → WritesPrefix (verdict (map string_bytes words.now) (I.content inputs.old)) (LoadFailed I.failures inputs.old inputs.new) (IsRead (map string_bytes words.now) (I.content inputs.old)) (S.bytes out.old) (S.bytes out.new) }
-    ensures memory { result ≡ 1 → IsTrue I.told → WritesPrefixOrNothing (verdict (map string_bytes words.now) (I.content inputs.old)) (LoadFailed I.failures inputs.old inputs.new) (IsRead (map string_bytes words.now) (I.content inputs.old)) (S.bytes out.old) (S.bytes out.new) }
+    ensures write_fault { result ≡ 10 → IsTrue I.told
+        → WritesPrefix (verdict (map string_bytes words.now) (I.content inputs.old))
+        (LoadFailed I.failures inputs.old inputs.new)
+        (IsRead (map string_bytes words.now) (I.content inputs.old))
+        (S.bytes out.old) (S.bytes out.new) }
+
+    // Where memory ran out.
+    ensures memory { result ≡ 1 → IsTrue I.told
+        → WritesPrefixOrNothing (verdict (map string_bytes words.now) (I.content inputs.old))
+        (LoadFailed I.failures inputs.old inputs.new)
+        (IsRead (map string_bytes words.now) (I.content inputs.old))
+        (S.bytes out.old) (S.bytes out.new) }
+
+    // There is no other status, and none but that of the verdict where nothing failed and memory sufficed.
     ensures statuses { IsStatus result }
-    ensures complete { IsTrue I.told → NoneFailed (LoadFailed I.failures inputs.old inputs.new) (IsRead (map string_bytes words.now) (I.content inputs.old)) → (Rose (S.failures out.old) (S.failures out.new) → ⊥) → IsComplete (verdict (map string_bytes words.now) (I.content inputs.old)) result }
+    ensures complete { IsTrue I.told
+        → NoneFailed (LoadFailed I.failures inputs.old inputs.new)
+        (IsRead (map string_bytes words.now) (I.content inputs.old))
+        → (Rose (S.failures out.old) (S.failures out.new) → ⊥)
+        → IsComplete (verdict (map string_bytes words.now) (I.content inputs.old)) result }
 {
     answer(alloc, words, inputs, out)
 }

@@ -1,6 +1,4 @@
-use Rattle.std.proofs.Common.{◌≡◌, ℕ, ◌<◌, ◌≤◌, List, Option, Some, None, ◌∙◌, sym, ap, map, length, arith}
-use Rattle.std.specs.Borrow.{Bor}
-use Rattle.feed_run.specs.Feeds.{cell_of, cell_in}
+use Rattle.std.proofs.Common.{Some, ◌∙◌, sym, ap, arith}
 use Rattle.feed_run.proofs.FeedLemmas.{cells_stop, cells_more, cells_all}
 use Rattle.feed_run.proofs.feed.cells.Goals as goal
 

@@ -1,8 +1,5 @@
-use Rattle.std.proofs.Common.{◌≡◌, ℕ, List, Option, Some, None, true, ◌∙◌, sym, ap, subst, map, arith, rules, tests}
+use Rattle.std.proofs.Common.{None, ◌∙◌, sym, ap, map}
 use Rattle.std.specs.Prelude.{option_map}
-use Rattle.std.specs.Str.{IsUtf8}
-use Rattle.std.proofs.lemmas.Bool.{and_from}
-use Rattle.feed_run.specs.declared.feed.Record.{Record}
 use Rattle.feed_run.specs.Tokens.{lines_of}
 use Rattle.feed_run.specs.Feeds.{records_in, records_from, lawful_records, rise_after, row_keys, are_steps, steps_in}
 use Rattle.feed_run.proofs.FeedLemmas.{feed_of-no_text, feed_of-text, records_from-lawful}

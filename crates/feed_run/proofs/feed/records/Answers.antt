@@ -1,4 +1,4 @@
-use Rattle.std.proofs.Common.{◌≡◌, ℕ, ◌<◌, ◌≤◌, List, Option, Some, None, ◌∙◌, sym, ap, map, length, arith}
+use Rattle.std.proofs.Common.{Some, ◌∙◌, sym, ap, arith}
 use Rattle.feed_run.proofs.FeedLemmas.{records_stop, records_more, records_all}
 use Rattle.feed_run.proofs.feed.records.Goals as goal
 

@@ -1,4 +1,4 @@
-use Rattle.std.proofs.Common.{◌≡◌, ℕ, List, map, take, length, Some}
+use Rattle.std.proofs.Common.{◌≡◌, ℕ, List, map, take, Some}
 use Rattle.std.specs.Borrow.{Bor}
 use Rattle.std.specs.List.{enumerate_from}
 use Rattle.feed_run.specs.Tokens.{all_some}

@@ -1,4 +1,4 @@
-use Rattle.std.proofs.Common.{◌≡◌, ◌∙◌, Some, sym, ap, inl}
+use Rattle.std.proofs.Common.{◌∙◌, Some, sym, ap, inl}
 use Rattle.std.specs.Prelude.{option_map}
 use Rattle.feed_run.specs.declared.program.Form.TheVariants.{Words}
 use Rattle.feed_run.specs.Commands.{seen}

@@ -1,4 +1,4 @@
-use Rattle.std.proofs.Common.{◌≡◌, ℕ, List, [], ◌∷◌, Option, Err, ◌∙◌, sym, ap, subst, length}
+use Rattle.std.proofs.Common.{ℕ, List, ◌∷◌, Option, Err, sym, ap, subst, length}
 use Rattle.std.specs.Prelude.{IsSome}
 use Rattle.std.specs.List.{AllByRecursion}
 use Rattle.tick_io.specs.Counts.{Rose}

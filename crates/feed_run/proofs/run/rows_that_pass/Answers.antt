@@ -1,4 +1,4 @@
-use Rattle.std.proofs.Common.{◌≡◌, ◌+◌, ◌++◌, ◌∷◌, [], take, List, Option, Some, None, ◌∙◌, sym, ap, arith}
+use Rattle.std.proofs.Common.{◌≡◌, ◌+◌, ◌++◌, take, Option, None, ◌∙◌, sym, ap}
 use Rattle.std.specs.Option.{option_to_list}
 use Rattle.tick_model.specs.declared.table.PlainRow.{PlainRow}
 use Rattle.feed_run.specs.Runs.{passing_row, passing_rows}

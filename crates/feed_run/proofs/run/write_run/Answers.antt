@@ -1,4 +1,4 @@
-use Rattle.std.proofs.Common.{◌≡◌, ◌∙◌, ◌++◌, refl, List, ℕ, Option, Some, sym, ap, subst, length, map, arith}
+use Rattle.std.proofs.Common.{◌≡◌, ◌∙◌, ◌++◌, List, sym, ap, subst, length, map, arith}
 use Rattle.std.specs.Prelude.{option_map}
 use Rattle.std.specs.Borrow.{Bor}
 use Rattle.std.specs.List.{All, AllByRecursion}
@@ -8,11 +8,10 @@ use Rattle.tick_io.specs.Written.{AppendsPrefix}
 use Rattle.tick_io.proofs.Prefixes.{prefix_after}
 use Rattle.tick_model.specs.Texts.{record_text, done_record}
 use Rattle.feed_run.specs.declared.feed.Record.{Record}
-use Rattle.feed_run.specs.Feeds.{steps_in, steps_of}
+use Rattle.feed_run.specs.Feeds.{steps_of}
 use Rattle.feed_run.specs.Prints.{run_text, steps_text}
 use Rattle.feed_run.specs.Runs.{HasWidth, texts_of}
 use Rattle.feed_run.proofs.PrintLemmas.{steps_keep, steps_found}
-use Rattle.feed_run.proofs.Soundness.{sound}
 use Rattle.feed_run.proofs.run.write_run.Goals as goal
 
 pub write_steps-requires-clause-rows : goal.write_steps-requires-clause-rows

@@ -1,4 +1,4 @@
-use Rattle.std.proofs.Common.{◌≡◌, ◌∙◌, List, ℕ, sym, ap, subst, length}
+use Rattle.std.proofs.Common.{◌≡◌, ◌∙◌, List, sym, ap, subst, length}
 use Rattle.std.specs.List.{AllByRecursion}
 use Rattle.tick_io.specs.Written.{AppendsPrefix}
 use Rattle.std.specs.Io.KnownBytes.{append_known}

@@ -1,9 +1,5 @@
-use Rattle.std.proofs.Common.{◌≡◌, ◌∙◌, ◌+◌, ◌++◌, ◌≤◌, List, ℕ, sym, ap, subst, length, drop, map, arith}
-use Rattle.std.specs.Borrow.{Bor}
-use Rattle.tick_io.specs.Written.{AppendsPrefix}
+use Rattle.std.proofs.Common.{arith}
 use Rattle.tick_io.proofs.Prefixes.{prefix_within}
-use Rattle.feed_run.specs.declared.feed.Record.{Record}
-use Rattle.feed_run.specs.Prints.{step_text, steps_text}
 use Rattle.feed_run.proofs.PrintLemmas.{on_err, steps_more, written_more}
 use Rattle.feed_run.proofs.run.write_steps.Goals as goal
 

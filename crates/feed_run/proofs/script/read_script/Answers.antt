@@ -1,6 +1,5 @@
-use Rattle.std.proofs.Common.{◌≡◌, ℕ, List, Option, Some, ◌∙◌, sym, ap, subst, map, arith}
+use Rattle.std.proofs.Common.{◌≡◌, Option, Some, ◌∙◌, sym, ap, subst, map}
 use Rattle.std.specs.Prelude.{IfOk, option_map}
-use Rattle.std.specs.Str.{IsUtf8}
 use Rattle.feed_run.specs.declared.script.Script.{Script}
 use Rattle.feed_run.specs.Tokens.{lines_of}
 use Rattle.feed_run.specs.Scripts.{script_in, script_of}

@@ -1,7 +1,6 @@
-use Rattle.std.proofs.Common.{◌≡◌, ◌+◌, ◌<◌, ℕ, List, map, take, length, get_or, ◌∙◌, sym, ap, fold, arith, BTreeSet}
+use Rattle.std.proofs.Common.{◌≡◌, ◌+◌, ℕ, List, take, ◌∙◌, sym, ap, fold, BTreeSet}
 use Rattle.std.specs.Borrow.{Bor}
 use Rattle.std.proofs.lemmas.List.Sums.{fold_more}
-use Rattle.feed_run.specs.declared.feed.RawCell.{RawCell}
 use Rattle.feed_run.specs.Runs.{with_cell, with_text}
 use Rattle.feed_run.proofs.TextLemmas.{now, text_added, with_cell-other}
 use Rattle.feed_run.proofs.texts.add_texts.Goals as goal

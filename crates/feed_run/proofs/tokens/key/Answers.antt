@@ -1,10 +1,8 @@
-use Rattle.std.proofs.Common.{◌≡◌, ◌^◌, ◌<◌, ◌≤◌, true, ◌∙◌, sym, arith, rules, Ok, Err, length}
-use Rattle.std.specs.Result.{OkIff}
+use Rattle.std.proofs.Common.{◌≡◌, ◌^◌, true, ◌∙◌, sym, arith, rules}
 use Rattle.std.specs.Str.{all_ascii_digits}
-use Rattle.std.specs.Str.Parse.{digits_value}
 use Rattle.std.proofs.lemmas.Result.{OkIff-at_ok, OkIff-at_err}
 use Rattle.std.proofs.lemmas.Str.Parse.{parse_digits}
-use Rattle.feed_run.proofs.TokenLemmas.{own_digits, key_of-short, lower_there, lower_past, lower_not_there}
+use Rattle.feed_run.proofs.TokenLemmas.{own_digits, key_of-short, lower_there, lower_not_there}
 use Rattle.feed_run.proofs.tokens.key.Goals as goal
 
 pub returns-in_default-2 : goal.returns-in_default-2

@@ -1,4 +1,4 @@
-use Rattle.std.proofs.Common.{◌≡◌, ◌∙◌, sym, ap, cond, true, false, Some, None, List, ℕ, map, length, [], rules, arith}
+use Rattle.std.proofs.Common.{◌∙◌, sym, arith}
 use Rattle.std.proofs.lemmas.Bool.{cond-true, cond-false}
 use Rattle.feed_run.specs.Tokens.{pieces_at}
 use Rattle.feed_run.proofs.TokenLemmas.{ended-popped, ended-empty, empty_from_length, is_none-length}
