@@ -1,36 +1,42 @@
-//! The rule, and what each step tells. These types are for the proofs alone.
-use crate::types::{Plan, Slot, Tagged, View};
+//! The rule of the claims, and what each step on a word tells. These types have no values: they are for proofs alone.
+
+use crate::graph::{Plan, Tagged};
+use crate::table::{Slot, View};
 use atomic_table::{Join, Play, Split, TableRule};
 
+/// The rule that the table keeps.
 pub struct ClaimRule;
 
 impl<W: Tagged, H: Tagged> TableRule<Slot<W, H>, View<W>, Plan<W>> for ClaimRule {
-    ghost use Rattle.graph_words.specs.Rule.{Kept, tags};
-    ghost use Rattle.graph_words.specs.Plays.{first_view};
+    ghost use Rattle.graph_words.specs.Rule.{KeepsRule, tags};
+    ghost use Rattle.graph_words.specs.Views.{first_view};
 
-    ghost holds = { λ k s. Kept (tags W.run W.node W.step) (tags H.run H.node H.step) k s };
+    ghost holds = { λ k s. KeepsRule (tags W.run W.node W.step) (tags H.run H.node H.step) k s };
 
     ghost first = { λ k. first_view k };
 }
 
+/// Lays the slot of a node down, whose work was taken.
 pub struct LayTaken;
 
 impl<W, H> Play<Slot<W, H>, View<W>> for LayTaken {
-    ghost use Rattle.graph_words.specs.Plays.{lays};
-    ghost use Rattle.graph_words.specs.declared.types.Mark.TheVariants.{Taken};
+    ghost use Rattle.graph_words.specs.Plays.{lays_work};
+    ghost use Rattle.graph_words.specs.declared.table.Mark.TheVariants.{Taken};
 
-    ghost then = { lays Taken };
+    ghost then = { lays_work Taken };
 }
 
+/// Lays the slot of a node down, whose work was put back.
 pub struct LayBack;
 
 impl<W, H> Play<Slot<W, H>, View<W>> for LayBack {
-    ghost use Rattle.graph_words.specs.Plays.{lays};
-    ghost use Rattle.graph_words.specs.declared.types.Mark.TheVariants.{Back};
+    ghost use Rattle.graph_words.specs.Plays.{lays_work};
+    ghost use Rattle.graph_words.specs.declared.table.Mark.TheVariants.{PutBack};
 
-    ghost then = { lays Back };
+    ghost then = { lays_work PutBack };
 }
 
+/// Lifts the empty slot of a node.
 pub struct LiftEmpty;
 
 impl<W, H> Play<Slot<W, H>, View<W>> for LiftEmpty {
@@ -39,6 +45,7 @@ impl<W, H> Play<Slot<W, H>, View<W>> for LiftEmpty {
     ghost then = { lifts_empty };
 }
 
+/// Lifts the slot of an edge, to be delivered.
 pub struct LiftOut;
 
 impl<W, H> Play<Slot<W, H>, View<W>> for LiftOut {
@@ -47,6 +54,7 @@ impl<W, H> Play<Slot<W, H>, View<W>> for LiftOut {
     ghost then = { lifts_out };
 }
 
+/// Lays the slot of an edge down, delivered.
 pub struct Deliver;
 
 impl<W, H> Play<Slot<W, H>, View<W>> for Deliver {
@@ -55,6 +63,7 @@ impl<W, H> Play<Slot<W, H>, View<W>> for Deliver {
     ghost then = { delivers };
 }
 
+/// Lays the slot of an edge down, whose share was taken.
 pub struct LayIn;
 
 impl<W, H> Play<Slot<W, H>, View<W>> for LayIn {
@@ -63,6 +72,7 @@ impl<W, H> Play<Slot<W, H>, View<W>> for LayIn {
     ghost then = { lays_in };
 }
 
+/// Puts a node on offer.
 pub struct Offer;
 
 impl<W, H> Play<Slot<W, H>, View<W>> for Offer {
@@ -71,6 +81,7 @@ impl<W, H> Play<Slot<W, H>, View<W>> for Offer {
     ghost then = { offers };
 }
 
+/// Takes a node that is on offer.
 pub struct Accept;
 
 impl<W, H> Play<Slot<W, H>, View<W>> for Accept {
@@ -79,6 +90,7 @@ impl<W, H> Play<Slot<W, H>, View<W>> for Accept {
     ghost then = { accepts };
 }
 
+/// Lifts the slot of a node with its work.
 pub struct LiftWork;
 
 impl<W: Tagged, H: Tagged> Play<Slot<W, H>, View<W>> for LiftWork {
@@ -88,6 +100,7 @@ impl<W: Tagged, H: Tagged> Play<Slot<W, H>, View<W>> for LiftWork {
     ghost then = { lifts_work (tags W.run W.node W.step) (tags H.run H.node H.step) };
 }
 
+/// Lifts the slot of an edge with its share.
 pub struct LiftIn;
 
 impl<W: Tagged, H: Tagged> Play<Slot<W, H>, View<W>> for LiftIn {
@@ -97,10 +110,11 @@ impl<W: Tagged, H: Tagged> Play<Slot<W, H>, View<W>> for LiftIn {
     ghost then = { lifts_in (tags W.run W.node W.step) (tags H.run H.node H.step) };
 }
 
+/// How a view is split, and how two are joined.
 pub struct Parting;
 
 impl<W> Split<View<W>> for Parting {
-    ghost use Rattle.graph_words.specs.Plays.{less_one, one_part};
+    ghost use Rattle.graph_words.specs.Views.{less_one, one_part};
 
     ghost left = { λ v. less_one v };
 
@@ -108,7 +122,7 @@ impl<W> Split<View<W>> for Parting {
 }
 
 impl<W> Join<View<W>> for Parting {
-    ghost use Rattle.graph_words.specs.Plays.{both_views, spent_view};
+    ghost use Rattle.graph_words.specs.Views.{both_views, spent_view};
 
     ghost both = { λ v w. both_views v w };
 

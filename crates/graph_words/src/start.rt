@@ -1,16 +1,19 @@
+//! The start of the claims: words, slots and the first seat.
+
 ghost use Rattle.std.specs.Prelude.{◌≡◌, ◌<◌, ◌≤◌, ◌+◌, ◌^◌, ◌==◌, ◌++◌, ℕ, IfOk, vec_len, length, map, replicate, slice_index, count_by};
 ghost use Rattle.std.specs.List.{list_any};
 ghost use mathlib.Core.Option.{some};
 ghost use lib.ListN.{get_elem?};
-ghost use Rattle.graph_words.specs.declared.types.Edge.{Edge};
-ghost use Rattle.graph_words.specs.declared.types.Slot.TheVariants.{Empty, Work};
+ghost use Rattle.graph_words.specs.declared.graph.Edge.{Edge};
+ghost use Rattle.graph_words.specs.declared.table.Slot.TheVariants.{Empty, Work};
 ghost use Rattle.graph_words.specs.Marks.{inputs};
 ghost use Rattle.graph_words.specs.Rule.{IsTagged, tags};
-ghost use Rattle.graph_words.specs.Plays.{first_view};
+ghost use Rattle.graph_words.specs.Views.{first_view};
 ghost use Rattle.graph_words.specs.Seats.{IsSeatOf};
 
 use crate::claims::{ClaimSeat, Claims};
-use crate::types::{Edge, Plan, Slot, Tagged};
+use crate::graph::{Edge, Plan, Tagged};
+use crate::table::Slot;
 use atomic_table::Table;
 use std::alloc::{AllocError, Global};
 use std::snapshot::Snapshot;
@@ -22,6 +25,7 @@ fn count_inputs(edges: &[Edge], node: u32) -> u64
     edges.iter().filter(|edge| edge.to == node).count() as u64
 }
 
+// How many of the edges go to each node.
 fn count_all(alloc: Global, edges: &[Edge], nodes: u32) -> Result<Vec<u64>, AllocError>
     ensures { IfOk result (λ v. (length v.items ≡ nodes) × ((n : ℕ) → n < nodes → slice_index v.items n ≡ count_by (λ x. x.to == n) edges.now)) }
 {
@@ -32,6 +36,7 @@ fn count_all(alloc: Global, edges: &[Edge], nodes: u32) -> Result<Vec<u64>, Allo
     Ok(counts)
 }
 
+// The works, and after them so many empty slots.
 fn lay_slots<W: Drop, H: Drop>(
     alloc: Global,
     work: Vec<W>,
@@ -51,7 +56,11 @@ fn lay_slots<W: Drop, H: Drop>(
 }
 
 impl<W: Tagged, H: Tagged> Claims<W, H> {
-    /// The claims of the step after that of the works, and the seat that has every node without input edges.
+    /// The claims of the step after that of the works, and the first seat. It has all 1,024 parts and every node without
+    /// input edges.
+    ///
+    /// There are 1 to 256 nodes and a work for each, in order of the nodes, all of one run and one step. Each edge goes from
+    /// a lesser to a greater node.
     pub fn start(
         alloc: Global,
         nodes: u32,
