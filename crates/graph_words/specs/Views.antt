@@ -1,0 +1,56 @@
+-- What a seat knows, and how each call changes it.
+use Rattle.std.specs.Prelude.{◌≡◌, ℕ, ◌+◌, ◌-◌, Bool, true, false, List, [], Some, None}
+use mathlib.Core.Option.{some}
+use lib.ListN.{get_elem?}
+use Rattle.graph_words.specs.declared.graph.Edge.{Edge}
+use Rattle.graph_words.specs.declared.graph.Plan.{Plan}
+use Rattle.graph_words.specs.declared.table.View.{View}
+use Rattle.graph_words.specs.declared.table.Mark.{Mark}
+use Rattle.graph_words.specs.declared.table.Mark.TheVariants.{Unmarked, Untaken, Delivered}
+use Rattle.graph_words.specs.Marks.{at, put, merge, starting}
+
+module _ {W : Type 0} where
+  -- another mark of a node
+  abbrev pub mark_node : View W → ℕ → Mark → View W
+  mark_node v n m = record v { nodes = put v.nodes n m }
+
+  -- another mark of an edge, for the seat that has its `from` node
+  abbrev pub mark_out : View W → ℕ → Mark → View W
+  mark_out v e m = record v { outs = put v.outs e m }
+
+  -- another mark of an edge, for the seat that has its `to` node
+  abbrev pub mark_in : View W → ℕ → Mark → View W
+  mark_in v e m = record v { ins = put v.ins e m }
+
+  -- the seat has the node too, with its work not taken, where the test is true
+  abbrev pub gets : Bool → ℕ → View W → View W
+  gets true n v = mark_node v n Untaken
+  gets false n v = v
+
+  -- each input edge of the node is delivered by the seat
+  abbrev pub InputsDelivered : Plan W → View W → ℕ → Type 0
+  InputsDelivered k v n = (e : ℕ) (x : Edge) → get_elem? k.edges.items e ≡ some x → x.to ≡ n → at v.outs e ≡ Delivered
+
+  -- the seat has taken no share of the node and delivered none of its output edges
+  abbrev pub IsUntouched : Plan W → View W → ℕ → Type 0
+  IsUntouched k v n = (e : ℕ) (x : Edge) → get_elem? k.edges.items e ≡ some x → (x.from ≡ n → at v.outs e ≡ Unmarked) × (x.to ≡ n → at v.ins e ≡ Unmarked)
+
+  -- the view of the first seat: all parts, and each node without input edges
+  abbrev pub first_view : Plan W → View W
+  first_view k = record { plan = Some k; parts = 1024; nodes = starting k.nodes k.edges.items; outs = []; ins = [] }
+
+  -- one part less
+  abbrev pub less_one : View W → View W
+  less_one v = record v { parts = v.parts - 1 }
+
+  -- one part, and no node
+  abbrev pub one_part : View W → View W
+  one_part v = record { plan = v.plan; parts = 1; nodes = []; outs = []; ins = [] }
+
+  -- all that either view has
+  abbrev pub both_views : View W → View W → View W
+  both_views v w = record { plan = v.plan; parts = v.parts + w.parts; nodes = merge v.nodes w.nodes; outs = merge v.outs w.outs; ins = merge v.ins w.ins }
+
+  -- the view of a seat that was joined to another: it has nothing
+  abbrev pub spent_view : View W
+  spent_view = record { plan = None; parts = 0; nodes = []; outs = []; ins = [] }

@@ -1,0 +1,62 @@
+//! The edges of the nodes that a seat has: shares are delivered and taken.
+
+ghost use Rattle.std.specs.Prelude.{◌≡◌, ◌<◌, ◌+◌, length};
+ghost use Rattle.graph_words.specs.declared.table.Mark.TheVariants.{Unmarked, Taken, Delivered};
+ghost use Rattle.graph_words.specs.Marks.{at};
+ghost use Rattle.graph_words.specs.Rule.{IsTagged, tags};
+ghost use Rattle.graph_words.specs.Views.{mark_out, mark_in, gets, IsUntouched};
+ghost use Rattle.graph_words.specs.Seats.{IsSeatOf, AtEdge, Has};
+
+use crate::claims::{ClaimSeat, Claims};
+use crate::graph::Tagged;
+use crate::plays::{Deliver, LayIn, LiftIn, LiftOut};
+use crate::table::Slot;
+
+impl<W: Tagged, H: Tagged> Claims<W, H> {
+    /// Delivers the share of an edge whose `from` node the seat has and that is not delivered yet. The share is of that node
+    /// and of the step of the claims.
+    ///
+    /// True exactly where it was the last input edge of the node `to` that was not delivered. Then the seat has that node,
+    /// and has touched nothing of it.
+    pub fn deliver(&self, seat: &mut ClaimSeat<W, H>, edge: u32, share: H) -> bool
+        requires of { IsSeatOf self.now seat.old }
+        requires edge { edge < length self.now.plan.edges.items }
+        requires from { AtEdge self.now.plan edge (λ x. Has seat.old.view x.from) }
+        requires fresh { at seat.old.view.outs edge ≡ Unmarked }
+        requires tag { AtEdge self.now.plan edge (λ x. IsTagged (tags H.run H.node H.step) (W.run self.now.plan.first.value) x.from (W.step self.now.plan.first.value + 1) share) }
+        ensures of { IsSeatOf self.now seat.new }
+        ensures view { AtEdge self.now.plan edge (λ x. seat.new.view ≡ gets result x.to (mark_out seat.old.view edge Delivered)) }
+        ensures fresh { AtEdge self.now.plan edge (λ x. (at seat.old.view.nodes x.to ≡ Unmarked) × IsUntouched self.now.plan seat.old.view x.to) }
+    {
+        let table = &self.table.shared;
+        let to = self.edges[edge as usize].to as usize;
+        let slot = self.nodes as usize + edge as usize;
+        table.compare_exchange::<LiftOut>(&mut seat.seat, 0, edge as u64, edge as u64);
+        let empty = table.exchange(&mut seat.seat, slot, Slot::Share(share));
+        let found = table.fetch_sub::<Deliver>(&mut seat.seat, to, 1);
+        let Slot::Empty = empty else { unreachable!() };
+        found == 1
+    }
+
+    /// Takes the share of an input edge of a node that the seat has, which is not taken yet. It is of the edge's `from` node
+    /// and of the step of the claims.
+    pub fn take_share(&self, seat: &mut ClaimSeat<W, H>, edge: u32) -> H
+        requires of { IsSeatOf self.now seat.old }
+        requires edge { edge < length self.now.plan.edges.items }
+        requires to { AtEdge self.now.plan edge (λ x. Has seat.old.view x.to) }
+        requires fresh { at seat.old.view.ins edge ≡ Unmarked }
+        ensures of { IsSeatOf self.now seat.new }
+        ensures view { seat.new.view ≡ mark_in seat.old.view edge Taken }
+        ensures tag { AtEdge self.now.plan edge (λ x. IsTagged (tags H.run H.node H.step) (W.run self.now.plan.first.value) x.from (W.step self.now.plan.first.value + 1) result) }
+    {
+        let table = &self.table.shared;
+        let slot = self.nodes as usize + edge as usize;
+        table.compare_exchange::<LiftIn>(&mut seat.seat, 0, edge as u64, edge as u64);
+        let found = table.exchange(&mut seat.seat, slot, Slot::Empty);
+        table.load::<LayIn>(&mut seat.seat, 0);
+        let Slot::Share(share) = found else {
+            unreachable!()
+        };
+        share
+    }
+}

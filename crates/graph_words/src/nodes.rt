@@ -1,0 +1,94 @@
+//! The nodes that a seat has: their works, and offers.
+
+ghost use Rattle.std.specs.Prelude.{◌≡◌, ◌<◌, ◌+◌, ℕ, IsTrue};
+ghost use Rattle.graph_words.specs.declared.table.Mark.TheVariants.{Unmarked, Untaken, Taken, PutBack};
+ghost use Rattle.graph_words.specs.Marks.{at, inputs};
+ghost use Rattle.graph_words.specs.Rule.{IsTagged, tags};
+ghost use Rattle.graph_words.specs.Views.{mark_node, gets, InputsDelivered, IsUntouched};
+ghost use Rattle.graph_words.specs.Seats.{IsSeatOf, Has};
+
+use crate::claims::{ClaimSeat, Claims};
+use crate::graph::Tagged;
+use crate::plays::{Accept, LayBack, LayTaken, LiftEmpty, LiftWork, Offer};
+use crate::table::Slot;
+
+// The word of a node on offer.
+const OFFERED: u64 = u64::MAX;
+
+impl<W: Tagged, H: Tagged> Claims<W, H> {
+    /// The number of nodes.
+    pub fn nodes(&self) -> u32
+        ensures { result ≡ self.now.plan.nodes }
+    {
+        self.nodes
+    }
+
+    /// Takes the work of a node that the seat has, whose work is not taken yet. It is of the step before that of the claims.
+    pub fn take_work(&self, seat: &mut ClaimSeat<W, H>, node: u32) -> W
+        requires of { IsSeatOf self.now seat.old }
+        requires node { node < self.now.plan.nodes }
+        requires whole { at seat.old.view.nodes node ≡ Untaken }
+        ensures of { IsSeatOf self.now seat.new }
+        ensures view { seat.new.view ≡ mark_node seat.old.view node Taken }
+        ensures tag { IsTagged (tags W.run W.node W.step) (W.run self.now.plan.first.value) node (W.step self.now.plan.first.value) result }
+    {
+        let table = &self.table.shared;
+        table.load::<LiftWork>(&mut seat.seat, node as usize);
+        let found = table.exchange(&mut seat.seat, node as usize, Slot::Empty);
+        table.load::<LayTaken>(&mut seat.seat, node as usize);
+        let Slot::Work(work) = found else {
+            unreachable!()
+        };
+        work
+    }
+
+    /// Puts the work of a node back for the next step. The seat has taken the node's work and not put it back, and the work
+    /// is of the step of the claims.
+    pub fn put_back(&self, seat: &mut ClaimSeat<W, H>, node: u32, work: W)
+        requires of { IsSeatOf self.now seat.old }
+        requires node { node < self.now.plan.nodes }
+        requires taken { at seat.old.view.nodes node ≡ Taken }
+        requires tag { IsTagged (tags W.run W.node W.step) (W.run self.now.plan.first.value) node (W.step self.now.plan.first.value + 1) work }
+        ensures of { IsSeatOf self.now seat.new }
+        ensures view { seat.new.view ≡ mark_node seat.old.view node PutBack }
+    {
+        let table = &self.table.shared;
+        table.load::<LiftEmpty>(&mut seat.seat, node as usize);
+        let found = table.exchange(&mut seat.seat, node as usize, Slot::Work(work));
+        table.load::<LayBack>(&mut seat.seat, node as usize);
+        let Slot::Empty = found else { unreachable!() };
+    }
+
+    /// Puts a node on offer, which any seat may then accept. The seat has the node, which has input edges, and has touched
+    /// nothing of it: it has taken neither its work nor a share and has delivered no output edge.
+    pub fn offer(&self, seat: &mut ClaimSeat<W, H>, node: u32)
+        requires of { IsSeatOf self.now seat.old }
+        requires node { (node < self.now.plan.nodes) × (0 < inputs node self.now.plan.edges.items) }
+        requires whole { at seat.old.view.nodes node ≡ Untaken }
+        requires untouched { IsUntouched self.now.plan seat.old.view node }
+        ensures of { IsSeatOf self.now seat.new }
+        ensures view { seat.new.view ≡ mark_node seat.old.view node Unmarked }
+    {
+        self.table
+            .shared
+            .store::<Offer>(&mut seat.seat, node as usize, OFFERED);
+    }
+
+    /// Takes a node that is on offer. True exactly where it was, and then the seat has the node, with nothing of it touched.
+    ///
+    /// A seat that has all parts and has delivered all input edges of the node has it after this call, whatever the answer.
+    pub fn accept(&self, seat: &mut ClaimSeat<W, H>, node: u32) -> bool
+        requires of { IsSeatOf self.now seat.old }
+        requires node { node < self.now.plan.nodes }
+        ensures of { IsSeatOf self.now seat.new }
+        ensures view { seat.new.view ≡ gets result node seat.old.view }
+        ensures fresh { IsTrue result → (at seat.old.view.nodes node ≡ Unmarked) × IsUntouched self.now.plan seat.old.view node }
+        ensures alone { seat.old.view.parts ≡ 1024 → InputsDelivered self.now.plan seat.old.view node → Has seat.new.view node }
+    {
+        let found = self
+            .table
+            .shared
+            .compare_exchange::<Accept>(&mut seat.seat, node as usize, OFFERED, 0);
+        found == OFFERED
+    }
+}

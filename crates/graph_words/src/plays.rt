@@ -1,0 +1,130 @@
+//! The rule of the claims, and what each step on a word tells. These types have no values: they are for proofs alone.
+
+use crate::graph::{Plan, Tagged};
+use crate::table::{Slot, View};
+use atomic_table::{Join, Play, Split, TableRule};
+
+/// The rule that the table keeps.
+pub struct ClaimRule;
+
+impl<W: Tagged, H: Tagged> TableRule<Slot<W, H>, View<W>, Plan<W>> for ClaimRule {
+    ghost use Rattle.graph_words.specs.Rule.{KeepsRule, tags};
+    ghost use Rattle.graph_words.specs.Views.{first_view};
+
+    ghost holds = { λ k s. KeepsRule (tags W.run W.node W.step) (tags H.run H.node H.step) k s };
+
+    ghost first = { λ k. first_view k };
+}
+
+/// Lays the slot of a node down, whose work was taken.
+pub struct LayTaken;
+
+impl<W, H> Play<Slot<W, H>, View<W>> for LayTaken {
+    ghost use Rattle.graph_words.specs.Plays.{lays_work};
+    ghost use Rattle.graph_words.specs.declared.table.Mark.TheVariants.{Taken};
+
+    ghost then = { lays_work Taken };
+}
+
+/// Lays the slot of a node down, whose work was put back.
+pub struct LayBack;
+
+impl<W, H> Play<Slot<W, H>, View<W>> for LayBack {
+    ghost use Rattle.graph_words.specs.Plays.{lays_work};
+    ghost use Rattle.graph_words.specs.declared.table.Mark.TheVariants.{PutBack};
+
+    ghost then = { lays_work PutBack };
+}
+
+/// Lifts the empty slot of a node.
+pub struct LiftEmpty;
+
+impl<W, H> Play<Slot<W, H>, View<W>> for LiftEmpty {
+    ghost use Rattle.graph_words.specs.Plays.{lifts_empty};
+
+    ghost then = { lifts_empty };
+}
+
+/// Lifts the slot of an edge, to be delivered.
+pub struct LiftOut;
+
+impl<W, H> Play<Slot<W, H>, View<W>> for LiftOut {
+    ghost use Rattle.graph_words.specs.Plays.{lifts_out};
+
+    ghost then = { lifts_out };
+}
+
+/// Lays the slot of an edge down, delivered.
+pub struct Deliver;
+
+impl<W, H> Play<Slot<W, H>, View<W>> for Deliver {
+    ghost use Rattle.graph_words.specs.Plays.{delivers};
+
+    ghost then = { delivers };
+}
+
+/// Lays the slot of an edge down, whose share was taken.
+pub struct LayIn;
+
+impl<W, H> Play<Slot<W, H>, View<W>> for LayIn {
+    ghost use Rattle.graph_words.specs.Plays.{lays_in};
+
+    ghost then = { lays_in };
+}
+
+/// Puts a node on offer.
+pub struct Offer;
+
+impl<W, H> Play<Slot<W, H>, View<W>> for Offer {
+    ghost use Rattle.graph_words.specs.Plays.{offers};
+
+    ghost then = { offers };
+}
+
+/// Takes a node that is on offer.
+pub struct Accept;
+
+impl<W, H> Play<Slot<W, H>, View<W>> for Accept {
+    ghost use Rattle.graph_words.specs.Plays.{accepts};
+
+    ghost then = { accepts };
+}
+
+/// Lifts the slot of a node with its work.
+pub struct LiftWork;
+
+impl<W: Tagged, H: Tagged> Play<Slot<W, H>, View<W>> for LiftWork {
+    ghost use Rattle.graph_words.specs.Rule.{tags};
+    ghost use Rattle.graph_words.specs.Plays.{lifts_work};
+
+    ghost then = { lifts_work (tags W.run W.node W.step) (tags H.run H.node H.step) };
+}
+
+/// Lifts the slot of an edge with its share.
+pub struct LiftIn;
+
+impl<W: Tagged, H: Tagged> Play<Slot<W, H>, View<W>> for LiftIn {
+    ghost use Rattle.graph_words.specs.Rule.{tags};
+    ghost use Rattle.graph_words.specs.Plays.{lifts_in};
+
+    ghost then = { lifts_in (tags W.run W.node W.step) (tags H.run H.node H.step) };
+}
+
+/// How a view is split, and how two are joined.
+pub struct Parting;
+
+impl<W> Split<View<W>> for Parting {
+    ghost use Rattle.graph_words.specs.Views.{less_one, one_part};
+
+    ghost left = { λ v. less_one v };
+
+    ghost right = { λ v. one_part v };
+}
+
+impl<W> Join<View<W>> for Parting {
+    ghost use Rattle.graph_words.specs.Views.{both_views, spent_view};
+
+    ghost both = { λ v w. both_views v w };
+
+    ghost spent = { spent_view };
+}

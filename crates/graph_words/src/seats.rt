@@ -1,0 +1,35 @@
+//! Seats are split and joined.
+
+ghost use Rattle.std.specs.Prelude.{◌≡◌, ◌<◌};
+ghost use Rattle.graph_words.specs.Views.{less_one, one_part, both_views};
+ghost use Rattle.graph_words.specs.Seats.{IsSeatOf};
+
+use crate::claims::{ClaimSeat, Claims};
+use crate::graph::Tagged;
+use crate::plays::Parting;
+
+impl<W: Tagged, H: Tagged> Claims<W, H> {
+    /// A new seat with one part of this one, and no node. The seat has more than one part.
+    pub fn split(&self, seat: &mut ClaimSeat<W, H>) -> ClaimSeat<W, H>
+        requires of { IsSeatOf self.now seat.old }
+        requires parts { 1 < seat.old.view.parts }
+        ensures old { IsSeatOf self.now seat.new × (seat.new.view ≡ less_one seat.old.view) }
+        ensures new { IsSeatOf self.now result × (result.view ≡ one_part seat.old.view) }
+    {
+        let other = self.table.shared.split_seat::<Parting>(&mut seat.seat);
+        ClaimSeat { seat: other }
+    }
+
+    /// Gives the seat all that the other has: parts, nodes and what it has delivered and taken.
+    pub fn join(&self, seat: &mut ClaimSeat<W, H>, other: ClaimSeat<W, H>)
+        requires of { IsSeatOf self.now seat.old }
+        requires other { IsSeatOf self.now other }
+        ensures of { IsSeatOf self.now seat.new }
+        ensures view { seat.new.view ≡ both_views seat.old.view other.view }
+    {
+        let ClaimSeat { seat: other } = other;
+        self.table
+            .shared
+            .join_seat::<Parting>(&mut seat.seat, other);
+    }
+}

@@ -1,0 +1,38 @@
+//! What the table behind the claims has: its slots, and what each seat knows.
+
+use crate::graph::Plan;
+use std::collections::LinkedList;
+
+/// What a slot has.
+#[derive(Drop)]
+pub enum Slot<W, H> {
+    Empty,
+    Work(W),
+    Share(H),
+}
+
+/// What a seat knows of a node or of an edge.
+pub enum Mark {
+    /// The seat does not have the node, has not delivered the edge, or has not taken its share.
+    Unmarked,
+    /// The slot is out with the seat, between two steps of one call.
+    InHand,
+    /// The seat has the node, and has not taken its work.
+    Untaken,
+    /// The seat has the node and has taken its work, or has taken the edge's share.
+    Taken,
+    /// The seat has the node, and has put its work back.
+    PutBack,
+    /// The seat has delivered the edge.
+    Delivered,
+}
+
+/// What a seat knows: the plan, its parts, and its marks of the nodes, of the edges as output edges and of the edges as
+/// input edges. No value of it is made.
+pub struct View<W> {
+    pub plan: Option<Plan<W>>,
+    pub parts: u64,
+    pub nodes: LinkedList<Mark>,
+    pub outs: LinkedList<Mark>,
+    pub ins: LinkedList<Mark>,
+}
