@@ -1,4 +1,3 @@
-#![tactic(auto)]
 //! Claims on the nodes of a graph: who may work which node when, for workers that share nothing but these claims.
 //!
 //! Claims live through one step of a run. Each node has a word, which counts its input edges that are not delivered, and
@@ -11,6 +10,8 @@
 //! after that. It lies in the table except between two steps of one call.
 //!
 //! No call but `start` and `finish` takes memory, none waits, and none takes a lock.
+#![tactic(auto)]
+
 mod claims;
 mod edges;
 mod finish;
