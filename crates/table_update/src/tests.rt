@@ -1,7 +1,7 @@
 //! Each call once, with ample memory.
 
 use crate::{ColumnSet, Update, UpdateFault};
-use row_set::RowSet;
+use row_set::{Range, RowSet};
 use shift_data::ShiftData;
 use std::alloc::{AllocError, Global};
 use std::test::Fail;
@@ -46,6 +46,10 @@ fn update(
 
 fn still(alloc: Global) -> ShiftData {
     ShiftData::new(alloc)
+}
+
+fn range(first: u64, last: u64) -> Range {
+    Range { first, last }
 }
 
 #[test]
@@ -111,45 +115,80 @@ fn only_rows_that_stay_are_modified(rt: HostRuntime) -> Result<(), Fail> {
     Ok(())
 }
 
+/// The row 2 is put anew, and the row 3 is modified at 7.
+fn lawful(alloc: Global) -> Result<Update, Fail> {
+    let shifted = shift(alloc, 3, 4)?;
+    Ok(update(alloc, &[2], shifted, &[2], &[7])?)
+}
+
 #[test]
-fn an_update_is_applied(rt: HostRuntime) -> Result<(), Fail> {
-    let alloc = rt.alloc();
-    let old = set(alloc, &[1, 2, 3])?;
-    let lawful = update(alloc, &[2], shift(alloc, 3, 4)?, &[2], &[7])?.copy()?;
-    assert!(rt; !lawful.is_empty() && Update::none(alloc).is_empty());
+fn an_update_leaves_its_keys(rt: HostRuntime) -> Result<(), Fail> {
+    let old = set(rt.alloc(), &[1, 2, 3])?;
+    let lawful = lawful(rt.alloc())?;
     lawful.check(&old, LIMIT)?;
-    assert_eq!(rt;
-        lawful.after(&old)?.ranges(),
-        set(alloc, &[1, 2, 7])?.ranges()
-    );
-    assert_eq!(rt;
-        lawful.modified_before(&old)?.ranges(),
-        set(alloc, &[3])?.ranges()
-    );
-    let mut keys = old.copy()?;
-    lawful.apply_to_keys(&mut keys)?;
-    assert_eq!(rt; keys.ranges(), set(alloc, &[1, 2, 7])?.ranges());
+    let after = lawful.after(&old)?;
+    assert_eq!(rt; after.ranges(), [range(1, 2), range(7, 7)].as_slice());
+    let before = lawful.modified_before(&old)?;
+    assert_eq!(rt; before.ranges(), [range(3, 3)].as_slice());
     Ok(())
 }
 
 #[test]
-fn two_updates_are_one(rt: HostRuntime) -> Result<(), Fail> {
-    let alloc = rt.alloc();
-    let old = set(alloc, &[0, 1])?;
-    let first = update(alloc, &[0], shift(alloc, 1, 4)?, &[0], &[])?;
-    let mut next = update(alloc, &[], shift(alloc, 5, -2)?, &[9], &[0])?;
+fn keys_are_changed_in_place(rt: HostRuntime) -> Result<(), Fail> {
+    let mut keys = set(rt.alloc(), &[1, 2, 3])?;
+    let lawful = lawful(rt.alloc())?;
+    lawful.check(&keys, LIMIT)?;
+    lawful.apply_to_keys(&mut keys)?;
+    assert_eq!(rt; keys.ranges(), [range(1, 2), range(7, 7)].as_slice());
+    Ok(())
+}
+
+#[test]
+fn copies_are_alike(rt: HostRuntime) -> Result<(), Fail> {
+    let copy = lawful(rt.alloc())?.copy()?;
+    assert!(rt; !copy.is_empty());
+    assert_eq!(rt; copy.modified().ranges(), [range(7, 7)].as_slice());
+    assert!(rt; Update::none(rt.alloc()).is_empty());
+    Ok(())
+}
+
+/// The row 0 is put anew, and the row 1 moves to 5.
+fn first(alloc: Global) -> Result<Update, Fail> {
+    let shifted = shift(alloc, 1, 4)?;
+    Ok(update(alloc, &[0], shifted, &[0], &[])?)
+}
+
+/// The row 5 moves to 3, a row 9 comes, and the row 0 is modified.
+fn next(alloc: Global) -> Result<Update, Fail> {
+    let shifted = shift(alloc, 5, -2)?;
+    let mut next = update(alloc, &[], shifted, &[9], &[0])?;
     next.columns = ColumnSet::none().with(0);
+    Ok(next)
+}
+
+fn both(alloc: Global) -> Result<Update, Fail> {
+    let old = set(alloc, &[0, 1])?;
+    let first = first(alloc)?;
     first.check(&old, LIMIT)?;
     let middle = first.after(&old)?;
+    let next = next(alloc)?;
     next.check(&middle, LIMIT)?;
-    let both = first.coalesce(&next, &old)?;
+    Ok(first.coalesce(&next, &old)?)
+}
+
+#[test]
+fn two_updates_are_one(rt: HostRuntime) -> Result<(), Fail> {
+    let both = both(rt.alloc())?;
     let moved = ShiftRange {
         begin: 1,
         end: 1,
         delta: 2,
     };
-    assert_eq!(rt; both.removed().ranges(), set(alloc, &[0])?.ranges());
-    assert_eq!(rt; both.added().ranges(), set(alloc, &[0, 9])?.ranges());
+    assert_eq!(rt; both.removed().ranges(), [range(0, 0)].as_slice());
+    assert_eq!(rt;
+        both.added().ranges(),
+        [range(0, 0), range(9, 9)].as_slice()
+    );
     assert_eq!(rt; both.shifted().ranges(), [moved].as_slice());
     assert!(rt; both.modified().is_empty() && both.columns().is_empty());
     Ok(())
