@@ -1,0 +1,15 @@
+//! Tables that tell how they changed in the last step.
+//!
+//! A `TickTable` has the rows of a table as they are and as they were before the step, and the update between the two.
+//! A contract sees it as two plain tables and an update (`specs/Ticking.antt`). A change is applied in place: what a step
+//! costs is the rows that it touches.
+#![tactic(auto)]
+
+mod change;
+mod columns;
+mod steps;
+mod table;
+
+pub use change::Change;
+pub use steps::Steps;
+pub use table::{Shared, TickTable};

@@ -1,0 +1,193 @@
+//! The table itself: what it is made of, what it answers and how a change is applied.
+
+ghost use Rattle.std.specs.Prelude.{◌≡◌, ◌+◌, ◌*◌, ◌^◌, ◌<◌, ◌≤◌, IsTrue, None, length, IfOk, OnOk};
+ghost use Rattle.std.specs.List.{AllByRecursion};
+ghost use Rattle.column_source.specs.Entries.{keys_of};
+ghost use Rattle.row_set.specs.Sets.{IsKeySet};
+ghost use Rattle.shift_data.specs.Moves.{IsLawful};
+ghost use Rattle.tick_laws.specs.Checked.{keys_after};
+ghost use Rattle.tick_table.specs.Columns.{stepped_columns};
+ghost use Rattle.key_lists.specs.Keys.{is_among, without};
+ghost use Rattle.tick_model.specs.Changes.{changed, rows_under, told_keys};
+ghost use Rattle.tick_model.specs.Rules.{update_fault};
+ghost use Rattle.tick_model.specs.Tables.{IsTable, cell as cell_of, cells_at, keys};
+ghost use Rattle.tick_table.specs.Ticking.{fresh};
+
+use crate::change::Change;
+use crate::columns::bring_on;
+use crate::steps::Steps;
+use column_source::Column;
+use row_set::RowSet;
+use std::alloc::{AllocError, Global};
+use std::marker::Model;
+use std::sync::Arc;
+use std::sync::ledger::Ledger;
+use table_update::Update;
+
+/// A table that several may read.
+pub type Shared = Arc<TickTable>;
+
+/// A table as it is and as it was before the last step, with the update between the two. A contract sees two plain tables
+/// of one width and the update.
+#[derive(Drop)]
+pub struct TickTable {
+    /// The keys of the rows now.
+    rows: RowSet,
+    /// The keys of the rows before the step.
+    prev_rows: RowSet,
+    /// The cells of now and of before the step, column by column.
+    columns: Vec<Column>,
+    /// How the rows of before became those of now.
+    update: Update,
+}
+
+impl Model for TickTable {
+    ghost use Rattle.std.specs.Prelude.{length, map};
+    ghost use Rattle.tick_table.specs.Columns.{rows_in};
+    ghost use Rattle.tick_table.specs.Kept.{IsKept};
+    ghost use Rattle.tick_table.specs.Ticking.{Ticking};
+
+    ghost Value = { Ticking };
+
+    ghost view = { λ table. record {
+      old = record { width = length table.columns.items; rows = rows_in table.prev_rows (map (λ column. column.before) table.columns.items) };
+      new = record { width = length table.columns.items; rows = rows_in table.rows (map (λ column. column.now) table.columns.items) };
+      update = table.update;
+    } };
+
+    ghost invariant = { λ table. IsKept table.rows table.prev_rows table.columns.items table.update };
+}
+
+impl TickTable {
+    /// A table of this width without rows, before and now.
+    pub fn new(alloc: Global, width: u32) -> Result<TickTable, AllocError>
+        requires some { 1 ≤ width }
+        requires few { width ≤ 32 }
+        ensures { IfOk result (λ table. table ≡ fresh width) }
+    {
+        let mut columns = Vec::with_capacity(alloc, width as usize)?;
+        for _ in 0..width {
+            columns.push(Column::new(alloc))?;
+        }
+        Ok(TickTable {
+            rows: RowSet::new(alloc),
+            prev_rows: RowSet::new(alloc),
+            columns,
+            update: Update::none(alloc),
+        })
+    }
+
+    /// The number of columns, before and now.
+    pub fn width(&self) -> u32
+        ensures now { result ≡ self.now.new.width }
+        ensures before { result ≡ self.now.old.width }
+        ensures some { 1 ≤ result }
+        ensures few { result ≤ 32 }
+    {
+        self.columns.len() as u32
+    }
+
+    /// The keys of the rows now.
+    pub fn rows(&self) -> &RowSet
+        ensures keys { result.now ≡ keys self.now.new.rows }
+        ensures table { IsTable self.now.new }
+    {
+        &self.rows
+    }
+
+    /// The keys of the rows before the step.
+    pub fn prev_rows(&self) -> &RowSet
+        ensures keys { result.now ≡ keys self.now.old.rows }
+        ensures table { IsTable self.now.old }
+    {
+        &self.prev_rows
+    }
+
+    /// How the rows before the step became those of now.
+    pub fn update(&self) -> &Update
+        ensures { result.now ≡ self.now.update }
+    {
+        &self.update
+    }
+
+    /// The cell of a row now. It is one read.
+    pub fn cell<L: Ledger>(&self, column: u32, key: u64, reads: &mut Steps<L>) -> i64
+        requires column { column < self.now.new.width }
+        requires here { IsTrue (is_among key (keys self.now.new.rows)) }
+        ensures cell { result ≡ cell_of (cells_at key self.now.new.rows) column }
+        ensures read { reads.new ≡ reads.old + 1 }
+    {
+        reads.tick();
+        self.columns[column as usize].get(key)
+    }
+
+    /// The cell that a row had before the step. It is one read.
+    pub fn prev_cell<L: Ledger>(&self, column: u32, key: u64, reads: &mut Steps<L>) -> i64
+        requires column { column < self.now.old.width }
+        requires here { IsTrue (is_among key (keys self.now.old.rows)) }
+        ensures cell { result ≡ cell_of (cells_at key self.now.old.rows) column }
+        ensures read { reads.new ≡ reads.old + 1 }
+    {
+        reads.tick();
+        self.columns[column as usize].get_prev(key)
+    }
+
+    /// The table after a change: the rows of now become those from before the step, and the change makes those of now. After
+    /// a refusal the table is given up.
+    pub fn apply(self, change: Change) -> Result<TickTable, AllocError>
+        requires lawful { update_fault (2 ^ 62) (keys self.new.rows) change.update ≡ None }
+        requires whole { length change.cells ≡ length (told_keys change.update) * self.new.width }
+        ensures old { IfOk result (λ table. table.old ≡ self.new) }
+        ensures new { IfOk result (λ table. table.new ≡ changed self.new change) }
+        ensures update { IfOk result (λ table. table.update ≡ change.update) }
+    {
+        let TickTable {
+            mut rows,
+            mut prev_rows,
+            mut columns,
+            update: last,
+        } = self;
+        let Change { update, cells } = change;
+        let cells = cells.as_slice();
+        bring_all_on(
+            &mut rows,
+            &mut prev_rows,
+            &mut columns,
+            &last,
+            &update,
+            cells,
+        )?;
+        Ok(TickTable {
+            rows,
+            prev_rows,
+            columns,
+            update,
+        })
+    }
+}
+
+/// Brings the keys from before the step on by the last update, and the keys of now and the columns by the next one.
+fn bring_all_on(
+    rows: &mut RowSet,
+    prev_rows: &mut RowSet,
+    columns: &mut [Column],
+    last: &Update,
+    next: &Update,
+    cells: &[i64],
+) -> Result<(), AllocError>
+    requires last { update_fault (2 ^ 62) prev_rows.old last.now ≡ None }
+    requires next { update_fault (2 ^ 62) rows.old next.now ≡ None }
+    requires lawful { AllByRecursion (λ column. IsLawful next.now.shifted (without next.now.removed (keys_of column.now))) columns.old }
+    requires whole { length cells.now ≡ length (told_keys next.now) * length columns.old }
+    ensures rows { OnOk result (rows.new ≡ keys_after rows.old next.now) }
+    ensures prev_rows { OnOk result (prev_rows.new ≡ keys_after prev_rows.old last.now) }
+    ensures columns { OnOk result (columns.new ≡ stepped_columns 0 next.now (rows_under (length columns.old) (told_keys next.now) cells.now) columns.old) }
+    ensures added { OnOk result (IsKeySet next.now.added) }
+    ensures modified { OnOk result (IsKeySet next.now.modified) }
+{
+    let _added = next.added();
+    let _modified = next.modified();
+    last.apply_to_keys(prev_rows)?;
+    next.apply_to_keys(rows)?;
+    bring_on(columns, next, cells)
+}
