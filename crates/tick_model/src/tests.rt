@@ -24,8 +24,10 @@ enum Last {
     Head(u32, u32),
     Tail,
     Totals,
+    SumAlone,
     AllAggregates,
     Merged(u32),
+    MergedSixteenTimes,
     Join(Choice),
     AsOf,
 }
@@ -63,7 +65,7 @@ const TRADES: Source = Source {
     rows: "0 0 15/1 0 5",
 };
 
-const CASES: [Case; 22] = [
+const CASES: [Case; 26] = [
     Case {
         shows: "a row passes",
         first: Source {
@@ -120,6 +122,17 @@ const CASES: [Case; 22] = [
         rows: "0 20/1 10/2 5",
     },
     Case {
+        shows: "a row that grew moves to the front",
+        first: Source {
+            columns: "qty",
+            rows: "0 5/1 30",
+        },
+        second: None,
+        last: Last::Down,
+        columns: "qty",
+        rows: "0 30/1 5",
+    },
+    Case {
         shows: "equal rows stay in order",
         first: Source {
             columns: "qty x",
@@ -162,6 +175,17 @@ const CASES: [Case; 22] = [
         last: Last::Totals,
         columns: "sym total",
         rows: "",
+    },
+    Case {
+        shows: "a sum past the numbers is null",
+        first: Source {
+            columns: "a b",
+            rows: "0 9223372036854775807 null/1 null null/2 1 2",
+        },
+        second: None,
+        last: Last::SumAlone,
+        columns: "s",
+        rows: "0 null",
     },
     Case {
         shows: "all aggregates",
@@ -236,6 +260,17 @@ const CASES: [Case; 22] = [
         rows: "0 0 9",
     },
     Case {
+        shows: "the match has changed",
+        first: LEFT,
+        second: Some(Source {
+            columns: "sym px",
+            rows: "5 0 8",
+        }),
+        last: Last::Join(Choice::Error),
+        columns: "sym px",
+        rows: "0 0 8",
+    },
+    Case {
         shows: "the first match",
         first: LEFT,
         second: Some(TWO_EQUAL),
@@ -272,6 +307,17 @@ const CASES: [Case; 22] = [
         last: Last::AsOf,
         columns: "sym ts px",
         rows: "0 0 15 110/1 0 5 null",
+    },
+    Case {
+        shows: "the quotes before are gone",
+        first: TRADES,
+        second: Some(Source {
+            columns: "sym ts px",
+            rows: "1 0 20 200",
+        }),
+        last: Last::AsOf,
+        columns: "sym ts px",
+        rows: "0 0 15 null/1 0 5 null",
     },
     Case {
         shows: "equal times",
@@ -317,6 +363,18 @@ const DUPLICATE: Case = Case {
     second: Some(TWO_EQUAL),
     last: Last::Join(Choice::Error),
     columns: "sym px",
+    rows: "",
+};
+
+const SIXTEEN: Case = Case {
+    shows: "sixteen times a table",
+    first: Source {
+        columns: "x",
+        rows: "",
+    },
+    second: None,
+    last: Last::MergedSixteenTimes,
+    columns: "x",
     rows: "",
 };
 
@@ -445,6 +503,15 @@ fn totals(alloc: Global) -> Result<Op, AllocError> {
     Ok(Op::Agg { input: 0, by, aggs })
 }
 
+fn sum_alone(alloc: Global) -> Result<Op, AllocError> {
+    let aggs = list(alloc, &[Agg::Sum(0)])?;
+    Ok(Op::Agg {
+        input: 0,
+        by: Items::new(alloc),
+        aggs,
+    })
+}
+
 fn all_aggregates(alloc: Global) -> Result<Op, AllocError> {
     let aggs = list(
         alloc,
@@ -491,7 +558,11 @@ fn operator(alloc: Global, last: Last) -> Result<Op, AllocError> {
         Last::Head(input, rows) => Op::Head { input, rows },
         Last::Tail => Op::Tail { input: 0, rows: 2 },
         Last::Totals => totals(alloc)?,
+        Last::SumAlone => sum_alone(alloc)?,
         Last::AllAggregates => all_aggregates(alloc)?,
+        Last::MergedSixteenTimes => Op::Merge {
+            inputs: list(alloc, &[0; 16])?,
+        },
         Last::Merged(other) => Op::Merge {
             inputs: list(alloc, &[0, other])?,
         },
@@ -635,6 +706,30 @@ fn two_matches_of_a_left_row_are_a_fault(rt: HostRuntime) -> Result<(), Fail> {
     assert_eq!(rt;
         outcome(&rt, rt.alloc(), &DUPLICATE)?,
         Err(EvalStop::Node { node: 2, kind })
+    );
+    Ok(())
+}
+
+/// A table of one column with the first keys.
+fn first_rows(alloc: Global, count: u64) -> Result<PlainTable, AllocError> {
+    let mut rows = Items::new(alloc);
+    for key in 0..count {
+        let cells = list(alloc, &[1])?;
+        rows.push(PlainRow { key, cells })?;
+    }
+    Ok(PlainTable { width: 1, rows })
+}
+
+#[test]
+fn a_merge_of_too_many_rows_is_a_fault(rt: HostRuntime) -> Result<(), Fail> {
+    let plan = plan(rt.alloc(), &SIXTEEN)?;
+    let mut sources = Items::new(rt.alloc());
+    sources.push(first_rows(rt.alloc(), 262_145)?)?;
+    assert!(rt; plan.lawful());
+    assert!(rt; plan.fits(&sources));
+    let kind = NodeFault::TooManyRows { rows: 4_194_320 };
+    assert!(rt;
+        evaluate(rt.alloc(), &plan, &sources).err() == Some(EvalStop::Node { node: 1, kind })
     );
     Ok(())
 }
