@@ -1,5 +1,5 @@
 -- Blocks that are split where a key falls between their rows.
-use Rattle.std.proofs.Common.{◌≡◌, ◌≢◌, refl, ap, sym, ◌∙◌, subst, ℕ, zero, suc, ◌+◌, ◌-◌, ◌<◌, ◌≤◌, arith, List, [], ◌∷◌, ◌++◌, length, take, drop, get_or, min, Option, Some, None, IsSome, ℤ, inl, inr, ◌⊎◌, take-append-drop, length-take-le, length-drop, get_or-take, get_or-drop, append_assoc, set, map, pos, negsuc, take_all}
+use Rattle.std.proofs.Common.{◌≡◌, ◌≢◌, refl, ap, sym, ◌∙◌, subst, ℕ, zero, suc, ◌+◌, ◌-◌, ◌<◌, ◌≤◌, arith, List, [], ◌∷◌, ◌++◌, length, take, drop, get_or, min, Option, Some, None, IsSome, ℤ, inl, inr, ◌⊎◌, take-append-drop, length-take-le, length-drop, get_or-take, get_or-drop, append_assoc, set, map, pos, negsuc, take_all, true≢false}
 use Rattle.std.proofs.lemmas.Int.{ints}
 use Rattle.std.proofs.Math.Seq.{take-suc}
 use Rattle.std.specs.Prelude.{◌≤ℤ◌}
@@ -84,6 +84,12 @@ kept_split first (suc place) (suc len) (slot ∷ slots) =
 
     less : suc len - suc (min place len) ≡ len - min place len
     less = omega arith
+
+-- no slot is empty before a row at the first
+pub begun_leading : (slots : List (Option ℤ)) → IsSome (slot_at slots 0) → leading slots ≡ 0
+begun_leading [] h = refl
+begun_leading (None ∷ slots) h = absurd (true≢false (sym h))
+begun_leading (Some cell ∷ slots) h = refl
 
 -- rows before the first row from a slot on
 empties : (first : ℕ) (slots : List (Option ℤ)) → entries_from first (take (leading slots) slots) ≡ []
@@ -260,10 +266,11 @@ moved_more f [] m held lt at = absurd (omega arith)
 moved_more f (x ∷ old) zero held lt at = ap (λ b. f b ∷ old) at
 moved_more f (x ∷ old) (suc m) held lt at = ap (λ bs. f x ∷ bs) (moved_more f old m held (omega arith) at)
 
-pub held_moved : (f : Block → Block) (old : List Block) (m : ℕ) (held : Block) → m < length old → held ≡ get_or (map f (take m old) ++ drop m old) m held → held ≡ get_or old m held
-held_moved f [] m held lt at = absurd (omega arith)
-held_moved f (x ∷ old) zero held lt at = at
-held_moved f (x ∷ old) (suc m) held lt at = held_moved f old m held (omega arith) at
+-- the next one has not moved yet
+pub moved_at : (f : Block → Block) (old : List Block) (m : ℕ) → m < length old → (held : Block) × (held ≡ get_or old m held) × (held ≡ get_or (map f (take m old) ++ drop m old) m held)
+moved_at f [] m lt = absurd (omega arith)
+moved_at f (x ∷ old) zero lt = (x, refl, refl)
+moved_at f (x ∷ old) (suc m) lt = moved_at f old m (omega arith)
 
 pub abs_key : (z : ℤ) → pos 0 ≤ℤ z → nat_abs z ≡ as_key z
 abs_key (pos n) le = refl

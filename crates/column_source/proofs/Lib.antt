@@ -11,3 +11,7 @@ pub mod Clearing
 pub mod Leaving
 pub mod Cutting
 pub mod Moving
+pub mod Copies
+pub mod Filled
+pub mod Steps
+pub mod Joining

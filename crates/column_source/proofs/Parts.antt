@@ -1,5 +1,5 @@
 -- The two parts into which a search cuts a list.
-use Rattle.std.proofs.Common.{◌≡◌, Bool, true, false, ℕ, zero, suc, ◌<◌, ◌≤◌, arith, List, [], ◌∷◌, length, take, drop, get_or}
+use Rattle.std.proofs.Common.{◌≡◌, refl, Bool, true, false, ℕ, zero, suc, ◌<◌, ◌≤◌, arith, List, [], ◌∷◌, length, take, drop, get_or, Result, Ok, Err, OnOk, OnErr}
 use Rattle.std.specs.List.{AllByRecursion}
 use Rattle.std.specs.List.Sorted.{IsPartitionPoint}
 
@@ -35,3 +35,14 @@ pub every_last : {X : Type 0} (P : X → Type 0) (i : ℕ) (xs : List X) → All
 every_last P zero xs h = h
 every_last P (suc i) [] h = tt
 every_last P (suc i) (x ∷ xs) h = every_last P i xs h.1
+
+-- what stands at a place
+pub one_at : {X : Type 0} (xs : List X) (i : ℕ) → i < length xs → (x : X) × (x ≡ get_or xs i x)
+one_at [] i lt = absurd (omega arith)
+one_at (x ∷ xs) zero lt = (x, refl)
+one_at (x ∷ xs) (suc i) lt = one_at xs i (omega arith)
+
+-- what follows from either answer
+pub either_way : {T E : Type 0} (result : Result T E) (P : Type 0) → OnOk result P → OnErr result P → P
+either_way (Ok x) P ok err = ok
+either_way (Err e) P ok err = err

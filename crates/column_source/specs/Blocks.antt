@@ -1,10 +1,10 @@
 -- Blocks of neighbouring rows.
-use Rattle.std.specs.Prelude.{ℕ, ◌+◌, ◌-◌, ◌^◌, ◌<◌, ◌≤◌, List, [], ◌∷◌, Option, ℤ, length, take, min, IsSome, drop, slice_index_or, slice_set, ◌≡◌}
+use Rattle.std.specs.Prelude.{ℕ, ◌+◌, ◌^◌, ◌<◌, ◌≤◌, List, [], ◌∷◌, Option, ℤ, length, take, IsSome, drop, slice_index_or, slice_set, ◌≡◌}
 use Rattle.std.specs.List.{AllByRecursion, flat_map}
 use Rattle.column_source.specs.declared.block.Block.{Block}
 use Rattle.column_source.specs.Entries.{Entry, Ascend}
 use Rattle.column_source.specs.Notes.{note_under}
-use Rattle.column_source.specs.Slots.{slot_at, entries_from}
+use Rattle.column_source.specs.Slots.{slot_at, entries_from, filled}
 
 -- the rows of a block under their keys
 abbrev pub rows_of : Block → List Entry
@@ -39,18 +39,9 @@ pub record IsColumn (blocks : List Block) (notes : List (ℕ × Option ℤ)) : T
   pub apart : AreApart 0 blocks
   pub noted : AllByRecursion (λ note. note.0 < 2 ^ 62) notes
 
--- where the keys of the next block begin, or all keys end
-abbrev pub end_from : List Block → ℕ
-end_from [] = 2 ^ 62
-end_from (block ∷ blocks) = block.first
-
--- a block when a step begins, in which the keys before `end` are its own
-abbrev pub begun_block : ℕ → Block → Block
-begun_block end block = record block { first_before = block.first; len_before = min (length block.slots.items) (end - block.first) }
-
-abbrev pub begun : List Block → List Block
-begun [] = []
-begun (block ∷ blocks) = begun_block (end_from blocks) block ∷ begun blocks
+-- a block when a step begins
+abbrev pub begun_block : Block → Block
+begun_block block = record block { first_before = block.first; len_before = filled block.slots.items }
 
 -- where the keys of the blocks ended when the step began
 abbrev pub end_of : ℕ → List Block → ℕ
@@ -77,3 +68,17 @@ pub record IsWritten (block : Block) (place : ℕ) (slot : Option ℤ) (new : Bl
   pub first : new.first ≡ block.first
   pub first_before : new.first_before ≡ block.first_before
   pub len_before : new.len_before ≡ block.len_before
+
+-- a block with the fields of another
+pub record IsCopy (block copy : Block) : Type 0 where
+  pub first : copy.first ≡ block.first
+  pub first_before : copy.first_before ≡ block.first_before
+  pub len_before : copy.len_before ≡ block.len_before
+  pub slots : copy.slots.items ≡ block.slots.items
+
+-- block by block
+abbrev pub AreCopies : List Block → List Block → Type 0
+AreCopies [] [] = Unit {0}
+AreCopies [] (copy ∷ copies) = ⊥
+AreCopies (block ∷ blocks) [] = ⊥
+AreCopies (block ∷ blocks) (copy ∷ copies) = IsCopy block copy × AreCopies blocks copies

@@ -4,3 +4,5 @@ pub mod Notes
 pub mod Slots
 pub mod Drops
 pub mod Moves
+pub mod Steps
+pub mod Joins

@@ -1,9 +1,9 @@
 //! A block of neighbouring rows.
-ghost use Rattle.std.specs.Prelude.{◌≡◌, ◌+◌, ◌-◌, ◌<◌, ◌≤◌, length, nat_le, OnOk, OnErr};
+ghost use Rattle.std.specs.Prelude.{◌≡◌, ◌+◌, ◌-◌, ◌<◌, ◌≤◌, [], length, nat_le, IfOk, OnOk, OnErr};
 ghost use Rattle.column_source.specs.Entries.{put};
-ghost use Rattle.column_source.specs.Slots.{slot_at};
+ghost use Rattle.column_source.specs.Slots.{slot_at, filled};
 
-use std::alloc::AllocError;
+use std::alloc::{AllocError, Global};
 
 /// At most this many slots are in one block.
 pub(crate) const BLOCK_LEN: usize = 512;
@@ -20,8 +20,45 @@ pub(crate) struct Block {
     pub(crate) slots: Vec<Option<i64>>,
 }
 
+/// How many slots there are up to the last row.
+pub(crate) fn filled(slots: &[Option<i64>]) -> usize
+    ensures filled { result ≡ filled slots.now }
+    ensures within { result ≤ length slots.now }
+{
+    let mut len = slots.len();
+    while len > 0 && slots[len - 1].is_none() {
+        len -= 1;
+    }
+    len
+}
+
 impl Block {
-    ghost use Rattle.column_source.specs.Blocks.{IsBlock, IsWritten, begun_block, rows_of, kept_of};
+    ghost use Rattle.column_source.specs.Blocks.{IsBlock, IsCopy, IsWritten, begun_block, rows_of, kept_of};
+
+    /// A block of no slots.
+    pub(crate) fn hollow(alloc: Global) -> Block
+        ensures { result.slots.items ≡ [] }
+    {
+        Block {
+            first: 0,
+            first_before: 0,
+            len_before: 0,
+            slots: Vec::new(alloc),
+        }
+    }
+
+    /// A block of the same rows, now and when the step began.
+    pub(crate) fn copy(&self) -> Result<Block, AllocError>
+        ensures { IfOk result (IsCopy self.now) }
+    {
+        let alloc = *self.slots.allocator();
+        Ok(Block {
+            first: self.first,
+            first_before: self.first_before,
+            len_before: self.len_before,
+            slots: Vec::from_slice(alloc, &self.slots)?,
+        })
+    }
 
     /// The cell of a slot, or None where it is empty or past the last.
     pub(crate) fn slot(&self, place: u64) -> Option<i64>
@@ -30,22 +67,12 @@ impl Block {
         self.slots.get(place as usize).copied().flatten()
     }
 
-    /// Whether the slots that were there when the step began ended at the key or before it.
-    pub(crate) fn had_ended_by(&self, key: u64) -> bool
-        ensures { result ≡ nat_le (self.now.first_before + self.now.len_before) key }
-    {
-        self.first_before <= key && self.len_before as u64 <= key - self.first_before
-    }
-
-    /// Makes the rows of now those that were there when the step began; the next block begins at `end`.
-    pub(crate) fn begin(&mut self, end: u64)
-        ensures { self.new ≡ begun_block end self.old }
+    /// Makes the rows of now those that were there when the step began.
+    pub(crate) fn begin(&mut self)
+        ensures { self.new ≡ begun_block self.old }
     {
         self.first_before = self.first;
-        self.len_before = self
-            .slots
-            .len()
-            .min(end.saturating_sub(self.first) as usize);
+        self.len_before = filled(&self.slots);
     }
 
     /// Puts a cell into a slot.

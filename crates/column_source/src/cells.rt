@@ -1,10 +1,10 @@
 //! The column itself.
-ghost use Rattle.std.specs.Prelude.{◌≡◌, ◌<◌, ◌^◌, IsSome, None, Some, [], OnOk, OnErr};
+ghost use Rattle.std.specs.Prelude.{◌≡◌, ◌<◌, ◌^◌, IsSome, None, Some, [], IfOk, OnOk, OnErr};
 ghost use Rattle.tick_model.specs.Rules.{shift_fault};
 ghost use Rattle.column_source.specs.Entries.{IsEntryList, cell_under, keys_of, left_entries, moved_entries, put};
 
-use crate::block::Block;
-use crate::directory::{Notes, begin, cell_at, cell_before, set};
+use crate::blocks::Blocks;
+use crate::directory::{Notes, cell_at, cell_before, set};
 use crate::drops::drop_ranges;
 use crate::moves::shift;
 use row_set::RowSet;
@@ -16,7 +16,7 @@ use std::marker::Model;
 /// The cells of one column by row key: those of now, and those from before the step.
 #[derive(Drop)]
 pub struct Column {
-    blocks: Vec<Block>,
+    blocks: Blocks,
     /// What was under the keys, as they were before the step, of slots that the step has touched: a cell or none.
     notes: Notes,
 }
@@ -28,9 +28,9 @@ impl Model for Column {
 
     ghost Value = { Cells };
 
-    ghost view = { λ c. record { now = rows c.blocks.items; before = restored c.notes.entries (kept c.blocks.items) } };
+    ghost view = { λ c. record { now = rows c.blocks; before = restored c.notes.entries (kept c.blocks) } };
 
-    ghost invariant = { λ c. IsColumn c.blocks.items c.notes.entries };
+    ghost invariant = { λ c. IsColumn c.blocks c.notes.entries };
 }
 
 impl Column {
@@ -40,9 +40,18 @@ impl Column {
         ensures before { result.before ≡ [] }
     {
         Column {
-            blocks: Vec::new(alloc),
+            blocks: Blocks::new(alloc),
             notes: BTreeMap::new(alloc),
         }
+    }
+
+    /// An equal column: the same cells, now and before the step.
+    pub fn copy(&self) -> Result<Column, AllocError>
+        ensures { IfOk result (λ copy. copy ≡ self.now) }
+    {
+        let blocks = self.blocks.copy()?;
+        let notes = self.notes.clone()?;
+        Ok(Column { blocks, notes })
     }
 
     /// The cell under a key.
@@ -68,7 +77,7 @@ impl Column {
         ensures now { self.new.now ≡ self.old.now }
         ensures before { self.new.before ≡ self.old.now }
     {
-        begin(&mut self.blocks);
+        self.blocks.begin();
         self.notes.clear();
     }
 

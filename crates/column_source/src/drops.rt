@@ -7,7 +7,8 @@ ghost use Rattle.column_source.specs.Blocks.{IsBlock, IsColumn, AtBlock, AreApar
 ghost use Rattle.column_source.specs.Drops.{AreNoted, AreOutside, Leaves, LeavesAll, LeavesBlock, cleared, left_by, leading, outside};
 
 use crate::block::Block;
-use crate::directory::{Notes, begun_by, note};
+use crate::blocks::Blocks;
+use crate::directory::{Notes, note};
 use row_set::Range;
 use std::alloc::AllocError;
 
@@ -25,7 +26,7 @@ pub(crate) fn leading(slots: &[Option<i64>]) -> usize
 
 /// Notes the rows of a block under the keys from first to last.
 fn note_block(
-    blocks: &[Block],
+    blocks: &Blocks,
     notes: &mut Notes,
     index: usize,
     first: u64,
@@ -40,11 +41,12 @@ fn note_block(
     ensures stays { (key : ℕ) → IsSome (note_under key notes.old.entries) → IsSome (note_under key notes.new.entries) }
     ensures column { IsColumn blocks.now notes.new.entries }
 {
-    let block = &blocks[index];
-    let from = first.saturating_sub(block.first) as usize;
-    let to = block.slots.len().min((last - block.first) as usize + 1);
+    let start = blocks.first(index);
+    let slots = blocks.slots(index);
+    let from = first.saturating_sub(start) as usize;
+    let to = slots.len().min((last - start) as usize + 1);
     for place in from..to {
-        if block.slots[place].is_some() {
+        if slots[place].is_some() {
             note(blocks, notes, index, place)?;
         }
     }
@@ -53,7 +55,7 @@ fn note_block(
 
 /// Notes the rows under the keys from first to last.
 pub(crate) fn note_rows(
-    blocks: &[Block],
+    blocks: &Blocks,
     notes: &mut Notes,
     first: u64,
     last: u64,
@@ -65,8 +67,8 @@ pub(crate) fn note_rows(
     ensures stays { (key : ℕ) → IsSome (note_under key notes.old.entries) → IsSome (note_under key notes.new.entries) }
     ensures column { IsColumn blocks.now notes.new.entries }
 {
-    let mut index = begun_by(blocks, first).saturating_sub(1);
-    while index < blocks.len() && blocks[index].first <= last {
+    let mut index = blocks.begun_by(first).saturating_sub(1);
+    while index < blocks.len() && blocks.first(index) <= last {
         note_block(blocks, notes, index, first, last)?;
         index += 1;
     }
@@ -125,44 +127,46 @@ fn trim(block: &mut Block)
 
 /// Leaves out the rows of the block at an index under the keys from first to last, and the block where none is left;
 /// returns the index of the next block.
-fn leave_at(blocks: &mut Vec<Block>, index: usize, first: u64, last: u64) -> usize
-    requires sound { AllByRecursion IsBlock blocks.old.items }
-    requires within { index < length blocks.old.items }
-    requires begun { AtBlock blocks.old.items index (λ block. block.first ≤ last) }
+fn leave_at(blocks: &mut Blocks, index: usize, first: u64, last: u64) -> usize
+    requires sound { AllByRecursion IsBlock blocks.old }
+    requires within { index < length blocks.old }
+    requires begun { AtBlock blocks.old index (λ block. block.first ≤ last) }
     requires small { last < 2 ^ 62 }
-    ensures leaves { Leaves first last blocks.old.items blocks.new.items }
-    ensures sound { AllByRecursion IsBlock blocks.new.items }
-    ensures within { result ≤ length blocks.new.items }
-    ensures nearer { length blocks.new.items + index < length blocks.old.items + result }
-    ensures done { AreOutside first last (rows (take index blocks.old.items)) → AreOutside first last (rows (take result blocks.new.items)) }
+    ensures leaves { Leaves first last blocks.old blocks.new }
+    ensures sound { AllByRecursion IsBlock blocks.new }
+    ensures within { result ≤ length blocks.new }
+    ensures nearer { length blocks.new + index < length blocks.old + result }
+    ensures done { AreOutside first last (rows (take index blocks.old)) → AreOutside first last (rows (take result blocks.new)) }
 {
-    let block = &mut blocks[index];
-    leave_block(block, first, last);
-    if block.slots.is_empty() {
-        blocks.remove(index);
+    let mut block = blocks.take(index);
+    leave_block(&mut block, first, last);
+    let is_empty = block.slots.is_empty();
+    blocks.put(index, block);
+    if is_empty {
+        blocks.remove(index, index + 1);
         return index;
     }
     index + 1
 }
 
 /// Leaves out the rows under the keys from first to last.
-pub(crate) fn leave_rows(blocks: &mut Vec<Block>, first: u64, last: u64)
-    requires sound { AllByRecursion IsBlock blocks.old.items }
-    requires ascend { Ascend (rows blocks.old.items) }
+pub(crate) fn leave_rows(blocks: &mut Blocks, first: u64, last: u64)
+    requires sound { AllByRecursion IsBlock blocks.old }
+    requires ascend { Ascend (rows blocks.old) }
     requires small { last < 2 ^ 62 }
-    ensures rows { rows blocks.new.items ≡ outside first last (rows blocks.old.items) }
-    ensures leaves { Leaves first last blocks.old.items blocks.new.items }
-    ensures sound { AllByRecursion IsBlock blocks.new.items }
+    ensures rows { rows blocks.new ≡ outside first last (rows blocks.old) }
+    ensures leaves { Leaves first last blocks.old blocks.new }
+    ensures sound { AllByRecursion IsBlock blocks.new }
 {
-    let mut index = begun_by(blocks, first).saturating_sub(1);
-    while index < blocks.len() && blocks[index].first <= last {
+    let mut index = blocks.begun_by(first).saturating_sub(1);
+    while index < blocks.len() && blocks.first(index) <= last {
         index = leave_at(blocks, index, first, last);
     }
 }
 
 /// Notes the rows of all ranges.
 pub(crate) fn note_ranges(
-    blocks: &[Block],
+    blocks: &Blocks,
     notes: &mut Notes,
     ranges: &[Range],
 ) -> Result<(), AllocError>
@@ -179,11 +183,11 @@ pub(crate) fn note_ranges(
 }
 
 /// Leaves out the rows of all ranges.
-pub(crate) fn leave_ranges(blocks: &mut Vec<Block>, ranges: &[Range])
-    requires sound { AllByRecursion IsBlock blocks.old.items }
-    requires ascend { Ascend (rows blocks.old.items) }
+pub(crate) fn leave_ranges(blocks: &mut Blocks, ranges: &[Range])
+    requires sound { AllByRecursion IsBlock blocks.old }
+    requires ascend { Ascend (rows blocks.old) }
     requires small { AllByRecursion (λ range. range.last < 2 ^ 62) ranges.now }
-    ensures leaves { LeavesAll ranges.now blocks.old.items blocks.new.items }
+    ensures leaves { LeavesAll ranges.now blocks.old blocks.new }
 {
     for range in ranges {
         leave_rows(blocks, range.first, range.last);
@@ -192,16 +196,16 @@ pub(crate) fn leave_ranges(blocks: &mut Vec<Block>, ranges: &[Range])
 
 /// Leaves out the rows under the keys of all ranges, from the rows of now alone.
 pub(crate) fn drop_ranges(
-    blocks: &mut Vec<Block>,
+    blocks: &mut Blocks,
     notes: &mut Notes,
     ranges: &[Range],
 ) -> Result<(), AllocError>
-    requires column { IsColumn blocks.old.items notes.old.entries }
+    requires column { IsColumn blocks.old notes.old.entries }
     requires small { AllByRecursion (λ range. range.last < 2 ^ 62) ranges.now }
-    ensures ok { OnOk result (rows blocks.new.items ≡ left_by ranges.now (rows blocks.old.items)) }
-    ensures err { OnErr result (rows blocks.new.items ≡ rows blocks.old.items) }
-    ensures before { restored notes.new.entries (kept blocks.new.items) ≡ restored notes.old.entries (kept blocks.old.items) }
-    ensures column { IsColumn blocks.new.items notes.new.entries }
+    ensures ok { OnOk result (rows blocks.new ≡ left_by ranges.now (rows blocks.old)) }
+    ensures err { OnErr result (rows blocks.new ≡ rows blocks.old) }
+    ensures before { restored notes.new.entries (kept blocks.new) ≡ restored notes.old.entries (kept blocks.old) }
+    ensures column { IsColumn blocks.new notes.new.entries }
 {
     note_ranges(blocks, notes, ranges)?;
     leave_ranges(blocks, ranges);

@@ -2,9 +2,11 @@
 #![tactic(auto)]
 
 mod block;
+mod blocks;
 mod cells;
 mod directory;
 mod drops;
+mod joins;
 mod moves;
 #[cfg(test)]
 mod tests;

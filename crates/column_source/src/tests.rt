@@ -25,3 +25,16 @@ fn cells_now_and_before(rt: HostRuntime) -> Result<(), Fail> {
     assert_eq!(rt; column.get_prev(1), 6);
     Ok(())
 }
+
+/// A copy has the same cells, now and before.
+#[test]
+fn cells_of_a_copy(rt: HostRuntime) -> Result<(), Fail> {
+    let mut column = Column::new(rt.alloc());
+    column.set(3, 7)?;
+    column.begin_step();
+    column.set(3, 8)?;
+    let copy = column.copy()?;
+    assert_eq!(rt; copy.get(3), 8);
+    assert_eq!(rt; copy.get_prev(3), 7);
+    Ok(())
+}

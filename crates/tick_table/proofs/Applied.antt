@@ -1,5 +1,5 @@
 -- A ticking table to which a change is applied: what it keeps, and what it shows.
-use Rattle.std.proofs.Common.{◌≡◌, refl, ap, ap₂, sym, ◌∙◌, subst, ℕ, zero, suc, ◌+◌, ◌*◌, ◌<◌, ◌≤◌, ◌^◌, arith, List, [], ◌∷◌, map, length, take, drop, ℤ, None, add-one, length-drop, length-take}
+use Rattle.std.proofs.Common.{◌≡◌, refl, ap, ap₂, sym, ◌∙◌, subst, ℕ, suc, ◌+◌, ◌*◌, ◌<◌, ◌≤◌, ◌^◌, arith, List, [], ◌∷◌, length, drop, ℤ, None, add-one, length-drop, length-take}
 use Rattle.std.specs.List.{AllByRecursion}
 use Rattle.std.proofs.Math.Nat.{suc-mul}
 use Rattle.key_lists.specs.Keys.{IsRising, without}
@@ -15,10 +15,9 @@ use Rattle.tick_model.specs.Updates.{Update, carry}
 use Rattle.tick_laws.specs.Checked.{IsChecked, keys_after}
 use Rattle.tick_laws.proofs.CheckedUpdates.{none_parts, keys-carry, keys_after-rise, keys_after-below, cells-carry}
 use Rattle.column_source.specs.Entries.{Entry, Cells, keys_of}
-use Rattle.tick_table.specs.Columns.{rows_in, column_of, stepped, stepped_column, stepped_columns}
+use Rattle.tick_table.specs.Columns.{rows_in, stepped, stepped_columns}
 use Rattle.tick_table.specs.Kept.{IsKept}
 use Rattle.tick_table.proofs.Puts.{keys-column_of}
-use Rattle.tick_table.proofs.RangePuts.{row_fits}
 use Rattle.tick_table.proofs.CarriedColumns.{keys-told, column_steps}
 use Rattle.tick_table.proofs.TableColumns.{AreColumns, now_of, before_of, keys-rows_in, table_in, columns_are, rows_from_columns, length-stepped, before-stepped, length-mapped}
 

@@ -1,5 +1,5 @@
 -- A column that an update has changed is that of the rows that the update makes.
-use Rattle.std.proofs.Common.{◌≡◌, refl, ap, ap₂, sym, ◌∙◌, subst, Bool, true, false, cond, not, ◌||◌, ℕ, ◌+◌, ◌*◌, ◌<◌, ◌^◌, List, [], ◌∷◌, ◌++◌, map, filter, length, take, drop, Option, Some, None, ℤ, true≢false, append-nil}
+use Rattle.std.proofs.Common.{◌≡◌, refl, ap, ap₂, sym, ◌∙◌, subst, Bool, true, false, not, ◌||◌, ℕ, ◌*◌, ◌^◌, List, [], ◌∷◌, ◌++◌, length, drop, ℤ, true≢false, append-nil}
 use Rattle.std.specs.List.{AllByRecursion}
 use Rattle.std.proofs.lemmas.Bool.{or_from, or_parts}
 use Rattle.std.proofs.lemmas.List.Elements.{filter-append}
@@ -13,11 +13,11 @@ use Rattle.tick_model.specs.Rules.{landed}
 use Rattle.tick_model.specs.Tables.{keys}
 use Rattle.tick_model.specs.Updates.{Update, rows_at, carry, removing, shifting, adding, modifying}
 use Rattle.key_lists.specs.Keys.{without}
-use Rattle.tick_laws.specs.Checked.{IsChecked, keys_after}
+use Rattle.tick_laws.specs.Checked.{IsChecked}
 use Rattle.tick_table.proofs.NewKeys.{among-adding}
 use Rattle.table_update.proofs.KeysAfter.{none_pass, rules_kept}
 use Rattle.tick_laws.proofs.CheckedUpdates.{modified_not_added, lawful_shift, keys_after-rise, keys-stay, keys-carry}
-use Rattle.column_source.specs.Entries.{Entry, Ascend, cell_under, put, moved_entries, left_entries}
+use Rattle.column_source.specs.Entries.{Entry, Ascend, cell_under, put}
 use Rattle.column_source.proofs.EntryLists.{ascend-put, ascend_by_keys, same_entries}
 use Rattle.tick_table.specs.Columns.{column_of, put_rows, stepped}
 use Rattle.tick_table.proofs.Puts.{keys-column_of, column_stay, over, under-put_rows, put_rows-append, under-adding, under-modifying, keys-rows_under, rows_under-append}

@@ -1,6 +1,9 @@
 pub mod Applied
+pub mod Between
 pub mod CarriedColumns
+pub mod ExactAgain
 pub mod NewKeys
 pub mod Puts
 pub mod RangePuts
 pub mod TableColumns
+pub mod WholeRows

@@ -1,5 +1,5 @@
 -- The keys of rows that are added and found.
-use Rattle.std.proofs.Common.{◌≡◌, refl, ap, sym, ◌∙◌, Bool, true, false, cond, ◌||◌, ◌==◌, ℕ, List, [], ◌∷◌, Some, ltb, unwrap_or}
+use Rattle.std.proofs.Common.{◌≡◌, refl, ap, ◌∙◌, Bool, true, false, cond, ◌||◌, ◌==◌, ℕ, List, [], ◌∷◌, Some, ltb, unwrap_or}
 use Rattle.std.proofs.lemmas.Bool.{eqb-true}
 use Rattle.key_lists.specs.Keys.{is_among}
 use Rattle.tick_model.specs.declared.table.PlainRow.{PlainRow}

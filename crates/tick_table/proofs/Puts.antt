@@ -1,5 +1,5 @@
 -- Columns of rows, and rows put into them: what is under a key.
-use Rattle.std.proofs.Common.{◌≡◌, refl, ap, sym, ◌∙◌, subst, Bool, true, false, cond, not, ◌||◌, ℕ, suc, ◌+◌, ◌*◌, ◌<◌, arith, List, [], ◌∷◌, ◌++◌, map, filter, length, take, drop, Option, Some, None, ℤ, ltb, ◌==◌, unwrap_or, zero-mul}
+use Rattle.std.proofs.Common.{◌≡◌, refl, ap, sym, ◌∙◌, subst, true, false, cond, not, ◌||◌, ℕ, suc, ◌+◌, ◌*◌, ◌<◌, arith, List, [], ◌∷◌, ◌++◌, map, length, take, drop, Option, Some, None, ℤ, ltb, ◌==◌, unwrap_or, zero-mul}
 use Rattle.std.specs.List.{AllByRecursion}
 use Rattle.std.proofs.lemmas.List.{drop-drop}
 use Rattle.std.proofs.lemmas.Bool.{ne_eqb, eqb-true, eqb-false, or_parts, or_from}

@@ -1,9 +1,8 @@
 -- Rows that are put into a column key by key and range by range.
-use Rattle.std.proofs.Common.{◌≡◌, refl, ap, ap₂, sym, ◌∙◌, subst, ℕ, zero, suc, ◌+◌, ◌-◌, ◌*◌, ◌<◌, ◌≤◌, arith, List, [], ◌∷◌, ◌++◌, length, take, drop, ℤ, length-append, length-drop, add-one, get_or, drop-cons, not, ◌^◌}
+use Rattle.std.proofs.Common.{◌≡◌, ap, sym, ◌∙◌, ℕ, zero, suc, ◌+◌, ◌-◌, ◌*◌, ◌<◌, ◌≤◌, arith, List, [], ◌∷◌, ◌++◌, length, take, drop, ℤ, length-append, length-drop, add-one, get_or, drop-cons, not, ◌^◌}
 use Rattle.std.specs.List.{range_with_len}
 use Rattle.std.proofs.Math.Nat.{add-mul, suc-mul}
 use Rattle.std.proofs.lemmas.List.{drop-drop}
-use Rattle.tick_model.specs.declared.table.PlainRow.{PlainRow}
 use Rattle.tick_model.specs.Changes.{rows_under}
 use Rattle.tick_model.specs.Tables.{cell}
 use Rattle.row_set.specs.declared.ranges.Range.{Range}

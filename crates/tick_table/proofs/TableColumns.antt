@@ -1,9 +1,9 @@
 -- Tables from their columns, and columns of tables.
-use Rattle.std.proofs.Common.{◌≡◌, refl, ap, sym, ◌∙◌, subst, Bool, true, false, cond, ◌||◌, ℕ, zero, suc, ◌+◌, ◌<◌, ◌≤◌, ◌^◌, ◌==◌, arith, List, [], ◌∷◌, ◌++◌, map, length, drop, Option, Some, None, ℤ, unwrap_or, get_or, drop-cons, add-one, true≢false, IsTrue, append_assoc, inl, inr}
-use Rattle.std.specs.Prelude.{option_map, IsSome, slice_index_or}
+use Rattle.std.proofs.Common.{◌≡◌, refl, ap, sym, ◌∙◌, subst, true, false, cond, ◌||◌, ℕ, zero, suc, ◌+◌, ◌<◌, ◌^◌, ◌==◌, arith, List, [], ◌∷◌, ◌++◌, map, length, drop, Some, ℤ, unwrap_or, get_or, drop-cons, true≢false, append_assoc}
+use Rattle.std.specs.Prelude.{option_map, IsSome}
 use Rattle.std.specs.List.{AllByRecursion}
 use Rattle.std.proofs.Math.ListN.{drop_of_length-le, set}
-use Rattle.std.proofs.lemmas.Bool.{ne_eqb, eq-eqb, eqb-true, or_cases}
+use Rattle.std.proofs.lemmas.Bool.{ne_eqb, eq-eqb, eqb-true}
 use Rattle.key_lists.specs.Keys.{is_among, IsRising}
 use Rattle.key_lists.proofs.Every.{all_from, every, every_weaker, every_both, every-map, every_unmapped, map_map, map_same, map_own}
 use Rattle.row_set.specs.Sets.{IsKeySet}
@@ -12,8 +12,7 @@ use Rattle.tick_model.specs.declared.table.PlainTable.{PlainTable}
 use Rattle.tick_model.specs.Tables.{cell, cells_at, row_at, keys, null, IsRow, IsTable}
 use Rattle.tick_model.specs.Updates.{Update}
 use Rattle.column_source.specs.Entries.{Entry, Cells, cell_under, entry_of, keys_of}
-use Rattle.tick_table.specs.Columns.{cell_in, row_in, rows_in, column_of, stepped, stepped_column, stepped_columns, stepped_first}
-use Rattle.tick_table.proofs.Puts.{keys-column_of}
+use Rattle.tick_table.specs.Columns.{cell_in, row_in, rows_in, column_of, stepped_column, stepped_columns, stepped_first}
 
 abbrev pub now_of : List Cells → List (List Entry)
 now_of = map (λ column. column.now)

@@ -1,3 +1,4 @@
 pub mod Columns
+pub mod Exact
 pub mod Kept
 pub mod Ticking

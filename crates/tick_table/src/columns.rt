@@ -100,3 +100,14 @@ fn put_range<'a>(
     }
     Ok(rest)
 }
+
+/// Equal columns.
+pub(crate) fn copied(columns: &Vec<Column>) -> Result<Vec<Column>, AllocError>
+    ensures { IfOk result (λ copies. copies.items ≡ columns.now.items) }
+{
+    let mut copies = Vec::with_capacity(*columns.allocator(), columns.len())?;
+    for column in columns {
+        copies.push(column.copy()?)?;
+    }
+    Ok(copies)
+}

@@ -9,6 +9,8 @@ mod change;
 mod columns;
 mod steps;
 mod table;
+#[cfg(test)]
+mod tests;
 
 pub use change::Change;
 pub use steps::Steps;

@@ -1,6 +1,6 @@
 //! The table itself: what it is made of, what it answers and how a change is applied.
 
-ghost use Rattle.std.specs.Prelude.{◌≡◌, ◌+◌, ◌*◌, ◌^◌, ◌<◌, ◌≤◌, IsTrue, None, length, IfOk, OnOk};
+ghost use Rattle.std.specs.Prelude.{◌++◌, ◌≡◌, ◌+◌, ◌*◌, ◌^◌, ◌<◌, ◌≤◌, IsTrue, None, length, IfOk, OnOk};
 ghost use Rattle.std.specs.List.{AllByRecursion};
 ghost use Rattle.column_source.specs.Entries.{keys_of};
 ghost use Rattle.row_set.specs.Sets.{IsKeySet};
@@ -8,13 +8,15 @@ ghost use Rattle.shift_data.specs.Moves.{IsLawful};
 ghost use Rattle.tick_laws.specs.Checked.{keys_after};
 ghost use Rattle.tick_table.specs.Columns.{stepped_columns};
 ghost use Rattle.key_lists.specs.Keys.{is_among, without};
-ghost use Rattle.tick_model.specs.Changes.{changed, rows_under, told_keys};
+ghost use Rattle.tick_model.specs.Changes.{change_of, changed, rows_under, told_keys};
 ghost use Rattle.tick_model.specs.Rules.{update_fault};
 ghost use Rattle.tick_model.specs.Tables.{IsTable, cell as cell_of, cells_at, keys};
+ghost use Rattle.tick_model.specs.Updates.{IsTick, Tick};
+ghost use Rattle.tick_table.specs.Exact.{ticking};
 ghost use Rattle.tick_table.specs.Ticking.{fresh};
 
 use crate::change::Change;
-use crate::columns::bring_on;
+use crate::columns::{bring_on, copied};
 use crate::steps::Steps;
 use column_source::Column;
 use row_set::RowSet;
@@ -132,14 +134,66 @@ impl TickTable {
         self.columns[column as usize].get_prev(key)
     }
 
+    /// Puts the cells of a row now behind others. Each is one read.
+    pub fn row<L: Ledger>(
+        &self,
+        key: u64,
+        cells: &mut Vec<i64>,
+        reads: &mut Steps<L>,
+    ) -> Result<(), AllocError>
+        requires here { IsTrue (is_among key (keys self.now.new.rows)) }
+        ensures cells { OnOk result (cells.new.items ≡ cells.old.items ++ cells_at key self.now.new.rows) }
+        ensures whole { length (cells_at key self.now.new.rows) ≡ self.now.new.width }
+        ensures reads { OnOk result (reads.new ≡ reads.old + self.now.new.width) }
+    {
+        let _rows = self.rows();
+        for column in 0..self.width() {
+            cells.push(self.cell(column, key, reads))?;
+        }
+        Ok(())
+    }
+
+    /// Puts the cells that a row had before the step behind others. Each is one read.
+    pub fn prev_row<L: Ledger>(
+        &self,
+        key: u64,
+        cells: &mut Vec<i64>,
+        reads: &mut Steps<L>,
+    ) -> Result<(), AllocError>
+        requires here { IsTrue (is_among key (keys self.now.old.rows)) }
+        ensures cells { OnOk result (cells.new.items ≡ cells.old.items ++ cells_at key self.now.old.rows) }
+        ensures whole { length (cells_at key self.now.old.rows) ≡ self.now.old.width }
+        ensures reads { OnOk result (reads.new ≡ reads.old + self.now.old.width) }
+    {
+        let _rows = self.prev_rows();
+        for column in 0..self.width() {
+            cells.push(self.prev_cell(column, key, reads))?;
+        }
+        Ok(())
+    }
+
+    /// An equal table, with its rows before and its update.
+    pub fn copy(&self) -> Result<TickTable, AllocError>
+        ensures { IfOk result (λ table. table ≡ self.now) }
+    {
+        Ok(TickTable {
+            rows: self.rows.copy()?,
+            prev_rows: self.prev_rows.copy()?,
+            columns: copied(&self.columns)?,
+            update: self.update.copy()?,
+        })
+    }
+
     /// The table after a change: the rows of now become those from before the step, and the change makes those of now. After
-    /// a refusal the table is given up.
+    /// a refusal the table is given up. The change of a tick from the rows of now makes the table that the tick leaves, whose
+    /// update is exactly the one between the two.
     pub fn apply(self, change: Change) -> Result<TickTable, AllocError>
         requires lawful { update_fault (2 ^ 62) (keys self.new.rows) change.update ≡ None }
         requires whole { length change.cells ≡ length (told_keys change.update) * self.new.width }
         ensures old { IfOk result (λ table. table.old ≡ self.new) }
         ensures new { IfOk result (λ table. table.new ≡ changed self.new change) }
         ensures update { IfOk result (λ table. table.update ≡ change.update) }
+        ensures exact { IfOk result (λ table. (tick : Tick) → IsTick tick → self.new ≡ tick.old → change ≡ change_of tick → table ≡ ticking tick) }
     {
         let TickTable {
             mut rows,

@@ -1,19 +1,28 @@
-use Rattle.std.proofs.Common.{sym, ◌∙◌, arith, ◌<◌, length, subst, ◌+◌, ◌≤◌, take_all}
+use Rattle.std.proofs.Common.{◌+◌, ◌-◌, ◌<◌, ◌≤◌, ap, sym, ◌∙◌, subst, take_all, length, arith}
 use Rattle.std.specs.List.{AllByRecursion}
+use Rattle.column_source.specs.Slots.{slot_at}
 use Rattle.column_source.proofs.Listings.{kept_found, kept_between, kept_nowhere}
+use Rattle.column_source.proofs.Parts.{one_at}
 use Rattle.column_source.proofs.directory.kept_at.Goals as goal
 
-pub returns-then-place-blocks : goal.returns-then-place-blocks
-returns-then-place-blocks c =
-    sym (kept_nowhere c.args.key c.args.blocks.now c.requires.sound (subst (AllByRecursion (λ other. other.first_before + other.len_before ≤ c.args.key)) (take_all c.ended_by-place.result c.args.blocks.now (omega arith)) c.ended_by-place.ensures.ended))
+pub returns-then-place-len : goal.returns-then-place-len
+returns-then-place-len c =
+    sym (kept_nowhere c.args.key c.args.blocks.now c.requires.sound (subst (AllByRecursion (λ other. other.first_before + other.len_before ≤ c.args.key)) (take_all c.ended_by-place.result c.args.blocks.now (omega (arith, c.if-place-len.true, c.len.ensures))) c.ended_by-place.ensures.ended))
 
-pub returns-then-key-block : goal.returns-then-key-block
-returns-then-key-block c =
-    let lt : c.ended_by-place.result < length c.args.blocks.now = omega arith in
-    sym (kept_between c.args.key c.args.blocks.now c.ended_by-place.result c.index-blocks-place.result lt c.index-blocks-place.is c.requires.sound c.requires.apart c.if-key-block.true c.ended_by-place.ensures.ended)
+pub returns-then-key-before : goal.returns-then-key-before
+returns-then-key-before c =
+    let blocks = c.args.blocks.now in
+    let place = c.ended_by-place.result in
+    let lt : place < length blocks = omega (arith, c.if-place-len.false, c.len.ensures, c.ended_by-place.ensures.within) in
+    let found = one_at blocks place lt in
+    sym (kept_between c.args.key blocks place found.0 lt found.1 c.requires.sound c.requires.apart (omega (arith, c.if-key-before.true, c.before-before.ensures.first found.0 found.1)) c.ended_by-place.ensures.ended)
 
 pub returns : goal.returns
 returns c =
-    let lt : c.ended_by-place.result < length c.args.blocks.now = omega arith in
-    c.slot.ensures
-    ∙ sym (kept_found c.args.key c.args.blocks.now c.ended_by-place.result c.index-blocks-place.result lt c.index-blocks-place.is c.requires.sound c.requires.apart c.if-key-block.false c.ended_by-place.ensures.others)
+    let blocks = c.args.blocks.now in
+    let place = c.ended_by-place.result in
+    let lt : place < length blocks = omega (arith, c.if-place-len.false, c.len.ensures, c.ended_by-place.ensures.within) in
+    let found = one_at blocks place lt in
+    c.slot.ensures found.0 found.1
+    ∙ ap (λ first. slot_at found.0.slots.items (c.args.key - first)) (c.before-before.ensures.first found.0 found.1)
+    ∙ sym (kept_found c.args.key blocks place found.0 lt found.1 c.requires.sound c.requires.apart (omega (arith, c.if-key-before.false, c.before-before.ensures.first found.0 found.1)) c.ended_by-place.ensures.others)

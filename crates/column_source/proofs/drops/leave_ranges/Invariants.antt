@@ -3,4 +3,4 @@ use Rattle.column_source.specs.Drops.{LeavesAll}
 use Rattle.column_source.proofs.drops.leave_ranges.Given as goal
 
 abbrev pub invariant-loop-range : goal.invariant-loop-range
-invariant-loop-range l = LeavesAll (take l.range-index l.ranges) l.initial.blocks.items l.blocks.items
+invariant-loop-range l = LeavesAll (take l.range-index l.ranges) l.initial.blocks l.blocks

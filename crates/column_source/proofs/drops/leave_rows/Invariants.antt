@@ -6,11 +6,11 @@ use Rattle.column_source.proofs.drops.leave_rows.Given as goal
 
 abbrev pub invariant-loop-index : goal.invariant-loop-index
 invariant-loop-index l = record {
-  leaves : Leaves l.first l.last l.initial.blocks.items l.blocks.items;
-  sound : AllByRecursion IsBlock l.blocks.items;
-  within : l.index ≤ length l.blocks.items;
-  done : AreOutside l.first l.last (rows (take l.index l.blocks.items));
+  leaves : Leaves l.first l.last l.initial.blocks l.blocks;
+  sound : AllByRecursion IsBlock l.blocks;
+  within : l.index ≤ length l.blocks;
+  done : AreOutside l.first l.last (rows (take l.index l.blocks));
 }
 
 abbrev pub decreases-loop-index : goal.decreases-loop-index
-decreases-loop-index l = length l.blocks.items - l.index
+decreases-loop-index l = length l.blocks - l.index

@@ -1,6 +1,7 @@
-use Rattle.std.proofs.Common.{sym, ◌∙◌, subst, refl, arith, take, ◌<◌}
+use Rattle.std.proofs.Common.{sym, ◌∙◌, subst, refl, arith, take, length, ◌<◌}
 use Rattle.std.specs.List.{AllByRecursion}
 use Rattle.column_source.specs.Drops.{AreNoted}
+use Rattle.column_source.proofs.Parts.{one_at}
 use Rattle.column_source.proofs.Dropping.{noted_before, noted_later, noted_all, begin_later, every_more}
 use Rattle.column_source.proofs.drops.note_rows.Goals as goal
 
@@ -17,18 +18,26 @@ loop-index-init c =
 pub loop-index-preserved : goal.loop-index-preserved
 loop-index-preserved c =
     let is = c.loop-index.invariant in
-    let block = c.index-blocks-index.result in
+    let blocks = c.args.blocks.now in
+    let index = c.loop-index.index in
+    let lt : index < length blocks = omega (arith, c.loop-index-test.true, c.len.ensures) in
+    let found = one_at blocks index lt in
     record {
       before = c.note_block.ensures.before ∙ is.before;
       stays = λ key some. c.note_block.ensures.stays key (is.stays key some);
       column = c.note_block.ensures.column;
-      within = omega (arith, c.loop-index-test.true);
+      within = omega (arith, lt);
       noted =
-          every_more (AreNoted c.args.first c.args.last c.note_block.new.notes.entries) c.args.blocks.now c.loop-index.index block c.loop-index-test.true c.index-blocks-index.is (c.in_ok-note_block.ensures.noted block c.index-blocks-index.is)
-          (noted_later c.args.first c.args.last c.loop-index.notes.entries c.note_block.new.notes.entries (take c.loop-index.index c.args.blocks.now) c.note_block.ensures.stays is.noted);
+          every_more (AreNoted c.args.first c.args.last c.note_block.new.notes.entries) blocks index found.0 lt found.1 (c.in_ok-note_block.ensures.noted found.0 found.1)
+          (noted_later c.args.first c.args.last c.loop-index.notes.entries c.note_block.new.notes.entries (take index blocks) c.note_block.ensures.stays is.noted);
     }
 
-pub returns-else-blocks-index-clause-noted : goal.returns-else-blocks-index-clause-noted
-returns-else-blocks-index-clause-noted c =
-    noted_all c.args.first c.args.last c.loop-index.notes.entries c.args.blocks.now c.loop-index.index c.loop-index.invariant.noted
-    (begin_later c.args.last c.args.blocks.now c.loop-index.index c.index-blocks-index.result c.loop-index-test.true c.index-blocks-index.is c.requires.column.sound c.requires.column.ascend (subst (λ b. c.args.last < b.first) (sym c.index-blocks-index.is) c.if-blocks-index.false))
+pub returns-else-first-last-clause-noted : goal.returns-else-first-last-clause-noted
+returns-else-first-last-clause-noted c =
+    let blocks = c.args.blocks.now in
+    let index = c.loop-index.index in
+    let lt : index < length blocks = omega (arith, c.loop-index-test.true, c.len.ensures) in
+    let found = one_at blocks index lt in
+    let above : c.args.last < found.0.first = omega (arith, c.if-first-last.false, c.first.ensures found.0 found.1) in
+    noted_all c.args.first c.args.last c.loop-index.notes.entries blocks index c.loop-index.invariant.noted
+    (begin_later c.args.last blocks index found.0 lt found.1 c.requires.column.sound c.requires.column.ascend above)

@@ -12,13 +12,13 @@ loop-range-preserved c =
     let index = c.loop-range.range-index in
     let none : ShiftRange = record { begin = 0; end = 0; delta = pos 0 } in
     let range : ShiftRange = get_or ranges index none in
-    let old = c.loop-range.blocks.items in
-    let mid = c.cut.new.blocks.items in
-    let new = c.cut-in-loop-range.new.blocks.items in
+    let old = c.loop-range.blocks in
+    let mid = c.cut.new.blocks in
+    let new = c.cut-in-loop-range.new.blocks in
     let one = c.in_ok-cut.ensures.ok in
     let two = c.in_ok-cut-2.ensures.ok in
     record {
-      same = keeps_then c.args.blocks.now.items mid new (keeps_then c.args.blocks.now.items old mid c.loop-range.invariant.same one.same) two.same;
+      same = keeps_then c.args.blocks.now mid new (keeps_then c.args.blocks.now old mid c.loop-range.invariant.same one.same) two.same;
       beside =
           every_next (λ r. AllByRecursion (IsBesideRange r) new) ranges index none c.loop-range-test.true
           (every_both (IsBeside range.begin) (IsBeside (range.end + 1)) (IsBesideRange range) new (λ block a b. (a, b)) (two.others range.begin one.beside) two.beside)

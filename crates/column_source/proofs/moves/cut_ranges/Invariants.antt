@@ -5,6 +5,6 @@ use Rattle.column_source.proofs.moves.cut_ranges.Given as goal
 
 abbrev pub invariant-loop-range : goal.invariant-loop-range
 invariant-loop-range l = record {
-  same : KeepsRows l.initial.blocks.items l.blocks.items;
-  beside : AllByRecursion (λ range. AllByRecursion (IsBesideRange range) l.blocks.items) (take l.range-index l.ranges);
+  same : KeepsRows l.initial.blocks l.blocks;
+  beside : AllByRecursion (λ range. AllByRecursion (IsBesideRange range) l.blocks) (take l.range-index l.ranges);
 }

@@ -1,6 +1,5 @@
-use Rattle.std.proofs.Common.{◌≡◌, refl, sym, ap, ap₂, ◌∙◌, subst, ◌*◌, length, drop, ℤ, ℕ, List}
+use Rattle.std.proofs.Common.{◌≡◌, sym, ap, ap₂, ◌∙◌, subst, ◌*◌, length, drop, ℤ, ℕ, List}
 use Rattle.column_source.specs.Entries.{Entry, Cells, keys_of, left_entries, moved_entries}
-use Rattle.key_lists.specs.Keys.{without}
 use Rattle.shift_data.specs.Moves.{IsLawful}
 use Rattle.tick_model.specs.declared.update.ShiftRange.{ShiftRange}
 use Rattle.tick_model.specs.Changes.{rows_under, told_keys}

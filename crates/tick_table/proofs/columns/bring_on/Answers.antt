@@ -1,10 +1,9 @@
-use Rattle.std.proofs.Common.{◌≡◌, refl, sym, ap, ap₂, ◌∙◌, subst, arith, ◌+◌, ◌<◌, length, ℕ, ℤ, List, get_or, set, suc, add-one, zero-add}
+use Rattle.std.proofs.Common.{◌≡◌, refl, sym, ap, ap₂, ◌∙◌, subst, arith, ◌+◌, ◌<◌, length, ℕ, List, get_or, set, add-one, zero-add}
 use Rattle.std.proofs.lemmas.List.{get_or_default}
 use Rattle.column_source.specs.Entries.{Cells, keys_of}
 use Rattle.key_lists.specs.Keys.{without}
 use Rattle.key_lists.proofs.Every.{all_from}
 use Rattle.shift_data.specs.Moves.{IsLawful}
-use Rattle.tick_model.specs.declared.table.PlainRow.{PlainRow}
 use Rattle.tick_model.specs.Changes.{rows_under, told_keys}
 use Rattle.tick_table.specs.Columns.{stepped_column, stepped_first}
 use Rattle.tick_table.proofs.TableColumns.{stepped_first-all, stepped_first-rest, stepped_first-set}

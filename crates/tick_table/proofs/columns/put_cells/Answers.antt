@@ -1,4 +1,4 @@
-use Rattle.std.proofs.Common.{◌≡◌, refl, sym, ap, ap₂, ◌∙◌, subst, arith, ◌+◌, ◌*◌, ◌≤◌, ◌<◌, length, drop, ℤ, List, ◌∷◌, slice_index_or}
+use Rattle.std.proofs.Common.{◌≡◌, sym, ap, ap₂, ◌∙◌, subst, ◌+◌, ◌*◌, ◌≤◌, length, drop, ℤ, List, ◌∷◌, slice_index_or}
 use Rattle.column_source.specs.Entries.{Entry}
 use Rattle.row_set.specs.declared.ranges.Range.{Range}
 use Rattle.row_set.specs.Ranges.{keys_of, keys_in}

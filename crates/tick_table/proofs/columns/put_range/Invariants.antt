@@ -1,4 +1,4 @@
-use Rattle.std.proofs.Common.{◌≡◌, ◌+◌, ◌*◌, ◌-◌, ◌≤◌, length, drop}
+use Rattle.std.proofs.Common.{◌≡◌, ◌*◌, ◌-◌, ◌≤◌, length, drop}
 use Rattle.std.specs.List.{range_with_len}
 use Rattle.tick_model.specs.Changes.{rows_under}
 use Rattle.tick_table.specs.Columns.{put_rows}

@@ -13,7 +13,7 @@ returns-clause-now c =
     on_ok_weaker c.drop_ranges.result
     (λ left.
     left
-    ∙ left_by_keys c.ranges-2.result.now (rows c.self.inside.blocks.items)
-    ∙ ap (λ keys. left_entries keys (rows c.self.inside.blocks.items)) c.ranges-2.ensures.held
+    ∙ left_by_keys c.ranges-2.result.now (rows c.self.inside.blocks)
+    ∙ ap (λ keys. left_entries keys (rows c.self.inside.blocks)) c.ranges-2.ensures.held
     ∙ ap (λ cells. left_entries c.args.keys.now cells.now) c.self.view_is)
     c.drop_ranges.ensures.ok

@@ -7,7 +7,7 @@ use Rattle.column_source.proofs.cells.Column.get_prev.Goals as goal
 
 pub returns-clause-keys : goal.returns-clause-keys
 returns-clause-keys c =
-    let blocks = c.self.inside.blocks.items in
+    let blocks = c.self.inside.blocks in
     let notes = c.self.inside.notes.entries in
     rw (← c.self.view_is) (record {
       rises = rising_keys (restored notes (kept blocks)) (ascend_restored notes (kept blocks) (kept_ascend 0 blocks c.self.invariant.sound c.self.invariant.apart));

@@ -1,18 +1,16 @@
-use Rattle.std.proofs.Common.{◌≡◌, refl, sym, ap, ap₂, ◌∙◌, subst, arith, ◌*◌, ◌^◌, ◌++◌, length, take, drop, ℕ, ℤ, List, None}
+use Rattle.std.proofs.Common.{◌≡◌, sym, ap, ap₂, ◌∙◌, subst, arith, ◌*◌, ◌^◌, ◌++◌, length, take, drop, ℕ, ℤ, List, None}
 use Rattle.std.specs.List.{AllByRecursion}
 use Rattle.std.proofs.Math.Seq.{take-append_seam}
 use Rattle.column_source.specs.Entries.{Cells, keys_of}
 use Rattle.key_lists.specs.Keys.{without}
 use Rattle.shift_data.specs.Moves.{IsLawful}
-use Rattle.tick_model.specs.declared.table.PlainTable.{PlainTable}
 use Rattle.tick_model.specs.Changes.{Change, changed, rows_under, told_keys}
 use Rattle.tick_model.specs.Rules.{update_fault}
 use Rattle.tick_model.specs.Tables.{keys}
-use Rattle.tick_model.specs.Updates.{Update}
-use Rattle.tick_laws.specs.Checked.{keys_after}
 use Rattle.tick_table.specs.Columns.{rows_in, stepped_columns}
 use Rattle.tick_table.specs.Ticking.{Ticking}
 use Rattle.tick_table.proofs.Applied.{columns_lawful, kept_is, old_is, new_is}
+use Rattle.tick_table.proofs.ExactAgain.{applied_is}
 use Rattle.tick_table.proofs.TableColumns.{now_of, keys-rows_in}
 use Rattle.tick_table.proofs.table.TickTable.apply.Goals as goal
 
@@ -124,3 +122,7 @@ returns-clause-new c =
 pub returns-clause-update : goal.returns-clause-update
 returns-clause-update c =
     ap (λ (change : Change). change.update) c.change.view_is
+
+pub returns-clause-exact : goal.returns-clause-exact
+returns-clause-exact c tick h old change =
+    applied_is tick _ h (returns-clause-old c ∙ old) (returns-clause-new c ∙ ap₂ changed old change) (returns-clause-update c ∙ ap (λ (change : Change). change.update) change)

@@ -1,7 +1,6 @@
 use Rattle.std.proofs.Common.{◌≡◌, sym, ap, ◌∙◌, subst, ◌<◌, length, true, w64, SFits, to_z-of_z, rules}
 use Rattle.key_lists.specs.Keys.{is_among}
 use Rattle.tick_model.specs.Tables.{cell as cell_of, cells_at, keys}
-use Rattle.column_source.specs.Entries.{Cells}
 use Rattle.tick_table.specs.Ticking.{Ticking}
 use Rattle.tick_table.proofs.TableColumns.{before_of, keys-rows_in, column_there, column_cell}
 use Rattle.tick_table.proofs.table.TickTable.prev_cell.Goals as goal

@@ -1,4 +1,4 @@
-use Rattle.std.proofs.Common.{◌≡◌, sym, ap, ◌∙◌, subst, map, refl}
+use Rattle.std.proofs.Common.{sym, ap, ◌∙◌, subst, map}
 use Rattle.tick_model.specs.Tables.{IsTable, keys}
 use Rattle.column_source.specs.Entries.{Cells}
 use Rattle.tick_table.specs.Ticking.{Ticking}

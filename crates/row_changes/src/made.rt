@@ -1,0 +1,65 @@
+//! The change that is made of the rows that a step touches.
+
+ghost use Rattle.std.specs.Prelude.{◌≡◌, ℕ, ◌+◌, ◌*◌, ◌≤◌, List, length, IfOk};
+ghost use Rattle.tick_model.specs.declared.table.PlainTable.{PlainTable};
+ghost use Rattle.tick_model.specs.declared.update.KeyPair.{KeyPair};
+ghost use Rattle.tick_model.specs.Changes.{change_of};
+ghost use Rattle.row_changes.specs.Parts.{AreParts, AreThere, tick_along};
+
+use crate::rows::Rows;
+use crate::told::{cells_now, compare_rows};
+use crate::touched::Touched;
+use std::alloc::{AllocError, Global};
+use std::sync::ledger::Ledger;
+use table_update::Update;
+use tick_model::items::Items;
+use tick_table::{Change, Steps};
+
+/// The change from the table before the step to the table now, made of the rows that the step touches: where they are the
+/// parts of the change along some pairs of rows that stay, it is the change along these pairs. It reads the added rows, and
+/// the rows that may differ twice, before and now.
+pub fn change_of_touched<L: Ledger, R: Rows<L>>(
+    alloc: Global,
+    rows: &R,
+    width: u32,
+    touched: Touched,
+    reads: &mut Steps<L>,
+) -> Result<Change, AllocError>
+    requires ready { R.ready rows.now }
+    requires width { width ≡ (R.table_now rows.now).width }
+    requires few { width ≤ 32 }
+    requires even { length touched.compared_before ≡ length touched.compared_now }
+    requires added { AreThere (R.table_now rows.now) touched.added }
+    requires before { AreThere (R.table_before rows.now) touched.compared_before }
+    requires now { AreThere (R.table_now rows.now) touched.compared_now }
+    ensures change { IfOk result (λ change. (kept : List KeyPair) → AreParts (R.table_before rows.now) (R.table_now rows.now) touched kept → change ≡ change_of (tick_along (R.table_before rows.now) (R.table_now rows.now) kept)) }
+    ensures reads { IfOk result (λ change. reads.new ≤ reads.old + R.row_reads rows.now * (2 * length touched.compared_now + length touched.added)) }
+{
+    let Touched {
+        removed,
+        added,
+        shifted,
+        compared_before,
+        compared_now,
+    } = touched;
+    let cells = cells_now(alloc, rows, &added, reads)?;
+    let told = compare_rows(
+        alloc,
+        rows,
+        width,
+        &compared_before,
+        &compared_now,
+        cells,
+        reads,
+    )?;
+    Ok(Change {
+        update: Update {
+            removed,
+            added,
+            modified: told.modified,
+            shifted,
+            columns: told.columns,
+        },
+        cells: Items::of(told.cells),
+    })
+}

@@ -1,0 +1,105 @@
+-- Some rows of a block: the places of all others, when these alone change theirs.
+use Rattle.std.proofs.Common.{◌≡◌, ◌≢◌, refl, ap, sym, ◌∙◌, subst, Bool, true, false, ◌||◌, ℕ, suc, ◌<◌, List, [], ◌∷◌, ◌++◌, map, length, take, drop, get_or, Some, ◌==◌, append_assoc}
+use Rattle.std.specs.List.{AllByRecursion}
+use Rattle.std.proofs.lemmas.Bool.{ne_eqb, eq-eqb}
+use Rattle.std.proofs.lemmas.List.{map-append}
+use Rattle.key_lists.proofs.Every.{every_weaker, every_both, every_unmapped}
+use Rattle.slab.specs.Slab.{Slab, get}
+use Rattle.row_handles.specs.declared.block.Block.{Block}
+use Rattle.row_handles.specs.declared.block.Row.{Row}
+use Rattle.row_handles.specs.declared.index.Place.{Place}
+use Rattle.row_handles.specs.declared.index.Index.{Index}
+use Rattle.row_handles.specs.Entries.{Entry, Ascend}
+use Rattle.row_handles.specs.Blocks.{IsIndex, IsPlaced, entry_at, place_in, rows_of, rows}
+use Rattle.row_handles.specs.Moves.{has_handle}
+use Rattle.row_handles.proofs.Lists.{every_front, every_back, turned}
+use Rattle.row_handles.proofs.EntryLists.{ascend_back}
+use Rattle.row_handles.proofs.Places.{IsAt, located, apart_lists}
+use Rattle.row_handles.proofs.Inserting.{rows_around}
+
+no_handle : (handle ceiling : ℕ) (xs : List Row) → AllByRecursion (λ x. x.handle ≢ handle) (map (entry_at ceiling) xs) → has_handle handle xs ≡ false
+no_handle handle ceiling [] h = refl
+no_handle handle ceiling (x ∷ xs) h = ap (λ b. b || has_handle handle xs) (ne_eqb x.handle handle h.0) ∙ no_handle handle ceiling xs h.1
+
+or_more : (a b : Bool) → b ≡ true → (a || b) ≡ true
+or_more true b e = refl
+or_more false b e = e
+
+pub own_handles : (xs : List Row) → AllByRecursion (λ row. has_handle row.handle xs ≡ true) xs
+own_handles [] = tt
+own_handles (x ∷ xs) =
+    (ap (λ b. b || has_handle x.handle xs) (eq-eqb x.handle x.handle refl), every_weaker (λ row. has_handle row.handle xs ≡ true) (λ row. has_handle row.handle (x ∷ xs) ≡ true) xs (λ row e. or_more (x.handle == row.handle) (has_handle row.handle xs) e) (own_handles xs))
+
+-- the rows in five parts: those of the blocks before, three parts of the block, and those of the blocks behind
+pub five_parts : (front xs ys zs back : List Entry) → front ++ ((xs ++ (ys ++ zs)) ++ back) ≡ (front ++ xs) ++ (ys ++ (zs ++ back))
+five_parts front xs ys zs back =
+    ap (λ s. front ++ s) (append_assoc xs (ys ++ zs) back ∙ ap (λ s. xs ++ s) (append_assoc ys zs back)) ∙ sym (append_assoc front xs (ys ++ (zs ++ back)))
+
+module _ (index : Index) (sound : IsIndex index) (at : ℕ) (block : Block) (within : at < length index.blocks.items) (is : block ≡ get_or index.blocks.items at block) (xs ys zs : List Row) (whole : block.rows.items ≡ xs ++ (ys ++ zs)) where
+  abbrev lower : List Entry
+  lower = map (entry_at block.ceiling) xs
+
+  abbrev middle : List Entry
+  middle = map (entry_at block.ceiling) ys
+
+  abbrev upper : List Entry
+  upper = map (entry_at block.ceiling) zs
+
+  abbrev front : List Entry
+  front = rows (take at index.blocks.items)
+
+  abbrev back : List Entry
+  back = rows (drop (suc at) index.blocks.items)
+
+  pub block_parts : rows_of block ≡ lower ++ (middle ++ upper)
+  block_parts = ap (map (entry_at block.ceiling)) whole ∙ map-append (entry_at block.ceiling) xs (ys ++ zs) ∙ ap (λ s. lower ++ s) (map-append (entry_at block.ceiling) ys zs)
+
+  pub all_parts : rows index.blocks.items ≡ (front ++ lower) ++ (middle ++ (upper ++ back))
+  all_parts = rows_around index.blocks.items at block within is ∙ ap (λ s. front ++ (s ++ back)) block_parts ∙ five_parts front lower middle upper back
+
+  parts_ascend : Ascend ((front ++ lower) ++ (middle ++ (upper ++ back)))
+  parts_ascend = subst Ascend all_parts sound.ascend
+
+  parts_located : AllByRecursion (λ x. IsAt index.ceilings index.places x.handle x.key) ((front ++ lower) ++ (middle ++ (upper ++ back)))
+  parts_located = subst (AllByRecursion (λ x. IsAt index.ceilings index.places x.handle x.key)) all_parts (located index.ceilings index.places index.blocks.items sound.placed)
+
+  abbrev Apart : Entry → Type 0
+  Apart x = has_handle x.handle ys ≡ false
+
+  apart_before : AllByRecursion Apart (front ++ lower)
+  apart_before =
+      every_weaker (λ x. AllByRecursion (λ y. x.handle ≢ y.handle) (middle ++ (upper ++ back))) Apart (front ++ lower)
+      (λ x h. no_handle x.handle block.ceiling ys (every_weaker (λ y. x.handle ≢ y.handle) (λ y. y.handle ≢ x.handle) middle (λ y ne e. ne (sym e)) (every_front (λ y. x.handle ≢ y.handle) middle (upper ++ back) h)))
+      (apart_lists index.ceilings index.places (front ++ lower) (middle ++ (upper ++ back)) parts_ascend parts_located)
+
+  apart_behind : AllByRecursion Apart (upper ++ back)
+  apart_behind =
+      every_weaker (λ x. AllByRecursion (λ y. y.handle ≢ x.handle) middle) Apart (upper ++ back) (λ x h. no_handle x.handle block.ceiling ys h)
+      (turned (λ y x. y.handle ≢ x.handle) middle (upper ++ back)
+      (apart_lists index.ceilings index.places middle (upper ++ back) (ascend_back (front ++ lower) (middle ++ (upper ++ back)) parts_ascend) (every_back (λ x. IsAt index.ceilings index.places x.handle x.key) (front ++ lower) (middle ++ (upper ++ back)) parts_located)))
+
+  pub apart_front : AllByRecursion Apart front
+  apart_front = every_front Apart front lower apart_before
+
+  pub apart_lower : AllByRecursion (λ row. has_handle row.handle ys ≡ false) xs
+  apart_lower = every_unmapped Apart (entry_at block.ceiling) xs (every_back Apart front lower apart_before)
+
+  pub apart_upper : AllByRecursion (λ row. has_handle row.handle ys ≡ false) zs
+  apart_upper = every_unmapped Apart (entry_at block.ceiling) zs (every_front Apart upper back apart_behind)
+
+  pub apart_back : AllByRecursion Apart back
+  apart_back = every_back Apart upper back apart_behind
+
+-- rows that keep their places
+pub rows_stay : (places others : Slab Place) (ys : List Row) (number : ℕ) (xs : List Row) → ((handle : ℕ) → has_handle handle ys ≡ false → get others handle ≡ get places handle) → AllByRecursion (λ row. has_handle row.handle ys ≡ false) xs → AllByRecursion (λ row. get places row.handle ≡ Some (place_in number row.depth)) xs → AllByRecursion (λ row. get others row.handle ≡ Some (place_in number row.depth)) xs
+rows_stay places others ys number xs stay = every_both (λ row. has_handle row.handle ys ≡ false) (λ row. get places row.handle ≡ Some (place_in number row.depth)) (λ row. get others row.handle ≡ Some (place_in number row.depth)) xs (λ row apart there. stay row.handle apart ∙ there)
+
+pub blocks_stay : (ceilings heights : Slab ℕ) (places others : Slab Place) (ys : List Row) (blocks : List Block) → ((handle : ℕ) → has_handle handle ys ≡ false → get others handle ≡ get places handle) → AllByRecursion (λ block. get heights block.number ≡ Some block.ceiling) blocks → AllByRecursion (λ x. has_handle x.handle ys ≡ false) (rows blocks) → AllByRecursion (IsPlaced ceilings places) blocks → AllByRecursion (IsPlaced heights others) blocks
+blocks_stay ceilings heights places others ys [] stay held apart h = tt
+blocks_stay ceilings heights places others ys (block ∷ blocks) stay held apart h = (
+  record {
+    ceiling = held.0;
+    rows = rows_stay places others ys block.number block.rows.items stay (every_unmapped (λ x. has_handle x.handle ys ≡ false) (entry_at block.ceiling) block.rows.items (every_front (λ x. has_handle x.handle ys ≡ false) (rows_of block) (rows blocks) apart)) h.0.rows;
+  },
+  blocks_stay ceilings heights places others ys blocks stay held.1 (every_back (λ x. has_handle x.handle ys ≡ false) (rows_of block) (rows blocks) apart) h.1,
+)

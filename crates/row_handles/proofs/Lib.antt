@@ -1,0 +1,13 @@
+pub mod Lists
+pub mod EntryLists
+pub mod Listings
+pub mod Places
+pub mod Inserting
+pub mod Renaming
+pub mod Apart
+pub mod Cutting
+pub mod Moving
+pub mod Leaving
+pub mod Handled
+pub mod Joining
+pub mod Laws

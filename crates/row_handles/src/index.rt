@@ -1,0 +1,166 @@
+//! The rows in both orders: by key, in blocks, and by handle.
+ghost use Rattle.std.specs.Prelude.{◌≡◌, ◌+◌, ◌^◌, ◌<◌, ◌≤◌, [], length, take, drop, IsSome, Some, None, IfOk, OnErr};
+ghost use Rattle.std.specs.List.{AllByRecursion};
+ghost use Rattle.row_handles.specs.Entries.{Ascend, handle_under, key_with, with_row};
+ghost use Rattle.row_handles.specs.Blocks.{AtBlock, IsBlock, IsIndex, rows};
+ghost use Rattle.row_handles.specs.Moves.{IsBeside};
+
+use crate::block::{Block, Row};
+use slab::Slab;
+use std::alloc::{AllocError, Global};
+
+/// The depth of the first row of a block: there is room for others on both sides of it.
+const MIDDLE: u32 = 1 << 31;
+
+/// Where the row with a handle stands: the number of its block and its depth there.
+#[derive(Clone, Copy)]
+pub(crate) struct Place {
+    pub(crate) block: usize,
+    pub(crate) depth: u32,
+}
+
+/// The rows of a table.
+#[derive(Drop)]
+pub(crate) struct Index {
+    /// The blocks, by rising keys.
+    pub(crate) blocks: Vec<Block>,
+    /// The ceilings of the blocks, by their numbers.
+    pub(crate) ceilings: Slab<u64>,
+    /// The places of the rows, by their handles.
+    pub(crate) places: Slab<Place>,
+}
+
+/// How many of the blocks begin at the key or before it.
+pub(crate) fn begun_by(blocks: &[Block], key: u64) -> usize
+    requires sound { AllByRecursion IsBlock blocks.now }
+    requires ascend { Ascend (rows blocks.now) }
+    ensures within { result ≤ length blocks.now }
+    ensures begun { AllByRecursion (λ block. block.first ≤ key) (take result blocks.now) }
+    ensures others { AllByRecursion (λ block. key < block.first) (drop result blocks.now) }
+{
+    blocks.partition_point(|block| block.first <= key)
+}
+
+impl Index {
+    /// An index of no rows.
+    pub(crate) fn new(alloc: Global) -> Index
+        ensures blocks { result.blocks.items ≡ [] }
+    {
+        Index {
+            blocks: Vec::new(alloc),
+            ceilings: Slab::new(alloc),
+            places: Slab::new(alloc),
+        }
+    }
+
+    /// The handle of the row under a key.
+    pub(crate) fn handle_at(&self, key: u64) -> Option<usize>
+        requires { IsIndex self.now }
+        ensures { result ≡ handle_under key (rows self.now.blocks.items) }
+    {
+        let next = begun_by(&self.blocks, key);
+        if next == 0 {
+            return None;
+        }
+        let block = &self.blocks[next - 1];
+        block.handle_at(key)
+    }
+
+    /// The key of the row with a handle.
+    pub(crate) fn key_at(&self, handle: usize) -> u64
+        requires sound { IsIndex self.now }
+        requires there { IsSome (key_with handle (rows self.now.blocks.items)) }
+        ensures { key_with handle (rows self.now.blocks.items) ≡ Some result }
+    {
+        let place = self.places[handle];
+        self.ceilings[place.block].saturating_sub(place.depth as u64)
+    }
+
+    /// Puts a row into a block at an index.
+    fn insert_row(&mut self, index: usize, key: u64, depth: u32) -> Result<usize, AllocError>
+        requires sound { IsIndex self.old }
+        requires within { index < length self.old.blocks.items }
+        requires depth { AtBlock self.old.blocks.items index (λ block. depth + key ≡ block.ceiling) }
+        requires below { AllByRecursion (λ entry. entry.key < key) (rows (take index self.old.blocks.items)) }
+        requires above { AllByRecursion (λ block. key < block.first) (drop (index + 1) self.old.blocks.items) }
+        requires small { key < 2 ^ 62 }
+        requires absent { handle_under key (rows self.old.blocks.items) ≡ None }
+        ensures ok { IfOk result (λ handle. rows self.new.blocks.items ≡ with_row key handle (rows self.old.blocks.items)) }
+        ensures fresh { IfOk result (λ handle. key_with handle (rows self.old.blocks.items) ≡ None) }
+        ensures err { OnErr result (rows self.new.blocks.items ≡ rows self.old.blocks.items) }
+        ensures sound { IsIndex self.new }
+    {
+        self.places.reserve(1)?;
+        let handle = self.places.vacant_key();
+        let block = &mut self.blocks[index];
+        let place = block.rows_below(key);
+        block.rows.insert(place, Row { depth, handle })?;
+        block.first = block.first.min(key);
+        let number = block.number;
+        Ok(
+            self.places.insert_reserved(Place {
+                block: number,
+                depth,
+            }),
+        )
+    }
+
+    /// Puts a row into a block of its own.
+    fn insert_block(&mut self, key: u64) -> Result<usize, AllocError>
+        requires sound { IsIndex self.old }
+        requires beside { AllByRecursion (IsBeside key) self.old.blocks.items }
+        requires small { key < 2 ^ 62 }
+        requires absent { handle_under key (rows self.old.blocks.items) ≡ None }
+        ensures ok { IfOk result (λ handle. rows self.new.blocks.items ≡ with_row key handle (rows self.old.blocks.items)) }
+        ensures fresh { IfOk result (λ handle. key_with handle (rows self.old.blocks.items) ≡ None) }
+        ensures err { OnErr result (rows self.new.blocks.items ≡ rows self.old.blocks.items) }
+        ensures sound { IsIndex self.new }
+    {
+        let next = begun_by(&self.blocks, key);
+        self.ceilings.reserve(1)?;
+        self.places.reserve(1)?;
+        let number = self.ceilings.vacant_key();
+        let handle = self.places.vacant_key();
+        let ceiling = key + MIDDLE as u64;
+        let mut rows = Vec::new(*self.blocks.allocator());
+        rows.push(Row {
+            depth: MIDDLE,
+            handle,
+        })?;
+        let block = Block {
+            number,
+            first: key,
+            ceiling,
+            rows,
+        };
+        self.blocks.insert(next, block)?;
+        let _ = self.ceilings.insert_reserved(ceiling);
+        Ok(
+            self.places.insert_reserved(Place {
+                block: number,
+                depth: MIDDLE,
+            }),
+        )
+    }
+
+    /// Puts a row under a key that has none, and gives it a handle.
+    pub(crate) fn add(&mut self, key: u64) -> Result<usize, AllocError>
+        requires sound { IsIndex self.old }
+        requires small { key < 2 ^ 62 }
+        requires absent { handle_under key (rows self.old.blocks.items) ≡ None }
+        ensures ok { IfOk result (λ handle. rows self.new.blocks.items ≡ with_row key handle (rows self.old.blocks.items)) }
+        ensures fresh { IfOk result (λ handle. key_with handle (rows self.old.blocks.items) ≡ None) }
+        ensures err { OnErr result (rows self.new.blocks.items ≡ rows self.old.blocks.items) }
+        ensures sound { IsIndex self.new }
+    {
+        let index = begun_by(&self.blocks, key).saturating_sub(1);
+        if index < self.blocks.len() {
+            let block = &self.blocks[index];
+            if let Some(depth) = block.depth_for(key) {
+                return self.insert_row(index, key, depth);
+            }
+        }
+        self.cut(key)?;
+        self.insert_block(key)
+    }
+}

@@ -1,0 +1,13 @@
+//! Handles of rows: numbers that rows keep while their keys move.
+#![tactic(auto)]
+
+mod block;
+mod drops;
+mod handles;
+mod index;
+mod joins;
+mod moves;
+#[cfg(test)]
+mod tests;
+
+pub use handles::{Handle, Handles};
