@@ -24,7 +24,8 @@ use Rattle.update_text.specs.OneToOne.{UpdateTextIsOneToOne}
 use Rattle.update_text.proofs.Apart.{names_apart}
 use Rattle.update_text.proofs.Backwards.{AreApart, first_same, rest_same, unmapped, place_same, some_is_none, filter_passed, filter_missed}
 use Rattle.update_text.proofs.Quoting.{records_same}
-use Rattle.update_text.proofs.RowsBack.{IsToldRow, row_same}
+use Rattle.update_text.specs.Reading.{IsToldRow}
+use Rattle.update_text.proofs.RowsBack.{row_same}
 use Rattle.update_text.proofs.RowsUnder.{every_front, every_back, keys_under, rows_under-append, cells_under, told_under}
 use Rattle.update_text.proofs.RunsBack.{runs_same, runs_below}
 
@@ -39,10 +40,10 @@ first_field (field ∷ fields) = field
 abbrev has_tag : List ℕ → Record → Bool
 has_tag tag fields = same_name (first_field fields) tag
 
-abbrev rows_added : List ColumnSpec → Change → List PlainRow
+abbrev pub rows_added : List ColumnSpec → Change → List PlainRow
 rows_added columns change = rows_under (length columns) change.update.added change.cells
 
-abbrev rows_modified : List ColumnSpec → Change → List PlainRow
+abbrev pub rows_modified : List ColumnSpec → Change → List PlainRow
 rows_modified columns change = rows_under (length columns) change.update.modified (drop (length columns * length change.update.added) change.cells)
 
 -- the records of each kind
@@ -131,7 +132,7 @@ run_same x y p q e =
     let last = decimal_injective x.1 y.1 (omega (arith, p.1)) (omega (arith, q.1)) (first_same (decimal x.1) (decimal y.1) [] [] (rest_same (decimal x.0) (decimal y.0) (decimal x.1 ∷ []) (decimal y.1 ∷ []) numbers)) in
     ap (λ a. let run : ℕ × ℕ = (a, x.1) in run) first ∙ ap (λ b. let run : ℕ × ℕ = (y.0, b) in run) last
 
-delta_bounded : (z : ℤ) → z <ℤ pos (2 ^ 62) → negsuc (2 ^ 62 - 1) <ℤ z → mag z < 2 ^ 63
+pub delta_bounded : (z : ℤ) → z <ℤ pos (2 ^ 62) → negsuc (2 ^ 62 - 1) <ℤ z → mag z < 2 ^ 63
 delta_bounded (pos n) up down = omega (arith, ints)
 delta_bounded (negsuc n) up down = omega (arith, ints)
 
@@ -162,12 +163,12 @@ columns_same columns (c ∷ cs) (d ∷ ds) h p q e =
     (rest_same (codes "c") (codes "c") (map (column_name columns) (c ∷ cs)) (map (column_name columns) (d ∷ ds)) fields)
 
 -- the rows that a printable change tells
-rows_told_all : (columns : List ColumnSpec) (texts : List (List ℕ)) (change : Change) → IsPrintable columns texts change → AllByRecursion (IsToldRow columns texts) (rows_added columns change ++ rows_modified columns change)
+pub rows_told_all : (columns : List ColumnSpec) (texts : List (List ℕ)) (change : Change) → IsPrintable columns texts change → AllByRecursion (IsToldRow columns texts) (rows_added columns change ++ rows_modified columns change)
 rows_told_all columns texts change p =
     subst (AllByRecursion (IsToldRow columns texts)) (rows_under-append (length columns) change.update.added change.update.modified change.cells)
     (told_under columns texts (length columns) (told_keys change.update) change.cells (every_back (λ key. key < 2 ^ 62) change.update.removed (told_keys change.update) p.keys) p.numbers p.cells)
 
-cells_told : (columns : List ColumnSpec) (texts : List (List ℕ)) (change : Change) → IsPrintable columns texts change → change.cells ≡ flat_map (λ row. row.cells) (rows_added columns change ++ rows_modified columns change)
+pub cells_told : (columns : List ColumnSpec) (texts : List (List ℕ)) (change : Change) → IsPrintable columns texts change → change.cells ≡ flat_map (λ row. row.cells) (rows_added columns change ++ rows_modified columns change)
 cells_told columns texts change p =
     sym (cells_under (length columns) (told_keys change.update) change.cells p.whole)
     ∙ ap (flat_map (λ row. row.cells)) (rows_under-append (length columns) change.update.added change.update.modified change.cells)

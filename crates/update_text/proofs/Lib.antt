@@ -2,9 +2,16 @@ pub mod AddedRows
 pub mod Apart
 pub mod Backwards
 pub mod CellRows
+pub mod ChangeRecords
 pub mod ChangesBack
 pub mod Digits
+pub mod Here
 pub mod Quoting
+pub mod ReadBack
+pub mod ReadChanges
+pub mod ReadColumns
+pub mod ReadFields
+pub mod ReadRows
 pub mod RowsBack
 pub mod RowsUnder
 pub mod RunsBack

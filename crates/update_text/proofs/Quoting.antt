@@ -40,14 +40,14 @@ plain_is_not_quoted [] c u w p m e = end_is_no_quote c m (first_same c 34 u w e)
 plain_is_not_quoted (x ∷ f) c u w p m e = plain_is_no_end x 34 f p refl (first_same x 34 (f ++ c ∷ u) w e)
 
 -- a byte between quotes is a double quote, which stands twice, or it stands once
-doubled_cases : (byte : ℕ) → ((byte ≡ 34) × (doubled byte ≡ 34 ∷ 34 ∷ [])) ⊎ ((byte ≡ 34 → ⊥) × (doubled byte ≡ byte ∷ []))
+pub doubled_cases : (byte : ℕ) → ((byte ≡ 34) × (doubled byte ≡ 34 ∷ 34 ∷ [])) ⊎ ((byte ≡ 34 → ⊥) × (doubled byte ≡ byte ∷ []))
 doubled_cases byte =
     elim (cases_eq byte 34) [
       | inl same ↦ inl (same, ap (λ b. cond b (34 ∷ 34 ∷ []) (byte ∷ [])) (eq-eqb byte 34 same))
       | inr other ↦ inr (other, ap (λ b. cond b (34 ∷ 34 ∷ []) (byte ∷ [])) (ne_eqb byte 34 other))
     ]
 
-abbrev inner : List ℕ → List ℕ
+abbrev pub inner : List ℕ → List ℕ
 inner = flat_map doubled
 
 -- the quote that ends a field is followed by no quote
@@ -96,10 +96,10 @@ inner_same (x ∷ f) (y ∷ g) c d u v m n e =
     let others = inner_same f g c d u v m n one.1 in
     (cons_same x y f g one.0 others.0, others.1)
 
-abbrev quoted : List ℕ → List ℕ
+abbrev pub quoted : List ℕ → List ℕ
 quoted field = 34 ∷ inner field ++ 34 ∷ []
 
-quoted_before : (field u : List ℕ) → quoted field ++ u ≡ 34 ∷ (inner field ++ 34 ∷ u)
+pub quoted_before : (field u : List ℕ) → quoted field ++ u ≡ 34 ∷ (inner field ++ 34 ∷ u)
 quoted_before field u = append_assoc (34 ∷ inner field) (34 ∷ []) u
 
 -- any two fields
@@ -143,7 +143,7 @@ others_same (f ∷ fs) (g ∷ gs) u v e =
     let others = others_same fs gs u v one.1 in
     (cons_same f g fs gs one.0 others.0, others.1)
 
-record_before : (f : List ℕ) (fs : List (List ℕ)) (u : List ℕ) → record_text (f ∷ fs) ++ u ≡ field_text f ++ (flat_map comma_before fs ++ 10 ∷ u)
+pub record_before : (f : List ℕ) (fs : List (List ℕ)) (u : List ℕ) → record_text (f ∷ fs) ++ u ≡ field_text f ++ (flat_map comma_before fs ++ 10 ∷ u)
 record_before f fs u =
     append_assoc (fields_text (f ∷ fs)) (10 ∷ []) u
     ∙ append_assoc (field_text f) (flat_map comma_before fs) (10 ∷ u)

@@ -17,6 +17,7 @@ use Rattle.tick_model.specs.Printable.{fits_kind, fit_columns, names_text}
 use Rattle.tick_model.specs.Shifts.{as_key}
 use Rattle.tick_model.specs.Tables.{is_null, null}
 use Rattle.tick_model.specs.Texts.{cell_text, cell_texts, known_cell_text, row_record}
+use Rattle.update_text.specs.Reading.{IsToldRow}
 use Rattle.update_text.proofs.Apart.{texts_apart}
 use Rattle.update_text.proofs.Backwards.{AreApart, first_same, rest_same, cons_same, some_is_none, place_same}
 
@@ -46,11 +47,11 @@ rank_is_some texts (pos n) h p e = text_is_some texts n h (ltb-true n (length te
 rank_is_some texts (negsuc n) h p e = true≢false (sym p)
 
 -- a rank that is not null
-known_rank : (texts : ℕ) (x : ℤ) → is_null x ≡ false → fits_kind texts Text x ≡ true → names_text texts x ≡ true
+pub known_rank : (texts : ℕ) (x : ℤ) → is_null x ≡ false → fits_kind texts Text x ≡ true → names_text texts x ≡ true
 known_rank texts x known fit = sym (ap (λ b. b || names_text texts x) known) ∙ fit
 
 -- a cell that is not null is told by some bytes
-known_is_some : (texts : List (List ℕ)) (kind : Kind) (x : ℤ) → AreTexts texts → FitsSigned w64 x → fits_kind (length texts) kind x ≡ true → is_null x ≡ false → known_cell_text texts kind x ≡ [] → ⊥
+pub known_is_some : (texts : List (List ℕ)) (kind : Kind) (x : ℤ) → AreTexts texts → FitsSigned w64 x → fits_kind (length texts) kind x ≡ true → is_null x ≡ false → known_cell_text texts kind x ≡ [] → ⊥
 known_is_some texts Long x h fits kind known e = signed_is_some x fits e
 known_is_some texts Text x h fits kind known e = rank_is_some texts x h (known_rank (length texts) x known kind) e
 
@@ -90,12 +91,7 @@ cells_same texts (column ∷ columns) (x ∷ xs) (y ∷ ys) h fx fy kx ky e =
     (cell_same texts column.kind x y h fx.0 fy.0 px.0 py.0 (first_same (cell_text texts column.kind x) (cell_text texts column.kind y) (cell_texts texts columns xs) (cell_texts texts columns ys) e))
     (cells_same texts columns xs ys h fx.1 fy.1 px.1 py.1 (rest_same (cell_text texts column.kind x) (cell_text texts column.kind y) (cell_texts texts columns xs) (cell_texts texts columns ys) e))
 
--- a row that a record tells
-pub record IsToldRow (columns : List ColumnSpec) (texts : List (List ℕ)) (row : PlainRow) : Type 0 where
-  pub key : row.key < 2 ^ 62
-  pub numbers : AllByRecursion (FitsSigned w64) row.cells
-  pub fit : fit_columns (length texts) columns row.cells ≡ true
-
+-- a row's record is of no other row
 pub row_same : (tag : List ℕ) (texts : List (List ℕ)) (columns : List ColumnSpec) → AreTexts texts → (r s : PlainRow) → IsToldRow columns texts r → IsToldRow columns texts s →
     row_record tag texts columns r ≡ row_record tag texts columns s → r ≡ s
 row_same tag texts columns h r s p q e =

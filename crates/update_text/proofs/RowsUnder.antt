@@ -9,7 +9,7 @@ use Rattle.tick_model.specs.declared.table.PlainRow.{PlainRow}
 use Rattle.tick_model.specs.Changes.{rows_under}
 use Rattle.tick_model.specs.Printable.{fit_columns}
 use Rattle.tick_model.specs.Tables.{keys}
-use Rattle.update_text.proofs.RowsBack.{IsToldRow}
+use Rattle.update_text.specs.Reading.{IsToldRow}
 
 pub every-take : {X : Type 0} (P : X → Type 0) (n : ℕ) (xs : List X) → AllByRecursion P xs → AllByRecursion P (take n xs)
 every-take P zero xs h = tt

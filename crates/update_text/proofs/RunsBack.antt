@@ -5,10 +5,10 @@ use Rattle.std.specs.List.{range_with_len, AllByRecursion}
 use Rattle.std.proofs.lemmas.Bool.{eqb-true}
 use Rattle.key_lists.specs.Keys.{run_with, runs}
 
-abbrev IsOrdered : (ℕ × ℕ) → Type 0
+abbrev pub IsOrdered : (ℕ × ℕ) → Type 0
 IsOrdered run = run.0 ≤ run.1
 
-abbrev keys_of : (ℕ × ℕ) → List ℕ
+abbrev pub keys_of : (ℕ × ℕ) → List ℕ
 keys_of run = range_with_len run.0 (run.1 + 1 - run.0)
 
 -- a fact of a key and the pairs that a run is put together of
@@ -20,7 +20,7 @@ run_with_all P key (next ∷ others) one longer h =
       | false ↦ λ e. (one, h)
     ]) refl
 
-runs_ordered : (ks : List ℕ) → AllByRecursion IsOrdered (runs ks)
+pub runs_ordered : (ks : List ℕ) → AllByRecursion IsOrdered (runs ks)
 runs_ordered [] = tt
 runs_ordered (key ∷ ks) = run_with_all IsOrdered key (runs ks) (omega arith) (λ next e h. omega (arith, e, h)) (runs_ordered ks)
 
@@ -45,7 +45,7 @@ keys_of-run_with key (next ∷ others) h =
       | false ↦ λ e. ap (λ ks. ks ++ flat_map keys_of (next ∷ others)) (range_one key)
     ]) refl
 
-keys_of-runs : (ks : List ℕ) → flat_map keys_of (runs ks) ≡ ks
+pub keys_of-runs : (ks : List ℕ) → flat_map keys_of (runs ks) ≡ ks
 keys_of-runs [] = refl
 keys_of-runs (key ∷ ks) = keys_of-run_with key (runs ks) (runs_ordered ks) ∙ ap (λ others. key ∷ others) (keys_of-runs ks)
 

@@ -1,4 +1,6 @@
 pub mod Added
 pub mod Faults
 pub mod OneToOne
+pub mod Reading
 pub mod Snapshots
+pub mod Told

@@ -6,21 +6,30 @@
 //! Each call makes its text whole and then writes it as one piece, so that after an error a prefix of that text was written.
 #![tactic(auto)]
 
+mod changes;
 mod fault;
 mod fields;
 mod laws;
+mod printed;
+mod read_back;
+mod read_changes;
+mod read_fields;
+mod read_rows;
 mod record;
 mod rows;
 mod shown;
 mod snapshots;
+mod told;
 mod updates;
 
 pub use fault::WriteFault;
 pub use laws::update_text_is_one_to_one;
+pub use printed::{Printed, PrintedFault};
+pub use read_back::read_update;
 pub use record::write_fields;
 pub use shown::Shown;
 pub use snapshots::write_snapshot;
-pub use updates::write_added;
+pub use updates::{write_added, write_update};
 
 #[cfg(test)]
 mod tests;

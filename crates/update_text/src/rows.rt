@@ -1,6 +1,6 @@
 //! Rows as records.
 ghost use Rattle.std.specs.Prelude.{◌≡◌, ◌++◌, OnOk, flat_map, map, slice_index_or, []};
-ghost use Rattle.std.specs.Fmt.{decimal};
+ghost use Rattle.std.specs.Fmt.{decimal, signed_decimal};
 ghost use Rattle.tick_model.specs.Shifts.{as_key};
 ghost use Rattle.tick_model.specs.Texts.{comma_before, field_text, cell_text, cell_texts, row_record, record_text, records_text};
 
@@ -48,6 +48,14 @@ pub(crate) fn push_next_number(text: &mut Vec<u8>, number: u64) -> Result<(), Al
 {
     text.push(b',')?;
     push_number(text, number)
+}
+
+/// Appends a comma and a number that may be negative.
+pub(crate) fn push_next_signed(text: &mut Vec<u8>, number: i64) -> Result<(), AllocError>
+    ensures { OnOk result (text.new.items ≡ text.old.items ++ comma_before (signed_decimal number)) }
+{
+    text.push(b',')?;
+    push_signed(text, number)
 }
 
 /// Appends a comma and a cell.

@@ -1,5 +1,6 @@
 //! Each call once, and a sink that fails within a piece.
-ghost use Rattle.std.specs.Prelude.{◌≡◌, length, IfOk, Some};
+ghost use Rattle.std.specs.Prelude.{◌≡◌, length, map, true, IfOk, Some};
+ghost use Rattle.tick_model.specs.Names.{are_distinct};
 
 use super::*;
 use std::alloc::{AllocError, Global};
@@ -10,6 +11,7 @@ use tick_model::items::Items;
 use tick_model::name::Name;
 use tick_model::plan::{ColumnSpec, Kind};
 use tick_model::table::PlainRow;
+use tick_model::update::ShiftRange;
 
 /// A sink that takes one byte at a time, and fails where it is full.
 #[derive(Drop)]
@@ -138,5 +140,60 @@ fn a_prefix_is_written_before_a_failure(rt: HostRuntime) -> Result<(), Fail> {
     );
     assert_eq!(rt; sink.bytes.as_slice(), b"done,1".as_slice());
     assert_eq!(rt; sink.failures, 1);
+    Ok(())
+}
+
+/// The table `t` of one number column.
+fn one_column(alloc: Global) -> Result<Shown, AllocError>
+    ensures few { IfOk result (λ shown. length shown.columns ≡ 1) }
+    ensures distinct { IfOk result (λ shown. are_distinct (map (λ column. column.name) shown.columns) ≡ true) }
+{
+    let mut columns = Items::new(alloc);
+    columns.push(ColumnSpec {
+        name: name(alloc, "x")?,
+        kind: Kind::Long,
+    })?;
+    Ok(Shown {
+        name: name(alloc, "t")?,
+        columns,
+    })
+}
+
+#[test]
+fn a_change_is_read_back(rt: HostRuntime) -> Result<(), Fail> {
+    let shown = one_column(rt.alloc())?;
+    let none = Items::new(rt.alloc());
+    let text = b"step,2,t\ns,1,1,5\na,2,9\n";
+    let printed = read_update(rt.alloc(), text, &shown, &none)?;
+    assert_eq!(rt; printed.step, 2);
+    assert_eq!(rt; printed.change.cells.as_slice(), [9].as_slice());
+    let update = &printed.change.update;
+    let moved = ShiftRange {
+        begin: 1,
+        end: 1,
+        delta: 5,
+    };
+    assert_eq!(rt; update.shifted().ranges(), [moved].as_slice());
+    assert_eq!(rt; update.added().first(), Some(2));
+    assert_eq!(rt; update.added().len(), 1);
+    assert!(rt; update.removed().is_empty() && update.modified().is_empty());
+    Ok(())
+}
+
+#[test]
+fn other_texts_are_refused(rt: HostRuntime) -> Result<(), Fail> {
+    let shown = one_column(rt.alloc())?;
+    let none = Items::new(rt.alloc());
+    for text in [
+        "step,2,t\ns,1,1,0\na,2,9\n",
+        "step,2,t\ns,1,1,5\na,02,9\n",
+        "step,2,u\ns,1,1,5\na,2,9\n",
+        "step,2,t\na,2,9\ns,1,1,5\n",
+        "step,2,t\n",
+        "",
+    ] {
+        let read = read_update(rt.alloc(), text.as_bytes(), &shown, &none);
+        assert!(rt; matches!(read, Err(PrintedFault::NotPrinted)));
+    }
     Ok(())
 }

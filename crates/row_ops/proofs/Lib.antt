@@ -1,0 +1,4 @@
+pub mod Crossed
+pub mod Fresh
+pub mod Viewed
+pub mod Walked

@@ -1,0 +1,33 @@
+use Rattle.std.proofs.Common.{◌≡◌, sym, ◌∙◌, ap, length, filter}
+use Rattle.std.proofs.lemmas.List.{length-map}
+use Rattle.tick_model.specs.declared.update.KeyPair.{KeyPair}
+use Rattle.tick_model.specs.Updates.{Update}
+use Rattle.shown_rows.proofs.Restricted.{is_modified, kept, modified_new}
+use Rattle.row_ops.proofs.Walked.{crossing_reads}
+use Rattle.tick_model.specs.Formulas.{truth}
+use Rattle.row_ops.proofs.Crossed.{added_there, coming_is, leaving_is, modified_keys_there}
+use Rattle.row_ops.proofs.crossing.crossing_rows.Goals as goal
+
+pub passing_keys-requires-clause-here : goal.passing_keys-requires-clause-here
+passing_keys-requires-clause-here g c = rw (c.added.ensures.keys, c.update-update.ensures) (added_there (truth c.args.test.now) c.args.input.now c.requires.exact)
+
+pub changed_rows-requires-clause-here : goal.changed_rows-requires-clause-here
+changed_rows-requires-clause-here g c = rw c.in_ok-modified.ensures (modified_keys_there (truth c.args.test.now) c.args.input.now c.requires.exact)
+
+pub returns-clause-leaving : goal.returns-clause-leaving
+returns-clause-leaving g c =
+    rw (c.in_ok-leaving.ensures, c.in_ok-gone.ensures, c.in_ok-changed.ensures.leaving, c.in_ok-modified.ensures, c.removed.ensures.keys, c.update-update.ensures, c.requires.shown)
+    (leaving_is (truth c.args.test.now) c.args.input.now c.requires.exact)
+
+pub returns-clause-coming : goal.returns-clause-coming
+returns-clause-coming g c =
+    rw (c.in_ok-coming.ensures, c.in_ok-new.ensures.keys, c.in_ok-changed.ensures.coming, c.in_ok-modified.ensures, c.added.ensures.keys, c.update-update.ensures, c.requires.shown)
+    (coming_is (truth c.args.test.now) c.args.input.now c.requires.exact)
+
+pub returns-clause-reads : goal.returns-clause-reads
+returns-clause-reads g c =
+    let t = c.args.input.now in
+    let pairs : length c.in_ok-modified.modified ≡ length t.update.modified =
+    ap length c.in_ok-modified.ensures ∙ sym (length-map (filter (is_modified t c.requires.exact) (kept t c.requires.exact)) (λ (pair : KeyPair). pair.new)) ∙ ap length (sym (modified_new t c.requires.exact)) in
+    crossing_reads t.new.width c.args.reads.now c.passing_keys.new.reads c.changed_rows.new.reads (length t.update.added) (length t.update.modified) (length c.added.result.now) (length c.in_ok-modified.modified)
+    c.in_ok-new.ensures.reads c.in_ok-changed.ensures.reads (ap length (c.added.ensures.keys ∙ ap (λ (update : Update). update.added) c.update-update.ensures)) pairs

@@ -1,0 +1,16 @@
+-- What a filter keeps.
+--     Filter      its test, the width of its input, and the keys of the rows that pass
+--     filtered test tick      the tick of a filter, from that of its input
+use Rattle.std.specs.Prelude.{ℕ, List}
+use Rattle.tick_model.specs.declared.plan.Op.TheVariants.{Keep}
+use Rattle.tick_model.specs.declared.plan.Pred.{Pred}
+use Rattle.tick_model.specs.Updates.{Tick}
+use Rattle.tick_laws.specs.Operated.{operated}
+
+pub record Filter : Type 0 where
+  pub test : Pred
+  pub width : ℕ
+  pub shown : List ℕ
+
+abbrev pub filtered : Pred → Tick → Tick
+filtered test input = operated (Keep 0 test) (λ _. input)

@@ -1,0 +1,22 @@
+-- What a view keeps.
+--     Viewer      its formulas and the width of its input
+--     IsViewer exprs width      the formulas are within the input's rows, and the result has few columns
+--     viewed exprs tick      the tick of a view, from that of its input
+use Rattle.std.specs.Prelude.{ℕ, ◌+◌, ◌≤◌, List, length}
+use Rattle.std.specs.List.{AllByRecursion}
+use Rattle.tick_model.specs.declared.plan.Expr.{Expr}
+use Rattle.tick_model.specs.declared.plan.Op.TheVariants.{View}
+use Rattle.tick_model.specs.Formulas.{IsWithin}
+use Rattle.tick_model.specs.Updates.{Tick}
+use Rattle.tick_laws.specs.Operated.{operated}
+
+pub record Viewer : Type 0 where
+  pub exprs : List Expr
+  pub width : ℕ
+
+pub record IsViewer (formulas : List Expr) (columns : ℕ) : Type 0 where
+  pub few : columns + length formulas ≤ 32
+  pub within : AllByRecursion (IsWithin columns) formulas
+
+abbrev pub viewed : List Expr → Tick → Tick
+viewed exprs input = operated (View 0 exprs) (λ _. input)

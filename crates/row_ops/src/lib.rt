@@ -1,0 +1,16 @@
+//! The operators whose rows come one by one from those of their input: `where` and `view`.
+//!
+//! Each has a constructor and a `step`. A step is given the input after it, and answers the operator after it and the change of
+//! its own rows: the update between its table before and its table now, along the rows that stay, with the cells of the added
+//! and the modified rows. It reads the added and the modified rows of the input alone.
+#![tactic(auto)]
+
+mod crossing;
+mod testing;
+#[cfg(test)]
+mod tests;
+mod view_op;
+mod where_op;
+
+pub use view_op::ViewOp;
+pub use where_op::WhereOp;

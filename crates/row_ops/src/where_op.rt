@@ -1,0 +1,119 @@
+//! `where`: the rows of the input that pass a test, under their keys.
+//!
+//! A row comes where it is added and passes, or is modified and passes now and did not before; it goes where it is removed and
+//! passed, or is modified and passes no more. Every other row that is shown stays, and is modified where the input's is.
+
+ghost use Rattle.std.specs.Prelude.{◌≡◌, ◌+◌, ◌*◌, ◌≤◌, [], IfOk, OnOk};
+ghost use Rattle.row_ops.specs.Filter.{filtered};
+ghost use Rattle.tick_model.specs.Changes.{change_of};
+ghost use Rattle.tick_model.specs.Formulas.{IsTestWithin};
+ghost use Rattle.tick_model.specs.Tables.{keys};
+ghost use Rattle.tick_model.specs.Where.{where_table};
+ghost use Rattle.tick_table.specs.Exact.{IsExact, counted, tick_of};
+
+use crate::crossing::crossing_rows;
+use row_set::RowSet;
+use shown_rows::{Chooses, shown_change};
+use std::alloc::{AllocError, Global};
+use std::marker::Model;
+use std::sync::ledger::Ledger;
+use tick_model::plan::Pred;
+use tick_table::{Change, Steps, TickTable};
+
+/// Shows the rows of its input that pass a test. It stands for the rows that it saw last.
+#[derive(Debug, Drop)]
+pub struct WhereOp {
+    test: Pred,
+    width: u32,
+    /// The keys of the rows that pass.
+    shown: RowSet,
+    /// A row that is tested.
+    row: Vec<i64>,
+}
+
+impl Model for WhereOp {
+    ghost use Rattle.row_ops.specs.Filter.{Filter};
+    ghost use Rattle.std.specs.Coded.{codes};
+    ghost use Rattle.tick_model.specs.contracts.plan.Pred as pred_type;
+    ghost use Rattle.tick_model.specs.Formulas.{IsTestWithin};
+
+    ghost Value = { Filter };
+
+    ghost coded = { Prim.hlevel (codes, pred_type.the_row.coded) };
+
+    ghost view = { λ filter. record { test = filter.test; width = filter.width; shown = filter.shown } };
+
+    ghost invariant = { λ filter. IsTestWithin filter.width filter.test };
+}
+
+/// The rows that pass a test.
+#[derive(Drop)]
+struct Passing<'a> {
+    test: &'a Pred,
+}
+
+impl Chooses for Passing<'_> {
+    ghost use Rattle.tick_model.specs.Where.{where_table};
+
+    ghost chosen = { λ passing. where_table passing.test.now };
+}
+
+impl WhereOp {
+    /// An operator that has seen no rows, for an input of this width.
+    pub fn new(alloc: Global, test: Pred, width: u32) -> WhereOp
+        requires { IsTestWithin width test }
+        ensures test { result.test ≡ test }
+        ensures width { result.width ≡ width }
+        ensures shown { result.shown ≡ [] }
+    {
+        WhereOp {
+            test,
+            width,
+            shown: RowSet::new(alloc),
+            row: Vec::new(alloc),
+        }
+    }
+
+    /// The operator after the step that the input shows, and the change of its rows. It must stand for the input's rows before
+    /// the step; after a refusal it is given up.
+    pub fn step<L: Ledger>(
+        self,
+        alloc: Global,
+        input: &TickTable,
+        reads: &mut Steps<L>,
+    ) -> Result<(WhereOp, Change), AllocError>
+        requires exact { IsExact input.now }
+        requires width { input.now.new.width ≡ self.width }
+        requires stands { self.shown ≡ keys (where_table self.test input.now.old).rows }
+        ensures stands { IfOk result (λ out. out.0 ≡ record self { shown = keys (where_table self.test input.now.new).rows }) }
+        ensures change { IfOk result (λ out. out.1 ≡ change_of (filtered self.test (tick_of input.now))) }
+        ensures reads { IfOk result (λ out. reads.new ≤ reads.old + 4 * (input.now.new.width + input.now.new.width) * (counted input.now.update + counted out.1.update)) }
+    {
+        let WhereOp {
+            test,
+            width,
+            mut shown,
+            mut row,
+        } = self;
+        let crossing = crossing_rows(alloc, &test, input, &shown, &mut row, reads)?;
+        let passing = Passing { test: &test };
+        let change = shown_change(
+            alloc,
+            &passing,
+            input,
+            &mut shown,
+            crossing.leaving,
+            crossing.coming,
+            reads,
+        )?;
+        Ok((
+            WhereOp {
+                test,
+                width,
+                shown,
+                row,
+            },
+            change,
+        ))
+    }
+}

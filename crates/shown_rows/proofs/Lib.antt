@@ -1,0 +1,4 @@
+pub mod Named
+pub mod Parts
+pub mod Restricted
+pub mod Walks

@@ -1,0 +1,40 @@
+-- The part of a table that some of its keys make.
+use Rattle.std.proofs.Common.{◌≡◌, ap, sym, ◌∙◌, subst, Bool, true, ℕ, List, [], filter, Option}
+use Rattle.std.specs.Prelude.{option_map, unwrap_or}
+use Rattle.std.specs.List.{AllByRecursion}
+use Rattle.key_lists.specs.Keys.{is_among}
+use Rattle.key_lists.proofs.Every.{every-map, every-filter}
+use Rattle.key_lists.proofs.Rising.{rising-filter}
+use Rattle.tick_model.specs.declared.table.PlainRow.{PlainRow}
+use Rattle.tick_model.specs.declared.table.PlainTable.{PlainTable}
+use Rattle.tick_model.specs.Tables.{IsRow, IsTable, cells_at, keys}
+use Rattle.tick_model.proofs.Among.{row_at-filter, rows_among}
+use Rattle.shown_rows.specs.Shown.{IsPart, part}
+use Rattle.shown_rows.proofs.Named.{filter_named}
+
+part_table : (these : List ℕ) (table : PlainTable) → IsTable table → IsTable (part these table)
+part_table these table t = record {
+  rows = every-filter (IsRow table.width) (λ row. is_among row.key these) table.rows t.rows;
+  rising = rising-filter (λ (row : PlainRow). row.key) (λ row. is_among row.key these) table.rows t.rising;
+}
+
+-- a part of a table is a table
+pub is_table : (some table : PlainTable) → IsPart some table → IsTable table → IsTable some
+is_table some table p t = subst IsTable (sym p) (part_table (keys some.rows) table t)
+
+-- its keys are some of the table's
+pub keys_there : (some table : PlainTable) → IsPart some table → AllByRecursion (λ key. is_among key (keys table.rows) ≡ true) (keys some.rows)
+keys_there some table p =
+    subst (λ (made : PlainTable). AllByRecursion (λ key. is_among key (keys table.rows) ≡ true) (keys made.rows)) (sym p)
+    (every-map (λ key. is_among key (keys table.rows) ≡ true) (λ (row : PlainRow). row.key) (part (keys some.rows) table).rows
+    (every-filter (λ row. is_among row.key (keys table.rows) ≡ true) (λ row. is_among row.key (keys some.rows)) table.rows (rows_among table.rows)))
+
+-- and under them it has the table's rows
+pub cells_there : (some table : PlainTable) (key : ℕ) → IsPart some table → is_among key (keys some.rows) ≡ true → cells_at key some.rows ≡ cells_at key table.rows
+cells_there some table key p own =
+    ap (λ (made : PlainTable). cells_at key made.rows) p
+    ∙ ap (λ (found : Option PlainRow). unwrap_or (option_map (λ (row : PlainRow). row.cells) found) []) (row_at-filter (λ key. is_among key (keys some.rows)) key table.rows own)
+
+-- the rows that pass a test are a part
+pub passing_part : (test : PlainRow → Bool) (table : PlainTable) → IsTable table → let some : PlainTable = record table { rows = filter test table.rows } in IsPart some table
+passing_part test table t = ap (λ rows. let made : PlainTable = record table { rows = rows } in made) (sym (filter_named (λ (row : PlainRow). row.key) test table.rows t.rising))

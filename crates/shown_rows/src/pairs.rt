@@ -1,0 +1,120 @@
+//! The keys of rows that stay, before a step and now.
+
+ghost use Rattle.std.specs.Prelude.{◌≡◌, ◌^◌, ◌<◌, ◌&&◌, not, [], ◌∷◌, ◌++◌, Some, filter, length, slice_get, IfOk};
+ghost use Rattle.std.specs.List.{AllByRecursion};
+ghost use Rattle.key_lists.specs.Keys.{is_among, IsRising};
+ghost use Rattle.tick_model.specs.Updates.{new_keys, old_keys, pairs as pairs_kept};
+ghost use Rattle.tick_table.specs.Exact.{IsExact};
+
+use crate::keys::put_last;
+use row_set::RowSet;
+use std::alloc::{AllocError, Global};
+use std::marker::Model;
+use tick_model::update::KeyPair;
+use tick_table::TickTable;
+
+/// The old and the new keys of rows that stay. Both rise, and so a contract sees the list of the pairs.
+#[derive(Debug, Drop)]
+pub struct KeyPairs {
+    from: RowSet,
+    to: RowSet,
+}
+
+impl Model for KeyPairs {
+    ghost use Rattle.std.specs.Prelude.{◌≡◌, List, length};
+    ghost use Rattle.shift_data.specs.Moves.{pairs_of};
+    ghost use Rattle.tick_model.specs.declared.update.KeyPair.{KeyPair};
+
+    ghost Value = { List KeyPair };
+
+    ghost view = { λ pairs. pairs_of pairs.from pairs.to };
+
+    ghost invariant = { λ pairs. length pairs.from ≡ length pairs.to };
+}
+
+impl KeyPairs {
+    /// No pairs.
+    pub fn new(alloc: Global) -> KeyPairs
+        ensures { result ≡ [] }
+    {
+        KeyPairs {
+            from: RowSet::new(alloc),
+            to: RowSet::new(alloc),
+        }
+    }
+
+    /// The pairs of the rows that an exact table modifies.
+    pub fn modified(input: &TickTable) -> Result<KeyPairs, AllocError>
+        requires { IsExact input.now }
+        ensures { IfOk result (λ pairs. pairs ≡ filter (λ pair. is_among pair.new input.now.update.modified) (pairs_kept input.now.old input.now.update)) }
+    {
+        let update = input.update();
+        let from = update.modified_before(input.prev_rows())?;
+        let to = update.modified().copy()?;
+        Ok(KeyPairs { from, to })
+    }
+
+    /// How many there are.
+    pub fn len(&self) -> u64
+        ensures count { result ≡ length self.now }
+        ensures old { IsRising (old_keys self.now) }
+        ensures new { IsRising (new_keys self.now) }
+    {
+        let _ = self.from.len();
+        self.to.len()
+    }
+
+    /// The pair at a place.
+    pub fn at(&self, place: u64) -> KeyPair
+        requires { place < length self.now }
+        ensures pair { slice_get self.now place ≡ Some result }
+        ensures old { result.old < 2 ^ 62 }
+        ensures new { result.new < 2 ^ 62 }
+    {
+        let old = self.from.get(place).unwrap();
+        let new = self.to.get(place).unwrap();
+        KeyPair { old, new }
+    }
+
+    /// The pairs with one behind them.
+    pub fn with_last(self, pair: KeyPair) -> Result<KeyPairs, AllocError>
+        requires old_small { pair.old < 2 ^ 62 }
+        requires new_small { pair.new < 2 ^ 62 }
+        requires old { AllByRecursion (λ other. other < pair.old) (old_keys self) }
+        requires new { AllByRecursion (λ other. other < pair.new) (new_keys self) }
+        ensures { IfOk result (λ pairs. pairs ≡ self ++ pair ∷ []) }
+    {
+        let KeyPairs { mut from, mut to } = self;
+        put_last(&mut from, pair.old)?;
+        put_last(&mut to, pair.new)?;
+        Ok(KeyPairs { from, to })
+    }
+
+    /// Those whose old key is in one set and not in another.
+    pub fn within(
+        &self,
+        alloc: Global,
+        shown: &RowSet,
+        leaving: &RowSet,
+    ) -> Result<KeyPairs, AllocError>
+        ensures { IfOk result (λ pairs. pairs ≡ filter (λ pair. is_among pair.old shown.now && not (is_among pair.old leaving.now)) self.now) }
+    {
+        let mut within = KeyPairs::new(alloc);
+        for place in 0..self.len() {
+            let pair = self.at(place);
+            if shown.contains(pair.old) && !leaving.contains(pair.old) {
+                within = within.with_last(pair)?;
+            }
+        }
+        Ok(within)
+    }
+
+    /// The old keys and the new ones.
+    pub fn into_keys(self) -> (RowSet, RowSet)
+        ensures old { result.0 ≡ old_keys self }
+        ensures new { result.1 ≡ new_keys self }
+        ensures even { length result.0 ≡ length result.1 }
+    {
+        (self.from, self.to)
+    }
+}

@@ -1,0 +1,56 @@
+//! The change of an operator whose rows are some of its input's, under their keys.
+
+ghost use Rattle.std.specs.Prelude.{◌≡◌, ◌+◌, ◌*◌, ◌≤◌, length, IfOk, OnOk};
+ghost use Rattle.tick_model.specs.Changes.{change_of};
+ghost use Rattle.tick_model.specs.Tables.{keys};
+ghost use Rattle.tick_model.specs.Updates.{between};
+ghost use Rattle.tick_table.specs.Exact.{IsExact, tick_of};
+ghost use Rattle.shown_rows.specs.Shown.{IsPart, through};
+
+use crate::pairs::KeyPairs;
+use crate::rows::{Chooses, ChosenRows};
+use row_changes::{Touched, change_of_touched};
+use row_set::RowSet;
+use std::alloc::{AllocError, Global};
+use std::sync::ledger::Ledger;
+use tick_table::{Change, Steps, TickTable};
+
+/// The change from the rows that are chosen of the input before the step to those that are chosen now. `shown` has the keys
+/// of the former, and then those of the latter; `leaving` has the old keys of the rows that are shown no more, and `coming`
+/// the new keys of those that were not shown before. It reads the coming rows, and the modified rows that stay, before and
+/// now.
+pub fn shown_change<L: Ledger, C: Chooses>(
+    alloc: Global,
+    choice: &C,
+    input: &TickTable,
+    shown: &mut RowSet,
+    leaving: RowSet,
+    coming: RowSet,
+    reads: &mut Steps<L>,
+) -> Result<Change, AllocError>
+    requires exact { IsExact input.now }
+    requires old_part { IsPart (C.chosen choice.now input.now.old) input.now.old }
+    requires new_part { IsPart (C.chosen choice.now input.now.new) input.now.new }
+    requires shown { shown.old ≡ keys (C.chosen choice.now input.now.old).rows }
+    requires leaving { leaving ≡ (between (through (C.chosen choice.now) (tick_of input.now))).removed }
+    requires coming { coming ≡ (between (through (C.chosen choice.now) (tick_of input.now))).added }
+    ensures shown { OnOk result (shown.new ≡ keys (C.chosen choice.now input.now.new).rows) }
+    ensures change { IfOk result (λ change. change ≡ change_of (through (C.chosen choice.now) (tick_of input.now))) }
+    ensures reads { IfOk result (λ _. reads.new ≤ reads.old + input.now.new.width * (2 * length input.now.update.modified + length coming)) }
+{
+    let modified = KeyPairs::modified(input)?;
+    let pairs = modified.within(alloc, shown, &leaving)?;
+    let shifted = input.update().shifted().canonical_without(shown, &leaving)?;
+    let (compared_before, compared_now) = pairs.into_keys();
+    let touched = Touched {
+        removed: leaving,
+        added: coming,
+        shifted,
+        compared_before,
+        compared_now,
+    };
+    let rows = ChosenRows { input, choice };
+    let change = change_of_touched(alloc, &rows, input.width(), touched, reads)?;
+    change.update.apply_to_keys(shown)?;
+    Ok(change)
+}

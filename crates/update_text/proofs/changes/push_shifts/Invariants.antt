@@ -1,0 +1,6 @@
+use Rattle.std.proofs.Common.{◌≡◌, ◌++◌, take, map}
+use Rattle.tick_model.specs.Texts.{records_text, shift_record}
+use Rattle.update_text.proofs.changes.push_shifts.Given as goal
+
+abbrev pub invariant-loop-range : goal.invariant-loop-range
+invariant-loop-range l = l.text.items ≡ l.fn.text.items ++ records_text (map shift_record (take l.range-index l.ranges))
