@@ -1,0 +1,9 @@
+pub mod NumberLemmas
+pub mod FieldLemmas
+pub mod CellLemmas
+pub mod RecordLemmas
+pub mod FeedLemmas
+pub mod TableLemmas
+pub mod TextLemmas
+pub mod OpeningLemmas
+pub mod OrderLemmas

@@ -1,0 +1,16 @@
+use Rattle.std.proofs.Common.{◌≡◌, ◌≤◌, ◌+◌, length}
+use Rattle.feed_reader.specs.Feeds.{feed_in}
+use Rattle.feed_reader.specs.Records.{records_of, left_of, IsReading}
+use Rattle.feed_reader.proofs.FeedLemmas.{left_to_read}
+use Rattle.feed_reader.proofs.feeds.read_feed.Given as goal
+
+abbrev pub invariant-records : goal.invariant-records
+invariant-records l = record {
+  reading : IsReading l.reader;
+  told : feed_in l.plan (records_of l.bytes) ≡ left_to_read l.plan l.place l.feed l.number (left_of l.reader);
+  steps : length l.feed.batches ≤ 100000;
+  few : l.number + length (left_of l.reader) ≤ 67108865;
+}
+
+abbrev pub decreases-records : goal.decreases-records
+decreases-records l = length (left_of l.reader)

@@ -1,0 +1,13 @@
+use Rattle.std.proofs.Common.{◌≡◌, ℕ, List, map, ◌∙◌, sym, ap, rules}
+use Rattle.std.specs.Borrow.{Bor}
+use Rattle.std.specs.Map.Iter.{deref}
+use Rattle.std.proofs.lemmas.Map.Iter.{iter_end}
+use Rattle.key_lists.proofs.Every.{map_map}
+use Rattle.feed_reader.proofs.texts.names_of.Goals as goal
+
+pub returns : goal.returns
+returns c =
+    let all : map (deref {X = Bor (List ℕ)}) c.loop-text.yielded ≡ c.args.texts.now.keys = search (rules, iter_end) in
+    c.loop-text.invariant
+    ∙ sym (map_map (λ (text : Bor (List ℕ)). text.now) (deref {X = Bor (List ℕ)}) c.loop-text.yielded)
+    ∙ ap (map (λ (text : Bor (List ℕ)). text.now)) all

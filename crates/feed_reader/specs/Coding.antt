@@ -1,0 +1,90 @@
+-- The texts of a run, and the cells that they code.
+--     texts_of literals tables feed      the distinct texts of a script, of table files and of a feed, in byte order
+--     coded_table texts width table, coded_batch texts batch      the tables and batches, each text by its rank among the texts
+use Rattle.std.specs.Prelude.{ℕ, List, [], ◌∷◌, ◌++◌, map, flat_map, fold, ℤ, pos, if◌then◌else◌}
+use Rattle.std.specs.List.{position_or_len}
+use Rattle.std.specs.Str.{bytes_eq}
+use Rattle.std.specs.Ordering.{nat_cmp}
+use Rattle.std.specs.Cmp.Lexicographic.{slice_cmp}
+use Rattle.std.specs.BTreeSet.{insert_key}
+use Rattle.tick_model.specs.declared.feed.Batch.{Batch}
+use Rattle.tick_model.specs.declared.feed.Block.{Block}
+use Rattle.tick_model.specs.declared.table.PlainRow.{PlainRow}
+use Rattle.tick_model.specs.declared.table.PlainTable.{PlainTable}
+use Rattle.tick_model.specs.Changes.{is_none}
+use Rattle.tick_model.specs.Tables.{null}
+use Rattle.feed_reader.specs.declared.raw.RawBatch.{RawBatch}
+use Rattle.feed_reader.specs.declared.raw.RawBlock.{RawBlock}
+use Rattle.feed_reader.specs.declared.raw.RawCell.{RawCell}
+use Rattle.feed_reader.specs.declared.raw.RawCell.TheVariants.{Null, Long, Text}
+use Rattle.feed_reader.specs.declared.raw.RawFeed.{RawFeed}
+use Rattle.feed_reader.specs.declared.raw.RawRow.{RawRow}
+use Rattle.feed_reader.specs.declared.raw.RawTable.{RawTable}
+
+-- one more text, at its place in byte order, unless it is there; the empty text is none
+abbrev pub with_text : List (List ℕ) → List ℕ → List (List ℕ)
+with_text texts text = if is_none text then texts else insert_key (slice_cmp nat_cmp) texts text
+
+abbrev pub with_texts : List (List ℕ) → List (List ℕ) → List (List ℕ)
+with_texts = fold with_text
+
+-- the texts that stand in cells, rows, tables and blocks
+abbrev pub cell_texts : RawCell → List (List ℕ)
+cell_texts Null = []
+cell_texts (Long n) = []
+cell_texts (Text text) = text ∷ []
+
+abbrev pub row_texts : RawRow → List (List ℕ)
+row_texts row = flat_map cell_texts row.cells
+
+abbrev pub rows_texts : List RawRow → List (List ℕ)
+rows_texts = flat_map row_texts
+
+abbrev pub table_texts : RawTable → List (List ℕ)
+table_texts table = rows_texts table.rows
+
+abbrev pub block_texts : RawBlock → List (List ℕ)
+block_texts block = rows_texts block.added ++ rows_texts block.modified
+
+abbrev pub batch_texts : RawBatch → List (List ℕ)
+batch_texts batch = flat_map block_texts batch.blocks
+
+abbrev pub all_texts : List (List ℕ) → List RawTable → RawFeed → List (List ℕ)
+all_texts literals tables feed = literals ++ flat_map table_texts tables ++ flat_map batch_texts feed.batches
+
+abbrev pub texts_of : List (List ℕ) → List RawTable → RawFeed → List (List ℕ)
+texts_of literals tables feed = with_texts [] (all_texts literals tables feed)
+
+-- a text is coded by its place among the texts
+abbrev pub rank_of : List (List ℕ) → List ℕ → ℕ
+rank_of texts text = position_or_len (bytes_eq text) texts
+
+abbrev pub coded_cell : List (List ℕ) → RawCell → ℤ
+coded_cell texts Null = null
+coded_cell texts (Long n) = n
+coded_cell texts (Text text) = pos (rank_of texts text)
+
+abbrev pub coded_row : List (List ℕ) → RawRow → PlainRow
+coded_row texts row = record { key = row.key; cells = map (coded_cell texts) row.cells }
+
+abbrev pub coded_rows : List (List ℕ) → List RawRow → List PlainRow
+coded_rows texts = map (coded_row texts)
+
+abbrev pub coded_table : List (List ℕ) → ℕ → RawTable → PlainTable
+coded_table texts width table = record { width = width; rows = coded_rows texts table.rows }
+
+abbrev pub coded_block : List (List ℕ) → RawBlock → Block
+coded_block texts block = record {
+  table = block.table;
+  number = block.number;
+  removed = block.removed;
+  shifts = block.shifts;
+  added = coded_rows texts block.added;
+  modified = coded_rows texts block.modified;
+}
+
+abbrev pub coded_batch : List (List ℕ) → RawBatch → Batch
+coded_batch texts batch = record { blocks = map (coded_block texts) batch.blocks }
+
+abbrev pub coded_feed : List (List ℕ) → RawFeed → List Batch
+coded_feed texts feed = map (coded_batch texts) feed.batches

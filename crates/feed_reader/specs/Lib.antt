@@ -1,0 +1,12 @@
+pub mod Records
+pub mod Cells
+pub mod Answers
+pub mod Tables
+pub mod Places
+pub mod Entries
+pub mod Gathered
+pub mod Feeds
+pub mod Coding
+pub mod Noted
+pub mod Ranked
+pub mod Runs

@@ -1,0 +1,114 @@
+//! What a field spells: numbers, keys and cells.
+
+ghost use Rattle.std.specs.Prelude.{◌≡◌, ◌^◌, ◌<◌, ◌≤◌, ◌==◌, ◌+◌, IfOk, drop, length, pos, option_map};
+ghost use Rattle.std.specs.Str.{all_ascii_digits};
+ghost use Rattle.csv.specs.Records.{fields_of};
+ghost use Rattle.feed_reader.specs.Cells.{number_below, signed_below, long_of, key_of, delta_of, cell_of, cells_of};
+
+use crate::raw::RawCell;
+use crate::records::field;
+use csv::StringRecord;
+use std::alloc::{AllocError, Global};
+use tick_model::items::Items;
+use tick_model::limits::SOURCE_KEYS;
+use tick_model::name::Name;
+use tick_model::plan::{ColumnSpec, Kind};
+
+/// The most digits of a number.
+const MOST_DIGITS: usize = 19;
+
+fn is_digits(text: &str) -> bool
+    ensures { result ≡ all_ascii_digits text.now }
+{
+    text.as_bytes().iter().all(|byte| byte.is_ascii_digit())
+}
+
+/// The number that 1 to 19 digits spell, where it is below the limit.
+fn number(text: &str, limit: u64) -> Option<u64>
+    ensures { result ≡ number_below limit text.now }
+{
+    if text.len() > MOST_DIGITS || !is_digits(text) {
+        return None;
+    }
+    match text.parse::<u64>() {
+        Ok(number) if number < limit => Some(number),
+        _ => None,
+    }
+}
+
+/// The same as a signed number.
+fn natural(text: &str, limit: u64) -> Option<i64>
+    requires { limit ≤ 2 ^ 63 }
+    ensures { result ≡ option_map pos (number_below limit text.now) }
+{
+    number(text, limit).map(|size| size as i64)
+}
+
+/// The number that an optional minus sign and 1 to 19 digits spell, where its size is below the limit.
+fn signed_number(text: &str, limit: u64) -> Option<i64>
+    requires { limit ≤ 2 ^ 63 }
+    ensures { result ≡ signed_below limit text.now }
+{
+    match text.strip_prefix('-') {
+        Some(digits) => natural(digits, limit).map(|size| -size),
+        None => natural(text, limit),
+    }
+}
+
+/// The number of a long cell.
+fn long(text: &str) -> Option<i64>
+    ensures { result ≡ long_of text.now }
+{
+    signed_number(text, 1 << 63)
+}
+
+/// The key of a row of a source.
+pub(crate) fn key(text: &str) -> Option<u64>
+    ensures { result ≡ key_of text.now }
+{
+    number(text, SOURCE_KEYS)
+}
+
+/// How far a range moves.
+pub(crate) fn delta(text: &str) -> Option<i64>
+    ensures { result ≡ delta_of text.now }
+{
+    match signed_number(text, SOURCE_KEYS) {
+        Some(0) => None,
+        delta => delta,
+    }
+}
+
+/// The cell of a column that a field spells.
+fn cell(alloc: Global, kind: Kind, field: &str) -> Result<Option<RawCell>, AllocError>
+    ensures { IfOk result (λ cell. cell ≡ cell_of kind field.now) }
+{
+    if field.is_empty() {
+        return Ok(Some(RawCell::Null));
+    }
+    match kind {
+        Kind::Long => Ok(long(field).map(RawCell::Long)),
+        Kind::Text => Ok(Some(RawCell::Text(Name::of(String::from_str(alloc, field)?)))),
+    }
+}
+
+/// The cells that the fields from a place on spell, one for each column.
+pub(crate) fn cells(
+    alloc: Global,
+    columns: &[ColumnSpec],
+    fields: &StringRecord,
+    first: usize,
+) -> Result<Option<Items<RawCell>>, AllocError>
+    requires whole { length (fields_of fields.now) ≡ length columns.now + first }
+    requires few { first ≤ 2 }
+    ensures { IfOk result (λ cells. cells ≡ cells_of columns.now (drop first (fields_of fields.now))) }
+{
+    let mut cells = Vec::with_capacity(alloc, columns.len())?;
+    for (place, column) in columns.iter().enumerate() {
+        match cell(alloc, column.kind, field(fields, first + place))? {
+            Some(cell) => cells.push(cell)?,
+            None => return Ok(None),
+        }
+    }
+    Ok(Some(Items::of(cells)))
+}

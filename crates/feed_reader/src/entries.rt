@@ -1,0 +1,229 @@
+//! What the records of a feed say.
+
+ghost use Rattle.std.specs.Prelude.{◌≡◌, ◌<◌, ◌^◌, ◌+◌, true, IfOk, IfSome, length, drop};
+ghost use Rattle.csv.specs.Records.{fields_of};
+ghost use Rattle.tick_model.specs.Plans.{columns_at as columns_of};
+ghost use Rattle.feed_reader.specs.Entries.{tag_of, is_named as is_named_by, source_named as source_of_name, block_entry as block_of, end_entry as end_of, key_range as range_of, removed_entry as removed_of, shift_entry as shift_of, row_entry as row_of, row_with, shift_by, part_entry as part_of, entry_of};
+ghost use Rattle.feed_reader.specs.Places.{opened};
+ghost use Rattle.feed_reader.specs.Cells.{key_of, delta_of, cells_of};
+ghost use Rattle.feed_reader.specs.Records.{are_texts, field_of};
+
+use crate::cells::{cells, delta, key};
+use crate::fault::TextKind;
+use crate::place::{Part, Place, Tag, is_past};
+use crate::raw::RawRow;
+use crate::records::field;
+use csv::StringRecord;
+use std::alloc::{AllocError, Global};
+use tick_model::columns::columns_at;
+use tick_model::plan::{ColumnSpec, Node, Plan};
+use tick_model::sources::is_source;
+use tick_model::update::{KeyRange, ShiftRange};
+
+/// The most steps of a feed.
+const MOST_STEPS: usize = 100_000;
+
+/// What a record of a feed says.
+#[derive(Debug, Drop)]
+pub(crate) enum Entry {
+    /// A block of the source of this node number begins.
+    Block(u32),
+    Removed(KeyRange),
+    Shift(ShiftRange),
+    Added(RawRow),
+    Modified(RawRow),
+    /// The step ends.
+    End,
+}
+
+fn tag(text: &str) -> Option<Tag>
+    ensures { result ≡ tag_of text.now }
+{
+    match text {
+        "t" => Some(Tag::Block),
+        "r" => Some(Tag::Of(Part::Removed)),
+        "s" => Some(Tag::Of(Part::Shifts)),
+        "a" => Some(Tag::Of(Part::Added)),
+        "m" => Some(Tag::Of(Part::Modified)),
+        "." => Some(Tag::End),
+        _ => None,
+    }
+}
+
+fn is_named(name: &str, node: &Node) -> bool
+    ensures { result ≡ is_named_by name.now node.now }
+{
+    is_source(node) && name == node.name.as_str()
+}
+
+fn source_place(nodes: &[Node], name: &str) -> Option<usize>
+    ensures place { result ≡ source_of_name nodes.now name.now }
+    ensures bound { IfSome result (λ place. place < length nodes.now) }
+{
+    nodes.iter().position(|node| is_named(name, node))
+}
+
+/// The node number of the source of a name.
+fn source_named(nodes: &[Node], name: &str) -> Option<u32>
+    requires { length nodes.now < 2 ^ 32 }
+    ensures { result ≡ source_of_name nodes.now name.now }
+{
+    match source_place(nodes, name) {
+        Some(place) => Some(place as u32),
+        None => None,
+    }
+}
+
+fn block_entry(plan: &Plan, fields: &StringRecord) -> Result<Entry, TextKind>
+    requires { length plan.now.nodes < 2 ^ 32 }
+    ensures { result ≡ block_of plan.now (fields_of fields.now) }
+{
+    if fields.len() != 2 {
+        return Err(TextKind::FieldCount);
+    }
+    match source_named(plan.nodes.as_slice(), field(fields, 1)) {
+        Some(table) => Ok(Entry::Block(table)),
+        None => Err(TextKind::UnknownTable),
+    }
+}
+
+fn end_entry(steps: usize, fields: &StringRecord) -> Result<Entry, TextKind>
+    ensures { result ≡ end_of steps (fields_of fields.now) }
+{
+    if fields.len() != 1 {
+        return Err(TextKind::FieldCount);
+    }
+    if steps < MOST_STEPS {
+        Ok(Entry::End)
+    } else {
+        Err(TextKind::TooLong)
+    }
+}
+
+/// The range that the fields after the tag spell.
+fn key_range(fields: &StringRecord) -> Option<KeyRange>
+    ensures { result ≡ range_of (key_of (field_of (fields_of fields.now) 1)) (key_of (field_of (fields_of fields.now) 2)) }
+{
+    let first = key(field(fields, 1))?;
+    let last = key(field(fields, 2))?;
+    if first <= last {
+        Some(KeyRange { first, last })
+    } else {
+        None
+    }
+}
+
+fn removed_entry(last: Option<u64>, fields: &StringRecord) -> Result<Entry, TextKind>
+    ensures { result ≡ removed_of last (fields_of fields.now) }
+{
+    if fields.len() != 3 {
+        return Err(TextKind::FieldCount);
+    }
+    match key_range(fields) {
+        Some(range) if is_past(last, range.first) => Ok(Entry::Removed(range)),
+        Some(_) => Err(TextKind::OutOfOrder),
+        None => Err(TextKind::BadNumber),
+    }
+}
+
+fn shift_range(fields: &StringRecord) -> Option<ShiftRange>
+    ensures { result ≡ shift_by (range_of (key_of (field_of (fields_of fields.now) 1)) (key_of (field_of (fields_of fields.now) 2))) (delta_of (field_of (fields_of fields.now) 3)) }
+{
+    let range = key_range(fields)?;
+    let delta = delta(field(fields, 3))?;
+    Some(ShiftRange {
+        begin: range.first,
+        end: range.last,
+        delta,
+    })
+}
+
+fn shift_entry(last: Option<u64>, fields: &StringRecord) -> Result<Entry, TextKind>
+    ensures { result ≡ shift_of last (fields_of fields.now) }
+{
+    if fields.len() != 4 {
+        return Err(TextKind::FieldCount);
+    }
+    match shift_range(fields) {
+        Some(range) if is_past(last, range.begin) => Ok(Entry::Shift(range)),
+        Some(_) => Err(TextKind::OutOfOrder),
+        None => Err(TextKind::BadNumber),
+    }
+}
+
+/// The row that the fields after the tag spell.
+fn row(
+    alloc: Global,
+    columns: &[ColumnSpec],
+    fields: &StringRecord,
+) -> Result<Option<RawRow>, AllocError>
+    requires { length (fields_of fields.now) ≡ length columns.now + 2 }
+    ensures { IfOk result (λ row. row ≡ row_with (key_of (field_of (fields_of fields.now) 1)) (cells_of columns.now (drop 2 (fields_of fields.now)))) }
+{
+    let Some(key) = key(field(fields, 1)) else {
+        return Ok(None);
+    };
+    match cells(alloc, columns, fields, 2)? {
+        Some(cells) => Ok(Some(RawRow { key, cells })),
+        None => Ok(None),
+    }
+}
+
+fn row_entry(
+    alloc: Global,
+    columns: &[ColumnSpec],
+    last: Option<u64>,
+    fields: &StringRecord,
+) -> Result<Result<RawRow, TextKind>, AllocError>
+    ensures { IfOk result (λ told. told ≡ row_of columns.now last (fields_of fields.now)) }
+{
+    if fields.len() != columns.len() + 2 {
+        return Ok(Err(TextKind::FieldCount));
+    }
+    match row(alloc, columns, fields)? {
+        Some(row) if is_past(last, row.key) => Ok(Ok(row)),
+        Some(_) => Ok(Err(TextKind::OutOfOrder)),
+        None => Ok(Err(TextKind::BadNumber)),
+    }
+}
+
+fn part_entry(
+    alloc: Global,
+    plan: &Plan,
+    place: Place,
+    part: Part,
+    fields: &StringRecord,
+) -> Result<Result<Entry, TextKind>, AllocError>
+    ensures { IfOk result (λ told. told ≡ part_of plan.now (opened place part) part (fields_of fields.now)) }
+{
+    let Some((table, last)) = place.opened(part) else {
+        return Ok(Err(TextKind::OutOfOrder));
+    };
+    let columns = columns_at(plan.nodes.as_slice(), table);
+    match part {
+        Part::Removed => Ok(removed_entry(last, fields)),
+        Part::Shifts => Ok(shift_entry(last, fields)),
+        Part::Added => Ok(row_entry(alloc, columns, last, fields)?.map(Entry::Added)),
+        Part::Modified => Ok(row_entry(alloc, columns, last, fields)?.map(Entry::Modified)),
+    }
+}
+
+/// What a record of text says, after so many ended steps, or the first kind that refuses it.
+pub(crate) fn read_entry(
+    alloc: Global,
+    plan: &Plan,
+    place: Place,
+    steps: usize,
+    fields: &StringRecord,
+) -> Result<Result<Entry, TextKind>, AllocError>
+    requires text { are_texts (fields_of fields.now) ≡ true }
+    requires nodes { length plan.now.nodes < 2 ^ 32 }
+    ensures { IfOk result (λ told. told ≡ entry_of plan.now place steps (fields_of fields.now)) }
+{
+    match tag(field(fields, 0)) {
+        Some(Tag::Block) => Ok(block_entry(plan, fields)),
+        Some(Tag::Of(part)) => part_entry(alloc, plan, place, part, fields),
+        Some(Tag::End) => Ok(end_entry(steps, fields)),
+        None => Ok(Err(TextKind::BadTag)),
+    }
+}

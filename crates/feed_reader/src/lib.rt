@@ -1,0 +1,30 @@
+//! Table files and feeds, read from their bytes.
+//!
+//! The records of both are those of the crate `csv`, with its default settings and records of any length: fields between commas, records
+//! that end with a line feed, a carriage return or both, quoted fields, no record for an empty line, and a byte order mark dropped at the
+//! start. What the records of a table file and of a feed say, and which is the first that is refused, and why, is said by the definitions
+//! `table_of` and `feed_of` in `specs/`.
+#![tactic(auto)]
+
+mod cells;
+mod coded;
+mod coding;
+mod entries;
+mod fault;
+mod feeds;
+mod gathered;
+mod place;
+mod ranks;
+mod raw;
+mod records;
+mod tables;
+mod texts;
+
+pub use coded::{Coded, code};
+pub use fault::{TextFault, TextKind};
+pub use feeds::read_feed;
+pub use raw::{RawBatch, RawBlock, RawCell, RawFeed, RawRow, RawTable};
+pub use tables::read_table;
+
+#[cfg(test)]
+mod tests;

@@ -1,0 +1,51 @@
+//! What a table file and a feed say, before texts have ranks.
+
+use tick_model::items::Items;
+use tick_model::name::Name;
+use tick_model::update::{KeyRange, ShiftRange};
+
+/// A cell as it is written.
+#[derive(Debug, Drop)]
+pub enum RawCell {
+    Null,
+    Long(i64),
+    Text(Name),
+}
+
+/// A row under its key.
+#[derive(Debug, Drop)]
+pub struct RawRow {
+    pub key: u64,
+    pub cells: Items<RawCell>,
+}
+
+/// The rows of a table file.
+#[derive(Debug, Drop)]
+pub struct RawTable {
+    pub rows: Items<RawRow>,
+}
+
+/// What a feed changes of one source at once.
+#[derive(Debug, Drop)]
+pub struct RawBlock {
+    /// The node number of the source.
+    pub table: u32,
+    /// The number of the record that begins the block.
+    pub number: u64,
+    pub removed: Items<KeyRange>,
+    pub shifts: Items<ShiftRange>,
+    pub added: Items<RawRow>,
+    pub modified: Items<RawRow>,
+}
+
+/// The blocks of one step.
+#[derive(Debug, Drop)]
+pub struct RawBatch {
+    pub blocks: Items<RawBlock>,
+}
+
+/// The steps of a feed.
+#[derive(Debug, Drop)]
+pub struct RawFeed {
+    pub batches: Items<RawBatch>,
+}
