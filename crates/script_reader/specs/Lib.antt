@@ -1,0 +1,10 @@
+pub mod Answers
+pub mod Binding
+pub mod Checks
+pub mod Formulas
+pub mod Grammar
+pub mod Lines
+pub mod Plain
+pub mod Scripts
+pub mod Tokens
+pub mod Words

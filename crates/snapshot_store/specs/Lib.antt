@@ -1,0 +1,11 @@
+pub mod Example
+pub mod Lines
+pub mod Sentences
+pub mod Views
+pub mod Rule
+pub mod Plays
+pub mod Models
+pub mod Looks
+pub mod Answers
+pub mod Opening
+pub mod Rows

@@ -1,0 +1,75 @@
+//! Notes, which tell callers what the writer has completed.
+
+ghost use Rattle.std.specs.Prelude.{◌≡◌, ℕ, ◌≤◌, ◌++◌, [], ◌∷◌};
+ghost use Rattle.snapshot_store.specs.Looks.{NeverFalls, latest};
+ghost use Rattle.snapshot_store.specs.Models.{IsOf};
+
+use crate::board::Place;
+use crate::callers::Caller;
+use crate::plays::{LookOnce, Parting};
+use crate::store::Store;
+use crate::writers::Writer;
+use std::marker::Model;
+
+/// That a step is completed, to be told to a caller.
+#[derive(Drop)]
+pub struct Note {
+    place: Place,
+    step: u64,
+}
+
+impl Model for Note {
+    ghost use Rattle.snapshot_store.specs.Models.{NoteModel, IsNoted};
+    ghost use Rattle.std.specs.Coded.{codes};
+    ghost use Rattle.tick_model.specs.contracts.plan.Expr as expr;
+    ghost use Rattle.tick_model.specs.contracts.plan.Pred as pred;
+
+    ghost Value = { NoteModel };
+
+    ghost coded = { Prim.hlevel (codes, expr.the_row.coded, pred.the_row.coded) };
+
+    ghost view = { λ n. record { table = n.place.table_id; run = n.place.me.0.run; step = n.step } };
+
+    ghost invariant = { λ n. IsNoted n.place n.step };
+}
+
+impl Note {
+    /// The last completed step when the note was made.
+    pub fn step(&self) -> u64
+        ensures { result ≡ self.now.step }
+    {
+        self.step
+    }
+}
+
+impl Store {
+    /// What the writer has completed, to be told to a caller.
+    pub fn note(&self, writer: &mut Writer) -> Note
+        requires own { IsOf self.now writer.old.table writer.old.run }
+        ensures same { writer.new ≡ writer.old }
+        ensures own { IsOf self.now result.table result.run }
+        ensures step { result.step ≡ writer.old.step }
+    {
+        let place = self.board.shared.split_seat::<Parting>(&mut writer.place);
+        Note {
+            place,
+            step: writer.step,
+        }
+    }
+
+    /// The caller looks at the clock, and has seen the step of the note from then on.
+    pub fn learn(&self, caller: &mut Caller, note: Note)
+        requires own { IsOf self.now caller.old.table caller.old.run }
+        requires note { IsOf self.now note.table note.run }
+        ensures own { IsOf self.now caller.new.table caller.new.run }
+        ensures look { (found : ℕ) × (caller.new.looks ≡ caller.old.looks ++ found ∷ []) }
+        ensures rises { NeverFalls 1 caller.new.looks }
+        ensures told { note.step ≤ latest caller.new.looks }
+    {
+        let Note { place, step: _ } = note;
+        self.board
+            .shared
+            .join_seat::<Parting>(&mut caller.place, place);
+        caller.seen = self.board.shared.load::<LookOnce>(&mut caller.place, 0);
+    }
+}
