@@ -1,5 +1,6 @@
 //! Each call once, and a sink that fails within a piece.
 ghost use Rattle.std.specs.Prelude.{◌≡◌, length, map, true, IfOk, Some};
+ghost use Rattle.tick_model.specs.LawfulRuns.{AreTexts};
 ghost use Rattle.tick_model.specs.Names.{are_distinct};
 
 use super::*;
@@ -12,6 +13,7 @@ use tick_model::name::Name;
 use tick_model::plan::{ColumnSpec, Kind};
 use tick_model::table::PlainRow;
 use tick_model::update::ShiftRange;
+use tick_table::TickTable;
 
 /// A sink that takes one byte at a time, and fails where it is full.
 #[derive(Drop)]
@@ -36,13 +38,16 @@ impl Sink for NarrowSink {
     }
 }
 
-fn name(alloc: Global, text: &str) -> Result<Name, AllocError> {
+fn name(alloc: Global, text: &str) -> Result<Name, AllocError>
+    ensures { IfOk result (λ name. name ≡ text.now) }
+{
     Ok(Name::of(String::from_str(alloc, text)?))
 }
 
 /// The table `big` of a text column `sym` and a number column `qty`.
 fn big(alloc: Global) -> Result<Shown, AllocError>
-    ensures { IfOk result (λ shown. length shown.columns ≡ 2) }
+    ensures two { IfOk result (λ shown. length shown.columns ≡ 2) }
+    ensures distinct { IfOk result (λ shown. are_distinct (map (λ column. column.name) shown.columns) ≡ true) }
 {
     let mut columns = Items::new(alloc);
     columns.push(ColumnSpec {
@@ -113,6 +118,18 @@ fn added_rows_are_told(rt: HostRuntime) -> Result<(), Fail> {
 }
 
 #[test]
+fn an_empty_update_is_not_told(rt: HostRuntime) -> Result<(), Fail> {
+    let shown = big(rt.alloc())?;
+    let texts = texts(rt.alloc())?;
+    let table = TickTable::new(rt.alloc(), 2)?;
+    let mut sink = MemorySink::new(rt.alloc(), Vec::new(rt.alloc()));
+    let count = write_update(rt.alloc(), &mut sink, 3, &shown, &texts, &table)?;
+    assert_eq!(rt; count, 0);
+    assert_eq!(rt; sink.bytes().len(), 0);
+    Ok(())
+}
+
+#[test]
 fn a_snapshot_is_told(rt: HostRuntime) -> Result<(), Fail> {
     let shown = big(rt.alloc())?;
     let texts = texts(rt.alloc())?;
@@ -143,30 +160,24 @@ fn a_prefix_is_written_before_a_failure(rt: HostRuntime) -> Result<(), Fail> {
     Ok(())
 }
 
-/// The table `t` of one number column.
-fn one_column(alloc: Global) -> Result<Shown, AllocError>
-    ensures few { IfOk result (λ shown. length shown.columns ≡ 1) }
-    ensures distinct { IfOk result (λ shown. are_distinct (map (λ column. column.name) shown.columns) ≡ true) }
+/// Three texts in byte order.
+fn symbols(alloc: Global) -> Result<Items<Name>, AllocError>
+    ensures { IfOk result (λ texts. AreTexts texts) }
 {
-    let mut columns = Items::new(alloc);
-    columns.push(ColumnSpec {
-        name: name(alloc, "x")?,
-        kind: Kind::Long,
-    })?;
-    Ok(Shown {
-        name: name(alloc, "t")?,
-        columns,
-    })
+    let first = name(alloc, "AAPL")?;
+    let second = name(alloc, "IBM")?;
+    let third = name(alloc, "X")?;
+    Ok(Items::of(vec![in alloc; first, second, third]?))
 }
 
 #[test]
 fn a_change_is_read_back(rt: HostRuntime) -> Result<(), Fail> {
-    let shown = one_column(rt.alloc())?;
-    let none = Items::new(rt.alloc());
-    let text = b"step,2,t\ns,1,1,5\na,2,9\n";
-    let printed = read_update(rt.alloc(), text, &shown, &none)?;
+    let shown = big(rt.alloc())?;
+    let texts = symbols(rt.alloc())?;
+    let text = b"step,2,big\ns,1,1,5\na,2,X,30\n";
+    let printed = read_update(rt.alloc(), text, &shown, &texts)?;
     assert_eq!(rt; printed.step, 2);
-    assert_eq!(rt; printed.change.cells.as_slice(), [9].as_slice());
+    assert_eq!(rt; printed.change.cells.as_slice(), [2, 30].as_slice());
     let update = &printed.change.update;
     let moved = ShiftRange {
         begin: 1,
@@ -182,17 +193,19 @@ fn a_change_is_read_back(rt: HostRuntime) -> Result<(), Fail> {
 
 #[test]
 fn other_texts_are_refused(rt: HostRuntime) -> Result<(), Fail> {
-    let shown = one_column(rt.alloc())?;
-    let none = Items::new(rt.alloc());
+    let shown = big(rt.alloc())?;
+    let texts = symbols(rt.alloc())?;
     for text in [
-        "step,2,t\ns,1,1,0\na,2,9\n",
-        "step,2,t\ns,1,1,5\na,02,9\n",
-        "step,2,u\ns,1,1,5\na,2,9\n",
-        "step,2,t\na,2,9\ns,1,1,5\n",
-        "step,2,t\n",
+        "step,2,big\ns,1,1,0\na,2,X,30\n",
+        "step,2,big\ns,1,1,5\na,02,X,30\n",
+        "step,2,big\ns,1,1,5\na,2,\"X\",30\n",
+        "step,2,big\ns,1,1,5\na,2,Y,30\n",
+        "step,2,t\ns,1,1,5\na,2,X,30\n",
+        "step,2,big\na,2,X,30\ns,1,1,5\n",
+        "step,2,big\n",
         "",
     ] {
-        let read = read_update(rt.alloc(), text.as_bytes(), &shown, &none);
+        let read = read_update(rt.alloc(), text.as_bytes(), &shown, &texts);
         assert!(rt; matches!(read, Err(PrintedFault::NotPrinted)));
     }
     Ok(())

@@ -19,7 +19,7 @@ write_snapshot-requires-after_bounds g c _ = (
   two_rows,
   record {
     same = refl;
-    whole = subst (λ width. AllByRecursion (λ row. length row.cells ≡ width) two_rows.rows) (sym c.in_ok-shown.ensures) (refl, (refl, tt));
+    whole = subst (λ width. AllByRecursion (λ row. length row.cells ≡ width) two_rows.rows) (sym c.in_ok-shown.ensures.two) (refl, (refl, tt));
     numbers = ((record { sfits = lit< tt }, (record { sfits = lit< tt }, tt)), ((record { sfits = lit< tt }, (record { sfits = lit< tt }, tt)), tt));
   },
 )
