@@ -1,6 +1,10 @@
 -- A small run for worked examples: a source of one column, and its rows above 5, which are published with at most two rows. They are
 -- 3: 7 in the opening, 3: 7 and 4: 8 after the first step, and one row too many after the second.
 use Rattle.std.specs.Prelude.{ℕ, List, [], ◌∷◌, ℤ, pos}
+use Rattle.row_set.specs.Ranges.{keys_from}
+use Rattle.row_set.specs.Sets.{united}
+use Rattle.tick_model.specs.Changes.{Change}
+use Rattle.tick_model.specs.Updates.{Update}
 use Rattle.tick_model.specs.declared.feed.Batch.{Batch}
 use Rattle.tick_model.specs.declared.feed.Run.{Run}
 use Rattle.tick_model.specs.declared.plan.ColumnSpec.{ColumnSpec}
@@ -54,3 +58,10 @@ second_rows = example_row 3 (pos 7) ∷ example_row 4 (pos 8) ∷ []
 
 abbrev pub third_rows : List PlainRow
 third_rows = example_row 3 (pos 7) ∷ example_row 4 (pos 8) ∷ example_row 5 (pos 9) ∷ []
+
+-- the change that adds a row
+abbrev pub adds : ℕ → Update
+adds key = record { removed = []; added = united (keys_from key key) []; modified = []; shifted = []; columns = [] }
+
+abbrev pub add_row : ℕ → ℤ → Change
+add_row key cell = record { update = adds key; cells = cell ∷ [] }

@@ -21,6 +21,8 @@ mod plays;
 mod rows;
 mod start;
 mod store;
+#[cfg(test)]
+mod tests;
 mod turns;
 mod writers;
 
