@@ -130,7 +130,11 @@ fn update_of(alloc: Global, task: Task, step: u64) -> Result<Update, AllocError>
         Shape::Shift => closed(alloc, task.rows, 0),
         Shape::Spread => {
             let places = task.rows.saturating_sub(2 * TOUCHED);
-            closed(alloc, task.rows, spread(step).checked_rem(places).unwrap_or(0))
+            closed(
+                alloc,
+                task.rows,
+                spread(step).checked_rem(places).unwrap_or(0),
+            )
         }
     }
 }
