@@ -1,6 +1,0 @@
-use Rattle.std.proofs.Common.{◌≡◌, ◌-◌, map}
-use Rattle.script_reader.specs.Grammar.{more_at, list_at}
-use Rattle.script_reader.proofs.lists.list.Given as goal
-
-abbrev pub invariant-loop : goal.invariant-loop
-invariant-loop g l = more_at g.M.Member.member_at (512 - l.counter) l.separator (map g.M.Member.shown l.members) l.rest ≡ list_at g.M.Member.member_at l.separator l.tokens
