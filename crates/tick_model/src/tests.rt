@@ -65,7 +65,7 @@ const TRADES: Source = Source {
     rows: "0 0 15/1 0 5",
 };
 
-const CASES: [Case; 26] = [
+const CASES: [Case; 33] = [
     Case {
         shows: "a row passes",
         first: Source {
@@ -352,6 +352,83 @@ const CASES: [Case; 26] = [
         },
         second: None,
         last: Last::Tail,
+        columns: "x",
+        rows: "1 2/2 3",
+    },
+    Case {
+        shows: "one of two rows passes",
+        first: Source {
+            columns: "sym:text qty",
+            rows: "0 1 5/1 0 20",
+        },
+        second: None,
+        last: Last::AboveTen(1),
+        columns: "sym:text qty",
+        rows: "1 0 20",
+    },
+    Case {
+        shows: "rows that pass have moved and come",
+        first: Source {
+            columns: "sym:text qty",
+            rows: "2 2 30/6 0 20",
+        },
+        second: None,
+        last: Last::AboveTen(1),
+        columns: "sym:text qty",
+        rows: "2 2 30/6 0 20",
+    },
+    Case {
+        shows: "one group",
+        first: Source {
+            columns: "sym qty",
+            rows: "0 0 1",
+        },
+        second: None,
+        last: Last::Totals,
+        columns: "sym total",
+        rows: "0 0 1",
+    },
+    Case {
+        shows: "one sum",
+        first: Source {
+            columns: "a b",
+            rows: "0 9223372036854775807 null/1 null null",
+        },
+        second: None,
+        last: Last::SumAlone,
+        columns: "s",
+        rows: "0 9223372036854775807",
+    },
+    Case {
+        shows: "neighbours merged with themselves",
+        first: Source {
+            columns: "x",
+            rows: "0 1/1 2",
+        },
+        second: None,
+        last: Last::Merged(0),
+        columns: "x",
+        rows: "0 1/1 2/65536 1/65537 2",
+    },
+    Case {
+        shows: "the first match is gone",
+        first: LEFT,
+        second: Some(Source {
+            columns: "sym px",
+            rows: "2 0 2",
+        }),
+        last: Last::Join(Choice::First),
+        columns: "sym px",
+        rows: "0 0 2",
+    },
+    Case {
+        shows: "the first of three is gone",
+        first: Source {
+            columns: "x",
+            rows: "1 2/2 3",
+        },
+        second: None,
+        last: Last::Head(0, 2),
         columns: "x",
         rows: "1 2/2 3",
     },
