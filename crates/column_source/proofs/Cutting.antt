@@ -1,5 +1,5 @@
 -- Blocks that are split where a key falls between their rows.
-use Rattle.std.proofs.Common.{◌≡◌, ◌≢◌, refl, ap, sym, ◌∙◌, subst, ℕ, zero, suc, ◌+◌, ◌-◌, ◌<◌, ◌≤◌, arith, List, [], ◌∷◌, ◌++◌, length, take, drop, get_or, min, Option, Some, None, IsSome, ℤ, inl, inr, ◌⊎◌, take-append-drop, length-take-le, length-drop, get_or-take, get_or-drop, append_assoc, set, map, pos, negsuc, take_all, true≢false}
+use Rattle.std.proofs.Common.{◌≡◌, ◌≢◌, refl, ap, sym, ◌∙◌, subst, ℕ, zero, suc, ◌+◌, ◌-◌, ◌<◌, ◌≤◌, arith, List, [], ◌∷◌, ◌++◌, length, take, drop, get_or, min, Option, Some, None, IsSome, ℤ, inl, inr, ◌⊎◌, take-append-drop, length-take-le, length-drop, get_or-take, get_or-drop, append_assoc, set, pos, negsuc, take_all, true≢false}
 use Rattle.std.proofs.lemmas.Int.{ints}
 use Rattle.std.proofs.Math.Seq.{take-suc}
 use Rattle.std.specs.Prelude.{◌≤ℤ◌}
@@ -259,18 +259,6 @@ every_next P xs i d lt own h =
   where
     next : (n : ℕ) → suc n ≡ n + 1
     next n = omega arith
-
--- one block more that has moved
-pub moved_more : (f : Block → Block) (old : List Block) (m : ℕ) (held : Block) → m < length old → held ≡ get_or (map f (take m old) ++ drop m old) m held → set (map f (take m old) ++ drop m old) m (f held) ≡ map f (take (suc m) old) ++ drop (suc m) old
-moved_more f [] m held lt at = absurd (omega arith)
-moved_more f (x ∷ old) zero held lt at = ap (λ b. f b ∷ old) at
-moved_more f (x ∷ old) (suc m) held lt at = ap (λ bs. f x ∷ bs) (moved_more f old m held (omega arith) at)
-
--- the next one has not moved yet
-pub moved_at : (f : Block → Block) (old : List Block) (m : ℕ) → m < length old → (held : Block) × (held ≡ get_or old m held) × (held ≡ get_or (map f (take m old) ++ drop m old) m held)
-moved_at f [] m lt = absurd (omega arith)
-moved_at f (x ∷ old) zero lt = (x, refl, refl)
-moved_at f (x ∷ old) (suc m) lt = moved_at f old m (omega arith)
 
 pub abs_key : (z : ℤ) → pos 0 ≤ℤ z → nat_abs z ≡ as_key z
 abs_key (pos n) le = refl

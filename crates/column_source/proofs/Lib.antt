@@ -13,5 +13,6 @@ pub mod Cutting
 pub mod Moving
 pub mod Copies
 pub mod Filled
+pub mod FirstLists
 pub mod Steps
 pub mod Joining

@@ -1,15 +1,13 @@
 -- Whole blocks that move.
-use Rattle.std.proofs.Common.{◌≡◌, refl, ap, sym, ◌∙◌, subst, ℕ, zero, suc, ◌+◌, ◌-◌, length, take, drop, get_or, take-append-drop, ◌^◌, ◌<◌, ◌≤◌, arith, List, [], ◌∷◌, ◌++◌, map, Option, Some, None, ℤ, inl, inr, Bool, true, false, cond, ◌&&◌, leb, pos, ◌+ℤ◌, find, option_map, unwrap_or, Result, Ok, Err, OnOk, OnErr}
+use Rattle.std.proofs.Common.{◌≡◌, refl, ap, sym, ◌∙◌, subst, ℕ, ◌+◌, ◌^◌, ◌<◌, ◌≤◌, arith, List, [], ◌∷◌, ◌++◌, map, Option, Some, None, ℤ, inl, inr, Bool, true, false, cond, ◌&&◌, leb, pos, ◌+ℤ◌, find, option_map, unwrap_or, Result, Ok, Err, OnOk, OnErr}
 use Rattle.std.proofs.lemmas.List.{map-append}
-use Rattle.std.specs.Prelude.{◌≤ℤ◌}
 use Rattle.std.specs.List.{AllByRecursion}
 use Rattle.std.proofs.lemmas.Int.{ints}
 use Rattle.key_lists.specs.Keys.{IsRising}
-use Rattle.key_lists.proofs.Every.{every, every_weaker, every_both, every-map, every_unmapped, map_map, map_own}
+use Rattle.key_lists.proofs.Every.{every, every_weaker, every_both, every-map, every_unmapped, map_map}
 use Rattle.tick_model.specs.declared.update.ShiftRange.{ShiftRange}
 use Rattle.tick_model.specs.Shifts.{moved, as_key, delta_at, holds}
 use Rattle.tick_model.specs.Rules.{is_past, shift_fault}
-use Rattle.tick_model.specs.Printable.{IsShift}
 use Rattle.shift_data.proofs.Lawful.{lawful, not_past}
 use Rattle.column_source.specs.declared.block.Block.{Block}
 use Rattle.column_source.specs.Entries.{Entry, entry_of, keys_of, moved_entry, moved_entries, Ascend}
@@ -19,8 +17,6 @@ use Rattle.column_source.specs.Moves.{IsBeside, IsBesideRange, IsMovable, moved_
 use Rattle.column_source.proofs.EntryLists.{every_front, every_back, ascend_by_keys}
 use Rattle.column_source.proofs.SlotLists.{entries_above}
 use Rattle.column_source.proofs.Listings.{first_row}
-use Rattle.column_source.proofs.Parts.{every_first, every_last}
-use Rattle.column_source.proofs.Dropping.{below_next}
 
 -- the first row of a block
 own_first : (P : Entry → Type 0) (block : Block) → IsBlock block → AllByRecursion P (rows_of block) → (cell : ℤ) × P (entry_of block.first cell)
@@ -28,18 +24,15 @@ own_first P block is h =
     let begin = first_row block.first block.slots.items is.begun in
     (begin.0, (subst (AllByRecursion P) begin.1 h).0)
 
-pub each_movable : (shifts : List ShiftRange) (blocks : List Block) → AllByRecursion IsBlock blocks → AllByRecursion (λ x. x.key < 2 ^ 62) (rows blocks) → AllByRecursion (λ x. is_past (2 ^ 62) (moved shifts x.key) ≡ false) (rows blocks) → AllByRecursion (IsMovable shifts) blocks
+pub each_movable : (shifts : List ShiftRange) (blocks : List Block) → AllByRecursion IsBlock blocks → AllByRecursion (λ x. x.key < 2 ^ 62) (rows blocks) → AllByRecursion (λ x. is_past (2 ^ 62) (moved shifts x.key) ≡ false) (rows blocks) → AllByRecursion (λ block. IsMovable shifts block.first) blocks
 each_movable shifts [] sound small inside = tt
 each_movable shifts (block ∷ blocks) sound small inside = (
   record {
     small = (own_first (λ x. x.key < 2 ^ 62) block sound.0 (every_front (λ x. x.key < 2 ^ 62) (rows_of block) (rows blocks) small)).1;
-    lands = lands_on (moved shifts block.first) (own_first (λ x. is_past (2 ^ 62) (moved shifts x.key) ≡ false) block sound.0 (every_front (λ x. is_past (2 ^ 62) (moved shifts x.key) ≡ false) (rows_of block) (rows blocks) inside)).1;
+    inside = (own_first (λ x. is_past (2 ^ 62) (moved shifts x.key) ≡ false) block sound.0 (every_front (λ x. is_past (2 ^ 62) (moved shifts x.key) ≡ false) (rows_of block) (rows blocks) inside)).1;
   },
   each_movable shifts blocks sound.1 (every_back (λ x. x.key < 2 ^ 62) (rows_of block) (rows blocks) small) (every_back (λ x. is_past (2 ^ 62) (moved shifts x.key) ≡ false) (rows_of block) (rows blocks) inside),
 )
-  where
-    lands_on : (place : ℤ) → is_past (2 ^ 62) place ≡ false → pos 0 ≤ℤ place
-    lands_on place e = subst (λ z. pos 0 ≤ℤ z) (sym (not_past (2 ^ 62) place e).0) (omega (arith, ints))
 
 -- a range holds all rows of a block that stands beside its ends, or none
 leb_yes : (a b : ℕ) → a ≤ b → leb a b ≡ true
@@ -136,66 +129,3 @@ moved_or_same (Err e) shifts old new notes column allowed ok err sound apart = r
   apart = apart;
   noted = column.noted;
 }
-
--- blocks that no range reaches stay
-find_none : {X : Type 0} (p : X → Bool) (xs : List X) → AllByRecursion (λ x. p x ≡ false) xs → find p xs ≡ None
-find_none p [] h = refl
-find_none p (x ∷ xs) h = ap (λ b. cond b (Some x) (find p xs)) h.0 ∙ find_none p xs h.1
-
-block_stays : (shifts : List ShiftRange) (block : Block) → AllByRecursion (λ range. holds range block.first ≡ false) shifts → moved_block shifts block ≡ block
-block_stays shifts block h =
-    ap (λ n. record block { first = n }) (ap (λ found. as_key (pos block.first +ℤ unwrap_or (option_map (λ range. range.delta) found) (pos 0))) (find_none (λ range. holds range block.first) shifts h) ∙ ap as_key (nothing_more block.first))
-  where
-    nothing_more : (n : ℕ) → pos n +ℤ pos 0 ≡ pos n
-    nothing_more n = omega (arith, ints)
-
-begins_from : (key : ℕ) (ranges : List ShiftRange) (d : ShiftRange) → IsShift ranges → key < (get_or ranges 0 d).begin → AllByRecursion (λ range. key < range.begin) ranges
-begins_from key [] d shift below = tt
-begins_from key (range ∷ ranges) d shift below = (below, every_weaker (λ next. range.end < next.begin) (λ next. key < next.begin) ranges (λ next lt. omega (arith, lt, below, shift.0)) shift.2)
-
-ends_to : (key m : ℕ) (ranges : List ShiftRange) (d : ShiftRange) → IsShift ranges → length ranges ≡ suc m → (get_or ranges m d).end < key → AllByRecursion (λ range. range.end < key) ranges
-ends_to key m [] d shift len above = tt
-ends_to key zero (range ∷ []) d shift len above = (above, tt)
-ends_to key (suc m) (range ∷ []) d shift len above = absurd (omega arith)
-ends_to key zero (range ∷ next ∷ ranges) d shift len above = absurd (omega arith)
-ends_to key (suc m) (range ∷ next ∷ ranges) d shift len above =
-    let later = ends_to key m (next ∷ ranges) d shift.3 (omega arith) above in
-    (omega (arith, later.0, shift.2.0, shift.3.0), later)
-
-below_stays : (shifts : List ShiftRange) (block : Block) → AllByRecursion (λ range. block.first < range.begin) shifts → moved_block shifts block ≡ block
-below_stays shifts block h =
-    block_stays shifts block (every_weaker (λ range. block.first < range.begin) (λ range. holds range block.first ≡ false) shifts (λ range lt. ap (λ b. b && leb block.first range.end) (leb_no range.begin block.first lt)) h)
-
-above_stays : (shifts : List ShiftRange) (block : Block) → AllByRecursion (λ range. range.end < block.first) shifts → moved_block shifts block ≡ block
-above_stays shifts block h =
-    block_stays shifts block (every_weaker (λ range. range.end < block.first) (λ range. holds range block.first ≡ false) shifts (λ range lt. ap (λ b. leb range.begin block.first && b) (leb_no block.first range.end lt) ∙ and_false (leb range.begin block.first)) h)
-  where
-    and_false : (b : Bool) → (b && false) ≡ false
-    and_false true = refl
-    and_false false = refl
-
-firsts_below : (bound : ℕ) (blocks : List Block) → AllByRecursion IsBlock blocks → AllByRecursion (λ x. x.key < bound) (rows blocks) → AllByRecursion (λ block. block.first < bound) blocks
-firsts_below bound [] sound h = tt
-firsts_below bound (block ∷ blocks) sound h =
-    ((own_first (λ x. x.key < bound) block sound.0 (every_front (λ x. x.key < bound) (rows_of block) (rows blocks) h)).1, firsts_below bound blocks sound.1 (every_back (λ x. x.key < bound) (rows_of block) (rows blocks) h))
-
-pub moves_begin : (shifts : List ShiftRange) (d : ShiftRange) (blocks : List Block) (next : ℕ) → IsShift shifts → next ≤ length blocks → AllByRecursion IsBlock blocks → Ascend (rows blocks) → AllByRecursion (λ block. block.first ≤ (get_or shifts 0 d).begin) (take next blocks) → blocks ≡ map (moved_block shifts) (take (next - 1) blocks) ++ drop (next - 1) blocks
-moves_begin shifts d blocks next shift le sound ascend begun =
-    sym (take-append-drop (next - 1) blocks)
-    ∙ ap (λ bs. bs ++ drop (next - 1) blocks) (sym (map_own (moved_block shifts) (take (next - 1) blocks) (every_weaker (λ block. block.first < (get_or shifts 0 d).begin) (λ block. moved_block shifts block ≡ block) (take (next - 1) blocks) (λ block lt. below_stays shifts block (begins_from block.first shifts d shift lt))
-    (firsts_below (get_or shifts 0 d).begin (take (next - 1) blocks) (every_first IsBlock (next - 1) blocks sound) (below_next (get_or shifts 0 d).begin blocks next le sound ascend begun)))))
-
-drop_later : {X : Type 0} (P : X → Type 0) (to place : ℕ) (xs : List X) → to ≤ place → AllByRecursion P (drop to xs) → AllByRecursion P (drop place xs)
-drop_later P zero place xs le h = every_last P place xs h
-drop_later P (suc to) zero xs le h = absurd (omega arith)
-drop_later P (suc to) (suc place) [] le h = tt
-drop_later P (suc to) (suc place) (x ∷ xs) le h = drop_later P to place xs (omega arith) h
-
-pub moves_end : (shifts : List ShiftRange) (d : ShiftRange) (m : ℕ) (blocks : List Block) (to place : ℕ) → IsShift shifts → length shifts ≡ suc m → to ≤ place → AllByRecursion (λ block. (get_or shifts m d).end < block.first) (drop to blocks) → map (moved_block shifts) (take place blocks) ++ drop place blocks ≡ map (moved_block shifts) blocks
-moves_end shifts d m blocks to place shift len le above =
-    ap (λ bs. map (moved_block shifts) (take place blocks) ++ bs) (sym (map_own (moved_block shifts) (drop place blocks) (every_weaker (λ block. (get_or shifts m d).end < block.first) (λ block. moved_block shifts block ≡ block) (drop place blocks) (λ block lt. above_stays shifts block (ends_to block.first m shifts d shift len lt)) (drop_later (λ block. (get_or shifts m d).end < block.first) to place blocks le above))))
-    ∙ sym (map-append (moved_block shifts) (take place blocks) (drop place blocks))
-    ∙ ap (map (moved_block shifts)) (take-append-drop place blocks)
-
-pub moves_none : (blocks : List Block) → map (moved_block []) blocks ≡ blocks
-moves_none blocks = map_own (moved_block []) blocks (every (λ block. moved_block [] block ≡ block) blocks (λ block. block_stays [] block tt))

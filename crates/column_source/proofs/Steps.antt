@@ -1,76 +1,157 @@
 -- Blocks as of a step.
-use Rattle.std.proofs.Common.{◌≡◌, refl, ap, sym, ◌∙◌, subst, Bool, true, false, ℕ, zero, suc, ◌+◌, ◌<◌, ◌≤◌, arith, List, [], ◌∷◌, ◌++◌, length, take, drop, set, get_or, map, cond, nat_eq, leb, leb-true, leb-false}
-use Rattle.std.specs.List.{AllByRecursion}
-use Rattle.std.specs.List.Sorted.{IsPartitionPoint, IsPartitionedBy, IsNonDecreasingBy}
-use Rattle.std.proofs.lemmas.List.Sorted.{IsPartitionedBy-leb}
+use Rattle.std.proofs.Common.{◌≡◌, refl, ap, sym, ◌∙◌, subst, true, false, ℕ, zero, suc, ◌+◌, ◌<◌, ◌≤◌, arith, List, [], ◌∷◌, ◌++◌, length, take, drop, set, get_or, map, cond, nat_eq, leb, leb-true, leb-false}
+use Rattle.std.specs.List.{AllByRecursion, insert}
+use Rattle.std.specs.List.Sorted.{IsPartitionPoint, IsNonDecreasingBy, IsNonDecreasing}
 use Rattle.std.proofs.lemmas.Bool.{ne_eqb, eq-eqb}
-use Rattle.std.proofs.Math.ListN.{get_or-map}
-use Rattle.std.proofs.lemmas.List.{length-map, take-map, drop-map}
-use Rattle.key_lists.proofs.Every.{every_weaker, every-map, map_map, map_same}
+use Rattle.std.proofs.lemmas.List.{length-map, take-map, drop-map, get_or-map}
+use Rattle.key_lists.proofs.Every.{every_weaker, every_unmapped}
+use Rattle.tick_model.specs.declared.update.ShiftRange.{ShiftRange}
+use Rattle.tick_model.specs.Rules.{landed}
 use Rattle.column_source.specs.declared.block.Block.{Block}
 use Rattle.column_source.specs.declared.blocks.Stamped.{Stamped}
-use Rattle.column_source.specs.Blocks.{IsBlock, IsCopy, AreApart, AreCopies, begun_block, rows}
-use Rattle.column_source.specs.Entries.{Ascend}
+use Rattle.column_source.specs.Blocks.{AreApart, AreCopies, begun_block}
+use Rattle.column_source.specs.Moves.{moved_block}
 use Rattle.column_source.specs.Slots.{filled}
-use Rattle.column_source.specs.Steps.{as_of, as_of_step, AreStamped, untouched, IsStampedCopy}
-use Rattle.column_source.proofs.Parts.{front_part, back_part}
-use Rattle.column_source.proofs.Listings.{firsts_rise, ends_parted}
+use Rattle.column_source.specs.Firsts.{FirstKeys}
+use Rattle.column_source.specs.Steps.{as_of, len_at, each_as_of, as_of_step, AreStamped, untouched, IsStampedCopy}
+use Rattle.column_source.proofs.Parts.{front_part, back_part, every_at}
+use Rattle.column_source.proofs.Listings.{each_apart}
 
--- a block that the step touched, and the first key of any
-pub touched : (step : ℕ) (stamped : Stamped) → stamped.step ≡ step → as_of step stamped ≡ stamped.block
-touched step stamped e = ap (λ b. cond b stamped.block (begun_block stamped.block)) (eq-eqb stamped.step step e)
+-- a block that the step touched
+pub touched : (step first before : ℕ) (item : Stamped) → item.step ≡ step → as_of step first before item ≡ record { first = first; first_before = before; len_before = item.len_before; slots = item.slots }
+touched step first before item e = ap (λ b. record { first = first; first_before = before; len_before = cond b item.len_before (filled item.slots.items); slots = item.slots }) (eq-eqb item.step step e)
 
-pub first_as_of : (step : ℕ) (stamped : Stamped) → (as_of step stamped).first ≡ stamped.block.first
-first_as_of step stamped = elim (nat_eq stamped.step step) as (λ b. (cond b stamped.block (begun_block stamped.block)).first ≡ stamped.block.first) [ true ↦ refl | false ↦ refl ]
+-- as many blocks as there are first keys
+pub length_seen : (step : ℕ) (firsts befores : List ℕ) (items : List Stamped) → length firsts ≡ length items → length befores ≡ length items → length (each_as_of step firsts befores items) ≡ length items
+length_seen step [] [] [] now before = refl
+length_seen step [] [] (item ∷ items) now before = absurd (omega arith)
+length_seen step [] (b ∷ befores) items now before = absurd (omega arith)
+length_seen step (f ∷ firsts) [] items now before = absurd (omega arith)
+length_seen step (f ∷ firsts) (b ∷ befores) [] now before = absurd (omega arith)
+length_seen step (f ∷ firsts) (b ∷ befores) (item ∷ items) now before = ap suc (length_seen step firsts befores items (omega arith) (omega arith))
 
--- the element at a place of a mapped list, and one that is put there
-pub seen_at : {X Y : Type 0} (f : X → Y) (xs : List X) (i : ℕ) (x : X) (y : Y) → i < length xs → x ≡ get_or xs i x → y ≡ get_or (map f xs) i y → y ≡ f x
-seen_at f [] i x y lt at seen = absurd (omega arith)
-seen_at f (z ∷ xs) zero x y lt at seen = seen ∙ ap f (sym at)
-seen_at f (z ∷ xs) (suc i) x y lt at seen = seen_at f xs i x y (omega arith) at seen
+-- the block at a place
+pub seen_at : (step : ℕ) (firsts befores : List ℕ) (items : List Stamped) (i : ℕ) (item : Stamped) (block : Block) → length firsts ≡ length items → length befores ≡ length items → i < length items → item ≡ get_or items i item → block ≡ get_or (each_as_of step firsts befores items) i block → block ≡ as_of step (get_or firsts i 0) (get_or befores i 0) item
+seen_at step firsts befores [] i item block now before lt at seen = absurd (omega arith)
+seen_at step [] befores (x ∷ items) i item block now before lt at seen = absurd (omega arith)
+seen_at step (f ∷ firsts) [] (x ∷ items) i item block now before lt at seen = absurd (omega arith)
+seen_at step (f ∷ firsts) (b ∷ befores) (x ∷ items) zero item block now before lt at seen = seen ∙ ap (as_of step f b) (sym at)
+seen_at step (f ∷ firsts) (b ∷ befores) (x ∷ items) (suc i) item block now before lt at seen = seen_at step firsts befores items i item block (omega arith) (omega arith) (omega arith) at seen
 
-pub at_seen : {X Y : Type 0} (f : X → Y) (xs : List X) (i : ℕ) (x : X) (d : Y) → i < length xs → x ≡ get_or xs i x → f x ≡ get_or (map f xs) i d
-at_seen f [] i x d lt at = absurd (omega arith)
-at_seen f (z ∷ xs) zero x d lt at = ap f at
-at_seen f (z ∷ xs) (suc i) x d lt at = at_seen f xs i x d (omega arith) at
+-- the same of a column's blocks
+pub many_seen : (step : ℕ) (firsts : FirstKeys) (items : List Stamped) (blocks : List Block) → AreStamped step firsts items → as_of_step step firsts items ≡ blocks → length items ≡ length blocks
+many_seen step firsts items blocks has same = sym (length_seen step firsts.now firsts.before items has.now has.before) ∙ ap length same
 
-pub map_put : {X Y : Type 0} (f : X → Y) (xs : List X) (i : ℕ) (x : X) (y : Y) → f x ≡ y → map f (set xs i x) ≡ set (map f xs) i y
-map_put f [] i x y e = refl
-map_put f (z ∷ xs) zero x y e = ap (λ w. w ∷ map f xs) e
-map_put f (z ∷ xs) (suc i) x y e = ap (λ ys. f z ∷ ys) (map_put f xs i x y e)
+pub block_at : (step : ℕ) (firsts : FirstKeys) (items : List Stamped) (blocks : List Block) (i : ℕ) (item : Stamped) (block : Block) → AreStamped step firsts items → as_of_step step firsts items ≡ blocks → i < length blocks → item ≡ get_or items i item → block ≡ get_or blocks i block → block ≡ as_of step (get_or firsts.now i 0) (get_or firsts.before i 0) item
+block_at step firsts items blocks i item block has same lt own at =
+    seen_at step firsts.now firsts.before items i item block has.now has.before (omega (arith, lt, many_seen step firsts items blocks has same)) own (at ∙ ap (λ bs. get_or bs i block) (sym same))
 
-pub put_twice : {X : Type 0} (xs : List X) (i : ℕ) (x y : X) → set (set xs i x) i y ≡ set xs i y
-put_twice [] i x y = refl
-put_twice (z ∷ xs) zero x y = refl
-put_twice (z ∷ xs) (suc i) x y = ap (λ ys. z ∷ ys) (put_twice xs i x y)
+-- the first keys of the blocks
+pub firsts_seen : (step : ℕ) (firsts befores : List ℕ) (items : List Stamped) → length firsts ≡ length items → length befores ≡ length items → map (λ block. block.first) (each_as_of step firsts befores items) ≡ firsts
+firsts_seen step [] befores items now before = refl
+firsts_seen step (f ∷ firsts) befores [] now before = absurd (omega arith)
+firsts_seen step (f ∷ firsts) [] (item ∷ items) now before = absurd (omega arith)
+firsts_seen step (f ∷ firsts) (b ∷ befores) (item ∷ items) now before = ap (λ fs. f ∷ fs) (firsts_seen step firsts befores items (omega arith) (omega arith))
 
--- the stamps of a list with one put in place of another
-pub stamped_put : (step : ℕ) (items : List Stamped) (i : ℕ) (new : Stamped) → new.step ≡ step → AreStamped step items → AreStamped step (set items i new)
-stamped_put step [] i new e h = tt
-stamped_put step (item ∷ items) zero new e h = (omega arith, h.1)
-stamped_put step (item ∷ items) (suc i) new e h = (h.0, stamped_put step items i new e h.1)
+pub befores_seen : (step : ℕ) (firsts befores : List ℕ) (items : List Stamped) → length firsts ≡ length items → length befores ≡ length items → map (λ block. block.first_before) (each_as_of step firsts befores items) ≡ befores
+befores_seen step [] [] items now before = refl
+befores_seen step [] (b ∷ befores) items now before = absurd (omega arith)
+befores_seen step (f ∷ firsts) befores [] now before = absurd (omega arith)
+befores_seen step (f ∷ firsts) [] (item ∷ items) now before = absurd (omega arith)
+befores_seen step (f ∷ firsts) (b ∷ befores) (item ∷ items) now before = ap (λ bs. b ∷ bs) (befores_seen step firsts befores items (omega arith) (omega arith))
+
+-- a block put in place of another
+pub seen_put : (step : ℕ) (firsts befores : List ℕ) (items : List Stamped) (i f b : ℕ) (item : Stamped) → each_as_of step (set firsts i f) (set befores i b) (set items i item) ≡ set (each_as_of step firsts befores items) i (as_of step f b item)
+seen_put step [] befores items i f b item = refl
+seen_put step (first ∷ firsts) [] items zero f b item = refl
+seen_put step (first ∷ firsts) [] items (suc i) f b item = refl
+seen_put step (first ∷ firsts) (before ∷ befores) [] zero f b item = refl
+seen_put step (first ∷ firsts) (before ∷ befores) [] (suc i) f b item = refl
+seen_put step (first ∷ firsts) (before ∷ befores) (x ∷ items) zero f b item = refl
+seen_put step (first ∷ firsts) (before ∷ befores) (x ∷ items) (suc i) f b item = ap (λ bs. as_of step first before x ∷ bs) (seen_put step firsts befores items i f b item)
+
+-- other slots put in place of those of a block
+pub seen_with : (step : ℕ) (firsts befores : List ℕ) (items : List Stamped) (i : ℕ) (item : Stamped) → each_as_of step firsts befores (set items i item) ≡ set (each_as_of step firsts befores items) i (as_of step (get_or firsts i 0) (get_or befores i 0) item)
+seen_with step [] befores items i item = refl
+seen_with step (first ∷ firsts) [] items zero item = refl
+seen_with step (first ∷ firsts) [] items (suc i) item = refl
+seen_with step (first ∷ firsts) (before ∷ befores) [] zero item = refl
+seen_with step (first ∷ firsts) (before ∷ befores) [] (suc i) item = refl
+seen_with step (first ∷ firsts) (before ∷ befores) (x ∷ items) zero item = refl
+seen_with step (first ∷ firsts) (before ∷ befores) (x ∷ items) (suc i) item = ap (λ bs. as_of step first before x ∷ bs) (seen_with step firsts befores items i item)
+
+-- a block put between others
+pub seen_insert : (step : ℕ) (firsts befores : List ℕ) (items : List Stamped) (i f b : ℕ) (item : Stamped) → length firsts ≡ length items → length befores ≡ length items → i ≤ length items → each_as_of step (insert firsts i f) (insert befores i b) (insert items i item) ≡ insert (each_as_of step firsts befores items) i (as_of step f b item)
+seen_insert step firsts befores items zero f b item now before le = refl
+seen_insert step firsts befores [] (suc i) f b item now before le = absurd (omega arith)
+seen_insert step [] befores (x ∷ items) (suc i) f b item now before le = absurd (omega arith)
+seen_insert step (first ∷ firsts) [] (x ∷ items) (suc i) f b item now before le = absurd (omega arith)
+seen_insert step (first ∷ firsts) (own ∷ befores) (x ∷ items) (suc i) f b item now before le = ap (λ bs. as_of step first own x ∷ bs) (seen_insert step firsts befores items i f b item (omega arith) (omega arith) (omega arith))
+
+-- blocks taken off
+seen_drop : (step : ℕ) (firsts befores : List ℕ) (items : List Stamped) (to : ℕ) → length firsts ≡ length items → length befores ≡ length items → each_as_of step (drop to firsts) (drop to befores) (drop to items) ≡ drop to (each_as_of step firsts befores items)
+seen_drop step firsts befores items zero now before = refl
+seen_drop step [] befores items (suc to) now before = refl
+seen_drop step (first ∷ firsts) befores [] (suc to) now before = absurd (omega arith)
+seen_drop step (first ∷ firsts) [] (x ∷ items) (suc to) now before = absurd (omega arith)
+seen_drop step (first ∷ firsts) (own ∷ befores) (x ∷ items) (suc to) now before = seen_drop step firsts befores items to (omega arith) (omega arith)
+
+pub seen_remove : (step : ℕ) (firsts befores : List ℕ) (items : List Stamped) (from to : ℕ) → length firsts ≡ length items → length befores ≡ length items → from ≤ to → to ≤ length items → each_as_of step (take from firsts ++ drop to firsts) (take from befores ++ drop to befores) (take from items ++ drop to items) ≡ take from (each_as_of step firsts befores items) ++ drop to (each_as_of step firsts befores items)
+seen_remove step firsts befores items zero to now before le within = seen_drop step firsts befores items to now before
+seen_remove step firsts befores items (suc from) zero now before le within = absurd (omega arith)
+seen_remove step firsts befores [] (suc from) (suc to) now before le within = absurd (omega arith)
+seen_remove step [] befores (x ∷ items) (suc from) (suc to) now before le within = absurd (omega arith)
+seen_remove step (first ∷ firsts) [] (x ∷ items) (suc from) (suc to) now before le within = absurd (omega arith)
+seen_remove step (first ∷ firsts) (own ∷ befores) (x ∷ items) (suc from) (suc to) now before le within = ap (λ bs. as_of step first own x ∷ bs) (seen_remove step firsts befores items from to (omega arith) (omega arith) (omega arith) (omega arith))
+
+pub length_removed : {X : Type 0} (xs : List X) (from to : ℕ) → from ≤ to → to ≤ length xs → length (take from xs ++ drop to xs) + to ≡ from + length xs
+length_removed xs zero zero le within = omega arith
+length_removed [] from (suc to) le within = absurd (omega arith)
+length_removed (x ∷ xs) zero (suc to) le within = let rest : length (take 0 xs ++ drop to xs) + to ≡ 0 + length xs = length_removed xs zero to (omega arith) (omega arith) in omega (arith, rest)
+length_removed xs (suc from) zero le within = absurd (omega arith)
+length_removed (x ∷ xs) (suc from) (suc to) le within = let rest : length (take from xs ++ drop to xs) + to ≡ from + length xs = length_removed xs from to (omega arith) (omega arith) in omega (arith, rest)
+
+-- the stamps of lists with one put, put between or taken off
+pub every_inserted : {X : Type 0} (P : X → Type 0) (xs : List X) (i : ℕ) (new : X) → P new → AllByRecursion P xs → AllByRecursion P (insert xs i new)
+every_inserted P xs zero new own h = (own, h)
+every_inserted P [] (suc i) new own h = (own, tt)
+every_inserted P (x ∷ xs) (suc i) new own h = (h.0, every_inserted P xs i new own h.1)
+
+pub every_removed : {X : Type 0} (P : X → Type 0) (xs : List X) (from to : ℕ) → AllByRecursion P xs → AllByRecursion P (take from xs ++ drop to xs)
+every_removed P xs zero zero h = h
+every_removed P [] zero (suc to) h = tt
+every_removed P (x ∷ xs) zero (suc to) h = every_removed P xs zero to h.1
+every_removed P [] (suc from) zero h = tt
+every_removed P [] (suc from) (suc to) h = tt
+every_removed P (x ∷ xs) (suc from) zero h = (h.0, every_removed_front P (x ∷ xs) xs from h h.1)
+  where
+    every_removed_front : {X : Type 0} (P : X → Type 0) (all xs : List X) (from : ℕ) → AllByRecursion P all → AllByRecursion P xs → AllByRecursion P (take from xs ++ all)
+    every_removed_front P all xs zero h own = h
+    every_removed_front P all [] (suc from) h own = h
+    every_removed_front P all (x ∷ xs) (suc from) h own = (own.0, every_removed_front P all xs from h own.1)
+every_removed P (x ∷ xs) (suc from) (suc to) h = (h.0, every_removed P xs from to h.1)
 
 -- the blocks of a step that begins
-begun_twice : (step : ℕ) (stamped : Stamped) → begun_block (as_of step stamped) ≡ begun_block stamped.block
-begun_twice step stamped = elim (nat_eq stamped.step step) as (λ b. begun_block (cond b stamped.block (begun_block stamped.block)) ≡ begun_block stamped.block) [ true ↦ refl | false ↦ refl ]
+pub seen_begun : (step : ℕ) (firsts befores : List ℕ) (items : List Stamped) → length firsts ≡ length items → length befores ≡ length items → AllByRecursion (λ stamped. stamped.step ≤ step) items → each_as_of (step + 1) firsts firsts items ≡ map begun_block (each_as_of step firsts befores items)
+seen_begun step [] befores items now before stamps = refl
+seen_begun step (f ∷ firsts) befores [] now before stamps = absurd (omega arith)
+seen_begun step (f ∷ firsts) [] (item ∷ items) now before stamps = absurd (omega arith)
+seen_begun step (f ∷ firsts) (b ∷ befores) (item ∷ items) now before stamps =
+    ap (λ t. record { first = f; first_before = f; len_before = cond t item.len_before (filled item.slots.items); slots = item.slots } ∷ each_as_of (step + 1) firsts firsts items) (ne_eqb item.step (step + 1) (λ e. omega (arith, e, stamps.0)))
+    ∙ ap (λ bs. begun_block (as_of step f b item) ∷ bs) (seen_begun step firsts befores items (omega arith) (omega arith) stamps.1)
 
-pub begun_as_of : (step : ℕ) (items : List Stamped) → AreStamped step items → as_of_step (step + 1) items ≡ map begun_block (as_of_step step items)
-begun_as_of step items h =
-    map_same (as_of (step + 1)) (λ stamped. begun_block (as_of step stamped)) items
-    (every_weaker (λ stamped. stamped.step ≤ step) (λ stamped. as_of (step + 1) stamped ≡ begun_block (as_of step stamped)) items
-    (λ stamped le. ap (λ b. cond b stamped.block (begun_block stamped.block)) (ne_eqb stamped.step (step + 1) (λ e. omega arith)) ∙ sym (begun_twice step stamped)) h)
-    ∙ sym (map_map begun_block (as_of step) items)
+pub seen_untouched : (step : ℕ) (firsts befores : List ℕ) (items : List Stamped) → length firsts ≡ length items → length befores ≡ length items → each_as_of 1 firsts firsts (map untouched items) ≡ map begun_block (each_as_of step firsts befores items)
+seen_untouched step [] befores items now before = refl
+seen_untouched step (f ∷ firsts) befores [] now before = absurd (omega arith)
+seen_untouched step (f ∷ firsts) [] (item ∷ items) now before = absurd (omega arith)
+seen_untouched step (f ∷ firsts) (b ∷ befores) (item ∷ items) now before = ap (λ bs. begun_block (as_of step f b item) ∷ bs) (seen_untouched step firsts befores items (omega arith) (omega arith))
 
-pub begun_untouched : (step : ℕ) (items : List Stamped) → as_of_step 1 (map untouched items) ≡ map begun_block (as_of_step step items)
-begun_untouched step [] = refl
-begun_untouched step (item ∷ items) = ap (λ b. b ∷ as_of_step 1 (map untouched items)) (sym (begun_twice step item)) ∙ ap (λ bs. begun_block (as_of step item) ∷ bs) (begun_untouched step items)
+pub stamps_later : (step : ℕ) (items : List Stamped) → AllByRecursion (λ stamped. stamped.step ≤ step) items → AllByRecursion (λ stamped. stamped.step ≤ step + 1) items
+stamps_later step items = every_weaker (λ stamped. stamped.step ≤ step) (λ stamped. stamped.step ≤ step + 1) items (λ stamped le. omega arith)
 
-pub stamped_later : (step : ℕ) (items : List Stamped) → AreStamped step items → AreStamped (step + 1) items
-stamped_later step items = every_weaker (λ stamped. stamped.step ≤ step) (λ stamped. stamped.step ≤ step + 1) items (λ stamped le. omega arith)
-
-pub stamped_untouched : (step : ℕ) (items : List Stamped) → AreStamped step (map untouched items)
-stamped_untouched step [] = tt
-stamped_untouched step (item ∷ items) = (omega arith, stamped_untouched step items)
+pub stamps_untouched : (step : ℕ) (items : List Stamped) → AllByRecursion (λ stamped. stamped.step ≤ step) (map untouched items)
+stamps_untouched step [] = tt
+stamps_untouched step (item ∷ items) = (omega arith, stamps_untouched step items)
 
 -- one element more that was mapped in place
 pub mapped_more : {X : Type 0} (f : X → X) (old : List X) (m : ℕ) (held : X) → m < length old → held ≡ get_or (map f (take m old) ++ drop m old) m held → set (map f (take m old) ++ drop m old) m (f held) ≡ map f (take (suc m) old) ++ drop (suc m) old
@@ -78,19 +159,19 @@ mapped_more f [] m held lt at = absurd (omega arith)
 mapped_more f (x ∷ old) zero held lt at = ap (λ b. f b ∷ old) at
 mapped_more f (x ∷ old) (suc m) held lt at = ap (λ bs. f x ∷ bs) (mapped_more f old m held (omega arith) at)
 
--- a search over the list is one over the mapped list
-pub parted_unmapped : {X Y : Type 0} (p : Y → Bool) (f : X → Y) (xs : List X) → IsPartitionedBy p (map f xs) → IsPartitionedBy (λ x. p (f x)) xs
-parted_unmapped p f xs h i j d le lt e =
-    subst (λ y. p y ≡ true) (get_or-map f xs i d) (h i j (f d) le (omega (arith, lt, length-map xs f)) (subst (λ y. p y ≡ true) (sym (get_or-map f xs j d)) e))
+-- blocks that move
+pub seen_moved : (shifts : List ShiftRange) (step : ℕ) (firsts befores : List ℕ) (items : List Stamped) → each_as_of step (landed shifts firsts) befores items ≡ map (moved_block shifts) (each_as_of step firsts befores items)
+seen_moved shifts step [] befores items = refl
+seen_moved shifts step (f ∷ firsts) [] items = refl
+seen_moved shifts step (f ∷ firsts) (b ∷ befores) [] = refl
+seen_moved shifts step (f ∷ firsts) (b ∷ befores) (item ∷ items) = ap (λ bs. moved_block shifts (as_of step f b item) ∷ bs) (seen_moved shifts step firsts befores items)
 
 -- copies
-copied_as_of : (step : ℕ) (stamped copy : Stamped) → IsStampedCopy stamped copy → IsCopy (as_of step stamped) (as_of step copy)
-copied_as_of step stamped copy h =
-    subst (λ n. IsCopy (as_of step stamped) (cond (nat_eq n step) copy.block (begun_block copy.block))) (sym h.step)
-    (elim (nat_eq stamped.step step) as (λ b. IsCopy (cond b stamped.block (begun_block stamped.block)) (cond b copy.block (begun_block copy.block))) [
-      | true ↦ h.block
-      | false ↦ record { first = h.block.first; first_before = h.block.first; len_before = ap filled h.block.slots; slots = h.block.slots }
-    ])
+copied_len : (step : ℕ) (stamped copy : Stamped) → IsStampedCopy stamped copy → len_at step copy ≡ len_at step stamped
+copied_len step stamped copy h =
+    ap (λ n. cond (nat_eq n step) copy.len_before (filled copy.slots.items)) h.step
+    ∙ ap (λ n. cond (nat_eq stamped.step step) n (filled copy.slots.items)) h.len_before
+    ∙ ap (λ slots. cond (nat_eq stamped.step step) stamped.len_before (filled slots)) h.slots
 
 -- item by item
 abbrev pub AreStampedCopies : List Stamped → List Stamped → Type 0
@@ -99,13 +180,22 @@ AreStampedCopies [] (copy ∷ copies) = ⊥
 AreStampedCopies (item ∷ items) [] = ⊥
 AreStampedCopies (item ∷ items) (copy ∷ copies) = IsStampedCopy item copy × AreStampedCopies items copies
 
-pub copies_as_of : (step : ℕ) (items copies : List Stamped) → AreStampedCopies items copies → AreCopies (as_of_step step items) (as_of_step step copies)
-copies_as_of step [] [] h = tt
-copies_as_of step [] (copy ∷ copies) h = absurd h
-copies_as_of step (item ∷ items) [] h = absurd h
-copies_as_of step (item ∷ items) (copy ∷ copies) h = (copied_as_of step item copy h.0, copies_as_of step items copies h.1)
+pub copies_seen : (step : ℕ) (firsts befores : List ℕ) (items copies : List Stamped) → AreStampedCopies items copies → AreCopies (each_as_of step firsts befores items) (each_as_of step firsts befores copies)
+copies_seen step [] befores items copies h = tt
+copies_seen step (f ∷ firsts) [] items copies h = tt
+copies_seen step (f ∷ firsts) (b ∷ befores) [] [] h = tt
+copies_seen step (f ∷ firsts) (b ∷ befores) [] (copy ∷ copies) h = absurd h
+copies_seen step (f ∷ firsts) (b ∷ befores) (item ∷ items) [] h = absurd h
+copies_seen step (f ∷ firsts) (b ∷ befores) (item ∷ items) (copy ∷ copies) h =
+    (record { first = refl; first_before = refl; len_before = copied_len step item copy h.0; slots = h.0.slots }, copies_seen step firsts befores items copies h.1)
 
-pub copies_stamped : (step : ℕ) (items copies : List Stamped) → AreStampedCopies items copies → AreStamped step items → AreStamped step copies
+pub length_copies : (items copies : List Stamped) → AreStampedCopies items copies → length copies ≡ length items
+length_copies [] [] h = refl
+length_copies [] (copy ∷ copies) h = absurd h
+length_copies (item ∷ items) [] h = absurd h
+length_copies (item ∷ items) (copy ∷ copies) h = ap suc (length_copies items copies h.1)
+
+pub copies_stamped : (step : ℕ) (items copies : List Stamped) → AreStampedCopies items copies → AllByRecursion (λ stamped. stamped.step ≤ step) items → AllByRecursion (λ stamped. stamped.step ≤ step) copies
 copies_stamped step items [] h stamped = tt
 copies_stamped step [] (copy ∷ copies) h stamped = absurd h
 copies_stamped step (item ∷ items) (copy ∷ copies) h stamped = (omega (arith, h.0.step, stamped.0), copies_stamped step items copies h.1 stamped.1)
@@ -123,42 +213,50 @@ copies_more items copies i item copy lt at own h = subst (λ n. AreStampedCopies
     next : (n : ℕ) → suc n ≡ n + 1
     next n = omega arith
 
--- searches among blocks as of a step
-rise_unmapped : {X Y : Type 0} (n : Y → ℕ) (m : X → ℕ) (f : X → Y) (xs : List X) → ((x : X) → n (f x) ≡ m x) → IsNonDecreasingBy n (map f xs) → IsNonDecreasingBy m xs
-rise_unmapped n m f xs same h i j d le lt =
-    omega (arith, h i j (f d) le (omega (arith, lt, length-map xs f)), ap n (get_or-map f xs i d), same (get_or xs i d), ap n (get_or-map f xs j d), same (get_or xs j d))
+-- a search among the first keys is one among the blocks
+pub rise_mapped : {X : Type 0} (n : X → ℕ) (xs : List X) → IsNonDecreasingBy n xs → IsNonDecreasing (map n xs)
+rise_mapped n [] h i j d le lt = absurd (omega arith)
+rise_mapped n (x ∷ xs) h i j d le lt =
+    let within : j < length (x ∷ xs) = omega (arith, lt, length-map (x ∷ xs) n) in
+    omega (arith, h i j x le within, get_or-map n (x ∷ xs) i x d (omega (arith, le, within)), get_or-map n (x ∷ xs) j x d within)
 
-pub firsts_parted_seen : (step key : ℕ) (list : List Stamped) (blocks : List Block) → as_of_step step list ≡ blocks → AllByRecursion IsBlock blocks → Ascend (rows blocks) → IsPartitionedBy (λ stamped. leb stamped.block.first key) list
-firsts_parted_seen step key list blocks same sound ascend =
-    IsPartitionedBy-leb (λ stamped. stamped.block.first) list key
-    (rise_unmapped (λ block. block.first) (λ stamped. stamped.block.first) (as_of step) list (first_as_of step) (subst (IsNonDecreasingBy (λ block. block.first)) (sym same) (firsts_rise blocks sound ascend)))
+pub front_seen : (n : Block → ℕ) (key : ℕ) (blocks : List Block) (keys : List ℕ) (i : ℕ) → map n blocks ≡ keys → IsPartitionPoint (λ k. leb k key ≡ true) (λ k. leb k key ≡ false) keys i → AllByRecursion (λ block. n block ≤ key) (take i blocks)
+front_seen n key blocks keys i same h =
+    every_unmapped (λ k. k ≤ key) n (take i blocks) (subst (AllByRecursion (λ k. k ≤ key)) (ap (take i) (sym same) ∙ take-map n i blocks)
+    (every_weaker (λ k. leb k key ≡ true) (λ k. k ≤ key) (take i keys) (λ k e. leb-true k key e) (front_part (λ k. leb k key) keys i h)))
 
-pub ends_parted_seen : (step key : ℕ) (list : List Stamped) (blocks : List Block) → as_of_step step list ≡ blocks → AreApart 0 blocks → IsPartitionedBy (λ stamped. leb ((as_of step stamped).first_before + (as_of step stamped).len_before) key) list
-ends_parted_seen step key list blocks same apart =
-    parted_unmapped (λ block. leb (block.first_before + block.len_before) key) (as_of step) list (subst (IsPartitionedBy (λ block. leb (block.first_before + block.len_before) key)) (sym same) (ends_parted key blocks apart))
+pub back_seen : (n : Block → ℕ) (key : ℕ) (blocks : List Block) (keys : List ℕ) (i : ℕ) → map n blocks ≡ keys → IsPartitionPoint (λ k. leb k key ≡ true) (λ k. leb k key ≡ false) keys i → AllByRecursion (λ block. key < n block) (drop i blocks)
+back_seen n key blocks keys i same h =
+    every_unmapped (λ k. key < k) n (drop i blocks) (subst (AllByRecursion (λ k. key < k)) (ap (drop i) (sym same) ∙ drop-map n i blocks)
+    (every_weaker (λ k. leb k key ≡ false) (λ k. key < k) (drop i keys) (λ k e. leb-false k key e) (back_part (λ k. leb k key) keys i h)))
 
-pub taken_seen : (P : Block → Type 0) (step : ℕ) (list : List Stamped) (blocks : List Block) (i : ℕ) → as_of_step step list ≡ blocks → AllByRecursion (λ stamped. P (as_of step stamped)) (take i list) → AllByRecursion P (take i blocks)
-taken_seen P step list blocks i same h = subst (AllByRecursion P) (sym (take-map (as_of step) i list) ∙ ap (take i) same) (every-map P (as_of step) (take i list) h)
+-- blocks that ended by a key, where the last that began by it is looked at
+pub ended_front : (key low last : ℕ) (blocks : List Block) → AreApart low blocks → last < length blocks → AllByRecursion (λ block. block.first_before ≤ key) (take (suc last) blocks) → AllByRecursion (λ block. block.first_before + block.len_before ≤ key) (take last blocks)
+ended_front key low zero blocks apart lt begun = tt
+ended_front key low (suc last) [] apart lt begun = absurd (omega arith)
+ended_front key low (suc last) (block ∷ []) apart lt begun = absurd (omega arith)
+ended_front key low (suc last) (block ∷ next ∷ blocks) apart lt begun =
+    (omega (arith, apart.1.0, begun.1.0), ended_front key (block.first_before + block.len_before) last (next ∷ blocks) apart.1 (omega arith) begun.1)
 
-pub left_seen : (P : Block → Type 0) (step : ℕ) (list : List Stamped) (blocks : List Block) (i : ℕ) → as_of_step step list ≡ blocks → AllByRecursion (λ stamped. P (as_of step stamped)) (drop i list) → AllByRecursion P (drop i blocks)
-left_seen P step list blocks i same h = subst (AllByRecursion P) (sym (drop-map (as_of step) i list) ∙ ap (drop i) same) (every-map P (as_of step) (drop i list) h)
+pub one_more : {X : Type 0} (P : X → Type 0) (xs : List X) (i : ℕ) (x : X) → i < length xs → x ≡ get_or xs i x → P x → AllByRecursion P (take i xs) → AllByRecursion P (take (suc i) xs)
+one_more P [] i x lt at own h = absurd (omega arith)
+one_more P (y ∷ xs) zero x lt at own h = (subst P at own, tt)
+one_more P (y ∷ xs) (suc i) x lt at own h = (h.0, one_more P xs i x (omega arith) at own h.1)
 
-pub begun_seen : (step key : ℕ) (list : List Stamped) (blocks : List Block) (i : ℕ) → as_of_step step list ≡ blocks → IsPartitionPoint (λ stamped. leb stamped.block.first key ≡ true) (λ stamped. leb stamped.block.first key ≡ false) list i → AllByRecursion (λ block. block.first ≤ key) (take i blocks)
-begun_seen step key list blocks i same h =
-    taken_seen (λ block. block.first ≤ key) step list blocks i same
-    (every_weaker (λ stamped. leb stamped.block.first key ≡ true) (λ stamped. (as_of step stamped).first ≤ key) (take i list) (λ stamped e. omega (arith, leb-true stamped.block.first key e, first_as_of step stamped)) (front_part (λ stamped. leb stamped.block.first key) list i h))
+pub one_before : {X : Type 0} (P : X → Type 0) (xs : List X) (i : ℕ) (x : X) → i < length xs → x ≡ get_or xs i x → P x → AllByRecursion P (drop (suc i) xs) → AllByRecursion P (drop i xs)
+one_before P [] i x lt at own h = absurd (omega arith)
+one_before P (y ∷ xs) zero x lt at own h = (subst P at own, h)
+one_before P (y ∷ xs) (suc i) x lt at own h = one_before P xs i x (omega arith) at own h
 
-pub not_begun_seen : (step key : ℕ) (list : List Stamped) (blocks : List Block) (i : ℕ) → as_of_step step list ≡ blocks → IsPartitionPoint (λ stamped. leb stamped.block.first key ≡ true) (λ stamped. leb stamped.block.first key ≡ false) list i → AllByRecursion (λ block. key < block.first) (drop i blocks)
-not_begun_seen step key list blocks i same h =
-    left_seen (λ block. key < block.first) step list blocks i same
-    (every_weaker (λ stamped. leb stamped.block.first key ≡ false) (λ stamped. key < (as_of step stamped).first) (drop i list) (λ stamped e. omega (arith, leb-false stamped.block.first key e, first_as_of step stamped)) (back_part (λ stamped. leb stamped.block.first key) list i h))
+pub befores_rise : (low : ℕ) (blocks : List Block) → AreApart low blocks → IsNonDecreasingBy (λ block. block.first_before) blocks
+befores_rise low [] h i j d le lt = absurd (omega arith)
+befores_rise low (block ∷ blocks) h zero zero d le lt = omega arith
+befores_rise low (block ∷ blocks) h zero (suc j) d le lt = below_le (get_or blocks j d) (every_there j d (omega arith))
+  where
+    below_le : (other : Block) → block.first_before + block.len_before ≤ other.first_before → block.first_before ≤ other.first_before
+    below_le other le = omega arith
 
-pub ended_seen : (step key : ℕ) (list : List Stamped) (blocks : List Block) (i : ℕ) → as_of_step step list ≡ blocks → IsPartitionPoint (λ stamped. leb ((as_of step stamped).first_before + (as_of step stamped).len_before) key ≡ true) (λ stamped. leb ((as_of step stamped).first_before + (as_of step stamped).len_before) key ≡ false) list i → AllByRecursion (λ block. block.first_before + block.len_before ≤ key) (take i blocks)
-ended_seen step key list blocks i same h =
-    taken_seen (λ block. block.first_before + block.len_before ≤ key) step list blocks i same
-    (every_weaker (λ stamped. leb ((as_of step stamped).first_before + (as_of step stamped).len_before) key ≡ true) (λ stamped. (as_of step stamped).first_before + (as_of step stamped).len_before ≤ key) (take i list) (λ stamped e. leb-true ((as_of step stamped).first_before + (as_of step stamped).len_before) key e) (front_part (λ stamped. leb ((as_of step stamped).first_before + (as_of step stamped).len_before) key) list i h))
-
-pub not_ended_seen : (step key : ℕ) (list : List Stamped) (blocks : List Block) (i : ℕ) → as_of_step step list ≡ blocks → IsPartitionPoint (λ stamped. leb ((as_of step stamped).first_before + (as_of step stamped).len_before) key ≡ true) (λ stamped. leb ((as_of step stamped).first_before + (as_of step stamped).len_before) key ≡ false) list i → AllByRecursion (λ block. key < block.first_before + block.len_before) (drop i blocks)
-not_ended_seen step key list blocks i same h =
-    left_seen (λ block. key < block.first_before + block.len_before) step list blocks i same
-    (every_weaker (λ stamped. leb ((as_of step stamped).first_before + (as_of step stamped).len_before) key ≡ false) (λ stamped. key < (as_of step stamped).first_before + (as_of step stamped).len_before) (drop i list) (λ stamped e. leb-false ((as_of step stamped).first_before + (as_of step stamped).len_before) key e) (back_part (λ stamped. leb ((as_of step stamped).first_before + (as_of step stamped).len_before) key) list i h))
+    every_there : (j : ℕ) (d : Block) → j < length blocks → block.first_before + block.len_before ≤ (get_or blocks j d).first_before
+    every_there j d lt = every_at (λ other. block.first_before + block.len_before ≤ other.first_before) blocks j d lt (each_apart (block.first_before + block.len_before) blocks h.1)
+befores_rise low (block ∷ blocks) h (suc i) zero d le lt = absurd (omega arith)
+befores_rise low (block ∷ blocks) h (suc i) (suc j) d le lt = befores_rise (block.first_before + block.len_before) blocks h.1 i j d (omega arith) (omega arith)

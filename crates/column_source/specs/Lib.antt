@@ -1,5 +1,6 @@
 pub mod Blocks
 pub mod Entries
+pub mod Firsts
 pub mod Notes
 pub mod Slots
 pub mod Drops

@@ -1,7 +1,8 @@
 -- Rows that move to other keys.
-use Rattle.std.specs.Prelude.{ℕ, suc, ◌+◌, ◌-◌, ◌^◌, ◌<◌, ◌≤◌, ◌≡◌, ◌⊎◌, min, List, ◌∷◌, ◌++◌, take, drop, pos, ◌≤ℤ◌}
+use Rattle.std.specs.Prelude.{ℕ, suc, ◌+◌, ◌-◌, ◌^◌, ◌<◌, ◌≤◌, ◌≡◌, ◌⊎◌, min, List, ◌∷◌, ◌++◌, take, drop, pos, ◌+ℤ◌, false}
 use Rattle.std.specs.List.{AllByRecursion}
 use Rattle.tick_model.specs.declared.update.ShiftRange.{ShiftRange}
+use Rattle.tick_model.specs.Rules.{is_past}
 use Rattle.tick_model.specs.Shifts.{moved, as_key}
 use Rattle.column_source.specs.declared.block.Block.{Block}
 use Rattle.column_source.specs.Blocks.{IsBlock, AreApart, rows_of, rows, kept}
@@ -39,10 +40,16 @@ pub record IsCut (key : ℕ) (old new : List Block) : Type 0 where
   pub beside : AllByRecursion (IsBeside key) new
   pub others : (other : ℕ) → AllByRecursion (IsBeside other) old → AllByRecursion (IsBeside other) new
 
--- a block begins where a row stands that moves to a key
-pub record IsMovable (shifts : List ShiftRange) (block : Block) : Type 0 where
-  pub small : block.first < 2 ^ 62
-  pub lands : pos 0 ≤ℤ moved shifts block.first
+-- a row under the key moves to a key
+pub record IsMovable (shifts : List ShiftRange) (key : ℕ) : Type 0 where
+  pub small : key < 2 ^ 62
+  pub inside : is_past (2 ^ 62) (moved shifts key) ≡ false
 
+-- a row under the key moves to a key, where the range holds it
+pub record IsLanding (range : ShiftRange) (key : ℕ) : Type 0 where
+  pub small : key < 2 ^ 62
+  pub inside : range.begin ≤ key → key ≤ range.end → is_past (2 ^ 62) (pos key +ℤ range.delta) ≡ false
+
+-- a block whose rows all move as its first does
 abbrev pub moved_block : List ShiftRange → Block → Block
 moved_block shifts block = record block { first = as_key (moved shifts block.first) }

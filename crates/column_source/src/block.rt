@@ -1,9 +1,9 @@
 //! A block of neighbouring rows.
-ghost use Rattle.std.specs.Prelude.{◌≡◌, ◌+◌, ◌-◌, ◌<◌, ◌≤◌, [], length, nat_le, IfOk, OnOk, OnErr};
+ghost use Rattle.std.specs.Prelude.{◌≡◌, ◌+◌, ◌<◌, ◌≤◌, length, OnOk, OnErr};
 ghost use Rattle.column_source.specs.Entries.{put};
 ghost use Rattle.column_source.specs.Slots.{slot_at, filled};
 
-use std::alloc::{AllocError, Global};
+use std::alloc::AllocError;
 
 /// At most this many slots are in one block.
 pub(crate) const BLOCK_LEN: usize = 512;
@@ -32,48 +32,15 @@ pub(crate) fn filled(slots: &[Option<i64>]) -> usize
     len
 }
 
+/// The cell of a slot, or None where it is empty or past the last.
+pub(crate) fn slot(slots: &[Option<i64>], place: u64) -> Option<i64>
+    ensures { result ≡ slot_at slots.now place }
+{
+    slots.get(place as usize).copied().flatten()
+}
+
 impl Block {
-    ghost use Rattle.column_source.specs.Blocks.{IsBlock, IsCopy, IsWritten, begun_block, rows_of, kept_of};
-
-    /// A block of no slots.
-    pub(crate) fn hollow(alloc: Global) -> Block
-        ensures { result.slots.items ≡ [] }
-    {
-        Block {
-            first: 0,
-            first_before: 0,
-            len_before: 0,
-            slots: Vec::new(alloc),
-        }
-    }
-
-    /// A block of the same rows, now and when the step began.
-    pub(crate) fn copy(&self) -> Result<Block, AllocError>
-        ensures { IfOk result (IsCopy self.now) }
-    {
-        let alloc = *self.slots.allocator();
-        Ok(Block {
-            first: self.first,
-            first_before: self.first_before,
-            len_before: self.len_before,
-            slots: Vec::from_slice(alloc, &self.slots)?,
-        })
-    }
-
-    /// The cell of a slot, or None where it is empty or past the last.
-    pub(crate) fn slot(&self, place: u64) -> Option<i64>
-        ensures { result ≡ slot_at self.now.slots.items place }
-    {
-        self.slots.get(place as usize).copied().flatten()
-    }
-
-    /// Makes the rows of now those that were there when the step began.
-    pub(crate) fn begin(&mut self)
-        ensures { self.new ≡ begun_block self.old }
-    {
-        self.first_before = self.first;
-        self.len_before = filled(&self.slots);
-    }
+    ghost use Rattle.column_source.specs.Blocks.{IsBlock, IsWritten, rows_of, kept_of};
 
     /// Puts a cell into a slot.
     pub(crate) fn write(&mut self, place: usize, cell: i64)

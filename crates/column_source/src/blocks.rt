@@ -1,16 +1,20 @@
 //! The blocks of a column, as they are in the step.
-ghost use Rattle.std.specs.Prelude.{◌≡◌, ◌+◌, ◌^◌, ◌<◌, ◌≤◌, [], ◌++◌, length, map, take, drop, nat_le, slice_index_or, slice_set, IfOk, OnOk, OnErr};
+ghost use Rattle.std.specs.Prelude.{◌≡◌, ◌+◌, ◌^◌, ◌<◌, ◌≤◌, [], ◌++◌, length, map, take, drop, slice_index_or, slice_set, IfOk, OnOk, OnErr};
 ghost use Rattle.std.specs.List.{AllByRecursion, insert};
+ghost use Rattle.shift_data.specs.ShiftLists.{IsShiftList};
 ghost use Rattle.column_source.specs.Entries.{Ascend};
 ghost use Rattle.column_source.specs.Slots.{slot_at};
 ghost use Rattle.column_source.specs.Blocks.{IsBlock, AreApart, AreCopies, AtBlock, begun_block, rows};
+ghost use Rattle.column_source.specs.Moves.{IsMovable, moved_block};
 ghost use Rattle.column_source.specs.Steps.{untouched};
 ghost use Rattle.column_source.specs.declared.block.Block.{Block};
 
-use crate::block::{Block, filled};
+use crate::block::{Block, filled, slot};
+use crate::firsts::Firsts;
 use std::alloc::{AllocError, Global};
 use std::marker::Model;
 use std::mem;
+use tick_model::update::ShiftRange;
 
 /// The first key of a block when the step began, and how many of its slots were there.
 #[derive(Clone, Copy)]
@@ -19,58 +23,37 @@ pub(crate) struct Before {
     pub(crate) len: usize,
 }
 
-/// A block with the number of the step that touched it last.
+/// The slots of a block, with the number of the step that touched it last.
 #[derive(Drop)]
 struct Stamped {
     step: u64,
-    block: Block,
+    /// So many slots, from the first on, were there when that step began.
+    len_before: usize,
+    slots: Vec<Option<i64>>,
 }
 
 impl Stamped {
-    ghost use Rattle.column_source.specs.Steps.{IsStampedCopy, as_of};
+    ghost use Rattle.column_source.specs.Steps.{IsStampedCopy, len_at};
 
-    fn before(&self, step: u64) -> Before
-        ensures first { result.first ≡ (as_of step self.now).first_before }
-        ensures len { result.len ≡ (as_of step self.now).len_before }
+    /// How many slots were there when a step began that is not before the one that touched the block last.
+    fn len_before(&self, step: u64) -> usize
+        ensures { result ≡ len_at step self.now }
     {
         if self.step == step {
-            Before {
-                first: self.block.first_before,
-                len: self.block.len_before,
-            }
+            self.len_before
         } else {
-            Before {
-                first: self.block.first,
-                len: filled(&self.block.slots),
-            }
-        }
-    }
-
-    fn had_ended_by(&self, step: u64, key: u64) -> bool
-        ensures { result ≡ nat_le ((as_of step self.now).first_before + (as_of step self.now).len_before) key }
-    {
-        let before = self.before(step);
-        before.first <= key && before.len as u64 <= key - before.first
-    }
-
-    /// Makes the step the one that touched the block last.
-    fn touch(&mut self, step: u64)
-        ensures step { self.new.step ≡ step }
-        ensures block { self.new.block ≡ as_of step self.old }
-    {
-        if self.step != step {
-            self.block.begin();
-            self.step = step;
+            filled(&self.slots)
         }
     }
 
     fn copy(&self) -> Result<Stamped, AllocError>
         ensures { IfOk result (IsStampedCopy self.now) }
     {
-        let block = self.block.copy()?;
+        let alloc = *self.slots.allocator();
         Ok(Stamped {
             step: self.step,
-            block,
+            len_before: self.len_before,
+            slots: Vec::from_slice(alloc, &self.slots)?,
         })
     }
 }
@@ -84,10 +67,12 @@ fn forget(items: &mut Vec<Stamped>)
     }
 }
 
-/// The blocks of a column, which rise by the keys of their rows. One that the step has not touched begins with it,
-/// whatever it says of an earlier step: so a step begins without a look at any block.
+/// The blocks of a column, which rise by the keys of their rows. Their first keys lie beside them, so that whole blocks move, and
+/// a key is searched for, without a look at any of them. One that the step has not touched begins with it, whatever it says of an
+/// earlier step: so a step begins with no look at any block either.
 #[derive(Drop)]
 pub(crate) struct Blocks {
+    firsts: Firsts,
     items: Vec<Stamped>,
     /// How many steps have begun.
     step: u64,
@@ -103,9 +88,9 @@ impl Model for Blocks {
 
     ghost use Rattle.column_source.specs.Steps.{as_of_step, AreStamped};
 
-    ghost view = { λ blocks. as_of_step blocks.step blocks.items.items };
+    ghost view = { λ blocks. as_of_step blocks.step blocks.firsts blocks.items.items };
 
-    ghost invariant = { λ blocks. AreStamped blocks.step blocks.items.items };
+    ghost invariant = { λ blocks. AreStamped blocks.step blocks.firsts blocks.items.items };
 }
 
 impl Blocks {
@@ -114,6 +99,7 @@ impl Blocks {
         ensures { result ≡ [] }
     {
         Blocks {
+            firsts: Firsts::new(alloc),
             items: Vec::new(alloc),
             step: 0,
             pair: 0,
@@ -128,11 +114,13 @@ impl Blocks {
     pub(crate) fn copy(&self) -> Result<Blocks, AllocError>
         ensures { IfOk result (AreCopies self.now) }
     {
+        let firsts = self.firsts.copy()?;
         let mut items = Vec::with_capacity(self.allocator(), self.items.len())?;
         for stamped in &self.items {
             items.push(stamped.copy()?)?;
         }
         Ok(Blocks {
+            firsts,
             items,
             step: self.step,
             pair: self.pair,
@@ -151,22 +139,25 @@ impl Blocks {
         requires { index < length self.now }
         ensures { AtBlock self.now index (λ block. result ≡ block.first) }
     {
-        self.items[index].block.first
+        let keys = self.firsts.now();
+        keys[index]
     }
 
-    pub(crate) fn slots(&self, index: usize) -> &[Option<i64>]
+    /// The key that the first slot of a block had when the step began.
+    pub(crate) fn first_before(&self, index: usize) -> u64
         requires { index < length self.now }
-        ensures { AtBlock self.now index (λ block. result.now ≡ block.slots.items) }
+        ensures { AtBlock self.now index (λ block. result ≡ block.first_before) }
     {
-        &self.items[index].block.slots
+        let keys = self.firsts.before();
+        keys[index]
     }
 
-    /// The cell of a slot, or None where it is empty or past the last.
-    pub(crate) fn slot(&self, index: usize, place: u64) -> Option<i64>
+    /// How many slots of a block were there when the step began.
+    pub(crate) fn len_before(&self, index: usize) -> usize
         requires { index < length self.now }
-        ensures { AtBlock self.now index (λ block. result ≡ slot_at block.slots.items place) }
+        ensures { AtBlock self.now index (λ block. result ≡ block.len_before) }
     {
-        self.items[index].block.slot(place)
+        self.items[index].len_before(self.step)
     }
 
     /// The keys of a block when the step began.
@@ -175,7 +166,25 @@ impl Blocks {
         ensures first { AtBlock self.now index (λ block. result.first ≡ block.first_before) }
         ensures len { AtBlock self.now index (λ block. result.len ≡ block.len_before) }
     {
-        self.items[index].before(self.step)
+        Before {
+            first: self.first_before(index),
+            len: self.len_before(index),
+        }
+    }
+
+    pub(crate) fn slots(&self, index: usize) -> &[Option<i64>]
+        requires { index < length self.now }
+        ensures { AtBlock self.now index (λ block. result.now ≡ block.slots.items) }
+    {
+        &self.items[index].slots
+    }
+
+    /// The cell of a slot, or None where it is empty or past the last.
+    pub(crate) fn slot(&self, index: usize, place: u64) -> Option<i64>
+        requires { index < length self.now }
+        ensures { AtBlock self.now index (λ block. result ≡ slot_at block.slots.items place) }
+    {
+        slot(self.slots(index), place)
     }
 
     /// How many of the blocks begin at the key or before it.
@@ -186,11 +195,22 @@ impl Blocks {
         ensures begun { AllByRecursion (λ block. block.first ≤ key) (take result self.now) }
         ensures others { AllByRecursion (λ block. key < block.first) (drop result self.now) }
     {
-        self.items
-            .partition_point(|stamped| stamped.block.first <= key)
+        self.firsts.now().partition_point(|first| *first <= key)
     }
 
-    /// How many of the blocks ended at the key or before it when the step began.
+    /// How many of the blocks began at the key or before it when the step began.
+    fn had_begun_by(&self, key: u64) -> usize
+        requires { AreApart 0 self.now }
+        ensures within { result ≤ length self.now }
+        ensures begun { AllByRecursion (λ block. block.first_before ≤ key) (take result self.now) }
+        ensures others { AllByRecursion (λ block. key < block.first_before) (drop result self.now) }
+    {
+        let keys = self.firsts.before();
+        keys.partition_point(|first| *first <= key)
+    }
+
+    /// How many of the blocks ended at the key or before it when the step began: of those that began by then, at most the last
+    /// did not.
     pub(crate) fn ended_by(&self, key: u64) -> usize
         requires sound { AllByRecursion IsBlock self.now }
         requires apart { AreApart 0 self.now }
@@ -198,9 +218,18 @@ impl Blocks {
         ensures ended { AllByRecursion (λ block. block.first_before + block.len_before ≤ key) (take result self.now) }
         ensures others { AllByRecursion (λ block. key < block.first_before + block.len_before) (drop result self.now) }
     {
-        let step = self.step;
-        self.items
-            .partition_point(|stamped| stamped.had_ended_by(step, key))
+        let begun = self.had_begun_by(key);
+        if begun == 0 {
+            return 0;
+        }
+        let last = begun - 1;
+        let before = self.before(last);
+        let behind = key - before.first;
+        if before.len as u64 <= behind {
+            begun
+        } else {
+            last
+        }
     }
 
     /// Makes the rows of now those that were there when the step began.
@@ -212,6 +241,7 @@ impl Blocks {
             self.step = 0;
         }
         self.step += 1;
+        self.firsts.begin();
     }
 
     /// Takes a block out, and leaves another in its place.
@@ -222,11 +252,16 @@ impl Blocks {
         ensures len { length self.new ≡ length self.old }
         ensures room { length self.old < 2 ^ 64 }
     {
-        let hollow = Block::hollow(self.allocator());
-        let step = self.step;
-        let stamped = &mut self.items[index];
-        stamped.touch(step);
-        mem::replace(&mut stamped.block, hollow)
+        let first = self.first(index);
+        let first_before = self.first_before(index);
+        let len_before = self.len_before(index);
+        let none = Vec::new(self.allocator());
+        Block {
+            first,
+            first_before,
+            len_before,
+            slots: mem::replace(&mut self.items[index].slots, none),
+        }
     }
 
     /// Puts a block in place of another.
@@ -234,21 +269,18 @@ impl Blocks {
         requires { index < length self.old }
         ensures { self.new ≡ slice_set self.old index block }
     {
+        let Block {
+            first,
+            first_before,
+            len_before,
+            slots,
+        } = block;
+        self.firsts.put(index, first, first_before);
         self.items[index] = Stamped {
             step: self.step,
-            block,
+            len_before,
+            slots,
         };
-    }
-
-    /// Makes a block begin at another key.
-    pub(crate) fn move_to(&mut self, index: usize, first: u64)
-        requires { index < length self.old }
-        ensures { AtBlock self.old index (λ block. self.new ≡ slice_set self.old index (record block { first = first })) }
-    {
-        let step = self.step;
-        let stamped = &mut self.items[index];
-        stamped.touch(step);
-        stamped.block.first = first;
     }
 
     /// Puts a block between others.
@@ -257,11 +289,20 @@ impl Blocks {
         ensures ok { OnOk result (self.new ≡ insert self.old index block) }
         ensures err { OnErr result (self.new ≡ self.old) }
     {
+        let Block {
+            first,
+            first_before,
+            len_before,
+            slots,
+        } = block;
         let stamped = Stamped {
             step: self.step,
-            block,
+            len_before,
+            slots,
         };
-        self.items.insert(index, stamped)?;
+        self.items.reserve(1)?;
+        self.firsts.insert(index, first, first_before)?;
+        let _ = self.items.insert(index, stamped);
         Ok(())
     }
 
@@ -271,7 +312,19 @@ impl Blocks {
         requires within { to ≤ length self.old }
         ensures { self.new ≡ take from self.old ++ drop to self.old }
     {
+        self.firsts.remove(from, to);
         self.items.drain(from..to);
+    }
+
+    /// Makes each block begin at the key to which the ranges of a shift lead its first row.
+    pub(crate) fn shift(&mut self, ranges: &[ShiftRange])
+        requires shift { IsShiftList ranges.now }
+        requires sound { AllByRecursion IsBlock self.old }
+        requires ascend { Ascend (rows self.old) }
+        requires movable { AllByRecursion (λ block. IsMovable ranges.now block.first) self.old }
+        ensures { self.new ≡ map (moved_block ranges.now) self.old }
+    {
+        self.firsts.shift(ranges);
     }
 
     /// The place of a block, each time the next one, and the first one again after the last.

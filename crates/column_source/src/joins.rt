@@ -23,17 +23,17 @@ fn joint(blocks: &Blocks, index: usize) -> Option<usize>
     requires room { index + 1 < 2 ^ 64 }
     ensures { IfSome result (λ place. (left right : Block) → left ≡ slice_index_or blocks.now index left → right ≡ slice_index_or blocks.now (index + 1) right → IsJoint place left right) }
 {
-    let left = blocks.before(index);
-    let right = blocks.before(index + 1);
-    let len = filled(blocks.slots(index));
-    let right_len = blocks.slots(index + 1).len();
     let place = blocks.first(index + 1).checked_sub(blocks.first(index))?;
-    let apart = right.first.checked_sub(left.first)?;
+    let apart = blocks
+        .first_before(index + 1)
+        .checked_sub(blocks.first_before(index))?;
     if place != apart || place > JOINED_LEN as u64 {
         return None;
     }
     let place = place as usize;
-    let fits = len <= left.len && len <= place && right_len <= JOINED_LEN - place;
+    let len = filled(blocks.slots(index));
+    let right_len = blocks.slots(index + 1).len();
+    let fits = len <= blocks.len_before(index) && len <= place && right_len <= JOINED_LEN - place;
     fits.then_some(place)
 }
 
@@ -71,7 +71,7 @@ fn join(blocks: &mut Blocks, index: usize) -> Result<(), AllocError>
         place,
         blocks.slots(index + 1),
     )?;
-    let len_before = place + blocks.before(index + 1).len;
+    let len_before = place + blocks.len_before(index + 1);
     let mut block = blocks.take(index);
     block.slots = slots;
     block.len_before = len_before;

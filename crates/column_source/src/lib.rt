@@ -6,6 +6,7 @@ mod blocks;
 mod cells;
 mod directory;
 mod drops;
+mod firsts;
 mod joins;
 mod moves;
 #[cfg(test)]

@@ -1,12 +1,11 @@
 //! Rows that move to other keys, in whole blocks.
-ghost use Rattle.std.specs.Prelude.{◌≡◌, ℕ, ◌+◌, ◌^◌, ◌<◌, ◌≤◌, length, map, IsSome, OnOk, OnErr, None};
+ghost use Rattle.std.specs.Prelude.{◌≡◌, ℕ, ◌+◌, ◌^◌, ◌<◌, ◌≤◌, length, OnOk, OnErr, None};
 ghost use Rattle.std.specs.List.{AllByRecursion};
-ghost use Rattle.tick_model.specs.Shifts.{moved};
 ghost use Rattle.tick_model.specs.Rules.{shift_fault};
 ghost use Rattle.column_source.specs.Entries.{Ascend, keys_of, moved_entries};
 ghost use Rattle.column_source.specs.Slots.{slot_at};
 ghost use Rattle.column_source.specs.Blocks.{IsBlock, AtBlock, AreApart, rows, kept};
-ghost use Rattle.column_source.specs.Moves.{IsCut, IsSplit, IsMovable, KeepsRows, IsBesideRange, moved_block};
+ghost use Rattle.column_source.specs.Moves.{IsCut, IsSplit, KeepsRows, IsBesideRange};
 
 use crate::block::Block;
 use crate::blocks::Blocks;
@@ -81,25 +80,6 @@ fn cut_ranges(blocks: &mut Blocks, ranges: &[ShiftRange]) -> Result<(), AllocErr
     Ok(())
 }
 
-/// Moves whole blocks: those from the first range to the last.
-fn move_blocks(blocks: &mut Blocks, shifts: &ShiftData)
-    requires sound { AllByRecursion IsBlock blocks.old }
-    requires ascend { Ascend (rows blocks.old) }
-    requires movable { AllByRecursion (IsMovable shifts.now) blocks.old }
-    ensures { blocks.new ≡ map (moved_block shifts.now) blocks.old }
-{
-    let ranges = shifts.ranges();
-    if ranges.is_empty() {
-        return;
-    }
-    let from = blocks.begun_by(ranges[0].begin).saturating_sub(1);
-    let to = blocks.begun_by(ranges[ranges.len() - 1].end);
-    for place in from..to {
-        let first = blocks.first(place);
-        blocks.move_to(place, shifts.moved(first) as u64);
-    }
-}
-
 /// Moves the rows of each range by its delta.
 pub(crate) fn shift(blocks: &mut Blocks, shifts: &ShiftData) -> Result<(), AllocError>
     requires sound { AllByRecursion IsBlock blocks.old }
@@ -115,6 +95,6 @@ pub(crate) fn shift(blocks: &mut Blocks, shifts: &ShiftData) -> Result<(), Alloc
     let ranges = shifts.ranges();
     join_some(blocks, ranges.len())?;
     cut_ranges(blocks, ranges)?;
-    move_blocks(blocks, shifts);
+    blocks.shift(ranges);
     Ok(())
 }

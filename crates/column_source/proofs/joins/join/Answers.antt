@@ -27,7 +27,7 @@ overflow_add-len_before c =
     let right = one_at blocks (index + 1) lt in
     let joint = c.in-Some.ensures left.0 right.0 left.1 right.1 in
     let is = sound_at blocks (index + 1) right.0 lt right.1 c.requires.sound in
-    let small : c.in-Some.place + c.before-2.result.len ≤ 256 = omega (arith, joint.short, is.kept_within, c.before-2.ensures.len right.0 right.1) in
+    let small : c.in-Some.place + c.len_before.result ≤ 256 = omega (arith, joint.short, is.kept_within, c.len_before.ensures right.0 right.1) in
     search rules
 
 pub returns : goal.returns
@@ -40,12 +40,12 @@ returns c =
     let at = c.take-block.ensures.taken in
     let right = one_at blocks (index + 1) lt in
     let joint = c.in-Some.ensures left right.0 at right.1 in
-    let new : Block = record { first = left.first; first_before = left.first_before; len_before = place + c.before-2.result.len; slots = c.in_ok-slots.slots } in
+    let new : Block = record { first = left.first; first_before = left.first_before; len_before = place + c.len_before.result; slots = c.in_ok-slots.slots } in
     let is : IsJoined place left right.0 new = record {
       slots = c.in_ok-slots.ensures ∙ ap (λ s. joined_slots s place c.slots-2.result.now) (c.slots.ensures left at) ∙ ap (joined_slots left.slots.items place) (c.slots-2.ensures right.0 right.1);
       first = refl;
       first_before = refl;
-      len_before = ap (λ n. place + n) (c.before-2.ensures.len right.0 right.1);
+      len_before = ap (λ n. place + n) (c.len_before.ensures right.0 right.1);
     } in
     let placed : c.put.new.self ≡ set blocks index new = c.put.ensures ∙ c.take-block.ensures.others new in
     subst (KeepsRows blocks) (sym (c.remove.ensures ∙ ap (λ bs. take (index + 1) bs ++ drop (index + 2) bs) placed ∙ put_for_two blocks index new lt))
