@@ -1,0 +1,104 @@
+-- Rising lists that are cut at a position.
+use Rattle.std.proofs.Common.{◌≡◌, refl, ap, sym, ◌∙◌, subst, Bool, true, false, not, ◌&&◌, ◌||◌, ℕ, zero, suc, ◌-◌, ◌<◌, ◌==◌, arith, List, [], ◌∷◌, filter, take, drop, length}
+use Rattle.std.specs.List.{AllByRecursion}
+use Rattle.std.proofs.lemmas.Bool.{eqb-true}
+use Rattle.std.proofs.lemmas.List.{take-append-drop}
+use Rattle.std.proofs.lemmas.List.Elements.{filter-append}
+use Rattle.std.proofs.Math.Seq.{take-append_seam, drop-append_seam}
+use Rattle.key_lists.specs.Keys.{is_among, IsRising}
+use Rattle.key_lists.proofs.Among.{among-append, among_below}
+
+pub every-take : {X : Type 0} (P : X → Type 0) (n : ℕ) (xs : List X) → AllByRecursion P xs → AllByRecursion P (take n xs)
+every-take P zero [] h = tt
+every-take P zero (x ∷ xs) h = tt
+every-take P (suc n) [] h = tt
+every-take P (suc n) (x ∷ xs) h = (h.0, every-take P n xs h.1)
+
+pub every-drop : {X : Type 0} (P : X → Type 0) (n : ℕ) (xs : List X) → AllByRecursion P xs → AllByRecursion P (drop n xs)
+every-drop P zero [] h = tt
+every-drop P zero (x ∷ xs) h = h
+every-drop P (suc n) [] h = tt
+every-drop P (suc n) (x ∷ xs) h = every-drop P n xs h.1
+
+-- a key is before a position or from it on
+pub among_parts : (key n : ℕ) (xs : List ℕ) → is_among key xs ≡ (is_among key (take n xs) || is_among key (drop n xs))
+among_parts key n xs = ap (is_among key) (sym (take-append-drop n xs)) ∙ among-append key (take n xs) (drop n xs)
+
+pub among_front : (key n : ℕ) (xs : List ℕ) → is_among key (take n xs) ≡ true → is_among key xs ≡ true
+among_front key n xs own = among_parts key n xs ∙ ap (λ b. b || is_among key (drop n xs)) own
+
+pub among_back : (key n : ℕ) (xs : List ℕ) → is_among key (drop n xs) ≡ true → is_among key xs ≡ true
+among_back key n xs own = among_parts key n xs ∙ ap (λ b. is_among key (take n xs) || b) own ∙ or_true (is_among key (take n xs))
+  where
+    or_true : (b : Bool) → (b || true) ≡ true
+    or_true true = refl
+    or_true false = refl
+
+-- of keys that rise, those from a position on are the ones that are not before it
+pub among_rest : (key n : ℕ) (xs : List ℕ) → IsRising xs → is_among key (drop n xs) ≡ (is_among key xs && not (is_among key (take n xs)))
+among_rest key zero [] r = refl
+among_rest key zero (x ∷ xs) r = and_true (is_among key (x ∷ xs))
+  where
+    and_true : (b : Bool) → b ≡ (b && true)
+    and_true true = refl
+    and_true false = refl
+among_rest key (suc n) [] r = refl
+among_rest key (suc n) (x ∷ xs) r =
+    (elim (x == key) as (λ b. (x == key) ≡ b → is_among key (drop n xs) ≡ ((b || is_among key xs) && not (b || is_among key (take n xs)))) [
+      | true ↦ λ same. among_below key (drop n xs) (every-drop (λ y. key < y) n xs (subst (λ k. AllByRecursion (λ y. k < y) xs) (eqb-true x key same) r.0))
+      | false ↦ λ other. among_rest key n xs r.1
+    ]) refl
+
+-- and those between two positions are the ones that are before the second and not before the first
+pub among_between : (key m n : ℕ) (xs : List ℕ) → IsRising xs → is_among key (drop n (take m xs)) ≡ (is_among key (take m xs) && not (is_among key (take n xs)))
+among_between key zero zero [] r = refl
+among_between key zero (suc n) [] r = refl
+among_between key zero zero (x ∷ xs) r = refl
+among_between key zero (suc n) (x ∷ xs) r = refl
+among_between key (suc m) zero [] r = refl
+among_between key (suc m) (suc n) [] r = refl
+among_between key (suc m) zero (x ∷ xs) r = and_true (is_among key (x ∷ take m xs))
+  where
+    and_true : (b : Bool) → b ≡ (b && true)
+    and_true true = refl
+    and_true false = refl
+among_between key (suc m) (suc n) (x ∷ xs) r =
+    (elim (x == key) as (λ b. (x == key) ≡ b → is_among key (drop n (take m xs)) ≡ ((b || is_among key (take m xs)) && not (b || is_among key (take n xs)))) [
+      | true ↦ λ same. among_below key (drop n (take m xs)) (every-drop (λ y. key < y) n (take m xs) (every-take (λ y. key < y) m xs (subst (λ k. AllByRecursion (λ y. k < y) xs) (eqb-true x key same) r.0)))
+      | false ↦ λ other. among_between key m n xs r.1
+    ]) refl
+
+none_left : {X : Type 0} (k : ℕ) → take k (let none : List X = [] in none) ≡ []
+none_left zero = refl
+none_left (suc k) = refl
+
+take_none : {X : Type 0} (xs : List X) → take 0 xs ≡ []
+take_none [] = refl
+take_none (x ∷ xs) = refl
+
+pub take-drop : {X : Type 0} (m n : ℕ) (xs : List X) → take (m - n) (drop n xs) ≡ drop n (take m xs)
+take-drop zero zero [] = refl
+take-drop zero zero (x ∷ xs) = refl
+take-drop zero (suc n) [] = none_left (0 - suc n)
+take-drop zero (suc n) (x ∷ xs) = ap (λ k. take k (drop n xs)) (let none : 0 - suc n ≡ 0 = omega arith in none) ∙ take_none (drop n xs)
+take-drop (suc m) zero [] = none_left (suc m - 0)
+take-drop (suc m) zero (x ∷ xs) = ap (λ k. take k (x ∷ xs)) (let all : suc m - 0 ≡ suc m = omega arith in all)
+take-drop (suc m) (suc n) [] = none_left (suc m - suc n)
+take-drop (suc m) (suc n) (x ∷ xs) = ap (λ k. take k (drop n xs)) (let less : suc m - suc n ≡ m - n = omega arith in less) ∙ take-drop m n xs
+
+pub drop_none : {X : Type 0} (xs : List X) → drop 0 xs ≡ xs
+drop_none [] = refl
+drop_none (x ∷ xs) = refl
+
+-- the elements before a position that pass a test are the first of those that pass
+pub take-filter : {X : Type 0} (p : X → Bool) (n : ℕ) (xs : List X) → take (length (filter p (take n xs))) (filter p xs) ≡ filter p (take n xs)
+take-filter p n xs =
+    ap (λ ys. take (length (filter p (take n xs))) (filter p ys)) (sym (take-append-drop n xs))
+    ∙ ap (take (length (filter p (take n xs)))) (filter-append p (take n xs) (drop n xs))
+    ∙ take-append_seam (filter p (take n xs)) (filter p (drop n xs))
+
+pub drop-filter : {X : Type 0} (p : X → Bool) (n : ℕ) (xs : List X) → drop (length (filter p (take n xs))) (filter p xs) ≡ filter p (drop n xs)
+drop-filter p n xs =
+    ap (λ ys. drop (length (filter p (take n xs))) (filter p ys)) (sym (take-append-drop n xs))
+    ∙ ap (drop (length (filter p (take n xs)))) (filter-append p (take n xs) (drop n xs))
+    ∙ drop-append_seam (filter p (take n xs)) (filter p (drop n xs))

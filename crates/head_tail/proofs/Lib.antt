@@ -1,0 +1,8 @@
+pub mod Crossed
+pub mod Cuts
+pub mod Ends
+pub mod Fresh
+pub mod Parts
+pub mod Positions
+pub mod ReadRows
+pub mod Sides

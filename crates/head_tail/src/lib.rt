@@ -1,0 +1,19 @@
+//! The operators that show the rows at one end of their input, under their keys: `head` the first rows, `tail` the last.
+//!
+//! Each has a constructor and a `step`. A step is given the input after it, and answers the operator after it and the change of
+//! its own rows: the update between its table before and its table now, along the rows that stay, with the cells of the added
+//! and the modified rows. Which rows leave and which come is found by position: from the rows that the input removes and adds,
+//! and from the place that the last row shown has among those that stay. So a step looks at the touched rows and at those that
+//! cross the edge alone, whatever number of rows is shown.
+#![tactic(auto)]
+
+mod crossing;
+mod edges;
+mod head_op;
+mod places;
+mod tail_op;
+#[cfg(test)]
+mod tests;
+
+pub use head_op::HeadOp;
+pub use tail_op::TailOp;

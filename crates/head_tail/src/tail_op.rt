@@ -1,0 +1,105 @@
+//! `tail`: the last rows of the input, or all where there are fewer, under their keys.
+//!
+//! A row that is shown leaves where it is removed, or where rows that come behind it push it out; where rows behind it go, the ones
+//! before it come in. Every other row that is shown stays, and is modified where the input's is.
+
+ghost use Rattle.std.specs.Prelude.{◌≡◌, ◌+◌, ◌*◌, ◌≤◌, [], IfOk};
+ghost use Rattle.head_tail.specs.Ends.{tailed};
+ghost use Rattle.tick_model.specs.Changes.{change_of};
+ghost use Rattle.tick_model.specs.HeadTail.{tail_table};
+ghost use Rattle.tick_model.specs.Tables.{keys};
+ghost use Rattle.tick_table.specs.Exact.{IsExact, counted, tick_of};
+
+use crate::crossing::crossing_last;
+use row_set::RowSet;
+use shown_rows::{Chooses, shown_change};
+use std::alloc::{AllocError, Global};
+use std::marker::Model;
+use std::sync::ledger::Ledger;
+use tick_table::{Change, Steps, TickTable};
+
+/// Shows the last rows of its input, or all where there are fewer. It stands for the rows that it saw last.
+#[derive(Debug, Drop)]
+pub struct TailOp {
+    /// How many rows it shows at most.
+    count: u32,
+    width: u32,
+    /// The keys of the rows that it shows.
+    shown: RowSet,
+}
+
+impl Model for TailOp {
+    ghost use Rattle.head_tail.specs.Ends.{End};
+
+    ghost Value = { End };
+
+    ghost view = { λ tail. record { count = tail.count; width = tail.width; shown = tail.shown } };
+}
+
+/// The last rows.
+#[derive(Drop)]
+struct LastRows {
+    count: u32,
+}
+
+impl Chooses for LastRows {
+    ghost use Rattle.tick_model.specs.HeadTail.{tail_table};
+
+    ghost chosen = { λ last. tail_table last.count };
+}
+
+impl TailOp {
+    /// An operator that has seen no rows, for an input of this width. It shows at most `rows` rows, which may be none.
+    pub fn new(alloc: Global, rows: u32, width: u32) -> TailOp
+        ensures count { result.count ≡ rows }
+        ensures width { result.width ≡ width }
+        ensures shown { result.shown ≡ [] }
+    {
+        TailOp {
+            count: rows,
+            width,
+            shown: RowSet::new(alloc),
+        }
+    }
+
+    /// The operator after the step that the input shows, and the change of its rows. It must stand for the input's rows before
+    /// the step; after a refusal it is given up.
+    pub fn step<L: Ledger>(
+        self,
+        alloc: Global,
+        input: &TickTable,
+        reads: &mut Steps<L>,
+    ) -> Result<(TailOp, Change), AllocError>
+        requires exact { IsExact input.now }
+        requires width { input.now.new.width ≡ self.width }
+        requires stands { self.shown ≡ keys (tail_table self.count input.now.old).rows }
+        ensures stands { IfOk result (λ out. out.0 ≡ record self { shown = keys (tail_table self.count input.now.new).rows }) }
+        ensures change { IfOk result (λ out. out.1 ≡ change_of (tailed self.count (tick_of input.now))) }
+        ensures reads { IfOk result (λ out. reads.new ≤ reads.old + 4 * (input.now.new.width + input.now.new.width) * (counted input.now.update + counted out.1.update)) }
+    {
+        let TailOp {
+            count,
+            width,
+            mut shown,
+        } = self;
+        let crossing = crossing_last(input, count as u64)?;
+        let last = LastRows { count };
+        let change = shown_change(
+            alloc,
+            &last,
+            input,
+            &mut shown,
+            crossing.leaving,
+            crossing.coming,
+            reads,
+        )?;
+        Ok((
+            TailOp {
+                count,
+                width,
+                shown,
+            },
+            change,
+        ))
+    }
+}
