@@ -1,0 +1,300 @@
+-- Rows and their members, and the lists of slots that stand for groups.
+use Rattle.std.proofs.Common.{◌≡◌, ◌≢◌, refl, ap, sym, ◌∙◌, subst, Bool, true, false, not, cond, ltb, eqb, ℕ, suc, ◌+◌, ◌^◌, ◌<◌, ◌≤◌, zero, arith, zero-add, List, [], ◌∷◌, map, filter, length, take, drop, Option, Some, None, option_map, unwrap_or, IsSome, ℤ, int_lt, int_le, count_by, if◌then◌else◌}
+use Rattle.std.specs.List.{AllByRecursion}
+use Rattle.std.specs.Prelude.{slice_get}
+use Rattle.std.proofs.lemmas.List.Sums.{sum_by-cons}
+use Rattle.std.specs.Cmp.Rules.{signed_items}
+use Rattle.key_lists.specs.Keys.{is_among}
+use Rattle.key_lists.proofs.Every.{every_both, every_weaker, every-map, filter-map, filter_passes}
+use Rattle.row_set.specs.Sets.{IsKeySet}
+use Rattle.tick_model.specs.Tables.{same_cells}
+use Rattle.tick_model.specs.declared.update.ShiftRange.{ShiftRange}
+use Rattle.row_handles.specs.Entries.{AreHandled, Ascend, Entry, entry_of, handle_under, key_with, keys_of as entry_keys, left_rows, moved_rows, with_row as entries_with}
+use Rattle.row_groups.specs.declared.place.Slot.{Slot}
+use Rattle.row_groups.specs.declared.table.Table.{Table}
+use Rattle.row_groups.specs.Members.{AreGrouped, Member, by_at, group_of, keys_of, left_members, member_of, member_under, moved_member, moved_members, placed, with_member}
+use Rattle.row_groups.specs.Slots.{AreKnown, AreRanked, IsGroup, IsParted, is_before, key_in, member_at, slots_with, slots_without}
+use Rattle.row_groups.specs.Rows.{AreListed, Becomes, ByCells, IsKept, IsSame, Row, at_in, cells_in, group_rows, members_of, row_of, row_placed, rows_by_at, rows_of, slot_of, slots_under}
+use Rattle.row_groups.proofs.Order.{at_most, less, less_above, less_below, less_itself, less_through}
+use Rattle.row_groups.proofs.Ranks.{Ascends, Ranked, before, every-by_at, every-group, group_ranked, group_with, group_without, put_in, with_row}
+use Rattle.row_groups.proofs.Keys.{known_all, small_key}
+use Rattle.row_groups.proofs.Tables.{length-range}
+
+-- a group of rows has the members of the group
+placed_members : (row : Row) (rows : List Row) → members_of (row_placed row rows) ≡ placed row.member (members_of rows)
+placed_members row [] = refl
+placed_members row (other ∷ others) =
+    elim (int_lt other.member.at row.member.at) as (λ b. members_of (if b then other ∷ row_placed row others else row ∷ other ∷ others) ≡ (if b then other.member ∷ placed row.member (members_of others) else row.member ∷ other.member ∷ members_of others)) [
+      | true ↦ ap (λ ms. other.member ∷ ms) (placed_members row others)
+      | false ↦ refl
+    ]
+
+by_at_members : (rows : List Row) → members_of (rows_by_at rows) ≡ by_at (members_of rows)
+by_at_members [] = refl
+by_at_members (row ∷ rows) = placed_members row (rows_by_at rows) ∙ ap (placed row.member) (by_at_members rows)
+
+pub group_members : (cells : List ℤ) (rows : List Row) → members_of (group_rows cells rows) ≡ group_of cells (members_of rows)
+group_members cells rows =
+    by_at_members (filter (λ row. same_cells cells row.member.cells) rows)
+    ∙ ap by_at (sym (filter-map (λ member. same_cells cells member.cells) (λ row. row.member) rows))
+
+-- rows that come, leave and move
+pub rows_with : (table : Table) (key handle : ℕ) (xs : List Entry) → rows_of table (entries_with key handle xs) ≡ with_row (row_of table (entry_of key handle)) (rows_of table xs)
+rows_with table key handle [] = refl
+rows_with table key handle (x ∷ xs) =
+    elim (ltb x.key key) as (λ b. rows_of table (if b then x ∷ entries_with key handle xs else entry_of key handle ∷ x ∷ xs) ≡ (if b then row_of table x ∷ with_row (row_of table (entry_of key handle)) (rows_of table xs) else row_of table (entry_of key handle) ∷ row_of table x ∷ rows_of table xs)) [
+      | true ↦ ap (λ rs. row_of table x ∷ rs) (rows_with table key handle xs)
+      | false ↦ refl
+    ]
+
+pub members_with : (row : Row) (rows : List Row) → members_of (with_row row rows) ≡ with_member row.member (members_of rows)
+members_with row [] = refl
+members_with row (other ∷ others) =
+    elim (ltb other.member.key row.member.key) as (λ b. members_of (if b then other ∷ with_row row others else row ∷ other ∷ others) ≡ (if b then other.member ∷ with_member row.member (members_of others) else row.member ∷ other.member ∷ members_of others)) [
+      | true ↦ ap (λ ms. other.member ∷ ms) (members_with row others)
+      | false ↦ refl
+    ]
+
+pub members_left : (table : Table) (gone : List ℕ) (xs : List Entry) → members_of (rows_of table (left_rows gone xs)) ≡ left_members gone (members_of (rows_of table xs))
+members_left table gone xs =
+    sym (ap members_of (filter-map (λ row. not (is_among row.member.key gone)) (row_of table) xs))
+    ∙ sym (filter-map (λ member. not (is_among member.key gone)) (λ row. row.member) (rows_of table xs))
+
+pub members_moved : (table : Table) (shifts : List ShiftRange) (xs : List Entry) → members_of (rows_of table (moved_rows shifts xs)) ≡ moved_members shifts (members_of (rows_of table xs))
+members_moved table shifts [] = refl
+members_moved table shifts (x ∷ xs) = ap (λ ms. moved_member shifts (row_of table x).member ∷ ms) (members_moved table shifts xs)
+
+-- the rows of two tables that keep the same
+pub rows_same : (old new : Table) (xs : List Entry) → AllByRecursion (λ x. IsSame old new x.handle) xs → rows_of new xs ≡ rows_of old xs
+rows_same old new [] h = refl
+rows_same old new (x ∷ xs) h =
+    ap (λ rs. row_of new x ∷ rs) (rows_same old new xs h.1)
+    ∙ ap (λ cells. record { member = member_of x.key cells (at_in new x.handle); handle = x.handle } ∷ rows_of old xs) h.0.cells
+    ∙ ap (λ at. record { member = member_of x.key (cells_in old x.handle) at; handle = x.handle } ∷ rows_of old xs) h.0.at
+
+-- the rows ascend with their keys
+pub rows_ascend : (table : Table) (xs : List Entry) → Ascend xs → Ascends (rows_of table xs)
+rows_ascend table [] up = tt
+rows_ascend table (x ∷ xs) up = (every-map (λ row. x.key < row.member.key) (row_of table) xs up.0, rows_ascend table xs up.1)
+
+-- each row's handle leads to its key
+abbrev pub Knows : List Entry → Row → Type 0
+Knows entries row = key_with row.handle entries ≡ Some row.member.key
+
+pub rows_known : (entries : List Entry) (table : Table) (xs : List Entry) → AllByRecursion (λ x. key_with x.handle entries ≡ Some x.key) xs → AllByRecursion (Knows entries) (rows_of table xs)
+rows_known entries table xs h = every-map (Knows entries) (row_of table) xs h
+
+own_key : (entries : List Entry) (row : Row) → Knows entries row → key_in entries row.handle ≡ row.member.key
+own_key entries row h = ap (λ (o : Option ℕ). unwrap_or o 0) h
+
+pub before_same : (entries : List Entry) (other : Row) (at : ℤ) (key : ℕ) → Knows entries other → is_before entries at key (slot_of other) ≡ less other.member.at other.member.key at key
+before_same entries other at key h = ap (λ k. less other.member.at k at key) (own_key entries other h)
+
+-- a row put into a group and its list
+put_by : (entries : List Entry) (row other : Row) (others : List Row) → map slot_of (put_in row others) ≡ slots_with entries row.member.at row.member.key (slot_of row) (map slot_of others) → (b : Bool) → map slot_of (if b then other ∷ put_in row others else row ∷ other ∷ others) ≡ (if b then slot_of other ∷ slots_with entries row.member.at row.member.key (slot_of row) (map slot_of others) else slot_of row ∷ slot_of other ∷ map slot_of others)
+put_by entries row other others rest true = ap (λ ss. slot_of other ∷ ss) rest
+put_by entries row other others rest false = refl
+
+pub slots_put : (entries : List Entry) (row : Row) (rows : List Row) → AllByRecursion (Knows entries) rows → map slot_of (put_in row rows) ≡ slots_with entries row.member.at row.member.key (slot_of row) (map slot_of rows)
+slots_put entries row [] h = refl
+slots_put entries row (other ∷ others) h =
+    put_by entries row other others (slots_put entries row others h.1) (before other row)
+    ∙ ap (λ b. if b then slot_of other ∷ slots_with entries row.member.at row.member.key (slot_of row) (map slot_of others) else slot_of row ∷ slot_of other ∷ map slot_of others) (sym (before_same entries other row.member.at row.member.key h.0))
+
+-- a row taken out at its own place
+again_by : (entries : List Entry) (at : ℤ) (key : ℕ) (slot s : Slot) (slots : List Slot) → is_before entries at key slot ≡ false → slots_without entries at key (slots_with entries at key slot slots) ≡ slots → (b : Bool) → is_before entries at key s ≡ b → slots_without entries at key (if b then s ∷ slots_with entries at key slot slots else slot ∷ s ∷ slots) ≡ s ∷ slots
+again_by entries at key slot s slots own rest true e = ap (λ b. if b then s ∷ slots_without entries at key (slots_with entries at key slot slots) else slots_with entries at key slot slots) e ∙ ap (λ ss. s ∷ ss) rest
+again_by entries at key slot s slots own rest false e = ap (λ b. if b then slot ∷ slots_without entries at key (s ∷ slots) else s ∷ slots) own
+
+pub taken_again : (entries : List Entry) (at : ℤ) (key : ℕ) (slot : Slot) (slots : List Slot) → is_before entries at key slot ≡ false → slots_without entries at key (slots_with entries at key slot slots) ≡ slots
+taken_again entries at key slot [] own = ap (λ b. if b then slot ∷ [] else []) own
+taken_again entries at key slot (s ∷ slots) own = again_by entries at key slot s slots own (taken_again entries at key slot slots own) (is_before entries at key s) refl
+
+-- the list of a group is known, and in order
+pub slots_known : (entries : List Entry) (rows : List Row) → AllByRecursion (Knows entries) rows → AreKnown entries (map slot_of rows)
+slots_known entries rows h =
+    every-map (λ slot. IsSome (key_with slot.handle entries)) slot_of rows
+    (every_weaker (Knows entries) (λ row. IsSome (key_with row.handle entries)) rows (λ row e. subst (λ (o : Option ℕ). IsSome o) (sym e) refl) h)
+
+pub slots_ranked : (entries : List Entry) (rows : List Row) → AllByRecursion (Knows entries) rows → Ranked rows → AreRanked entries (map slot_of rows)
+slots_ranked entries [] h k = tt
+slots_ranked entries (row ∷ rows) h k = (
+  every-map (λ other. is_before entries other.at (key_in entries other.handle) (slot_of row) ≡ true) slot_of rows
+      (every_both (Knows entries) (λ other. before row other ≡ true) (λ other. is_before entries other.member.at (key_in entries other.handle) (slot_of row) ≡ true) rows (λ other own e.
+      before_same entries row other.member.at (key_in entries other.handle) h.0 ∙ ap (less row.member.at row.member.key other.member.at) (own_key entries other own) ∙ e) h.1 k.0),
+  slots_ranked entries rows h.1 k.1,
+)
+
+fails : (b : Bool) → (b ≡ true → ⊥) → b ≡ false
+fails true h = absurd (h refl)
+fails false h = refl
+
+unlike : (b : Bool) → b ≡ true → b ≡ false → ⊥
+unlike b e f = cc
+
+-- a place parts a list in order
+pub ranked_parted : (entries : List Entry) (at : ℤ) (key : ℕ) (slots : List Slot) → AreRanked entries slots → IsParted (is_before entries at key) slots
+ranked_parted entries at key [] h = tt
+ranked_parted entries at key (s ∷ slots) h = (
+  λ not_own. every_weaker (λ o. is_before entries o.at (key_in entries o.handle) s ≡ true) (λ o. is_before entries at key o ≡ false) slots
+      (λ o e. fails (is_before entries at key o) (λ f. unlike (is_before entries at key s) (less_through s.at (key_in entries s.handle) o.at (key_in entries o.handle) at key e f) not_own)) h.0,
+  ranked_parted entries at key slots h.1,
+)
+
+-- a list as its members
+pub slots_members : (entries : List Entry) (cells : List ℤ) (rows : List Row) → AllByRecursion (Knows entries) rows → AllByRecursion (λ row. same_cells cells row.member.cells ≡ true) rows → map (member_at entries cells) (map slot_of rows) ≡ members_of rows
+slots_members entries cells [] h k = refl
+slots_members entries cells (row ∷ rows) h k =
+    ap (λ ms. member_at entries cells (slot_of row) ∷ ms) (slots_members entries cells rows h.1 k.1)
+    ∙ ap (λ key. member_of key cells row.member.at ∷ members_of rows) (own_key entries row h.0)
+    ∙ ap (λ cs. member_of row.member.key cs row.member.at ∷ members_of rows) ((signed_items cells row.member.cells).0 k.0)
+
+pub group_cells : (cells : List ℤ) (rows : List Row) → AllByRecursion (λ row. same_cells cells row.member.cells ≡ true) (group_rows cells rows)
+group_cells cells rows = every-by_at (λ row. same_cells cells row.member.cells ≡ true) (filter (λ row. same_cells cells row.member.cells) rows) (filter_passes (λ row. same_cells cells row.member.cells) rows)
+
+-- the lists after a row came
+listed_at : (entries : List Entry) (row : Row) (rows : List Row) (old new : ByCells) → AllByRecursion (Knows entries) rows → Ascends rows → AllByRecursion (λ other. other.member.key ≢ row.member.key) rows → AreListed rows old
+    → Becomes row.member.cells (slots_with entries row.member.at row.member.key (slot_of row) (slots_under row.member.cells old)) old new → (cells : List ℤ) (b : Bool) → same_cells row.member.cells cells ≡ b → slots_under cells new ≡ map slot_of (group_rows cells (with_row row rows))
+listed_at entries row rows old new known up apart listed becomes cells true e =
+    let own : row.member.cells ≡ cells = (signed_items row.member.cells cells).0 e in
+    let same : same_cells cells row.member.cells ≡ true = (signed_items cells row.member.cells).1 (sym own) in
+    becomes cells
+    ∙ ap (λ b. if b then slots_with entries row.member.at row.member.key (slot_of row) (slots_under row.member.cells old) else slots_under cells old) e
+    ∙ ap (λ cs. slots_with entries row.member.at row.member.key (slot_of row) (slots_under cs old)) own
+    ∙ ap (slots_with entries row.member.at row.member.key (slot_of row)) (listed cells)
+    ∙ sym (slots_put entries row (group_rows cells rows) (every-group (Knows entries) cells rows known))
+    ∙ ap (map slot_of) (sym (group_with cells row rows up apart same))
+listed_at entries row rows old new known up apart listed becomes cells false e =
+    let other : same_cells cells row.member.cells ≡ false = fails (same_cells cells row.member.cells) (λ f. unlike (same_cells row.member.cells cells) ((signed_items row.member.cells cells).1 (sym ((signed_items cells row.member.cells).0 f))) e) in
+    becomes cells
+    ∙ ap (λ b. if b then slots_with entries row.member.at row.member.key (slot_of row) (slots_under row.member.cells old) else slots_under cells old) e
+    ∙ listed cells
+    ∙ ap (map slot_of) (sym (group_without cells row rows other))
+
+pub listed_with : (entries : List Entry) (row : Row) (rows : List Row) (old new : ByCells) → AllByRecursion (Knows entries) rows → Ascends rows → AllByRecursion (λ other. other.member.key ≢ row.member.key) rows → AreListed rows old
+    → Becomes row.member.cells (slots_with entries row.member.at row.member.key (slot_of row) (slots_under row.member.cells old)) old new → AreListed (with_row row rows) new
+listed_with entries row rows old new known up apart listed becomes cells = listed_at entries row rows old new known up apart listed becomes cells (same_cells row.member.cells cells) refl
+
+-- the lists after a row left
+left_at : (entries : List Entry) (row : Row) (rows : List Row) (old new : ByCells) → Knows entries row → AllByRecursion (Knows entries) rows → Ascends rows → AllByRecursion (λ other. other.member.key ≢ row.member.key) rows → AreListed (with_row row rows) old
+    → Becomes row.member.cells (slots_without entries row.member.at row.member.key (slots_under row.member.cells old)) old new → (cells : List ℤ) (b : Bool) → same_cells row.member.cells cells ≡ b → slots_under cells new ≡ map slot_of (group_rows cells rows)
+left_at entries row rows old new own known up apart listed becomes cells true e =
+    let here : row.member.cells ≡ cells = (signed_items row.member.cells cells).0 e in
+    let same : same_cells cells row.member.cells ≡ true = (signed_items cells row.member.cells).1 (sym here) in
+    becomes cells
+    ∙ ap (λ b. if b then slots_without entries row.member.at row.member.key (slots_under row.member.cells old) else slots_under cells old) e
+    ∙ ap (λ cs. slots_without entries row.member.at row.member.key (slots_under cs old)) here
+    ∙ ap (slots_without entries row.member.at row.member.key) (listed cells ∙ ap (map slot_of) (group_with cells row rows up apart same) ∙ slots_put entries row (group_rows cells rows) (every-group (Knows entries) cells rows known))
+    ∙ taken_again entries row.member.at row.member.key (slot_of row) (map slot_of (group_rows cells rows)) (before_same entries row row.member.at row.member.key own ∙ less_itself row.member.at row.member.key)
+left_at entries row rows old new own known up apart listed becomes cells false e =
+    let other : same_cells cells row.member.cells ≡ false = fails (same_cells cells row.member.cells) (λ f. unlike (same_cells row.member.cells cells) ((signed_items row.member.cells cells).1 (sym ((signed_items cells row.member.cells).0 f))) e) in
+    becomes cells
+    ∙ ap (λ b. if b then slots_without entries row.member.at row.member.key (slots_under row.member.cells old) else slots_under cells old) e
+    ∙ listed cells
+    ∙ ap (map slot_of) (group_without cells row rows other)
+
+pub listed_without : (entries : List Entry) (row : Row) (rows : List Row) (old new : ByCells) → Knows entries row → AllByRecursion (Knows entries) rows → Ascends rows → AllByRecursion (λ other. other.member.key ≢ row.member.key) rows → AreListed (with_row row rows) old
+    → Becomes row.member.cells (slots_without entries row.member.at row.member.key (slots_under row.member.cells old)) old new → AreListed rows new
+listed_without entries row rows old new own known up apart listed becomes cells = left_at entries row rows old new own known up apart listed becomes cells (same_cells row.member.cells cells) refl
+
+-- the list of a group, for a search in it
+pub listed_group : (entries : List Entry) (table : Table) (xs : List Entry) (by_cells : ByCells) (cells : List ℤ) → AreListed (rows_of table xs) by_cells → AllByRecursion (λ x. key_with x.handle entries ≡ Some x.key) xs → Ascend xs → AreHandled entries → IsGroup entries (slots_under cells by_cells)
+listed_group entries table xs by_cells cells listed known up handled =
+    let rows = group_rows cells (rows_of table xs) in
+    let all = every-group (Knows entries) cells (rows_of table xs) (rows_known entries table xs known) in
+    record {
+      handled = handled;
+      known = subst (AreKnown entries) (sym (listed cells)) (slots_known entries rows all);
+      ranked = subst (AreRanked entries) (sym (listed cells)) (slots_ranked entries rows all (group_ranked cells (rows_of table xs) (rows_ascend table xs up)));
+    }
+
+pub listed_members : (table : Table) (xs : List Entry) (by_cells : ByCells) (cells : List ℤ) → AreListed (rows_of table xs) by_cells → AreHandled xs → map (member_at xs cells) (slots_under cells by_cells) ≡ group_of cells (members_of (rows_of table xs))
+listed_members table xs by_cells cells listed handled =
+    let rows = group_rows cells (rows_of table xs) in
+    ap (map (member_at xs cells)) (listed cells)
+    ∙ slots_members xs cells rows (every-group (Knows xs) cells (rows_of table xs) (rows_known xs table xs (known_all xs handled.handles))) (group_cells cells (rows_of table xs))
+    ∙ group_members cells (rows_of table xs)
+
+-- the members as a whole
+member_keys : (table : Table) (xs : List Entry) → keys_of (members_of (rows_of table xs)) ≡ entry_keys xs
+member_keys table [] = refl
+member_keys table (x ∷ xs) = ap (λ keys. x.key ∷ keys) (member_keys table xs)
+
+pub are_grouped : (table : Table) (xs : List Entry) → AreHandled xs → AllByRecursion (λ x. IsKept table x.handle) xs → AreGrouped (record { width = table.width; members = members_of (rows_of table xs) })
+are_grouped table xs handled kept = record {
+  keys = subst IsKeySet (sym (member_keys table xs)) handled.keys;
+  cells = every-map (λ member. length member.cells ≡ table.width) (λ row. row.member) (rows_of table xs)
+      (every-map (λ row. length row.member.cells ≡ table.width) (row_of table) xs
+      (every_weaker (λ x. IsKept table x.handle) (λ x. length (cells_in table x.handle) ≡ table.width) xs (λ x is. length-range table.cells.items _ table.width is.cells) kept));
+}
+
+pub keys_same : (table : Table) (xs : List Entry) → keys_of (members_of (rows_of table xs)) ≡ entry_keys xs
+keys_same table xs = member_keys table xs
+
+-- what is known of the member under a key
+pub under_same : {X : Type 0} (f : Member → X) (g : ℕ → X) (key : ℕ) (table : Table) (xs : List Entry) → ((x : Entry) → f (row_of table x).member ≡ g x.handle) → option_map f (member_under key (members_of (rows_of table xs))) ≡ option_map g (handle_under key xs)
+under_same f g key table [] same = refl
+under_same f g key table (x ∷ xs) same =
+    elim (eqb x.key key) as (λ b. option_map f (cond b (Some (row_of table x).member) (member_under key (members_of (rows_of table xs)))) ≡ option_map g (if b then Some x.handle else handle_under key xs)) [
+      | true ↦ ap Some (same x)
+      | false ↦ under_same f g key table xs same
+    ]
+
+none_of_map : {X Y : Type 0} (f : X → Y) (o : Option X) → ◌≡◌ {A = Option Y} None (option_map f o) → o ≡ None
+none_of_map f None e = refl
+none_of_map f (Some x) e = absurd (cc)
+
+pub absent_under : (key : ℕ) (table : Table) (xs : List Entry) → member_under key (members_of (rows_of table xs)) ≡ None → handle_under key xs ≡ None
+absent_under key table xs e =
+    none_of_map (cells_in table) (handle_under key xs) (sym (ap (option_map (λ member. member.cells)) e) ∙ under_same (λ member. member.cells) (cells_in table) key table xs (λ x. refl))
+
+-- how many rows stand before a place
+pub counted : (f : Member → Bool) (entries : List Entry) (cells : List ℤ) (slots : List Slot) (n : ℕ) → n ≤ length slots → AllByRecursion (λ s. f (member_at entries cells s) ≡ true) (take n slots) → AllByRecursion (λ s. f (member_at entries cells s) ≡ false) (drop n slots) → n ≡ count_by f (map (member_at entries cells) slots)
+counted f entries cells [] zero le h k = refl
+counted f entries cells [] (suc n) le h k = absurd (omega arith)
+counted f entries cells (s ∷ slots) zero le h k =
+    let rest = map (member_at entries cells) slots in
+    sym (
+    sum_by-cons (λ m. cond (f m) 1 0) (member_at entries cells s) rest
+    ∙ ap (λ b. cond b 1 0 + count_by f rest) k.0
+    ∙ zero-add (count_by f rest)
+    ∙ sym (counted f entries cells slots zero (omega arith) tt k.1)
+    )
+counted f entries cells (s ∷ slots) (suc n) le h k =
+    let rest = map (member_at entries cells) slots in
+    let one : 1 + count_by f rest ≡ suc (count_by f rest) = omega arith in
+    sym (
+    sum_by-cons (λ m. cond (f m) 1 0) (member_at entries cells s) rest
+    ∙ ap (λ b. cond b 1 0 + count_by f rest) h.0
+    ∙ one
+    ∙ sym (ap suc (counted f entries cells slots n (omega arith) h.1 k))
+    )
+
+-- a place behind all keys, and one before them
+pub counted_at_most : (entries : List Entry) (cells : List ℤ) (at : ℤ) (slots : List Slot) (n : ℕ) → AreHandled entries → n ≤ length slots → AllByRecursion (λ s. is_before entries at (2 ^ 62) s ≡ true) (take n slots) → AllByRecursion (λ s. is_before entries at (2 ^ 62) s ≡ false) (drop n slots) → n ≡ count_by (λ member. int_le member.at at) (map (member_at entries cells) slots)
+counted_at_most entries cells at slots n handled le h k =
+    let same = λ (s : Slot). less_below s.at (key_in entries s.handle) at (2 ^ 62) (small_key s.handle entries handled) ∙ at_most s.at at in
+    counted (λ member. int_le member.at at) entries cells slots n le
+    (every_weaker (λ s. is_before entries at (2 ^ 62) s ≡ true) (λ s. int_le s.at at ≡ true) (take n slots) (λ s e. sym (same s) ∙ e) h)
+    (every_weaker (λ s. is_before entries at (2 ^ 62) s ≡ false) (λ s. int_le s.at at ≡ false) (drop n slots) (λ s e. sym (same s) ∙ e) k)
+
+pub counted_below : (entries : List Entry) (cells : List ℤ) (at : ℤ) (slots : List Slot) (n : ℕ) → n ≤ length slots → AllByRecursion (λ s. is_before entries at 0 s ≡ true) (take n slots) → AllByRecursion (λ s. is_before entries at 0 s ≡ false) (drop n slots) → n ≡ count_by (λ member. int_lt member.at at) (map (member_at entries cells) slots)
+counted_below entries cells at slots n le h k =
+    let same = λ (s : Slot). less_above s.at (key_in entries s.handle) at 0 (omega arith) in
+    counted (λ member. int_lt member.at at) entries cells slots n le
+    (every_weaker (λ s. is_before entries at 0 s ≡ true) (λ s. int_lt s.at at ≡ true) (take n slots) (λ s e. sym (same s) ∙ e) h)
+    (every_weaker (λ s. is_before entries at 0 s ≡ false) (λ s. int_lt s.at at ≡ false) (drop n slots) (λ s e. sym (same s) ∙ e) k)
+
+-- the row at a position, in its list and in its group
+pub slot_of_member : {X : Type 0} (f : Member → X) (entries : List Entry) (cells : List ℤ) (slots : List Slot) (i : ℕ) → slice_get (map f (map (member_at entries cells) slots)) i ≡ option_map (λ s. f (member_at entries cells s)) (slice_get slots i)
+slot_of_member f entries cells [] i = refl
+slot_of_member f entries cells (s ∷ slots) zero = refl
+slot_of_member f entries cells (s ∷ slots) (suc i) = slot_of_member f entries cells slots i
+
+pub known_at : (entries : List Entry) (slots : List Slot) (i : ℕ) (slot : Slot) → AreKnown entries slots → slice_get slots i ≡ Some slot → IsSome (key_with slot.handle entries)
+known_at entries [] i slot h e = absurd (cc)
+known_at entries (s ∷ slots) zero slot h e = subst (λ (x : Slot). IsSome (key_with x.handle entries)) (some_own s slot e) h.0
+  where
+    some_own : (x y : Slot) → ◌≡◌ {A = Option Slot} (Some x) (Some y) → x ≡ y
+    some_own x y p = cc
+known_at entries (s ∷ slots) (suc i) slot h e = known_at entries slots i slot h.1 e

@@ -1,0 +1,38 @@
+use Rattle.std.proofs.Common.{◌∷◌, [], ap, ◌∙◌, refl, w64}
+use Rattle.std.proofs.lemmas.Int.{to_z-of_z}
+use Rattle.row_handles.specs.Entries.{left_rows, handle_under}
+use Rattle.row_groups.specs.Members.{member_of, with_member}
+use Rattle.row_groups.specs.Rows.{members_of, rows_of}
+use Rattle.row_groups.proofs.Keys.{ascending, left_again, under_own}
+use Rattle.row_groups.proofs.Indexed.{grouped_same, holds_before, index_left}
+use Rattle.row_groups.proofs.index.Index.add.Goals as goal
+
+pub enter-requires-clause-others : goal.enter-requires-clause-others
+enter-requires-clause-others c =
+    holds_before c.args.key c.in_ok-handle.handle c.args.self.now _ c.requires.sound c.requires.small c.requires.absent c.in_ok-handle.ensures.fresh c.in_ok-handle.ensures.rows refl refl
+
+pub enter-requires-clause-handle : goal.enter-requires-clause-handle
+enter-requires-clause-handle c = ap (handle_under c.args.key) c.in_ok-handle.ensures.rows ∙ under_own c.args.key c.in_ok-handle.handle c.args.self.now.handles c.requires.absent
+
+pub returns-in-Err-clause-sound : goal.returns-in-Err-clause-sound
+returns-in-Err-clause-sound c =
+    index_left (c.args.key ∷ []) c.enter.new.self _ c.in-Err.ensures.err
+    (c.remove.ensures ∙ ap (λ keys. left_rows keys c.enter.new.self.handles) (c.enter.ensures.lone ∙ c.in_ok-keep_alone.ensures)) refl refl
+
+pub returns-in-Err-clause-err : goal.returns-in-Err-clause-err
+returns-in-Err-clause-err c =
+    let old = c.args.self.now in
+    let key = c.args.key in
+    let left = c.remove.ensures ∙ ap (λ keys. left_rows keys c.enter.new.self.handles) (c.enter.ensures.lone ∙ c.in_ok-keep_alone.ensures) in
+    let back = ap (left_rows (key ∷ [])) c.in_ok-handle.ensures.rows ∙ left_again key c.in_ok-handle.handle old.handles (ascending old.handles c.requires.sound.handled) c.requires.absent in
+    let rows = ap (rows_of c.enter.new.self.table) left ∙ c.enter.ensures.others ∙ ap (rows_of old.table) back in
+    grouped_same _ _ _ _ c.enter.ensures.width (ap members_of rows)
+
+pub returns-clause-ok : goal.returns-clause-ok
+returns-clause-ok c =
+    let old = c.args.self.now in
+    let key = c.args.key in
+    let back = ap (left_rows (key ∷ [])) c.in_ok-handle.ensures.rows ∙ left_again key c.in_ok-handle.handle old.handles (ascending old.handles c.requires.sound.handled) c.requires.absent in
+    c.in_default.ensures.row
+    ∙ ap (λ at. record { width = old.table.width; members = with_member (member_of key c.args.cells.now at) (members_of (rows_of old.table (left_rows (key ∷ []) c.add.new.self))) }) (to_z-of_z w64 c.args.at c.ranges.at)
+    ∙ ap (λ xs. record { width = old.table.width; members = with_member (member_of key c.args.cells.now c.args.at) (members_of (rows_of old.table xs)) }) back

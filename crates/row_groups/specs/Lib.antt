@@ -1,0 +1,4 @@
+pub mod Members
+pub mod Slots
+pub mod Rows
+pub mod Indexes

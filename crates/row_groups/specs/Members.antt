@@ -1,0 +1,65 @@
+-- What an index of groups shows: its rows by rising key, each with its key cells and a number by which rows of a group are ordered.
+--     member_of key cells at      a member
+--     member_under key members      the member under a key, or None where there is none
+--     with_member member members      one member more, in its place
+--     left_members gone members      the members under none of the keys that are gone
+--     moved_members shifts members      each under the key to which its row moves
+--     group_of cells members      the members with these cells, by rising `at`, and by rising key where `at` is the same
+use Rattle.std.specs.Prelude.{ℕ, ◌≡◌, ◌==◌, not, nat_lt, int_lt, List, [], ◌∷◌, Option, filter, find, length, map, ℤ, if◌then◌else◌}
+use Rattle.std.specs.List.{AllByRecursion}
+use Rattle.key_lists.specs.Keys.{is_among}
+use Rattle.row_set.specs.Sets.{IsKeySet}
+use Rattle.tick_model.specs.declared.update.ShiftRange.{ShiftRange}
+use Rattle.tick_model.specs.Shifts.{moved, as_key}
+use Rattle.tick_model.specs.Tables.{same_cells}
+
+-- a row, by its key, its key cells and its place among the rows with the same cells
+pub record Member : Type 0 where
+  pub key : ℕ
+  pub cells : List ℤ
+  pub at : ℤ
+
+-- the members, each with this many cells
+pub record Grouped : Type 0 where
+  pub width : ℕ
+  pub members : List Member
+
+abbrev pub member_of : ℕ → List ℤ → ℤ → Member
+member_of key cells at = record { key = key; cells = cells; at = at }
+
+abbrev pub keys_of : List Member → List ℕ
+keys_of = map (λ member. member.key)
+
+abbrev pub member_under : ℕ → List Member → Option Member
+member_under key = find (λ member. member.key == key)
+
+abbrev pub with_member : Member → List Member → List Member
+with_member member [] = member ∷ []
+with_member member (other ∷ others) = if nat_lt other.key member.key then other ∷ with_member member others else member ∷ other ∷ others
+
+abbrev pub left_members : List ℕ → List Member → List Member
+left_members gone = filter (λ member. not (is_among member.key gone))
+
+abbrev pub moved_member : List ShiftRange → Member → Member
+moved_member shifts member = record member { key = as_key (moved shifts member.key) }
+
+abbrev pub moved_members : List ShiftRange → List Member → List Member
+moved_members shifts = map (moved_member shifts)
+
+-- before those whose `at` is not smaller
+abbrev pub placed : Member → List Member → List Member
+placed member [] = member ∷ []
+placed member (other ∷ others) = if int_lt other.at member.at then other ∷ placed member others else member ∷ other ∷ others
+
+-- members that have the same `at` stay in their order
+abbrev pub by_at : List Member → List Member
+by_at [] = []
+by_at (member ∷ members) = placed member (by_at members)
+
+abbrev pub group_of : List ℤ → List Member → List Member
+group_of cells members = by_at (filter (λ member. same_cells cells member.cells) members)
+
+-- the keys rise, each is below 2 ^ 62, and each member has as many cells as all have
+pub record AreGrouped (grouped : Grouped) : Type 0 where
+  pub keys : IsKeySet (keys_of grouped.members)
+  pub cells : AllByRecursion (λ member. length member.cells ≡ grouped.width) grouped.members

@@ -1,0 +1,67 @@
+-- Lists of rows of a group, in chunks.
+--     key_in entries handle      the key of the row with a handle
+--     is_before entries at key slot      whether a row stands before a place
+--     slots_with entries at key slot slots      one row more, at a place
+--     slots_without entries at key slots      the rows without the one at a place
+--     joined chunks      the rows of all chunks
+use Rattle.std.specs.Prelude.{ℕ, ◌^◌, ◌<◌, ◌≡◌, ◌&&◌, ◌||◌, Bool, true, false, nat_lt, int_lt, List, [], ◌∷◌, length, slice_index_or, unwrap_or, IsSome, ℤ, if◌then◌else◌}
+use Rattle.std.specs.List.{AllByRecursion, flat_map}
+use Rattle.std.specs.Ordering.{int_eq}
+use Rattle.std.specs.Global.{Vec}
+use Rattle.row_handles.specs.Entries.{Entry, AreHandled, key_with}
+use Rattle.row_groups.specs.declared.place.Slot.{Slot}
+use Rattle.row_groups.specs.Members.{Member, member_of}
+
+abbrev pub key_in : List Entry → ℕ → ℕ
+key_in entries handle = unwrap_or (key_with handle entries) 0
+
+abbrev pub AreKnown : List Entry → List Slot → Type 0
+AreKnown entries = AllByRecursion (λ slot. IsSome (key_with slot.handle entries))
+
+abbrev pub is_before : List Entry → ℤ → ℕ → Slot → Bool
+is_before entries at key slot = int_lt slot.at at || int_eq slot.at at && nat_lt (key_in entries slot.handle) key
+
+abbrev pub slots_with : List Entry → ℤ → ℕ → Slot → List Slot → List Slot
+slots_with entries at key slot [] = slot ∷ []
+slots_with entries at key slot (other ∷ others) =
+    if is_before entries at key other then other ∷ slots_with entries at key slot others else slot ∷ other ∷ others
+
+abbrev pub slots_without : List Entry → ℤ → ℕ → List Slot → List Slot
+slots_without entries at key [] = []
+slots_without entries at key (other ∷ others) = if is_before entries at key other then other ∷ slots_without entries at key others else others
+
+-- what passes comes first
+abbrev pub IsParted : {X : Type 0} → (X → Bool) → List X → Type 0
+IsParted p [] = Unit {0}
+IsParted p (x ∷ xs) = (p x ≡ false → AllByRecursion (λ y. p y ≡ false) xs) × IsParted p xs
+
+-- each row stands before the places of those after it
+abbrev pub AreRanked : List Entry → List Slot → Type 0
+AreRanked entries [] = Unit {0}
+AreRanked entries (slot ∷ slots) =
+    AllByRecursion (λ other. is_before entries other.at (key_in entries other.handle) slot ≡ true) slots × AreRanked entries slots
+
+abbrev pub joined : List (Vec Slot) → List Slot
+joined = flat_map (λ chunk. chunk.items)
+
+abbrev pub AreFilled : List (Vec Slot) → Type 0
+AreFilled = AllByRecursion (λ chunk. 0 < length chunk.items)
+
+-- no chunk is empty, and the rows are counted
+pub record IsChunked (len : ℕ) (chunks : List (Vec Slot)) : Type 0 where
+  pub filled : AreFilled chunks
+  pub counted : len ≡ length (joined chunks)
+  pub fits : len < 2 ^ 64
+
+-- a fact of the chunk at an index
+abbrev pub AtChunk : List (Vec Slot) → ℕ → (List Slot → Type 0) → Type 0
+AtChunk chunks index P = (chunk : Vec Slot) → chunk ≡ slice_index_or chunks index chunk → P chunk.items
+
+-- the rows of a group, whose keys are among the entries
+pub record IsGroup (entries : List Entry) (slots : List Slot) : Type 0 where
+  pub handled : AreHandled entries
+  pub known : AreKnown entries slots
+  pub ranked : AreRanked entries slots
+
+abbrev pub member_at : List Entry → List ℤ → Slot → Member
+member_at entries cells slot = member_of (key_in entries slot.handle) cells slot.at

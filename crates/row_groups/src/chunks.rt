@@ -1,0 +1,162 @@
+//! A long list in chunks, so that a row comes or leaves in its midst at the cost of one chunk.
+ghost use Rattle.std.specs.Prelude.{◌≡◌, ◌+◌, ◌-◌, ◌^◌, ◌<◌, ◌≤◌, ◌++◌, ◌∷◌, [], true, false, length, take, drop, slice_get, OnOk, OnErr, Some};
+ghost use Rattle.std.specs.List.{AllByRecursion};
+ghost use Rattle.row_groups.specs.Slots.{AreFilled, AreKnown, AtChunk, is_before, IsParted, joined};
+
+use crate::place::{Place, Slot};
+use std::alloc::{AllocError, Global};
+
+/// At most this many rows are in one chunk.
+const CHUNK_LEN: usize = 512;
+
+/// Where a row stands: the index of its chunk and the place there.
+#[derive(Clone, Copy)]
+pub(crate) struct Spot {
+    pub(crate) chunk: usize,
+    pub(crate) place: usize,
+}
+
+/// Where the row at a position stands.
+pub(crate) fn spot_of(chunks: &[Vec<Slot>], position: usize) -> Spot
+    requires { position < length (joined chunks.now) }
+    ensures chunk { result.chunk < length chunks.now }
+    ensures place { AtChunk chunks.now result.chunk (λ rows. result.place < length rows) }
+    ensures position { length (joined (take result.chunk chunks.now)) + result.place ≡ position }
+{
+    let mut chunk = 0;
+    let mut place = position;
+    while place >= chunks[chunk].len() {
+        place -= chunks[chunk].len();
+        chunk += 1;
+    }
+    Spot { chunk, place }
+}
+
+/// How many rows of a chunk stand before a place.
+pub(crate) fn rows_before(rows: &[Slot], place: &Place<'_>) -> usize
+    requires known { AreKnown place.now.handles.now rows.now }
+    requires parted { IsParted (is_before place.now.handles.now place.now.at place.now.key) rows.now }
+    ensures within { result ≤ length rows.now }
+    ensures before { AllByRecursion (λ slot. is_before place.now.handles.now place.now.at place.now.key slot ≡ true) (take result rows.now) }
+    ensures others { AllByRecursion (λ slot. is_before place.now.handles.now place.now.at place.now.key slot ≡ false) (drop result rows.now) }
+{
+    let mut low = 0;
+    let mut high = rows.len();
+    while low < high {
+        let middle = low + (high - low) / 2;
+        if place.is_after(rows[middle]) {
+            low = middle + 1;
+        } else {
+            high = middle;
+        }
+    }
+    low
+}
+
+/// How many chunks begin before a place.
+pub(crate) fn begun_before(chunks: &[Vec<Slot>], place: &Place<'_>) -> usize
+    requires known { AreKnown place.now.handles.now (joined chunks.now) }
+    requires parted { IsParted (is_before place.now.handles.now place.now.at place.now.key) (joined chunks.now) }
+    requires filled { AreFilled chunks.now }
+    ensures within { result ≤ length chunks.now }
+    ensures before { AllByRecursion (λ slot. is_before place.now.handles.now place.now.at place.now.key slot ≡ true) (joined (take (result - 1) chunks.now)) }
+    ensures others { AllByRecursion (λ slot. is_before place.now.handles.now place.now.at place.now.key slot ≡ false) (joined (drop result chunks.now)) }
+{
+    let mut low = 0;
+    let mut high = chunks.len();
+    while low < high {
+        let middle = low + (high - low) / 2;
+        if place.is_after(chunks[middle][0]) {
+            low = middle + 1;
+        } else {
+            high = middle;
+        }
+    }
+    low
+}
+
+/// How many rows the chunks have.
+pub(crate) fn count_rows(chunks: &[Vec<Slot>]) -> usize
+    requires { length (joined chunks.now) < 2 ^ 64 }
+    ensures { result ≡ length (joined chunks.now) }
+{
+    let mut count = 0;
+    for chunk in chunks {
+        count += chunk.len();
+    }
+    count
+}
+
+/// Puts a row in before all others.
+fn insert_first(chunks: &mut Vec<Vec<Slot>>, slot: Slot) -> Result<(), AllocError>
+    requires filled { AreFilled chunks.old.items }
+    ensures ok { OnOk result (joined chunks.new.items ≡ slot ∷ joined chunks.old.items) }
+    ensures err { OnErr result (joined chunks.new.items ≡ joined chunks.old.items) }
+    ensures filled { AreFilled chunks.new.items }
+{
+    if !chunks.is_empty() && chunks[0].len() < CHUNK_LEN {
+        chunks[0].insert(0, slot)?;
+        return Ok(());
+    }
+    let mut rows = Vec::new(*chunks.allocator());
+    rows.push(slot)?;
+    chunks.insert(0, rows)?;
+    Ok(())
+}
+
+/// Puts a row in at a place of a chunk. It begins a new chunk, into which the rows behind it go too.
+fn insert_chunk(chunks: &mut Vec<Vec<Slot>>, spot: Spot, slot: Slot) -> Result<(), AllocError>
+    requires filled { AreFilled chunks.old.items }
+    requires chunk { spot.chunk < length chunks.old.items }
+    requires place { AtChunk chunks.old.items spot.chunk (λ rows. spot.place ≤ length rows) }
+    requires behind { 0 < spot.place }
+    ensures ok { OnOk result (AtChunk chunks.old.items spot.chunk (λ rows. joined chunks.new.items ≡ joined (take spot.chunk chunks.old.items) ++ ((take spot.place rows ++ slot ∷ drop spot.place rows) ++ joined (drop (spot.chunk + 1) chunks.old.items)))) }
+    ensures err { OnErr result (joined chunks.new.items ≡ joined chunks.old.items) }
+    ensures filled { AreFilled chunks.new.items }
+{
+    let mut rows = Vec::with_capacity(*chunks.allocator(), CHUNK_LEN)?;
+    rows.push(slot)?;
+    rows.extend_from_slice(&chunks[spot.chunk][spot.place..])?;
+    chunks.insert(spot.chunk + 1, rows)?;
+    chunks[spot.chunk].truncate(spot.place);
+    Ok(())
+}
+
+/// Puts a row in at a position. After a refusal the rows are as they were.
+pub(crate) fn insert_row(
+    chunks: &mut Vec<Vec<Slot>>,
+    position: usize,
+    slot: Slot,
+) -> Result<(), AllocError>
+    requires filled { AreFilled chunks.old.items }
+    requires within { position ≤ length (joined chunks.old.items) }
+    ensures ok { OnOk result (joined chunks.new.items ≡ take position (joined chunks.old.items) ++ slot ∷ drop position (joined chunks.old.items)) }
+    ensures err { OnErr result (joined chunks.new.items ≡ joined chunks.old.items) }
+    ensures filled { AreFilled chunks.new.items }
+{
+    if position == 0 {
+        return insert_first(chunks, slot);
+    }
+    let mut spot = spot_of(chunks, position - 1);
+    spot.place += 1;
+    if chunks[spot.chunk].len() >= CHUNK_LEN {
+        return insert_chunk(chunks, spot, slot);
+    }
+    chunks[spot.chunk].insert(spot.place, slot)?;
+    Ok(())
+}
+
+/// Takes out the row at a position, and its chunk where no other row is there.
+pub(crate) fn remove_row(chunks: &mut Vec<Vec<Slot>>, position: usize)
+    requires filled { AreFilled chunks.old.items }
+    requires within { position < length (joined chunks.old.items) }
+    ensures rows { joined chunks.new.items ≡ take position (joined chunks.old.items) ++ drop (position + 1) (joined chunks.old.items) }
+    ensures filled { AreFilled chunks.new.items }
+{
+    let spot = spot_of(chunks, position);
+    let rows = &mut chunks[spot.chunk];
+    rows.remove(spot.place);
+    if rows.is_empty() {
+        chunks.remove(spot.chunk);
+    }
+}

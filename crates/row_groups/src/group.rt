@@ -1,0 +1,120 @@
+//! The rows with the same key cells.
+ghost use Rattle.std.specs.Prelude.{◌≡◌, ◌-◌, ◌<◌, ◌==◌, Some, length, map, slice_get, int_le, int_lt};
+ghost use Rattle.std.specs.List.{count_by};
+ghost use Rattle.row_handles.specs.Entries.{AreHandled};
+ghost use Rattle.row_groups.specs.Members.{keys_of};
+ghost use Rattle.row_groups.specs.Slots.{AreKnown, AreRanked};
+
+use crate::place::Place;
+use crate::sequence::Sequence;
+use row_handles::Handles;
+use std::marker::Model;
+
+/// Above all keys.
+const KEYS_END: u64 = 1 << 62;
+
+/// The rows of a group, by rising `at` and then by rising key.
+#[derive(Drop)]
+pub struct Group<'a> {
+    handles: &'a Handles,
+    cells: &'a [i64],
+    rows: &'a Sequence,
+}
+
+impl<'a> Model for Group<'a> {
+    ghost use Rattle.std.specs.Prelude.{List, map};
+    ghost use Rattle.row_groups.specs.Members.{Member};
+    ghost use Rattle.row_groups.specs.Slots.{IsGroup, member_at};
+
+    ghost Value = { List Member };
+
+    ghost view = { λ group. map (member_at group.handles.now group.cells.now) group.rows.now };
+
+    ghost invariant = { λ group. IsGroup group.handles.now group.rows.now };
+}
+
+impl<'a> Group<'a> {
+    ghost use Rattle.row_groups.specs.Slots.{member_at};
+
+    /// The rows with these cells.
+    pub(crate) fn new(handles: &'a Handles, cells: &'a [i64], rows: &'a Sequence) -> Group<'a>
+        requires handled { AreHandled handles.now }
+        requires known { AreKnown handles.now rows.now }
+        requires ranked { AreRanked handles.now rows.now }
+        ensures { result ≡ map (member_at handles.now cells.now) rows.now }
+    {
+        Group {
+            handles,
+            cells,
+            rows,
+        }
+    }
+
+    /// How many rows there are.
+    pub fn len(&self) -> usize
+        ensures { result ≡ length self.now }
+    {
+        self.rows.len()
+    }
+
+    /// Whether there is no row.
+    pub fn is_empty(&self) -> bool
+        ensures { result ≡ (length self.now == 0) }
+    {
+        self.rows.is_empty()
+    }
+
+    /// The key of the row at a position.
+    pub fn key_at(&self, position: usize) -> u64
+        requires { position < length self.now }
+        ensures { slice_get (keys_of self.now) position ≡ Some result }
+    {
+        self.handles.key_of(self.rows.get(position).handle)
+    }
+
+    /// The `at` of the row at a position.
+    pub fn at_at(&self, position: usize) -> i64
+        requires { position < length self.now }
+        ensures { slice_get (map (λ member. member.at) self.now) position ≡ Some result }
+    {
+        self.rows.get(position).at
+    }
+
+    /// The key of the first row, or None where there is none.
+    pub fn first_key(&self) -> Option<u64>
+        ensures { result ≡ slice_get (keys_of self.now) 0 }
+    {
+        let slot = self.rows.first()?;
+        Some(self.handles.key_of(slot.handle))
+    }
+
+    /// The key of the last row, or None where there is none.
+    pub fn last_key(&self) -> Option<u64>
+        ensures { result ≡ slice_get (keys_of self.now) (length self.now - 1) }
+    {
+        let slot = self.rows.last()?;
+        Some(self.handles.key_of(slot.handle))
+    }
+
+    /// How many rows have an `at` that is not greater. They are the first ones.
+    pub fn count_at_most(&self, at: i64) -> usize
+        ensures { result ≡ count_by (λ member. int_le member.at at) self.now }
+    {
+        self.rows.count_before(&Place {
+            handles: self.handles,
+            at,
+            key: KEYS_END,
+        })
+    }
+
+    /// How many rows have a smaller `at`. They are the first ones.
+    pub fn count_below(&self, at: i64) -> usize
+        ensures { result ≡ count_by (λ member. int_lt member.at at) self.now }
+    {
+        self.rows.count_before(&Place {
+            handles: self.handles,
+            at,
+            key: 0,
+        })
+    }
+}

@@ -1,0 +1,99 @@
+//! The index itself.
+ghost use Rattle.std.specs.Prelude.{◌≡◌, ◌<◌, ◌^◌, [], None, length, option_map, OnOk, OnErr};
+ghost use Rattle.tick_model.specs.Rules.{shift_fault};
+ghost use Rattle.row_groups.specs.Members.{AreGrouped, group_of, keys_of, left_members, member_of, member_under, moved_members, with_member};
+
+use crate::group::Group;
+use crate::index::Index;
+use row_set::RowSet;
+use shift_data::ShiftData;
+use std::alloc::{AllocError, Global};
+use std::marker::Model;
+
+/// The rows of a table by their key cells. The rows with equal cells are a group, in which they stand by rising `at` and then by
+/// rising key. What is kept of a row is not read from the table again.
+#[derive(Drop)]
+pub struct Groups {
+    index: Index,
+}
+
+impl Model for Groups {
+    ghost use Rattle.row_groups.specs.Members.{Grouped};
+    ghost use Rattle.row_groups.specs.Indexes.{grouped_of, IsIndex};
+
+    ghost Value = { Grouped };
+
+    ghost view = { λ groups. grouped_of groups.index };
+
+    ghost invariant = { λ groups. IsIndex groups.index };
+}
+
+impl Groups {
+    /// No rows. Those that come are to have so many key cells each. It takes no memory.
+    pub fn new(alloc: Global, width: usize) -> Groups
+        ensures { result ≡ record { width = width; members = [] } }
+    {
+        Groups {
+            index: Index::new(alloc, width),
+        }
+    }
+
+    /// Puts a row in under a key that has none. The cost is that of finding its place and of one chunk of its group. After a
+    /// refusal, which comes where memory runs out, all is as it was.
+    pub fn add(&mut self, key: u64, cells: &[i64], at: i64) -> Result<(), AllocError>
+        requires small { key < 2 ^ 62 }
+        requires absent { member_under key self.old.members ≡ None }
+        requires width { length cells.now ≡ self.old.width }
+        ensures members { OnOk result (self.new ≡ record self.old { members = with_member (member_of key cells.now at) self.old.members }) }
+        ensures refused { OnErr result (self.new ≡ self.old) }
+    {
+        self.index.add(key, cells, at)
+    }
+
+    /// Takes out the rows under these keys; it is no matter whether all of them have one. It takes no memory.
+    pub fn remove(&mut self, keys: &RowSet)
+        ensures { self.new ≡ record self.old { members = left_members keys.now self.old.members } }
+    {
+        self.index.remove(keys);
+    }
+
+    /// Moves the rows to the keys to which the shift leads them, where they rise again. The cost is that of the blocks of
+    /// neighbouring rows that move, and nothing for a group. After a refusal, which comes where memory runs out, all is as it was.
+    pub fn shift(&mut self, shifts: &ShiftData) -> Result<(), AllocError>
+        requires { shift_fault (2 ^ 62) shifts.now (keys_of self.old.members) ≡ None }
+        ensures members { OnOk result (self.new ≡ record self.old { members = moved_members shifts.now self.old.members }) }
+        ensures refused { OnErr result (self.new ≡ self.old) }
+    {
+        self.index.shift(shifts)
+    }
+
+    /// The rows with these cells.
+    pub fn group<'a>(&'a self, cells: &'a [i64]) -> Group<'a>
+        ensures group { result ≡ group_of cells.now self.now.members }
+        ensures members { AreGrouped self.now }
+    {
+        Group::new(
+            &self.index.handles,
+            cells,
+            self.index.lists.rows_with(cells),
+        )
+    }
+
+    /// The key cells of the row under a key, or None where there is none.
+    pub fn cells_of(&self, key: u64) -> Option<&[i64]>
+        ensures cells { option_map (λ cells. cells.now) result ≡ option_map (λ member. member.cells) (member_under key self.now.members) }
+        ensures members { AreGrouped self.now }
+    {
+        let handle = self.index.handles.handle_of(key)?;
+        Some(self.index.table.cells_of(handle))
+    }
+
+    /// The `at` of the row under a key, or None where there is none.
+    pub fn at_of(&self, key: u64) -> Option<i64>
+        ensures at { result ≡ option_map (λ member. member.at) (member_under key self.now.members) }
+        ensures members { AreGrouped self.now }
+    {
+        let handle = self.index.handles.handle_of(key)?;
+        Some(self.index.table.at_of(handle))
+    }
+}

@@ -1,0 +1,127 @@
+//! The rows by their handles and by their groups.
+ghost use Rattle.std.specs.Prelude.{◌≡◌, ◌^◌, ◌<◌, ◌∷◌, [], length, None, Some, OnOk, OnErr};
+ghost use Rattle.tick_model.specs.Rules.{shift_fault};
+ghost use Rattle.row_handles.specs.Entries.{handle_under, keys_of, left_rows, moved_rows};
+ghost use Rattle.row_groups.specs.Members.{left_members, member_of, moved_members, with_member};
+ghost use Rattle.row_groups.specs.Rows.{members_of, rows_of};
+
+use crate::lists::Lists;
+use crate::place::{Place, Slot};
+use crate::table::Table;
+use row_handles::{Handle, Handles};
+use row_set::RowSet;
+use shift_data::ShiftData;
+use std::alloc::{AllocError, Global};
+
+/// The rows of a table in groups.
+#[derive(Drop)]
+pub(crate) struct Index {
+    pub(crate) handles: Handles,
+    pub(crate) table: Table,
+    pub(crate) lists: Lists,
+    /// The key of a row that comes, under which it leaves again where memory runs out. The set is kept to be used again.
+    lone: RowSet,
+}
+
+/// Leaves one key in the set, and no other.
+fn keep_alone(keys: &mut RowSet, key: u64) -> Result<(), AllocError>
+    requires { key < 2 ^ 62 }
+    ensures { OnOk result (keys.new ≡ key ∷ []) }
+{
+    if let Some(last) = keys.last() {
+        keys.remove_range(0, last)?;
+    }
+    keys.insert_range(key, key)
+}
+
+impl Index {
+    ghost use Rattle.row_groups.specs.Indexes.{grouped_of, Holds, IsIndex};
+
+    /// No rows, which are to have so many key cells each.
+    pub(crate) fn new(alloc: Global, width: usize) -> Index
+        ensures sound { IsIndex result }
+        ensures members { grouped_of result ≡ record { width = width; members = [] } }
+    {
+        Index {
+            handles: Handles::new(alloc),
+            table: Table::new(alloc, width),
+            lists: Lists::new(alloc),
+            lone: RowSet::new(alloc),
+        }
+    }
+
+    /// Puts a row that has its handle into its group.
+    fn enter(&mut self, handle: Handle, key: u64, cells: &[i64], at: i64) -> Result<(), AllocError>
+        requires others { Holds (left_rows (key ∷ []) self.old.handles) self.old }
+        requires handle { handle_under key self.old.handles ≡ Some handle }
+        requires width { length cells.now ≡ self.old.table.width }
+        ensures ok { OnOk result (IsIndex self.new) }
+        ensures row { OnOk result (grouped_of self.new ≡ record { width = self.old.table.width; members = with_member (member_of key cells.now at) (members_of (rows_of self.old.table (left_rows (key ∷ []) self.old.handles))) }) }
+        ensures err { OnErr result (Holds (left_rows (key ∷ []) self.new.handles) self.new) }
+        ensures others { rows_of self.new.table (left_rows (key ∷ []) self.new.handles) ≡ rows_of self.old.table (left_rows (key ∷ []) self.old.handles) }
+        ensures handles { self.new.handles ≡ self.old.handles }
+        ensures width { self.new.table.width ≡ self.old.table.width }
+        ensures lone { self.new.lone ≡ self.old.lone }
+    {
+        self.table.keep(handle, cells, at)?;
+        let place = Place {
+            handles: &self.handles,
+            at,
+            key,
+        };
+        self.lists.put(cells, &place, Slot { at, handle })
+    }
+
+    /// Puts a row in under a key that has none.
+    pub(crate) fn add(&mut self, key: u64, cells: &[i64], at: i64) -> Result<(), AllocError>
+        requires sound { IsIndex self.old }
+        requires small { key < 2 ^ 62 }
+        requires absent { handle_under key self.old.handles ≡ None }
+        requires width { length cells.now ≡ self.old.table.width }
+        ensures sound { IsIndex self.new }
+        ensures ok { OnOk result (grouped_of self.new ≡ record (grouped_of self.old) { members = with_member (member_of key cells.now at) (grouped_of self.old).members }) }
+        ensures err { OnErr result (grouped_of self.new ≡ grouped_of self.old) }
+    {
+        keep_alone(&mut self.lone, key)?;
+        let handle = self.handles.add(key)?;
+        if let Err(refusal) = self.enter(handle, key, cells, at) {
+            self.handles.remove(&self.lone);
+            return Err(refusal);
+        }
+        Ok(())
+    }
+
+    /// Takes out the rows under these keys.
+    pub(crate) fn remove(&mut self, keys: &RowSet)
+        requires sound { IsIndex self.old }
+        ensures sound { IsIndex self.new }
+        ensures members { grouped_of self.new ≡ record (grouped_of self.old) { members = left_members keys.now (grouped_of self.old).members } }
+    {
+        for position in 0..keys.len() {
+            let Some(key) = keys.get(position) else {
+                return;
+            };
+            let Some(handle) = self.handles.handle_of(key) else {
+                continue;
+            };
+            let place = Place {
+                handles: &self.handles,
+                at: self.table.at_of(handle),
+                key,
+            };
+            self.lists.take(self.table.cells_of(handle), &place);
+        }
+        self.handles.remove(keys);
+    }
+
+    /// Moves the rows to other keys. Their groups stay as they are.
+    pub(crate) fn shift(&mut self, shifts: &ShiftData) -> Result<(), AllocError>
+        requires sound { IsIndex self.old }
+        requires lawful { shift_fault (2 ^ 62) shifts.now (keys_of self.old.handles) ≡ None }
+        ensures sound { IsIndex self.new }
+        ensures ok { OnOk result (grouped_of self.new ≡ record (grouped_of self.old) { members = moved_members shifts.now (grouped_of self.old).members }) }
+        ensures err { OnErr result (grouped_of self.new ≡ grouped_of self.old) }
+    {
+        self.handles.shift(shifts)
+    }
+}

@@ -1,0 +1,17 @@
+//! The rows of a table in groups: those with equal key cells together, in order. Rows come, leave and move to other keys, and each
+//! step costs the rows that it touches.
+#![tactic(auto)]
+
+mod chunks;
+mod group;
+mod groups;
+mod index;
+mod lists;
+mod place;
+mod sequence;
+mod table;
+#[cfg(test)]
+mod tests;
+
+pub use group::Group;
+pub use groups::Groups;

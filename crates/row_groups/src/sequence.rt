@@ -1,0 +1,115 @@
+//! The rows of a group in order.
+ghost use Rattle.std.specs.Prelude.{◌≡◌, ◌+◌, ◌-◌, ◌<◌, ◌≤◌, ◌++◌, ◌∷◌, ◌==◌, [], true, false, length, take, drop, slice_get, OnOk, OnErr, Some};
+ghost use Rattle.std.specs.List.{AllByRecursion};
+ghost use Rattle.row_groups.specs.Slots.{AreKnown, is_before, IsParted};
+
+use crate::chunks::{begun_before, count_rows, insert_row, remove_row, rows_before, spot_of};
+use crate::place::{Place, Slot};
+use std::alloc::{AllocError, Global};
+use std::marker::Model;
+
+/// Rows in order. A row comes or leaves in their midst at the cost of one chunk and of the list of chunks.
+#[derive(Drop)]
+pub(crate) struct Sequence {
+    /// None of them is empty.
+    chunks: Vec<Vec<Slot>>,
+    len: usize,
+}
+
+impl Model for Sequence {
+    ghost use Rattle.std.specs.Prelude.{List};
+    ghost use Rattle.row_groups.specs.declared.place.Slot.{Slot};
+    ghost use Rattle.row_groups.specs.Slots.{joined, IsChunked};
+
+    ghost Value = { List Slot };
+
+    ghost view = { λ sequence. joined sequence.chunks.items };
+
+    ghost invariant = { λ sequence. IsChunked sequence.len sequence.chunks.items };
+}
+
+impl Sequence {
+    /// No rows. It takes no memory.
+    pub(crate) fn new(alloc: Global) -> Sequence
+        ensures { result ≡ [] }
+    {
+        Sequence {
+            chunks: Vec::new(alloc),
+            len: 0,
+        }
+    }
+
+    pub(crate) fn len(&self) -> usize
+        ensures { result ≡ length self.now }
+    {
+        self.len
+    }
+
+    pub(crate) fn is_empty(&self) -> bool
+        ensures { result ≡ (length self.now == 0) }
+    {
+        self.len == 0
+    }
+
+    /// The row at a position.
+    pub(crate) fn get(&self, position: usize) -> Slot
+        requires { position < length self.now }
+        ensures { slice_get self.now position ≡ Some result }
+    {
+        let spot = spot_of(&self.chunks, position);
+        self.chunks[spot.chunk][spot.place]
+    }
+
+    /// The first row, whose chunk is at hand.
+    pub(crate) fn first(&self) -> Option<Slot>
+        ensures { result ≡ slice_get self.now 0 }
+    {
+        let rows = self.chunks.first()?;
+        rows.first().copied()
+    }
+
+    /// The last row, whose chunk is at hand.
+    pub(crate) fn last(&self) -> Option<Slot>
+        ensures { result ≡ slice_get self.now (length self.now - 1) }
+    {
+        let rows = self.chunks.last()?;
+        rows.last().copied()
+    }
+
+    /// How many rows stand before a place: two binary searches, and the rows of the chunks before it are counted.
+    pub(crate) fn count_before(&self, place: &Place<'_>) -> usize
+        requires known { AreKnown place.now.handles.now self.now }
+        requires parted { IsParted (is_before place.now.handles.now place.now.at place.now.key) self.now }
+        ensures within { result ≤ length self.now }
+        ensures before { AllByRecursion (λ slot. is_before place.now.handles.now place.now.at place.now.key slot ≡ true) (take result self.now) }
+        ensures others { AllByRecursion (λ slot. is_before place.now.handles.now place.now.at place.now.key slot ≡ false) (drop result self.now) }
+    {
+        let next = begun_before(&self.chunks, place);
+        if next == 0 {
+            return 0;
+        }
+        let index = next - 1;
+        count_rows(&self.chunks[..index]) + rows_before(&self.chunks[index], place)
+    }
+
+    /// Puts a row in at a position. After a refusal all is as it was.
+    pub(crate) fn insert(&mut self, position: usize, slot: Slot) -> Result<(), AllocError>
+        requires { position ≤ length self.old }
+        ensures ok { OnOk result (self.new ≡ take position self.old ++ slot ∷ drop position self.old) }
+        ensures err { OnErr result (self.new ≡ self.old) }
+    {
+        let len = self.len.checked_add(1).ok_or(AllocError)?;
+        insert_row(&mut self.chunks, position, slot)?;
+        self.len = len;
+        Ok(())
+    }
+
+    /// Takes out the row at a position.
+    pub(crate) fn remove(&mut self, position: usize)
+        requires { position < length self.old }
+        ensures { self.new ≡ take position self.old ++ drop (position + 1) self.old }
+    {
+        remove_row(&mut self.chunks, position);
+        self.len -= 1;
+    }
+}
