@@ -1,0 +1,5 @@
+use Rattle.script_lines.proofs.KeptLemmas.{line_keeps_rules}
+use Rattle.script_lines.proofs.laws.read_lines_keep_rules.Goals as goal
+
+pub returns : goal.returns
+returns c = line_keeps_rules

@@ -1,0 +1,15 @@
+use Rattle.std.proofs.Common.{◌≡◌, rules, tests}
+use Rattle.std.specs.Prelude.{not}
+use Rattle.std.specs.List.{position}
+use Rattle.std.proofs.lemmas.Iterator.{YieldsList-from_slice}
+use Rattle.std.proofs.lemmas.Iterator.Search.{position_from_yields_List}
+use Rattle.tick_model.specs.Names.{is_name_byte}
+use Rattle.script_lines.proofs.LexemeLemmas.{run_len-position}
+use Rattle.script_lines.proofs.lexer.name_len.Goals as goal
+
+pub returns : goal.returns
+returns c =
+    let bytes = c.args.bytes.now in
+    let found : c.position.result ≡ position (λ byte. not (is_name_byte byte)) bytes =
+    position_from_yields_List (λ byte. not (is_name_byte byte)) _ _ c.position.result c.position.ensures.ran (YieldsList-from_slice bytes cc) (λ x b q k. search (rules, tests)) in
+    run_len-position is_name_byte bytes c.position.result c.unwrap_or.result found c.unwrap_or.ensures

@@ -1,0 +1,143 @@
+//! What a line says by itself, in names and texts.
+
+use crate::token::Word;
+use tick_model::items::Items;
+use tick_model::plan::{Choice, Comparison, Kind};
+
+/// A formula over named columns.
+#[derive(Debug, Drop)]
+pub enum Formula<'a> {
+    Column(Word<'a>),
+    Number(i64),
+    Text(Word<'a>),
+    Null,
+    Neg(Box<Formula<'a>>),
+    Add(Box<Formula<'a>>, Box<Formula<'a>>),
+    Sub(Box<Formula<'a>>, Box<Formula<'a>>),
+    Mul(Box<Formula<'a>>, Box<Formula<'a>>),
+}
+
+/// A test over named columns.
+#[derive(Debug, Drop)]
+pub enum Test<'a> {
+    Compare(Comparison, Formula<'a>, Formula<'a>),
+    And(Box<Test<'a>>, Box<Test<'a>>),
+    Or(Box<Test<'a>>, Box<Test<'a>>),
+    Not(Box<Test<'a>>),
+}
+
+/// A column of a source and its kind.
+#[derive(Debug, Drop)]
+pub struct Declared<'a> {
+    pub name: Word<'a>,
+    pub kind: Kind,
+}
+
+/// A new column and its formula.
+#[derive(Debug, Drop)]
+pub struct Computed<'a> {
+    pub name: Word<'a>,
+    pub formula: Formula<'a>,
+}
+
+/// Two columns: of the left input and of the right one, or the new name and the old one.
+#[derive(Debug, Drop)]
+pub struct Pair<'a> {
+    pub first: Word<'a>,
+    pub second: Word<'a>,
+}
+
+/// What a new column of an aggregation says of a group's rows, over a named column.
+#[derive(Debug, Drop)]
+pub enum Function<'a> {
+    Count,
+    Sum(Word<'a>),
+    Min(Word<'a>),
+    Max(Word<'a>),
+    First(Word<'a>),
+    Last(Word<'a>),
+}
+
+/// A new column of an aggregation.
+#[derive(Debug, Drop)]
+pub struct Gathered<'a> {
+    pub name: Word<'a>,
+    pub function: Function<'a>,
+}
+
+/// A column that is sorted by.
+#[derive(Debug, Drop)]
+pub struct Sorted<'a> {
+    pub name: Word<'a>,
+    pub descending: bool,
+}
+
+/// How a node is made.
+#[derive(Debug, Drop)]
+pub enum Making<'a> {
+    Keep {
+        input: Word<'a>,
+        test: Test<'a>,
+    },
+    View {
+        input: Word<'a>,
+        columns: Items<Computed<'a>>,
+    },
+    Join {
+        left: Word<'a>,
+        right: Word<'a>,
+        on: Items<Pair<'a>>,
+        take: Items<Pair<'a>>,
+        choice: Choice,
+    },
+    AsOf {
+        left: Word<'a>,
+        right: Word<'a>,
+        on: Items<Pair<'a>>,
+        at: Pair<'a>,
+        take: Items<Pair<'a>>,
+    },
+    Agg {
+        input: Word<'a>,
+        by: Items<Word<'a>>,
+        columns: Items<Gathered<'a>>,
+    },
+    Merge {
+        inputs: Items<Word<'a>>,
+    },
+    Sort {
+        input: Word<'a>,
+        by: Items<Sorted<'a>>,
+    },
+    Head {
+        rows: i64,
+        input: Word<'a>,
+    },
+    Tail {
+        rows: i64,
+        input: Word<'a>,
+    },
+}
+
+/// What a line says.
+#[derive(Debug, Drop)]
+pub enum Line<'a> {
+    /// Nothing: it is blank or a remark.
+    Skipped,
+    Source {
+        name: Word<'a>,
+        columns: Items<Declared<'a>>,
+        file: Option<Word<'a>>,
+    },
+    Node {
+        name: Word<'a>,
+        making: Making<'a>,
+    },
+    Print {
+        name: Word<'a>,
+    },
+    Publish {
+        name: Word<'a>,
+        rows: i64,
+    },
+}
