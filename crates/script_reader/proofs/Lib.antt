@@ -1,0 +1,11 @@
+pub mod Barely
+pub mod Drafting
+pub mod Each
+pub mod Fold
+pub mod NewColumns
+pub mod Places
+pub mod Placing
+pub mod Plainly
+pub mod Ranked
+pub mod Rewritten
+pub mod Saying
