@@ -89,7 +89,7 @@ part-extended block (Modified row) own is = simp append_assoc
 part-extended block (Block table) own is = cc
 part-extended block End own is = cc
 
-own-more : (entry : Entry) (entries : List Entry) → is_of_block entry ≡ true → take_while is_of_block (entry ∷ entries) ≡ entry ∷ take_while is_of_block entries
+pub own-more : (entry : Entry) (entries : List Entry) → is_of_block entry ≡ true → take_while is_of_block (entry ∷ entries) ≡ entry ∷ take_while is_of_block entries
 own-more entry entries is = take_while-cons is_of_block entry entries ∙ cond-true (is_of_block entry) (entry ∷ take_while is_of_block entries) [] is
 
 last-part : (block : Option RawBlock) (entry : Entry) (entries : List Entry) → is_of_block entry ≡ true → last_block (option_map (with_entry entry) block) entries ≡ last_block block (entry ∷ entries)
@@ -195,11 +195,11 @@ ends_after plan (Inside table at last) steps fields (Modified row) e = refl
 ends_after plan (Inside table at last) steps fields End e = refl
 
 -- records that are all read end well
-onto_ok : (entry : Entry) (told : Reading (List Entry)) (entries : List Entry) → onto entry told ≡ Ok entries → (rest : List Entry) × (told ≡ Ok rest) × (entry ∷ rest ≡ entries)
+onto_ok : {X : Type 0} (entry : X) (told : Reading (List X)) (entries : List X) → onto entry told ≡ Ok entries → (rest : List X) × (told ≡ Ok rest) × (entry ∷ rest ≡ entries)
 onto_ok entry (Ok rest) entries e = (rest, refl, cc)
 onto_ok entry (Err refused) entries e = cc e
 
-read_ok : (number : ℕ) (told : Result Entry TextKind) (more : Entry → Reading (List Entry)) (entries : List Entry) → read_on number told more ≡ Ok entries → (entry : Entry) × (rest : List Entry) × (told ≡ Ok entry) × (more entry ≡ Ok rest) × (entry ∷ rest ≡ entries)
+pub read_ok : {X : Type 0} (number : ℕ) (told : Result X TextKind) (more : X → Reading (List X)) (entries : List X) → read_on number told more ≡ Ok entries → (entry : X) × (rest : List X) × (told ≡ Ok entry) × (more entry ≡ Ok rest) × (entry ∷ rest ≡ entries)
 read_ok number (Ok entry) more entries e = let found = onto_ok entry (more entry) entries e in (entry, found.0, refl, found.1, found.2)
 read_ok number (Err kind) more entries e = cc e
 

@@ -7,3 +7,11 @@ pub mod TableLemmas
 pub mod TextLemmas
 pub mod OpeningLemmas
 pub mod OrderLemmas
+pub mod Orderly
+pub mod BlockLemmas
+pub mod CodedLemmas
+pub mod ReadLemmas
+pub mod FeedLaws
+pub mod AssembledLemmas
+pub mod PlainLemmas
+pub mod BoundLemmas

@@ -1,6 +1,7 @@
 pub mod Records
 pub mod Cells
 pub mod Answers
+pub mod Assembled
 pub mod Tables
 pub mod Places
 pub mod Entries

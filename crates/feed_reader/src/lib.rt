@@ -6,6 +6,7 @@
 //! `table_of` and `feed_of` in `specs/`.
 #![tactic(auto)]
 
+mod assembled;
 mod cells;
 mod coded;
 mod coding;
@@ -13,6 +14,7 @@ mod entries;
 mod fault;
 mod feeds;
 mod gathered;
+mod laws;
 mod place;
 mod ranks;
 mod raw;
@@ -20,9 +22,11 @@ mod records;
 mod tables;
 mod texts;
 
+pub use assembled::assemble;
 pub use coded::{Coded, code};
 pub use fault::{TextFault, TextKind};
 pub use feeds::read_feed;
+pub use laws::{assembled_runs_are_lawful, read_feeds_are_lawful, read_tables_are_openings};
 pub use raw::{RawBatch, RawBlock, RawCell, RawFeed, RawRow, RawTable};
 pub use tables::read_table;
 
