@@ -1,0 +1,11 @@
+pub mod Gathered
+pub mod Quiet
+pub mod Noting
+pub mod Turned
+pub mod Brought
+pub mod Walks
+pub mod Faults
+pub mod Numbered
+pub mod Stepping
+pub mod Reading
+pub mod Fresh

@@ -1,0 +1,11 @@
+use Rattle.std.proofs.Common.{◌≡◌, ◌+◌, ◌*◌, ◌≤◌, map, take}
+use Rattle.natural_join.specs.declared.keyed.Side.TheVariants.{Right}
+use Rattle.natural_join.specs.Keyed.{key_at}
+use Rattle.natural_join.specs.Notes.{noting}
+use Rattle.natural_join.proofs.notes.note_added.Given as goal
+
+abbrev pub invariant-loop-position : goal.invariant-loop-position
+invariant-loop-position g l = record {
+  notes : l.notes ≡ record l.fn.notes { notes = noting l.choice l.index.members l.fn.notes.notes (map (key_at Right l.on l.right.new.rows) (take l.position l.right.update.added)) };
+  reads : l.reads ≤ l.fn.reads + l.right.new.width * l.position;
+}
