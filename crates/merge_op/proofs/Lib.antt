@@ -1,0 +1,14 @@
+pub mod Apart
+pub mod Found
+pub mod Gathering
+pub mod Going
+pub mod Keyed
+pub mod Looked
+pub mod Moving
+pub mod Paired
+pub mod Ranged
+pub mod Reading
+pub mod Roomy
+pub mod Sharing
+pub mod Starting
+pub mod Ticked

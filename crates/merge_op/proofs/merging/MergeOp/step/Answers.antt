@@ -1,0 +1,100 @@
+use Rattle.std.proofs.Common.{◌≡◌, ap, ap₂, sym, ◌∙◌, subst, ℕ, ◌+◌, ◌*◌, ◌<◌, ◌≤◌, ◌^◌, arith, List, length}
+use Rattle.std.specs.declared.alloc.Global.{Global}
+use Rattle.std.specs.declared.sync.Arc.{Arc}
+use Rattle.std.specs.Arc.{arc_value}
+use Rattle.std.specs.List.{AllByRecursion}
+use Rattle.std.proofs.lemmas.List.{length-map}
+use Rattle.row_changes.specs.Parts.{AreParts, Parts}
+use Rattle.tick_laws.specs.Checked.{keys_after}
+use Rattle.tick_model.specs.Changes.{Change, change_of}
+use Rattle.tick_model.specs.Tables.{keys}
+use Rattle.tick_model.specs.Updates.{Update, between}
+use Rattle.tick_table.proofs.Between.{between_lawful, keys_after_between}
+use Rattle.tick_table.specs.Exact.{counted}
+use Rattle.tick_table.specs.Ticking.{Ticking}
+use Rattle.merge_op.specs.Merged.{Merger, counted_in, merged, tables}
+use Rattle.merge_op.proofs.Reading.{added_there, before_there, merged_width, now_there, reads_few}
+use Rattle.merge_op.proofs.Starting.{starts_are}
+use Rattle.merge_op.proofs.Ticked.{merged_is_tick}
+use Rattle.merge_op.proofs.merging.MergeOp.step.Goals as goal
+
+pub rows_of-rows-requires-clause-count : goal.rows_of-rows-requires-clause-count
+rows_of-rows-requires-clause-count g c =
+    let count : c.self.inside.count ≡ c.args.self.count = ap (λ (merger : Merger). merger.count) c.self.view_is in
+    omega (arith, c.requires.count, c.self.invariant.1, count)
+
+pub touched_rows-requires-clause-starts : goal.touched_rows-requires-clause-starts
+touched_rows-requires-clause-starts g c =
+    let ts = tables c.args.inputs.now in
+    let count : c.self.inside.count ≡ c.args.self.count = ap (λ (merger : Merger). merger.count) c.self.view_is in
+    let few : length ts ≤ 16 = omega (arith, length-map c.args.inputs.now (λ (shared : Arc Ticking Global). arc_value {X = Ticking} shared), c.requires.count, c.self.invariant.1, count) in
+    let stands : c.self.inside.shown ≡ keys (merged ts).old.rows = ap (λ (merger : Merger). merger.shown) c.self.view_is ∙ c.requires.stands in
+    starts_are ts few (subst (AllByRecursion (λ key. key < 2 ^ 62)) stands c.len-count.ensures.keys.small) c.requires.keys
+
+pub touched_rows-requires-clause-tick : goal.touched_rows-requires-clause-tick
+touched_rows-requires-clause-tick g c =
+    let ts = tables c.args.inputs.now in
+    let stands : c.self.inside.shown ≡ keys (merged ts).old.rows = ap (λ (merger : Merger). merger.shown) c.self.view_is ∙ c.requires.stands in
+    merged_is_tick c.args.self.width ts c.requires.exact c.requires.widths (subst (AllByRecursion (λ key. key < 2 ^ 62)) stands c.len-count.ensures.keys.small) c.requires.keys
+
+pub touched_rows-requires-clause-shown : goal.touched_rows-requires-clause-shown
+touched_rows-requires-clause-shown g c = ap (λ (merger : Merger). merger.shown) c.self.view_is ∙ c.requires.stands
+
+pub change_of_touched-requires-clause-ready : goal.change_of_touched-requires-clause-ready
+change_of_touched-requires-clause-ready g c =
+    let ts = tables c.args.inputs.now in
+    let wide : c.self.inside.width ≡ c.args.self.width = ap (λ (merger : Merger). merger.width) c.self.view_is in
+    (c.in_ok-touched.ensures.parts.tick, c.requires.exact, subst (λ width. AllByRecursion (λ (t : Ticking). t.new.width ≡ width) ts) (sym wide) c.requires.widths)
+
+pub change_of_touched-requires-clause-width : goal.change_of_touched-requires-clause-width
+change_of_touched-requires-clause-width g c =
+    let ts = tables c.args.inputs.now in
+    let wide : c.self.inside.width ≡ c.args.self.width = ap (λ (merger : Merger). merger.width) c.self.view_is in
+    let count : c.self.inside.count ≡ c.args.self.count = ap (λ (merger : Merger). merger.count) c.self.view_is in
+    let some : 0 < length ts = omega (arith, length-map c.args.inputs.now (λ (shared : Arc Ticking Global). arc_value {X = Ticking} shared), c.requires.count, c.self.invariant.0, count) in
+    wide ∙ merged_width c.args.self.width ts c.requires.widths some
+
+pub change_of_touched-requires-clause-even : goal.change_of_touched-requires-clause-even
+change_of_touched-requires-clause-even g c = c.in_ok-touched.ensures.parts.compared.even
+
+pub change_of_touched-requires-clause-added : goal.change_of_touched-requires-clause-added
+change_of_touched-requires-clause-added g c =
+    let tick = merged (tables c.args.inputs.now) in
+    added_there tick.old tick.new c.in_ok-touched.touched tick.kept c.in_ok-touched.ensures.parts
+
+pub change_of_touched-requires-clause-before : goal.change_of_touched-requires-clause-before
+change_of_touched-requires-clause-before g c =
+    let tick = merged (tables c.args.inputs.now) in
+    before_there tick.old tick.new c.in_ok-touched.touched tick.kept c.in_ok-touched.ensures.parts
+
+pub change_of_touched-requires-clause-now : goal.change_of_touched-requires-clause-now
+change_of_touched-requires-clause-now g c =
+    let tick = merged (tables c.args.inputs.now) in
+    now_there tick.old tick.new c.in_ok-touched.touched tick.kept c.in_ok-touched.ensures.parts
+
+pub apply_to_keys-requires : goal.apply_to_keys-requires
+apply_to_keys-requires g c =
+    let tick = merged (tables c.args.inputs.now) in
+    let stands : c.self.inside.shown ≡ keys tick.old.rows = ap (λ (merger : Merger). merger.shown) c.self.view_is ∙ c.requires.stands in
+    let change_is : c.in_ok-change.change ≡ change_of tick = c.in_ok-change.ensures.change tick.kept c.in_ok-touched.ensures.parts in
+    let update_is : c.change.inside.update ≡ between tick = ap (λ (change : Change). change.update) (c.change.view_is ∙ change_is) in
+    rw (update_is, stands) (between_lawful tick c.in_ok-touched.ensures.parts.tick)
+
+pub returns-clause-stands : goal.returns-clause-stands
+returns-clause-stands g c =
+    let tick = merged (tables c.args.inputs.now) in
+    let stands : c.self.inside.shown ≡ keys tick.old.rows = ap (λ (merger : Merger). merger.shown) c.self.view_is ∙ c.requires.stands in
+    let change_is : c.in_ok-change.change ≡ change_of tick = c.in_ok-change.ensures.change tick.kept c.in_ok-touched.ensures.parts in
+    let update_is : c.change.inside.update ≡ between tick = ap (λ (change : Change). change.update) (c.change.view_is ∙ change_is) in
+    ap (λ (shown : List ℕ). let merger : Merger = record { count = c.self.inside.count; width = c.self.inside.width; shown = shown } in merger)
+    (c.in_ok-apply_to_keys.ensures ∙ ap₂ keys_after stands update_is ∙ keys_after_between tick c.in_ok-touched.ensures.parts.tick)
+    ∙ ap (λ (merger : Merger). let after : Merger = record { count = merger.count; width = merger.width; shown = keys tick.new.rows } in after) c.self.view_is
+
+pub returns-clause-change : goal.returns-clause-change
+returns-clause-change g c = c.in_ok-change.ensures.change (merged (tables c.args.inputs.now)).kept c.in_ok-touched.ensures.parts
+
+pub returns-clause-reads : goal.returns-clause-reads
+returns-clause-reads g c =
+    subst (λ (merger : Merger). c.change_of_touched.new.reads ≤ c.args.reads.now + 4 * (merger.count * merger.width + merger.width) * (counted_in (tables c.args.inputs.now) + counted c.in_ok-change.change.update)) c.self.view_is
+    (reads_few c.self.inside.count c.self.inside.width c.args.reads.now c.change_of_touched.new.reads (length c.in_ok-touched.touched.compared_now) (length c.in_ok-touched.touched.added) (tables c.args.inputs.now) c.in_ok-change.change.update
+    c.in_ok-change.ensures.reads c.in_ok-touched.ensures.modified c.in_ok-touched.ensures.added)

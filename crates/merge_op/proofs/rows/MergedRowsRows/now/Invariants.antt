@@ -1,0 +1,11 @@
+use Rattle.std.proofs.Common.{◌≡◌, drop}
+use Rattle.merge_op.specs.Merged.{tables}
+use Rattle.merge_op.proofs.Found.{IsAheadNow}
+use Rattle.merge_op.proofs.rows.MergedRowsRows.now.Given as goal
+
+abbrev pub invariant-loop-input : goal.invariant-loop-input
+invariant-loop-input g l = record {
+  ahead : IsAheadNow (tables l.self.inputs.now) (tables (drop l.input-index l.self.inputs.now)) l.start l.key;
+  cells : l.cells.items ≡ l.fn.cells.items;
+  reads : l.reads ≡ l.fn.reads;
+}

@@ -1,0 +1,7 @@
+use Rattle.std.proofs.Common.{drop}
+use Rattle.merge_op.specs.Merged.{tables}
+use Rattle.merge_op.proofs.Going.{IsGathered}
+use Rattle.merge_op.proofs.touching.touched_rows.Given as goal
+
+abbrev pub invariant-loop-input : goal.invariant-loop-input
+invariant-loop-input l = IsGathered (tables l.inputs) (tables (drop l.input-index l.inputs)) l.start.before l.start.now l.gathered.removed l.gathered.added l.gathered.before l.gathered.now l.gathered.shift

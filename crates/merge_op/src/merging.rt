@@ -1,0 +1,115 @@
+//! The operator itself.
+
+ghost use Rattle.std.specs.Prelude.{◌≡◌, ◌+◌, ◌*◌, ◌^◌, ◌<◌, ◌≤◌, [], length, IfErr, IfOk};
+ghost use Rattle.std.specs.List.{AllByRecursion};
+ghost use Rattle.merge_op.specs.Merged.{counted_in, merged, rows_in, tables};
+ghost use Rattle.tick_model.specs.Changes.{change_of};
+ghost use Rattle.tick_model.specs.Tables.{keys};
+ghost use Rattle.tick_table.specs.Exact.{IsExact, counted};
+
+use crate::fault::MergeFault;
+use crate::rows::MergedRows;
+use crate::touching::touched_rows;
+use row_changes::change_of_touched;
+use row_set::RowSet;
+use std::alloc::{AllocError, Global};
+use std::marker::Model;
+use std::sync::ledger::Ledger;
+use tick_model::limits::MOST_ROWS;
+use tick_table::{Change, Shared, Steps};
+
+/// Puts the rows of its inputs one after the other. It stands for the rows that it saw last.
+#[derive(Debug, Drop)]
+pub struct MergeOp {
+    count: u32,
+    width: u32,
+    /// The keys of the merged rows.
+    shown: RowSet,
+}
+
+impl Model for MergeOp {
+    ghost use Rattle.std.specs.Prelude.{◌≤◌};
+    ghost use Rattle.merge_op.specs.Merged.{Merger};
+
+    ghost Value = { Merger };
+
+    ghost view = { λ merge. record { count = merge.count; width = merge.width; shown = merge.shown } };
+
+    ghost invariant = { λ merge. (2 ≤ merge.count) × (merge.count ≤ 16) × (merge.width ≤ 32) };
+}
+
+/// How many rows the inputs have together.
+fn rows_of(inputs: &[Shared]) -> u64
+    requires count { length inputs.now ≤ 16 }
+    requires few { AllByRecursion (λ input. length input.new.rows ≤ 4194304) (tables inputs.now) }
+    ensures { result ≡ rows_in (tables inputs.now) }
+{
+    let mut total = 0;
+    for input in inputs {
+        let count = input.rows().len();
+        total += count;
+    }
+    total
+}
+
+impl MergeOp {
+    /// An operator that has seen no rows, for so many inputs of this width.
+    pub fn new(alloc: Global, count: u32, width: u32) -> Result<MergeOp, AllocError>
+        requires some { 2 ≤ count }
+        requires few { count ≤ 16 }
+        requires wide { width ≤ 32 }
+        ensures count { IfOk result (λ merge. merge.count ≡ count) }
+        ensures width { IfOk result (λ merge. merge.width ≡ width) }
+        ensures shown { IfOk result (λ merge. merge.shown ≡ []) }
+    {
+        Ok(MergeOp {
+            count,
+            width,
+            shown: RowSet::new(alloc),
+        })
+    }
+
+    /// The operator after the step that the inputs show, and the change of its rows. It must stand for the inputs' rows before
+    /// the step; after a refusal it is given up. It is refused where the inputs together have more than 4,194,304 rows.
+    pub fn step<L: Ledger>(
+        self,
+        alloc: Global,
+        inputs: &[Shared],
+        reads: &mut Steps<L>,
+    ) -> Result<(MergeOp, Change), MergeFault>
+        requires count { length inputs.now ≡ self.count }
+        requires exact { AllByRecursion IsExact (tables inputs.now) }
+        requires widths { AllByRecursion (λ input. input.new.width ≡ self.width) (tables inputs.now) }
+        requires rows { AllByRecursion (λ input. length input.new.rows ≤ 4194304) (tables inputs.now) }
+        requires keys { AllByRecursion (λ key. key < 2 ^ 62) (keys (merged (tables inputs.now)).new.rows) }
+        requires stands { self.shown ≡ keys (merged (tables inputs.now)).old.rows }
+        ensures stands { IfOk result (λ out. out.0 ≡ record self { shown = keys (merged (tables inputs.now)).new.rows }) }
+        ensures change { IfOk result (λ out. out.1 ≡ change_of (merged (tables inputs.now))) }
+        ensures reads { IfOk result (λ out. reads.new ≤ reads.old + 4 * (self.count * self.width + self.width) * (counted_in (tables inputs.now) + counted out.1.update)) }
+        ensures too_many { 4194304 < rows_in (tables inputs.now) → result ≡ Err (MergeFault.TooManyRows (rows_in (tables inputs.now))) }
+        ensures fault { rows_in (tables inputs.now) ≤ 4194304 → IfErr result (λ fault. fault ≡ MergeFault.Memory) }
+    {
+        let MergeOp {
+            count,
+            width,
+            mut shown,
+        } = self;
+        let rows = rows_of(inputs);
+        if rows > u64::from(MOST_ROWS) {
+            return Err(MergeFault::TooManyRows { rows });
+        }
+        let _count = shown.len();
+        let touched = touched_rows(alloc, inputs, &shown)?;
+        let merged = MergedRows { inputs, width };
+        let change = change_of_touched(alloc, &merged, width, touched, reads)?;
+        change.update.apply_to_keys(&mut shown)?;
+        Ok((
+            MergeOp {
+                count,
+                width,
+                shown,
+            },
+            change,
+        ))
+    }
+}
