@@ -1,0 +1,9 @@
+pub mod Bound
+pub mod Columns
+pub mod Fitting
+pub mod Lawful
+pub mod Ordered
+pub mod Reading
+pub mod Texts
+pub mod Unbroken
+pub mod Written

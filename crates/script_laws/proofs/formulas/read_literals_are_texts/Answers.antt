@@ -1,0 +1,5 @@
+use Rattle.script_laws.proofs.Written.{script_written}
+use Rattle.script_laws.proofs.formulas.read_literals_are_texts.Goals as goal
+
+pub returns : goal.returns
+returns c bytes script read = (script_written bytes script read).literals
