@@ -22,7 +22,8 @@ use Rattle.script_reader.specs.Binding.{ranks_of, bound_op, bound_node, bound}
 use Rattle.script_reader.specs.Plain.{plain_op, plain_node, plain_plan}
 use Rattle.feed_reader.specs.declared.raw.RawFeed.{RawFeed}
 use Rattle.feed_reader.specs.declared.raw.RawTable.{RawTable}
-use Rattle.feed_reader.specs.Assembled.{plain_run, run_of, IsTableOf, AreTablesOf, NamesLiterals}
+use Rattle.script_laws.specs.Literals.{NamesLiterals}
+use Rattle.feed_reader.specs.Assembled.{plain_run, run_of, IsTableOf, AreTablesOf}
 use Rattle.feed_reader.specs.Coding.{table_texts, batch_texts, texts_of, coded_table, coded_rows, coded_batch, coded_feed}
 use Rattle.feed_reader.specs.Feeds.{feed_of}
 use Rattle.feed_reader.specs.Runs.{IsAmong, opening_of}

@@ -15,7 +15,7 @@ use Rattle.tick_model.specs.Changes.{is_none}
 use Rattle.tick_model.specs.LawfulRuns.{has_ranks, has_test_ranks, has_op_ranks}
 use Rattle.tick_model.specs.Numbers.{HasNumbers, HasOpNumbers}
 use Rattle.script_reader.specs.Binding.{ranks_of, bound_expr, bound_test, bound_op, bound_node}
-use Rattle.feed_reader.specs.Assembled.{names_literal, has_literals, has_test_literals, has_op_literals}
+use Rattle.script_laws.specs.Literals.{names_literal, has_literals, has_test_literals, has_op_literals}
 use Rattle.feed_reader.specs.Coding.{rank_of}
 use Rattle.feed_reader.specs.Runs.{IsAmong}
 use Rattle.feed_reader.proofs.CodedLemmas.{rank_below}

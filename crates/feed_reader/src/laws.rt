@@ -10,7 +10,9 @@ ghost use Rattle.tick_model.specs.declared.plan.ColumnSpec.{ColumnSpec};
 ghost use Rattle.tick_model.specs.declared.plan.Plan.{Plan};
 ghost use Rattle.script_reader.specs.Binding.{bound};
 ghost use Rattle.script_reader.specs.declared.script.Script.{Script};
-ghost use Rattle.feed_reader.specs.Assembled.{AreTablesOf, NamesLiterals, plain_run, run_of};
+ghost use Rattle.script_reader.specs.Scripts.{script_of};
+ghost use Rattle.script_laws.specs.Literals.{NamesLiterals};
+ghost use Rattle.feed_reader.specs.Assembled.{AreTablesOf, plain_run, run_of};
 ghost use Rattle.feed_reader.specs.Coding.{batch_texts, coded_feed, coded_table, table_texts};
 ghost use Rattle.feed_reader.specs.Feeds.{feed_of};
 ghost use Rattle.feed_reader.specs.Runs.{IsAmong};
@@ -48,5 +50,14 @@ pub fn assembled_runs_are_lawful()
         → plain_run run ≡ run_of script tables feed → AreTablesOf (sources_of script.plan.nodes) tables
         → feed_of script.plan bytes ≡ Ok feed → length run.texts < 2 ^ 63
         → is_lawful (bound script run.texts) ≡ true → HasPlanNumbers script.plan → NamesLiterals script
+        → IsLawfulRun run }
+{}
+
+/// A run that is assembled from a script that is read, from one table for each of its sources, and from a feed that is read for its plan,
+/// is lawful.
+pub fn read_runs_are_lawful()
+    ensures { (lines : List ℕ) (script : Script) (tables : List RawTable) (bytes : List ℕ) (feed : RawFeed) (run : Run)
+        → script_of lines ≡ Ok script → plain_run run ≡ run_of script tables feed → AreTablesOf (sources_of script.plan.nodes) tables
+        → feed_of script.plan bytes ≡ Ok feed → length run.texts < 2 ^ 63
         → IsLawfulRun run }
 {}

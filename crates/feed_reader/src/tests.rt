@@ -1,13 +1,17 @@
 //! Feeds and table files, each with what is read of it or the first record that is refused.
 
 ghost use Rattle.std.specs.Prelude.{◌≡◌, ◌<◌, ◌^◌, [], IfOk, length};
+ghost use Rattle.std.specs.List.{All};
 
 use super::*;
+use script_reader::reader::read_script;
+use script_reader::script::Script;
 use std::alloc::{AllocError, Global};
 use std::test::Fail;
+use tick_model::feed::Run;
 use tick_model::items::Items;
 use tick_model::name::Name;
-use tick_model::plan::{ColumnSpec, Kind, Node, Op, Plan};
+use tick_model::plan::{ColumnSpec, Expr, Kind, Node, Op, Plan, Pred};
 
 fn column(alloc: Global, name: &str, kind: Kind) -> Result<ColumnSpec, AllocError> {
     Ok(ColumnSpec {
@@ -302,5 +306,67 @@ fn texts_are_coded_by_their_ranks(rt: HostRuntime) -> Result<(), Fail> {
     assert!(rt; added.len() == 2 && added[0].key == 7);
     assert!(rt; matches!(added[0].cells.as_slice(), [2, i64::MIN]));
     assert!(rt; matches!(added[1].cells.as_slice(), [0, 4]));
+    Ok(())
+}
+
+const SCRIPT: &str = "table t sym:text qty:long\nb = where t sym = \"M\"\nprint b";
+
+/// A script that is read: one source, and a test by a text.
+fn small_script(alloc: Global) -> Result<Script, AllocError>
+    ensures nodes { IfOk result (λ script. length script.plan.nodes < 2 ^ 32) }
+    ensures columns { IfOk result (λ script. All (λ node. length node.columns < 2 ^ 32) script.plan.nodes) }
+{
+    match read_script(alloc, SCRIPT.as_bytes()) {
+        Ok(script) => Ok(script),
+        Err(_) => Err(AllocError),
+    }
+}
+
+fn feed_for(alloc: Global, plan: &Plan) -> Result<RawFeed, AllocError>
+    requires { length plan.now.nodes < 2 ^ 32 }
+{
+    match read_feed(alloc, "t,t\na,7,Z,\na,8,A,4\n.\n".as_bytes(), plan) {
+        Ok(feed) => Ok(feed),
+        Err(_) => Err(AllocError),
+    }
+}
+
+/// One table file, with two rows.
+fn small_tables(alloc: Global) -> Result<Items<RawTable>, AllocError> {
+    let mut tables = Items::new(alloc);
+    match read_table(alloc, "sym,qty\nB,1\n,2\n".as_bytes(), &columns(alloc)?) {
+        Ok(table) => tables.push(table)?,
+        Err(_) => return Err(AllocError),
+    }
+    Ok(tables)
+}
+
+fn small_run(alloc: Global) -> Result<Run, AllocError> {
+    let script = small_script(alloc)?;
+    let feed = feed_for(alloc, &script.plan)?;
+    assemble(alloc, script, small_tables(alloc)?, feed)
+}
+
+#[test]
+fn a_run_is_assembled(rt: HostRuntime) -> Result<(), Fail> {
+    let run = small_run(rt.alloc())?;
+    let texts = run.texts.as_slice();
+    assert!(rt; texts.len() == 4);
+    assert!(rt; texts[0].as_str() == "A" && texts[1].as_str() == "B" && texts[2].as_str() == "M");
+    let opening = run.opening.as_slice();
+    assert!(rt; opening.len() == 1 && opening[0].rows.len() == 2);
+    let rows = opening[0].rows.as_slice();
+    assert!(rt; matches!(rows[0].cells.as_slice(), [1, 1]));
+    assert!(rt; matches!(rows[1].cells.as_slice(), [i64::MIN, 2]));
+    let nodes = run.plan.nodes.as_slice();
+    assert!(rt;
+        matches!(
+            &nodes[1].op,
+            Op::Keep {
+                test: Pred::Compare(_, _, Expr::Rank(2)),
+                ..
+            }
+        )
+    );
     Ok(())
 }

@@ -225,7 +225,7 @@ module _ (ranks : List ℕ) where
   nothing_lawful : IsLawfulSoFar ranks nothing
   nothing_lawful = record { few = omega arith; apart = refl; nodes = tt; room = refl; rising = refl; printed = tt; published_apart = refl; publications = tt; words = omega arith }
 
-  script_lawful : (bytes : List ℕ) (script : Script) → script_of bytes ≡ Ok script → IsLawfulSoFar ranks script
+  pub script_lawful : (bytes : List ℕ) (script : Script) → script_of bytes ≡ Ok script → IsLawfulSoFar ranks script
   script_lawful = script_read (IsLawfulSoFar ranks) line_lawful nothing_lawful
 
   -- the test of a lawful plan

@@ -7,6 +7,11 @@ ghost use Rattle.script_reader.specs.Binding.{bound};
 ghost use Rattle.script_reader.specs.Scripts.{script_of};
 ghost use Rattle.script_reader.specs.declared.script.Script.{Script};
 
+/// There are at most 256 nodes.
+pub fn read_nodes_are_few()
+    ensures { (bytes : List ℕ) (script : Script) → script_of bytes ≡ Ok script → length script.plan.nodes ≤ 256 }
+{}
+
 /// No node has more than 32 columns.
 pub fn read_nodes_have_few_columns()
     ensures { (bytes : List ℕ) (script : Script) → script_of bytes ≡ Ok script
