@@ -84,7 +84,7 @@ pub last_has : (P : Entry → Type 0) (rest : List Entry) (entry : Entry) → Al
 last_has P rest entry h = (every_back P rest (entry ∷ []) h).0
 
 -- entries in another order
-pub every_permuted : (P : Entry → Type 0) (xs ys : List Entry) → IsPermutation xs ys → AllByRecursion P xs → AllByRecursion P ys
+pub every_permuted : {X : Type 0} (P : X → Type 0) (xs ys : List X) → IsPermutation xs ys → AllByRecursion P xs → AllByRecursion P ys
 every_permuted P xs ys h all = recursion_from_All P ys (All-permutation P xs ys h (all_from P xs all))
 
 pub distinct_permuted : (xs ys : List Entry) → IsPermutation xs ys → AreDistinct xs → AreDistinct ys

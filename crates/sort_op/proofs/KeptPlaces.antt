@@ -7,16 +7,13 @@ use Rattle.key_lists.specs.Keys.{is_among, IsRising, without}
 use Rattle.key_lists.proofs.Among.{among-filter, among_below, each_among}
 use Rattle.key_lists.proofs.Every.{every_weaker, every-map, filter_same}
 use Rattle.key_lists.proofs.Rising.{as_filter}
+use Rattle.row_changes.proofs.Comparing.{pairs_of-keys}
 use Rattle.shift_data.specs.Moves.{pairs_of}
 use Rattle.tick_model.specs.declared.table.PlainRow.{PlainRow}
 use Rattle.tick_model.specs.declared.update.KeyPair.{KeyPair}
 use Rattle.tick_model.specs.Sort.{numbered, place_of, place_pair}
 use Rattle.tick_model.specs.Tables.{keys}
 use Rattle.tick_model.specs.Updates.{Tick, IsTick, between, new_keys, old_keys}
-
-pub pairs_are : (pairs : List KeyPair) → pairs_of (old_keys pairs) (new_keys pairs) ≡ pairs
-pairs_are [] = refl
-pairs_are (pair ∷ pairs) = ap (λ rest. pair ∷ rest) (pairs_are pairs)
 
 -- the others of the others, where all of them are there
 others_twice : (keys others : List ℕ) → IsRising keys → IsRising others → AllByRecursion (λ key. is_among key keys ≡ true) others → without (without others keys) keys ≡ others
@@ -37,7 +34,7 @@ others_twice keys others r s there =
 -- the pairs that a tick keeps are those of the keys that do not go and of those that do not come
 pub kept_are : (tick : Tick) → IsTick tick → tick.kept ≡ pairs_of (without (between tick).removed (keys tick.old.rows)) (without (between tick).added (keys tick.new.rows))
 kept_are tick h =
-    sym (pairs_are tick.kept)
+    sym (pairs_of-keys tick.kept)
     ∙ ap₂ pairs_of
     (sym (others_twice (keys tick.old.rows) (old_keys tick.kept) h.old_table.rising h.rising_old h.of_old))
     (sym (others_twice (keys tick.new.rows) (new_keys tick.kept) h.new_table.rising h.rising_new h.of_new))

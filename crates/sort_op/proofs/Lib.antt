@@ -11,5 +11,16 @@ pub mod Kept
 pub mod Rekeyed
 pub mod SortedRows
 pub mod KeptPlaces
+pub mod PlacedCells
+pub mod PlacesFound
+pub mod Members
+pub mod Halves
+pub mod EntryPlaces
+pub mod PlacedPairs
+pub mod Sides
+pub mod ReadRows
+pub mod SortedChange
+pub mod Stepped
+pub mod StepParts
 pub mod Batched
 pub mod Inserted

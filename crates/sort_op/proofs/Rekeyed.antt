@@ -107,7 +107,7 @@ module _ (shifts : List ShiftRange) where
         both [] p q = tt
         both (other ∷ others) p q = (before_rekeyed entry other q.0 p.0, both others p.1 q.1)
 
-  joined-rekeyed : (lists : Lists) → joined (map (map (rekeyed shifts)) lists) ≡ map (rekeyed shifts) (joined lists)
+  pub joined-rekeyed : (lists : Lists) → joined (map (map (rekeyed shifts)) lists) ≡ map (rekeyed shifts) (joined lists)
   joined-rekeyed [] = refl
   joined-rekeyed (list ∷ lists) = ap (λ xs. map (rekeyed shifts) list ++ xs) (joined-rekeyed lists) ∙ sym (map-append (rekeyed shifts) list (joined lists))
 

@@ -1,4 +1,8 @@
 pub mod Cells
 pub mod Entries
-pub mod Stored
+pub mod Places
+pub mod Reading
 pub mod Sorted
+pub mod Sorter
+pub mod Steps
+pub mod Stored

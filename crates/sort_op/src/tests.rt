@@ -1,22 +1,45 @@
-//! Entries of one ascending column: where they stand, and that they leave.
-ghost use Rattle.std.specs.Prelude.{◌≡◌, [], ◌∷◌, IfOk, length};
+//! Entries of one ascending column: where they stand, and that they leave. A sort of a table without rows, with ample memory.
+ghost use Rattle.std.specs.Prelude.{◌≡◌, ◌<◌, [], ◌∷◌, IfOk, length};
 
-use crate::{Entry, SortOrder};
+use crate::{Entry, SortOp, SortOrder};
 use std::alloc::{AllocError, Global};
+use std::marker::Brand;
+use std::sync::ledger::{Blank, Ledger};
 use std::test::Fail;
 use tick_model::items::Items;
 use tick_model::plan::SortBy;
+use tick_table::{Steps, TickTable};
 
-/// An order by the first column, ascending.
-fn by_first_column(alloc: Global) -> Result<SortOrder, AllocError>
-    ensures { IfOk result (λ order. length order.by ≡ 1) }
+/// The first column, ascending.
+fn first_column(alloc: Global) -> Result<Items<SortBy>, AllocError>
+    ensures { IfOk result (λ by. length by ≡ 1) }
 {
     let mut by = Items::new(alloc);
     by.push(SortBy {
         column: 0,
         descending: false,
     })?;
-    Ok(SortOrder::new(alloc, by))
+    Ok(by)
+}
+
+/// An order by the first column, ascending.
+fn by_first_column(alloc: Global) -> Result<SortOrder, AllocError>
+    ensures { IfOk result (λ order. length order.by ≡ 1) }
+{
+    Ok(SortOrder::new(alloc, first_column(alloc)?))
+}
+
+/// Whether a sort of no rows finds nothing to change.
+fn no_rows_stay<L: Ledger>(alloc: Global, blank: Blank) -> Result<bool, AllocError>
+    requires name { blank.name ≡ L.name }
+    requires parts { blank.parts ≡ L.parts }
+    requires some { 0 < blank.parts }
+{
+    let mut reads = Steps::<L>::new(blank);
+    let table = TickTable::new(alloc, 1)?;
+    let sort = SortOp::new(alloc, first_column(alloc)?, 1);
+    let (_sort, change) = sort.step(alloc, &table, &mut reads)?;
+    Ok(change.update.is_empty() && change.cells.is_empty())
 }
 
 fn entry(alloc: Global, cell: i64, key: u64) -> Result<Entry, AllocError>
@@ -91,5 +114,11 @@ fn an_entry_leaves_once(rt: HostRuntime) -> Result<(), Fail> {
     let five = entry(rt.alloc(), 5, 0)?;
     assert_eq!(rt; order.remove(&five), Some(0));
     assert_eq!(rt; order.remove(&five), None);
+    Ok(())
+}
+
+#[test]
+fn a_sort_of_no_rows_shows_none(rt: HostRuntime) -> Result<(), Fail> {
+    assert!(rt; no_rows_stay::<Brand>(rt.alloc(), Blank::new(1))?);
     Ok(())
 }

@@ -1,0 +1,58 @@
+-- The rows that a step touches, and their entries.
+--     entry_with by cells key      the entry of a row of these cells under a key
+--     entry_under by table key      the entry of the row under a key
+--     entries_under by table keys      those of the rows under these keys
+--     modified_pairs input      the pairs of the rows that are modified
+--     staying_pairs by input      those of equal sort cells before and now
+--     moving_pairs by input      the others
+--     leaving by input      the entries that leave the order: those of the rows that go, and of those whose sort cells change
+--     coming by input      the entries that come
+--     changed_before by input, changed_now by input      the entries of the rows that are modified and stay, before and now
+use Rattle.std.specs.Prelude.{ℕ, ◌++◌, Bool, List, filter, map, not, ℤ}
+use Rattle.std.specs.List.{list_all}
+use Rattle.std.specs.Ordering.{int_eq}
+use Rattle.key_lists.specs.Keys.{is_among}
+use Rattle.tick_model.specs.declared.plan.SortBy.{SortBy}
+use Rattle.tick_model.specs.declared.table.PlainTable.{PlainTable}
+use Rattle.tick_model.specs.declared.update.KeyPair.{KeyPair}
+use Rattle.tick_model.specs.Sort.{same_place}
+use Rattle.tick_model.specs.Tables.{cell, cells_at}
+use Rattle.tick_model.specs.Updates.{new_keys, old_keys, pairs}
+use Rattle.tick_table.specs.Exact.{tick_of}
+use Rattle.tick_table.specs.Ticking.{Ticking}
+use Rattle.sort_op.specs.declared.entry.Entry.{Entry}
+use Rattle.sort_op.specs.Sorted.{sort_cells}
+
+abbrev pub entry_with : List SortBy → List ℤ → ℕ → Entry
+entry_with by cells key = record { cells = sort_cells by cells; key = key }
+
+abbrev pub entry_under : List SortBy → PlainTable → ℕ → Entry
+entry_under by table key = entry_with by (cells_at key table.rows) key
+
+abbrev pub entries_under : List SortBy → PlainTable → List ℕ → List Entry
+entries_under by table = map (entry_under by table)
+
+-- whether two rows have the same sort cells
+abbrev pub sort_cells_alike : List SortBy → List ℤ → List ℤ → Bool
+sort_cells_alike by xs ys = list_all (λ sort. int_eq (cell xs sort.column) (cell ys sort.column)) by
+
+abbrev pub modified_pairs : Ticking → List KeyPair
+modified_pairs input = filter (λ pair. is_among pair.new input.update.modified) (pairs input.old input.update)
+
+abbrev pub staying_pairs : List SortBy → Ticking → List KeyPair
+staying_pairs by input = filter (same_place by (tick_of input)) (modified_pairs input)
+
+abbrev pub moving_pairs : List SortBy → Ticking → List KeyPair
+moving_pairs by input = filter (λ pair. not (same_place by (tick_of input) pair)) (modified_pairs input)
+
+abbrev pub leaving : List SortBy → Ticking → List Entry
+leaving by input = entries_under by input.old (input.update.removed ++ old_keys (moving_pairs by input))
+
+abbrev pub coming : List SortBy → Ticking → List Entry
+coming by input = entries_under by input.new (input.update.added ++ new_keys (moving_pairs by input))
+
+abbrev pub changed_before : List SortBy → Ticking → List Entry
+changed_before by input = entries_under by input.old (old_keys (staying_pairs by input))
+
+abbrev pub changed_now : List SortBy → Ticking → List Entry
+changed_now by input = entries_under by input.new (new_keys (staying_pairs by input))

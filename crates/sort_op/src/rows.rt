@@ -1,0 +1,81 @@
+//! The rows of a sort, under their positions, before a step and now.
+ghost use Rattle.std.specs.Prelude.{◌≡◌, ◌+◌, ◌≤◌, ◌++◌, IsTrue, OnOk};
+ghost use Rattle.key_lists.specs.Keys.{IsRising, is_among};
+ghost use Rattle.tick_model.specs.Sort.{sort_table};
+ghost use Rattle.tick_model.specs.Tables.{cells_at, keys};
+ghost use Rattle.sort_op.specs.Entries.{entries};
+ghost use Rattle.sort_op.specs.Sorted.{entries_of};
+
+use crate::order::SortOrder;
+use crate::positions::key_of;
+use row_changes::Rows;
+use row_set::RowSet;
+use shift_data::ShiftData;
+use std::alloc::AllocError;
+use std::sync::ledger::Ledger;
+use tick_table::{Steps, TickTable};
+
+/// The rows of a sort. The order is the one now; of the one before the step there are the keys at the positions that the step
+/// touches. A row that it does not touch is the same now, at the position to which it moves.
+#[derive(Drop)]
+pub(crate) struct SortedRows<'a> {
+    pub input: &'a TickTable,
+    pub order: &'a SortOrder,
+    /// The old positions of the rows that go or may differ.
+    pub touched: RowSet,
+    /// The old keys of these rows, position by position.
+    pub touched_keys: Vec<u64>,
+    /// Where the rows that stay move.
+    pub shifted: ShiftData,
+}
+
+impl SortedRows<'_> {
+    /// Puts the cells of the row at a position now behind others.
+    fn row<L: Ledger>(
+        &self,
+        position: u64,
+        cells: &mut Vec<i64>,
+        reads: &mut Steps<L>,
+    ) -> Result<(), AllocError>
+        requires here { IsTrue (is_among position (keys (sort_table self.now.order.now.by self.now.input.now.new).rows)) }
+        requires rising { IsRising (keys self.now.input.now.new.rows) }
+        requires order { entries self.now.order.now ≡ entries_of self.now.order.now.by self.now.input.now.new.rows }
+        ensures cells { OnOk result (cells.new.items ≡ cells.old.items ++ cells_at position (sort_table self.now.order.now.by self.now.input.now.new).rows) }
+        ensures reads { OnOk result (reads.new ≤ reads.old + self.now.input.now.new.width) }
+    {
+        let key = key_of(self.order, position);
+        self.input.row(key, cells, reads)
+    }
+}
+
+impl<L: Ledger> Rows<L> for SortedRows<'_> {
+    ghost use Rattle.std.specs.Prelude.{◌≡◌, ◌+◌, ◌≤◌, ◌++◌, OnOk};
+    ghost use Rattle.sort_op.specs.Steps.{IsReady};
+
+    ghost table_before = { λ rows. sort_table rows.order.now.by rows.input.now.old };
+
+    ghost table_now = { λ rows. sort_table rows.order.now.by rows.input.now.new };
+
+    ghost row_reads = { λ rows. rows.input.now.new.width };
+
+    ghost ready = { λ rows. IsReady rows.order.now rows.input.now rows.touched rows.touched_keys.items rows.shifted };
+
+    fn before(
+        &self,
+        key: u64,
+        cells: &mut Vec<i64>,
+        reads: &mut Steps<L>,
+    ) -> Result<(), AllocError> {
+        match self.touched.find(key) {
+            Ok(place) => {
+                let old_key = self.touched_keys[place as usize];
+                self.input.prev_row(old_key, cells, reads)
+            }
+            Err(_) => self.row(self.shifted.landing(key), cells, reads),
+        }
+    }
+
+    fn now(&self, key: u64, cells: &mut Vec<i64>, reads: &mut Steps<L>) -> Result<(), AllocError> {
+        self.row(key, cells, reads)
+    }
+}
