@@ -1,0 +1,58 @@
+//! The latest rows of a group that are not later than a time.
+
+ghost use Rattle.std.specs.Prelude.{◌≡◌, option_map};
+ghost use Rattle.as_of_join.specs.Latest.{earlier as earlier_of, match_of, next_time as next_of};
+ghost use Rattle.as_of_join.specs.Notes.{taken_key};
+
+use row_groups::Groups;
+
+/// A row of a group, and its time.
+#[derive(Clone, Copy, Debug, PartialEq, Eq)]
+pub(crate) struct Found {
+    pub key: u64,
+    pub at: i64,
+}
+
+/// Of the rows with these cells the one that is the latest at a time, and of those of one time the last.
+pub(crate) fn latest(index: &Groups, cells: &[i64], at: i64) -> Option<Found>
+    ensures { result ≡ option_map (λ member. record { key = member.key; at = member.at }) (match_of cells.now at index.now.members) }
+{
+    let group = index.group(cells);
+    let position = group.count_at_most(at).checked_sub(1)?;
+    Some(Found {
+        key: group.key_at(position),
+        at: group.at_at(position),
+    })
+}
+
+/// The key of that row.
+pub(crate) fn latest_key(index: &Groups, cells: &[i64], at: i64) -> Option<u64>
+    ensures { result ≡ taken_key index.now.members cells.now at }
+{
+    let found = latest(index, cells, at)?;
+    Some(found.key)
+}
+
+/// The first time after this one of a row with these cells.
+pub(crate) fn next_time(index: &Groups, cells: &[i64], at: i64) -> Option<i64>
+    ensures { result ≡ next_of cells.now at index.now.members }
+{
+    let group = index.group(cells);
+    let position = group.count_at_most(at);
+    if position < group.len() {
+        Some(group.at_at(position))
+    } else {
+        None
+    }
+}
+
+/// The earlier of two times, each of which may be missing.
+pub(crate) fn earlier(one: Option<i64>, other: Option<i64>) -> Option<i64>
+    ensures { result ≡ earlier_of one other }
+{
+    match (one, other) {
+        (None, time) => time,
+        (Some(one), None) => Some(one),
+        (Some(one), Some(other)) => Some(if other < one { other } else { one }),
+    }
+}
