@@ -1,0 +1,276 @@
+-- What is kept for an aggregate says of a group what the aggregate of its rows is.
+use Rattle.std.proofs.Common.{◌≡◌, refl, ap, ap₂, sym, ◌∙◌, subst, Bool, true, false, not, cond, ◌==◌, ◌||◌, ℕ, zero, suc, ◌+◌, ◌-◌, ◌^◌, ◌<◌, ◌≤◌, arith, List, [], ◌∷◌, ◌++◌, map, filter, length, get_or, Option, Some, None, ℤ, pos, ◌+ℤ◌, w64, fold, count_by, int_le, int_lt, option_map, true≢false, append_assoc, is_some, is_ok, OnOk, Result, Ok, Err, if◌then◌else◌}
+use Rattle.std.specs.Cmp.{signed_Decides}
+use Rattle.std.specs.Int.{int_min, int_max}
+use Rattle.std.specs.List.{AllByRecursion}
+use Rattle.std.specs.Option.{option_map_or}
+use Rattle.std.specs.Ordering.{int_eq}
+use Rattle.std.specs.Prelude.{find, slice_get, unwrap_or}
+use Rattle.std.proofs.lemmas.Int.{int_wrap_fits, ints}
+use Rattle.std.proofs.lemmas.List.{length-map}
+use Rattle.std.proofs.lemmas.List.Sums.{sum_by-cons}
+use Rattle.key_lists.specs.Keys.{is_among, IsRising}
+use Rattle.std.proofs.lemmas.Option.{none-some}
+use Rattle.key_lists.proofs.Every.{every-filter, every-map, every_both, every_weaker, filter-map, map_map, map_same}
+use Rattle.row_changes.specs.Sums.{added_up}
+use Rattle.row_groups.specs.Members.{Grouped, Member, by_at, group_of, keys_of, member_under, placed as member_placed}
+use Rattle.tick_laws.proofs.ResultCells.{length-filter_most}
+use Rattle.tick_model.proofs.Among.{each_found, rows_among}
+use Rattle.tick_laws.proofs.ResultTables.{table_count}
+use Rattle.tick_model.specs.Agg.{agg_table, aggregate, column_of, key_cells, over, present, sum_of}
+use Rattle.tick_model.specs.declared.plan.Agg.{Agg}
+use Rattle.tick_model.specs.declared.table.PlainRow.{PlainRow}
+use Rattle.tick_model.specs.declared.table.PlainTable.{PlainTable}
+use Rattle.tick_model.specs.Formulas.{wrap}
+use Rattle.tick_model.specs.Tables.{cell, cells_at, is_null, keys, null, row_at, same_cells, IsTable}
+use Rattle.agg_by.specs.declared.running.Running.{Running}
+use Rattle.agg_by.specs.declared.running.Running.TheVariants.{Count, Sum, Min, Max, First, Last}
+use Rattle.agg_by.specs.Answers.{AreNumbers, IsFloored, answer, cell_of, greatest, least, places, sum_or_null}
+use Rattle.agg_by.specs.Kept.{AnswerAll, Answers, agg_of, group_rows, indexed, member_by}
+use Rattle.agg_by.specs.Steps.{first_keys, key_at}
+use Rattle.agg_by.specs.Sums.{count_of, total_of, value_of}
+use Rattle.agg_by.proofs.Bringing.{keys-members, members}
+use Rattle.agg_by.proofs.GroupRows.{cells-agg, group_cells}
+use Rattle.agg_by.proofs.Ordered.{AreAbove, all_above, greatest_is, least_is, placed, sorted, sorted_ascends}
+
+-- the places of members in order are these numbers in order
+places-placed : (member : Member) (ms : List Member) → places (member_placed member ms) ≡ placed member.at (places ms)
+places-placed member [] = refl
+places-placed member (other ∷ others) = by (int_lt other.at member.at) (places-placed member others)
+  where
+    by : (b : Bool) → places (member_placed member others) ≡ placed member.at (places others) → places (if b then other ∷ member_placed member others else member ∷ other ∷ others) ≡ (if b then other.at ∷ placed member.at (places others) else member.at ∷ other.at ∷ places others)
+    by true rest = ap (λ xs. other.at ∷ xs) rest
+    by false rest = refl
+
+places-by_at : (ms : List Member) → places (by_at ms) ≡ sorted (places ms)
+places-by_at [] = refl
+places-by_at (member ∷ ms) = places-placed member (by_at ms) ∙ ap (placed member.at) (places-by_at ms)
+
+count-places : (ms : List Member) → count_by (λ (member : Member). int_le member.at null) ms ≡ count_by (λ v. int_le v null) (places ms)
+count-places [] = refl
+count-places (member ∷ ms) =
+    sum_by-cons (λ (member : Member). cond (int_le member.at null) 1 0) member ms
+    ∙ ap (λ n. cond (int_le member.at null) 1 0 + n) (count-places ms)
+    ∙ sym (sum_by-cons (λ v. cond (int_le v null) 1 0) member.at (places ms))
+
+-- the sum of cells, and how many hold something
+fold_added : (a : ℤ) (xs : List ℤ) → fold ◌+ℤ◌ a xs ≡ a +ℤ added_up (λ x. x) xs
+fold_added a [] = none a
+  where
+    none : (a : ℤ) → a ≡ a +ℤ pos 0
+    none a = omega (arith, ints)
+fold_added a (x ∷ xs) = fold_added (a +ℤ x) xs ∙ through a x (added_up (λ x. x) xs)
+  where
+    through : (a x s : ℤ) → (a +ℤ x) +ℤ s ≡ a +ℤ (x +ℤ s)
+    through a x s = omega (arith, ints)
+
+with_none : (s : ℤ) → pos 0 +ℤ s ≡ s
+with_none s = omega (arith, ints)
+
+added_value : (xs : List ℤ) → added_up value_of xs ≡ added_up (λ x. x) (present xs)
+added_value [] = refl
+added_value (x ∷ xs) = by (is_null x) (added_value xs)
+  where
+    by : (b : Bool) → added_up value_of xs ≡ added_up (λ x. x) (present xs) → (if b then pos 0 else x) +ℤ added_up value_of xs ≡ added_up (λ x. x) (cond (not b) (x ∷ present xs) (present xs))
+    by true rest = with_none (added_up value_of xs) ∙ rest
+    by false rest = ap (λ s. x +ℤ s) rest
+
+added_count : (xs : List ℤ) → added_up count_of xs ≡ pos (length (present xs))
+added_count [] = refl
+added_count (x ∷ xs) = by (is_null x) (added_count xs)
+  where
+    one : (n : ℕ) → pos 1 +ℤ pos n ≡ pos (suc n)
+    one n = omega (arith, ints)
+
+    by : (b : Bool) → added_up count_of xs ≡ pos (length (present xs)) → (if b then pos 0 else pos 1) +ℤ added_up count_of xs ≡ pos (length (cond (not b) (x ∷ present xs) (present xs)))
+    by true rest = with_none (added_up count_of xs) ∙ rest
+    by false rest = ap (λ s. pos 1 +ℤ s) rest ∙ one (length (present xs))
+
+small_wraps : (n : ℕ) → n ≤ 2 ^ 62 → wrap (pos n) ≡ pos n
+small_wraps n h = int_wrap_fits w64 (pos n) (record { sfits = below n h })
+  where
+    below : (n : ℕ) → n ≤ 2 ^ 62 → n < 2 ^ 63
+    below n h = omega (arith, h)
+
+not_none : (n : ℕ) → int_eq (pos (suc n)) (pos 0) ≡ false
+not_none n = by (int_eq (pos (suc n)) (pos 0)) refl
+  where
+    by : (b : Bool) → int_eq (pos (suc n)) (pos 0) ≡ b → b ≡ false
+    by false e = refl
+    by true e = absurd (past ((signed_Decides (pos (suc n)) (pos 0)).0 e))
+      where
+        past : pos (suc n) ≡ pos 0 → ⊥
+        past e = cc
+
+sum_present : (xs some : List ℤ) → some ≡ present xs → length some ≤ 2 ^ 62 → (if int_eq (wrap (pos (length some))) (pos 0) then null else wrap (pos 0 +ℤ added_up (λ x. x) some)) ≡ sum_of some
+sum_present xs [] e h = ap (λ z. if int_eq z (pos 0) then null else wrap (pos 0 +ℤ pos 0)) (small_wraps 0 h)
+sum_present xs (x ∷ some) e h =
+    ap (λ z. if int_eq z (pos 0) then null else wrap (pos 0 +ℤ added_up (λ x. x) (x ∷ some))) (small_wraps (suc (length some)) h)
+    ∙ ap (λ b. if b then null else wrap (pos 0 +ℤ added_up (λ x. x) (x ∷ some))) (not_none (length some))
+    ∙ ap wrap (sym (fold_added (pos 0) (x ∷ some)))
+
+sum_is : (xs : List ℤ) → length xs ≤ 2 ^ 62 → sum_or_null (total_of xs) ≡ sum_of (present xs)
+sum_is xs few =
+    ap₂ (λ (count value : ℤ). if int_eq (wrap count) (pos 0) then null else wrap value) (added_count xs) (added_value xs ∙ sym (with_none (added_up (λ x. x) (present xs))))
+    ∙ sum_present xs (present xs) refl (fewer (length xs) (length (present xs)) few (length-filter_most (λ value. not (is_null value)) xs))
+  where
+    fewer : (n m : ℕ) → n ≤ 2 ^ 62 → m ≤ n → m ≤ 2 ^ 62
+    fewer n m h k = omega (arith, h, k)
+
+fold_first : (x : ℤ) (xs : List ℤ) → fold (λ first _. first) x xs ≡ x
+fold_first x [] = refl
+fold_first x (y ∷ ys) = fold_first x ys
+
+first_over : (column : ℕ) (some : List PlainRow) → option_map_or (λ (row : PlainRow). cell row.cells column) (slice_get some 0) null ≡ over (λ first _. first) (column_of some column)
+first_over column [] = refl
+first_over column (row ∷ some) = sym (fold_first (cell row.cells column) (column_of some column))
+
+last_fold : (column : ℕ) (row : PlainRow) (some : List PlainRow) → option_map_or (λ (row : PlainRow). cell row.cells column) (slice_get (row ∷ some) (length (row ∷ some) - 1)) null ≡ fold (λ _ last. last) (cell row.cells column) (column_of some column)
+last_fold column row [] = refl
+last_fold column row (next ∷ some) =
+    ap (λ n. option_map_or (λ (row : PlainRow). cell row.cells column) (slice_get (row ∷ next ∷ some) n) null) (back (length some)) ∙ last_fold column next some
+  where
+    back : (n : ℕ) → suc (suc n) - 1 ≡ suc (suc n - 1)
+    back n = omega arith
+
+last_over : (column : ℕ) (some : List PlainRow) → option_map_or (λ (row : PlainRow). cell row.cells column) (slice_get some (length some - 1)) null ≡ over (λ _ last. last) (column_of some column)
+last_over column [] = refl
+last_over column (row ∷ some) = last_fold column row some
+
+-- the key cells of a row that is kept
+pub cells_known : (by : List ℕ) (column : Option ℕ) (rows : List PlainRow) (key : ℕ) → is_among key (keys rows) ≡ true → option_map (λ (member : Member). member.cells) (member_under key (members by column rows)) ≡ Some (key_at by rows key)
+cells_known by column [] key h = absurd (true≢false (sym h))
+cells_known by column (row ∷ rows) key h = cases (row.key == key) refl (λ k. cells_known by column rows key k)
+  where
+    cases : (b : Bool) → (row.key == key) ≡ b → (is_among key (keys rows) ≡ true → option_map (λ (member : Member). member.cells) (member_under key (members by column rows)) ≡ Some (key_at by rows key))
+        → option_map (λ (member : Member). member.cells) (cond b (Some (member_by by column row)) (member_under key (members by column rows))) ≡ Some (key_cells by (unwrap_or (option_map (λ (row : PlainRow). row.cells) (cond b (Some row) (find (λ row. row.key == key) rows))) []))
+    cases true e rest = refl
+    cases false e rest = rest (sym (ap (λ b. b || is_among key (keys rows)) e) ∙ h)
+
+-- rows that all stand at one place stay in order of their keys
+in_key_order : (by : List ℕ) (rows : List PlainRow) → by_at (members by None rows) ≡ members by None rows
+in_key_order by [] = refl
+in_key_order by (row ∷ rows) = ap (member_placed (member_by by None row)) (in_key_order by rows) ∙ before rows
+  where
+    before : (others : List PlainRow) → member_placed (member_by by None row) (members by None others) ≡ member_by by None row ∷ members by None others
+    before [] = refl
+    before (other ∷ others) = refl
+
+module _ (by : List ℕ) (rows : List PlainRow) (cells : List ℤ) where
+  abbrev pub group : List PlainRow
+  group = group_rows by cells rows
+
+  members-group : (column : Option ℕ) → filter (λ (member : Member). same_cells cells member.cells) (members by column rows) ≡ members by column group
+  members-group column = filter-map (λ (member : Member). same_cells cells member.cells) (member_by by column) rows
+
+  pub group_is : group_of cells (members by None rows) ≡ members by None group
+  group_is = ap by_at (members-group None) ∙ in_key_order by group
+
+  pub keys_group : keys_of (group_of cells (members by None rows)) ≡ keys group
+  keys_group = ap keys_of group_is ∙ keys-members by None group
+
+  pub length_group : length (group_of cells (members by None rows)) ≡ length group
+  length_group = ap length group_is ∙ length-map group (member_by by None)
+
+  -- its keys are those of rows
+  pub group_there : AllByRecursion (λ key. is_among key (keys rows) ≡ true) (keys_of (group_of cells (members by None rows)))
+  group_there =
+      subst (AllByRecursion (λ key. is_among key (keys rows) ≡ true)) (sym keys_group)
+      (every-map (λ key. is_among key (keys rows) ≡ true) (λ (row : PlainRow). row.key) group
+      (every-filter (λ row. is_among row.key (keys rows) ≡ true) (λ row. same_cells cells (key_cells by row.cells)) rows (rows_among rows)))
+
+  own_rows : IsRising (keys rows) → AllByRecursion (λ row. cells_at row.key rows ≡ row.cells) group
+  own_rows rising =
+      every-filter (λ row. cells_at row.key rows ≡ row.cells) (λ row. same_cells cells (key_cells by row.cells)) rows
+      (every_weaker (λ row. row_at row.key rows ≡ Some row) (λ row. cells_at row.key rows ≡ row.cells) rows
+      (λ row found. ap (λ (o : Option PlainRow). unwrap_or (option_map (λ (row : PlainRow). row.cells) o) []) found) (each_found rows rising))
+
+  cell_at : (column : ℕ) (some : List PlainRow) (i : ℕ) → AllByRecursion (λ row. cells_at row.key rows ≡ row.cells) some → cell_of rows column (slice_get (keys some) i) ≡ option_map_or (λ (row : PlainRow). cell row.cells column) (slice_get some i) null
+  cell_at column [] i h = refl
+  cell_at column (row ∷ some) zero h = ap (λ cells. cell cells column) h.0
+  cell_at column (row ∷ some) (suc i) h = cell_at column some i h.1
+
+  ordered : (column : ℕ) → places (group_of cells (members by (Some column) rows)) ≡ sorted (column_of group column)
+  ordered column =
+      ap (λ ms. places (by_at ms)) (members-group (Some column)) ∙ places-by_at (members by (Some column) group)
+      ∙ ap sorted (map_map (λ (member : Member). member.at) (member_by by (Some column)) group)
+
+  above : (column : ℕ) → IsFloored (group_of cells (members by (Some column) rows)) → AreAbove (sorted (column_of group column))
+  above column floored =
+      all_above (sorted (column_of group column)) (sorted_ascends (column_of group column))
+      (λ place e. floored place (ap (λ s. slice_get s 0) (ordered column) ∙ e))
+
+  least_group : (column : ℕ) → IsFloored (group_of cells (members by (Some column) rows)) → least (group_of cells (members by (Some column) rows)) ≡ over int_min (present (column_of group column))
+  least_group column floored =
+      ap (λ n. get_or (places (group_of cells (members by (Some column) rows))) n null) (count-places (group_of cells (members by (Some column) rows)))
+      ∙ ap (λ s. get_or s (count_by (λ v. int_le v null) s) null) (ordered column)
+      ∙ least_is (column_of group column) (above column floored)
+
+  greatest_group : (column : ℕ) → IsFloored (group_of cells (members by (Some column) rows)) → greatest (group_of cells (members by (Some column) rows)) ≡ over int_max (present (column_of group column))
+  greatest_group column floored =
+      ap (λ n. get_or (places (group_of cells (members by (Some column) rows))) (n - 1) null) (sym (length-map (group_of cells (members by (Some column) rows)) (λ (member : Member). member.at)))
+      ∙ ap (λ s. get_or s (length s - 1) null) (ordered column)
+      ∙ greatest_is (column_of group column) (above column floored)
+
+  -- what is said of the group is the aggregate of its rows
+  pub answer_is : IsRising (keys rows) → length group ≤ 2 ^ 62 → (running : Running) → Answers by rows running → AreNumbers running cells
+      → answer running cells (group_of cells (members by None rows)) rows ≡ aggregate group (agg_of running)
+  answer_is rising few Count p n = ap pos length_group
+  answer_is rising few (Sum column sums) p n = ap sum_or_null (p cells) ∙ sum_is (column_of group column) (subst (λ k. k ≤ 2 ^ 62) (sym (length-map group (λ (row : PlainRow). cell row.cells column))) few)
+  answer_is rising few (Min column kept) p n =
+      let are : kept.members ≡ members by (Some column) rows = ap (λ kept. kept.members) p in
+      ap (λ (ms : List Member). least (group_of cells ms)) are ∙ least_group column (subst (λ (ms : List Member). IsFloored (group_of cells ms)) are n)
+  answer_is rising few (Max column kept) p n =
+      let are : kept.members ≡ members by (Some column) rows = ap (λ kept. kept.members) p in
+      ap (λ (ms : List Member). greatest (group_of cells ms)) are ∙ greatest_group column (subst (λ (ms : List Member). IsFloored (group_of cells ms)) are n)
+  answer_is rising few (First column) p n = ap (λ ks. cell_of rows column (slice_get ks 0)) keys_group ∙ cell_at column group 0 (own_rows rising) ∙ first_over column group
+  answer_is rising few (Last column) p n =
+      ap₂ (λ ks n. cell_of rows column (slice_get ks (n - 1))) keys_group length_group ∙ cell_at column group (length group - 1) (own_rows rising) ∙ last_over column group
+
+pub some_of : {X Y : Type 0} (f : X → Y) (o : Option X) (y : Y) → option_map f o ≡ Some y → is_some o ≡ true
+some_of f None y e = absurd (none-some y e)
+some_of f (Some x) y e = refl
+
+pub both_ok : {X E : Type 0} (r : Result X E) (P Q R : Type 0) → (P → Q → R) → OnOk r P → OnOk r Q → OnOk r R
+both_ok (Ok x) P Q R f p q = f p q
+both_ok (Err e) P Q R f p q = tt
+
+-- what is kept of the rows of a table
+module _ (by : List ℕ) (table : PlainTable) (t : IsTable table) (kept : Grouped) (are : kept ≡ indexed by None table.rows) where
+  members_are : kept.members ≡ members by None table.rows
+  members_are = ap (λ (kept : Grouped). kept.members) are
+
+  pub known_at : (key : ℕ) → is_among key (keys table.rows) ≡ true → option_map (λ (member : Member). member.cells) (member_under key kept.members) ≡ Some (key_at by table.rows key)
+  known_at key own = ap (λ ms. option_map (λ (member : Member). member.cells) (member_under key ms)) members_are ∙ cells_known by None table.rows key own
+
+  few_of : (cells : List ℤ) → length (group by table.rows cells) ≤ 2 ^ 62
+  few_of cells = omega (arith, length-filter_most (λ row. same_cells cells (key_cells by row.cells)) table.rows, table_count table t)
+
+  pub few_rows : (cells : List ℤ) (rows : List Member) → rows ≡ group_of cells kept.members → length rows ≤ 2 ^ 62
+  few_rows cells rows is = subst (λ n. n ≤ 2 ^ 62) (sym (ap length (is ∙ ap (group_of cells) members_are) ∙ length_group by table.rows cells)) (few_of cells)
+
+  pub rows_there : (cells : List ℤ) (rows : List Member) → rows ≡ group_of cells kept.members → AllByRecursion (λ key. is_among key (keys table.rows) ≡ true) (keys_of rows)
+  rows_there cells rows is = subst (λ (ms : List Member). AllByRecursion (λ key. is_among key (keys table.rows) ≡ true) (keys_of ms)) (sym (is ∙ ap (group_of cells) members_are)) (group_there by table.rows cells)
+
+  values_are : (aggs : List Agg) (running : List Running) (cells : List ℤ) → AnswerAll by aggs table.rows running → AllByRecursion (λ running. AreNumbers running cells) running
+      → map (λ running. answer running cells (group_of cells (members by None table.rows)) table.rows) running ≡ map (aggregate (group by table.rows cells)) aggs
+  values_are aggs running cells answers numbers =
+      map_same (λ running. answer running cells (group_of cells (members by None table.rows)) table.rows) (λ running. aggregate (group by table.rows cells) (agg_of running)) running
+      (every_both (Answers by table.rows) (λ running. AreNumbers running cells) (λ running. answer running cells (group_of cells (members by None table.rows)) table.rows ≡ aggregate (group by table.rows cells) (agg_of running)) running
+      (answer_is by table.rows cells t.rising (few_of cells)) answers.1 numbers)
+      ∙ sym (map_map (aggregate (group by table.rows cells)) agg_of running) ∙ ap (map (aggregate (group by table.rows cells))) answers.0
+
+  -- the row of a group, put behind other cells
+  pub put_row : (aggs : List Agg) (running : List Running) (first : ℕ) (cells : List ℤ) (rows : List Member) (old read new : List ℤ) → AnswerAll by aggs table.rows running → is_among first (first_keys by table.rows) ≡ true
+      → cells ≡ key_at by table.rows first → rows ≡ group_of cells kept.members → AllByRecursion (λ running. AreNumbers running cells) running → read ≡ old ++ cells
+      → new ≡ read ++ map (λ running. answer running cells rows table.rows) running → new ≡ old ++ cells_at first (agg_table by aggs table).rows
+  put_row aggs running first cells rows old read new answers own cells_is rows_is numbers begun made =
+      made
+      ∙ ap₂ (λ (xs : List ℤ) (ms : List Member). xs ++ map (λ running. answer running cells ms table.rows) running) begun (rows_is ∙ ap (group_of cells) members_are)
+      ∙ append_assoc old cells (map (λ running. answer running cells (group_of cells (members by None table.rows)) table.rows) running)
+      ∙ ap (λ (row : List ℤ). old ++ row) (ap (λ (values : List ℤ). cells ++ values) (values_are aggs running cells answers numbers) ∙ ap (group_cells by aggs table.rows) cells_is ∙ sym (cells-agg by aggs table first t own))
+
+-- cells that are put behind others, by another name
+pub items_put : {X E : Type 0} (r : Result X E) (old row cells new : List ℤ) → row ≡ cells → new ≡ (if is_ok r then old ++ row else old) → OnOk r (new ≡ old ++ cells)
+items_put (Ok x) old row cells new e made = made ∙ ap (λ (row : List ℤ). old ++ row) e
+items_put (Err e) old row cells new f made = tt

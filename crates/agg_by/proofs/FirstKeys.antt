@@ -1,0 +1,181 @@
+-- The first rows of touched groups, found by the key cells of touched rows.
+use Rattle.std.proofs.Common.{◌≡◌, refl, ap, ap₂, sym, ◌∙◌, subst, Bool, true, false, ◌&&◌, ◌||◌, ◌==◌, ℕ, zero, suc, ◌+◌, ◌-◌, ◌^◌, ◌<◌, ◌≤◌, nat_lt, arith, List, [], ◌∷◌, ◌++◌, filter, get_or, length, take, Some, None, ℤ, int_lt, true≢false, if◌then◌else◌}
+use Rattle.std.specs.Cmp.Rules.{signed_items}
+use Rattle.std.specs.List.{AllByRecursion, list_any, range_with_len}
+use Rattle.std.specs.List.Sorted.{IsPermutation}
+use Rattle.std.proofs.lemmas.List.Sorted.{list_any-IsPermutation}
+use Rattle.std.specs.Option.{option_map_or}
+use Rattle.std.specs.Prelude.{slice_get}
+use Rattle.std.proofs.lemmas.Bool.{eqb-true}
+use Rattle.key_lists.specs.Keys.{is_among, IsRising}
+use Rattle.key_lists.proofs.Among.{among-append, among-filter, each_among, of_among}
+use Rattle.key_lists.proofs.Every.{every_both, every_weaker, every-filter, every-map, every_unmapped, filter_passes}
+use Rattle.key_lists.proofs.Rising.{rising-filter, rising_same, rising_some}
+use Rattle.row_groups.specs.Members.{AreGrouped, Grouped, Member, by_at, group_of, keys_of, placed}
+use Rattle.row_set.specs.Ranges.{keys_from}
+use Rattle.row_set.specs.Sets.{united, with_key}
+use Rattle.row_set.proofs.United.{among-with_key, with_key_rises}
+use Rattle.shown_rows.proofs.Walks.{take_next}
+use Rattle.tick_model.proofs.Among.{rows_among}
+use Rattle.tick_model.specs.Agg.{is_first, key_cells}
+use Rattle.tick_model.specs.declared.table.PlainRow.{PlainRow}
+use Rattle.tick_model.specs.declared.table.PlainTable.{PlainTable}
+use Rattle.tick_model.specs.Tables.{keys, same_cells, IsTable}
+use Rattle.agg_by.specs.Kept.{group_rows}
+use Rattle.agg_by.specs.Steps.{first_keys, key_at, starts}
+use Rattle.agg_by.proofs.Answering.{keys_group}
+use Rattle.agg_by.proofs.Bringing.{members}
+use Rattle.agg_by.proofs.GroupRows.{first_at, leads, leads_own}
+use Rattle.agg_by.proofs.Touching.{or_none}
+use Rattle.agg_by.proofs.Untouched.{own_cells}
+
+-- what holds of each member holds of each of a group
+every-placed : (P : Member → Type 0) (member : Member) (ms : List Member) → P member → AllByRecursion P ms → AllByRecursion P (placed member ms)
+every-placed P member [] p h = (p, tt)
+every-placed P member (other ∷ others) p h =
+    elim (int_lt other.at member.at) as (λ b. AllByRecursion P (if b then other ∷ placed member others else member ∷ other ∷ others)) [
+      | true ↦ (h.0, every-placed P member others p h.1)
+      | false ↦ (p, h)
+    ]
+
+every-by_at : (P : Member → Type 0) (ms : List Member) → AllByRecursion P ms → AllByRecursion P (by_at ms)
+every-by_at P [] h = tt
+every-by_at P (member ∷ ms) h = every-placed P member (by_at ms) h.0 (every-by_at P ms h.1)
+
+pub group_small : (grouped : Grouped) (cells : List ℤ) → AreGrouped grouped → AllByRecursion (λ key. key < 2 ^ 62) (keys_of (group_of cells grouped.members))
+group_small grouped cells are =
+    every-map (λ key. key < 2 ^ 62) (λ (member : Member). member.key) (group_of cells grouped.members)
+    (every-by_at (λ member. member.key < 2 ^ 62) (filter (λ (member : Member). same_cells cells member.cells) grouped.members)
+    (every-filter (λ member. member.key < 2 ^ 62) (λ (member : Member). same_cells cells member.cells) grouped.members
+    (every_unmapped (λ key. key < 2 ^ 62) (λ (member : Member). member.key) grouped.members are.keys.small)))
+
+-- one key more behind others
+pub found_one : (first key : ℕ) (keys : List ℕ) (group : List ℕ) → slice_get group 0 ≡ Some key → is_among first (keys ++ key ∷ []) ≡ (is_among first keys || option_map_or (λ k. k == first) (slice_get group 0) false)
+found_one first key keys group e =
+    among-append first keys (key ∷ []) ∙ ap (λ b. is_among first keys || b) (or_none (key == first) ∙ sym (ap (λ o. option_map_or (λ k. k == first) o false) e))
+
+pub found_none : (first : ℕ) (keys : List ℕ) (group : List ℕ) → slice_get group 0 ≡ None → is_among first keys ≡ (is_among first keys || option_map_or (λ k. k == first) (slice_get group 0) false)
+found_none first keys group e = sym (ap (λ o. is_among first keys || option_map_or (λ k. k == first) o false) e ∙ or_none (is_among first keys))
+
+-- a set with one key more
+as_one : (key : ℕ) (set : List ℕ) → united (keys_from key key) set ≡ with_key key set
+as_one key set = ap (λ count. united (range_with_len key count) set) (let one : key + 1 - key ≡ 1 = omega arith in one)
+
+pub length-with_key : (key : ℕ) (keys : List ℕ) → length (with_key key keys) ≤ suc (length keys)
+length-with_key key [] = omega arith
+length-with_key key (other ∷ others) = by (nat_lt key other) (key == other) (length-with_key key others)
+  where
+    by : (b c : Bool) → length (with_key key others) ≤ suc (length others) → length (if b then key ∷ other ∷ others else (if c then other ∷ others else other ∷ with_key key others)) ≤ suc (length (other ∷ others))
+    by true c h = omega arith
+    by false true h = omega arith
+    by false false h = omega (arith, h)
+
+pub among_more : (key other : ℕ) (set keys : List ℕ) (n : ℕ) → slice_get keys n ≡ Some other → is_among key set ≡ is_among key (take n keys) → is_among key (united (keys_from other other) set) ≡ is_among key (take (n + 1) keys)
+among_more key other set keys n here so_far =
+    ap (is_among key) (as_one other set)
+    ∙ among-with_key key other set
+    ∙ ap (λ b. (other == key) || b) so_far
+    ∙ swapped (other == key) (is_among key (take n keys))
+    ∙ sym (ap (is_among key) (take_next keys n other here) ∙ among-append key (take n keys) (other ∷ []))
+  where
+    swapped : (a b : Bool) → (a || b) ≡ (b || (a || false))
+    swapped true true = refl
+    swapped true false = refl
+    swapped false true = refl
+    swapped false false = refl
+
+pub rises_more : (key : ℕ) (set keys : List ℕ) (n : ℕ) → slice_get keys n ≡ Some key → IsRising set → IsRising (united (keys_from key key) set)
+rises_more key set keys n here rising = subst IsRising (sym (as_one key set)) (with_key_rises key set rising)
+
+pub few_more : (key : ℕ) (set keys : List ℕ) (n : ℕ) → slice_get keys n ≡ Some key → length set ≤ n → length (united (keys_from key key) set) ≤ n + 1
+few_more key set keys n here h = subst (λ (more : List ℕ). length more ≤ n + 1) (sym (as_one key set)) (let most = length-with_key key set in omega (arith, h, most))
+
+-- the first row of a group that has the key
+head_has : (P : PlainRow → Type 0) (key : ℕ) (some : List PlainRow) → AllByRecursion P some → option_map_or (λ (first : PlainRow). first.key == key) (slice_get some 0) false ≡ true → (row : PlainRow) × (P row × (row.key ≡ key))
+head_has P key [] h e = absurd (true≢false (sym e))
+head_has P key (row ∷ some) h e = (row, (h.0, eqb-true row.key key e))
+
+record IsOf (by : List ℕ) (rows : List PlainRow) (cells : List ℤ) (row : PlainRow) : Type 0 where
+  there : is_among row.key (keys rows) ≡ true
+  own : key_at by rows row.key ≡ key_cells by row.cells
+  same : same_cells cells (key_cells by row.cells) ≡ true
+
+module _ (by : List ℕ) (table : PlainTable) (t : IsTable table) where
+  abbrev rows : List PlainRow
+  rows = table.rows
+
+  group_of_rows : (cells : List ℤ) → AllByRecursion (IsOf by rows cells) (group_rows by cells rows)
+  group_of_rows cells =
+      every_both (λ row. (is_among row.key (keys rows) ≡ true) × (key_at by rows row.key ≡ key_cells by row.cells)) (λ row. same_cells cells (key_cells by row.cells) ≡ true) (IsOf by rows cells) (group_rows by cells rows)
+      (λ row is same. record { there = is.0; own = is.1; same = same })
+      (every-filter (λ row. (is_among row.key (keys rows) ≡ true) × (key_at by rows row.key ≡ key_cells by row.cells)) (λ row. same_cells cells (key_cells by row.cells)) rows
+      (every_both (λ row. is_among row.key (keys rows) ≡ true) (λ row. key_at by rows row.key ≡ key_cells by row.cells) (λ row. (is_among row.key (keys rows) ≡ true) × (key_at by rows row.key ≡ key_cells by row.cells)) rows (λ row a b. (a, b)) (rows_among rows) (own_cells by rows t.rising)))
+      (filter_passes (λ row. same_cells cells (key_cells by row.cells)) rows)
+
+  -- the key of the first row of a group is that of a row, which has the key cells of the group
+  leads_there : (cells : List ℤ) (key : ℕ) → leads by rows cells key ≡ true → (is_among key (keys rows) ≡ true) × (key_at by rows key ≡ cells)
+  leads_there cells key e =
+      let found = head_has (IsOf by rows cells) key (group_rows by cells rows) (group_of_rows cells) e in
+      (subst (λ k. is_among k (keys rows) ≡ true) found.1.1 found.1.0.there, ap (key_at by rows) (sym found.1.1) ∙ found.1.0.own ∙ sym ((signed_items cells (key_cells by found.0.cells)).0 found.1.0.same))
+
+  leads_when : (cells : List ℤ) (key : ℕ) → leads by rows cells key ≡ (same_cells (key_at by rows key) cells && is_among key (first_keys by rows))
+  leads_when cells key = cases (leads by rows cells key) (same_cells (key_at by rows key) cells) refl refl
+    where
+      own : (b : Bool) → leads_own by rows key ≡ b → b ≡ (b && is_among key (keys rows))
+      own true e = sym (leads_there (key_at by rows key) key e).0
+      own false e = refl
+
+      cases : (l s : Bool) → leads by rows cells key ≡ l → same_cells (key_at by rows key) cells ≡ s → l ≡ (s && is_among key (first_keys by rows))
+      cases l true e f =
+          sym e ∙ ap (λ cs. leads by rows cs key) (sym ((signed_items (key_at by rows key) cells).0 f)) ∙ own (leads_own by rows key) refl
+          ∙ sym (first_at by table key t)
+      cases true false e f = absurd (true≢false (sym ((signed_items (key_at by rows key) cells).1 (leads_there cells key e).1) ∙ f))
+      cases false false e f = refl
+
+  first_key_of : (key : ℕ) (some : List PlainRow) → option_map_or (λ k. k == key) (slice_get (keys some) 0) false ≡ option_map_or (λ (first : PlainRow). first.key == key) (slice_get some 0) false
+  first_key_of key [] = refl
+  first_key_of key (row ∷ some) = refl
+
+  starts_when : (key : ℕ) (cells : List ℤ) → starts (members by None rows) key cells ≡ (same_cells (key_at by rows key) cells && is_among key (first_keys by rows))
+  starts_when key cells =
+      ap (λ ks. option_map_or (λ k. k == key) (slice_get ks 0) false) (keys_group by rows cells) ∙ first_key_of key (group_rows by cells rows) ∙ leads_when cells key
+
+  starts_any : (key : ℕ) (touched : List (List ℤ)) → list_any (starts (members by None rows) key) touched ≡ (list_any (same_cells (key_at by rows key)) touched && is_among key (first_keys by rows))
+  starts_any key [] = refl
+  starts_any key (cells ∷ touched) =
+      ap₂ (λ a b. a || b) (starts_when key cells) (starts_any key touched)
+      ∙ together (same_cells (key_at by rows key) cells) (list_any (same_cells (key_at by rows key)) touched) (is_among key (first_keys by rows))
+    where
+      together : (a b c : Bool) → ((a && c) || (b && c)) ≡ ((a || b) && c)
+      together true b true = refl
+      together true true false = refl
+      together true false false = refl
+      together false b c = refl
+
+  pub first_keys_rise : IsRising (first_keys by rows)
+  first_keys_rise = rising-filter (λ (row : PlainRow). row.key) (is_first by rows) rows t.rising
+
+  -- keys that are found so are those of the first rows of touched groups
+  pub firsts_are : (touched : List (List ℤ)) (firsts : List ℕ) → IsRising firsts → ((first : ℕ) → is_among first firsts ≡ list_any (starts (members by None rows) first) touched)
+      → firsts ≡ filter (λ key. list_any (same_cells (key_at by rows key)) touched) (first_keys by rows)
+  firsts_are touched firsts rising found =
+      rising_same firsts (filter (λ key. list_any (same_cells (key_at by rows key)) touched) (first_keys by rows)) rising
+      (rising_some (λ key. list_any (same_cells (key_at by rows key)) touched) (first_keys by rows) first_keys_rise)
+      (λ key. found key ∙ starts_any key touched ∙ sym (among-filter (λ key. list_any (same_cells (key_at by rows key)) touched) key (first_keys by rows)))
+
+-- an element that is there, and all of them
+pub get_index : {X : Type 0} (xs : List X) (n : ℕ) (other : X) → n < length xs → slice_get xs n ≡ Some (get_or xs n other)
+get_index [] n other h = absurd (omega arith)
+get_index (x ∷ xs) zero other h = refl
+get_index (x ∷ xs) (suc n) other h = get_index xs n other (omega arith)
+
+pub take_all : {X : Type 0} (xs : List X) (n : ℕ) → length xs ≤ n → take n xs ≡ xs
+take_all [] zero h = refl
+take_all [] (suc n) h = refl
+take_all (x ∷ xs) zero h = absurd (omega arith)
+take_all (x ∷ xs) (suc n) h = ap (λ rest. x ∷ rest) (take_all xs n (omega arith))
+
+-- what holds of all numbers holds of them in another order
+pub every_permuted : (P : ℕ → Type 0) (xs ys : List ℕ) → IsPermutation xs ys → AllByRecursion P xs → AllByRecursion P ys
+every_permuted P xs ys same h =
+    every_weaker (λ y. is_among y ys ≡ true) P ys (λ y own. of_among P y xs h (list_any-IsPermutation (λ other. other == y) xs ys same ∙ own)) (each_among ys)

@@ -1,0 +1,194 @@
+-- The touched groups whose first row stays the first.
+use Rattle.std.proofs.Common.{◌≡◌, refl, ap, ap₂, sym, ◌∙◌, subst, Bool, true, false, not, cond, ◌&&◌, ℕ, ◌+◌, ◌^◌, ◌<◌, ◌≤◌, arith, List, [], ◌∷◌, ◌++◌, map, filter, length, take, Option, Some, None, option_map, ℤ, if◌then◌else◌}
+use Rattle.std.specs.Cmp.Rules.{signed_items}
+use Rattle.std.specs.List.{AllByRecursion}
+use Rattle.std.specs.Option.{option_map_or}
+use Rattle.std.specs.Prelude.{slice_get}
+use Rattle.std.proofs.lemmas.Bool.{and_parts}
+use Rattle.std.proofs.lemmas.List.{length-append, length-map, map-append}
+use Rattle.key_lists.specs.Keys.{is_among, IsRising, without}
+use Rattle.key_lists.proofs.Among.{among-filter, each_among, of_among}
+use Rattle.key_lists.proofs.Every.{every_both, every_weaker, every-filter, every-map, filter-map, filter_filter, filter_passes}
+use Rattle.key_lists.proofs.Rising.{rising_some}
+use Rattle.row_groups.specs.Members.{Grouped, Member, member_under}
+use Rattle.shift_data.proofs.Lawful.{lawful, not_past}
+use Rattle.shown_rows.proofs.Restricted.{exact_shift}
+use Rattle.shown_rows.proofs.Walks.{below_keys, filter_next, of_place}
+use Rattle.tick_laws.proofs.ResultTables.{every-take}
+use Rattle.tick_model.specs.Agg.{agg_table, aggregate}
+use Rattle.tick_model.specs.declared.plan.Agg.{Agg}
+use Rattle.tick_model.specs.declared.table.PlainRow.{PlainRow}
+use Rattle.tick_model.specs.declared.update.KeyPair.{KeyPair}
+use Rattle.tick_model.specs.Rules.{is_past}
+use Rattle.tick_model.specs.Shifts.{as_key, moved}
+use Rattle.tick_model.specs.Tables.{cell, cells_at, keys, same_cells, IsRow}
+use Rattle.tick_model.specs.Updates.{kept_pair, new_keys, old_keys}
+use Rattle.tick_table.specs.Exact.{IsExact}
+use Rattle.tick_table.specs.Ticking.{Ticking}
+use Rattle.agg_by.specs.Kept.{group_rows, indexed}
+use Rattle.agg_by.specs.Steps.{first_keys, is_touched, key_at, stays, touched_firsts}
+use Rattle.agg_by.proofs.Answering.{cells_known}
+use Rattle.agg_by.proofs.FirstKeys.{first_keys_rise}
+use Rattle.agg_by.proofs.GroupParts.{moves_up, rising_moved}
+use Rattle.agg_by.proofs.GroupRows.{cells-agg, first_at}
+use Rattle.agg_by.proofs.Noting.{take_front}
+use Rattle.agg_by.proofs.Ordered.{some_same}
+
+pub same_turned : (xs ys : List ℤ) → same_cells xs ys ≡ same_cells ys xs
+same_turned xs ys = cases (same_cells xs ys) (same_cells ys xs) refl refl
+  where
+    cases : (a b : Bool) → same_cells xs ys ≡ a → same_cells ys xs ≡ b → a ≡ b
+    cases true b e f = sym ((signed_items ys xs).1 (sym ((signed_items xs ys).0 e))) ∙ f
+    cases false true e f = sym e ∙ (signed_items xs ys).1 (sym ((signed_items ys xs).0 f))
+    cases false false e f = refl
+
+pub is_false : {b : Bool} → not b ≡ true → b ≡ false
+is_false {b = true} h = sym h
+is_false {b = false} h = refl
+
+-- what is chosen where something is chosen
+pub chosen_is : {X : Type 0} (b : Bool) (x y : X) → Some y ≡ (if b then Some x else None) → (b ≡ true) × (x ≡ y)
+chosen_is true x y e = (refl, some_same (sym e))
+chosen_is {X = X} false x y e = absurd (cc)
+
+pub none_chosen : {X : Type 0} (b : Bool) (x : X) → None ≡ (if b then Some x else None) → b ≡ false
+none_chosen {X = X} true x e = absurd (cc)
+none_chosen false x e = refl
+
+-- of the elements that stay, each changed, those that pass a test
+pub staying_map : {X Y : Type 0} (test : Y → Bool) (f : X → Y) (stay : X → Bool) (xs : List X) → filter test (map f (filter stay xs)) ≡ map f (filter (λ x. stay x && test (f x)) xs)
+staying_map test f stay xs = filter-map test f (filter stay xs) ∙ ap (map f) (filter_filter (λ x. test (f x)) stay xs)
+
+-- one element more
+staying_next : {X Y : Type 0} (test : Y → Bool) (f : X → Y) (stay : X → Bool) (xs : List X) (n : ℕ) (x : X) → slice_get xs n ≡ Some x
+    → filter test (map f (filter stay (take (n + 1) xs))) ≡ filter test (map f (filter stay (take n xs))) ++ map f (cond (stay x && test (f x)) (x ∷ []) [])
+staying_next test f stay xs n x e =
+    staying_map test f stay (take (n + 1) xs) ∙ ap (map f) (filter_next (λ x. stay x && test (f x)) xs n x e)
+    ∙ map-append f (filter (λ x. stay x && test (f x)) (take n xs)) (cond (stay x && test (f x)) (x ∷ []) [])
+    ∙ ap (λ ys. ys ++ map f (cond (stay x && test (f x)) (x ∷ []) [])) (sym (staying_map test f stay (take n xs)))
+
+pub staying_one : {X Y : Type 0} (test : Y → Bool) (f : X → Y) (stay : X → Bool) (xs : List X) (n : ℕ) (x : X) (made : List Y) → slice_get xs n ≡ Some x → (stay x && test (f x)) ≡ true
+    → made ≡ filter test (map f (filter stay (take n xs))) → made ++ f x ∷ [] ≡ filter test (map f (filter stay (take (n + 1) xs)))
+staying_one test f stay xs n x made here passes so_far =
+    ap (λ ys. ys ++ f x ∷ []) so_far ∙ sym (staying_next test f stay xs n x here ∙ ap (λ b. filter test (map f (filter stay (take n xs))) ++ map f (cond b (x ∷ []) [])) passes)
+
+pub staying_none : {X Y : Type 0} (test : Y → Bool) (f : X → Y) (stay : X → Bool) (xs : List X) (n : ℕ) (x : X) (made : List Y) → slice_get xs n ≡ Some x → (stay x && test (f x)) ≡ false
+    → made ≡ filter test (map f (filter stay (take n xs))) → made ≡ filter test (map f (filter stay (take (n + 1) xs)))
+staying_none {Y = Y} test f stay xs n x made here fails so_far =
+    so_far ∙ sym (staying_next test f stay xs n x here ∙ ap (λ b. filter test (map f (filter stay (take n xs))) ++ map f (cond b (x ∷ []) [])) fails ∙ none_behind (filter test (map f (filter stay (take n xs)))))
+  where
+    none_behind : (ys : List Y) → ys ++ [] ≡ ys
+    none_behind [] = refl
+    none_behind (y ∷ ys) = ap (λ zs. y ∷ zs) (none_behind ys)
+
+-- where a noted row is known, what is told of it is told of the row at its place
+pub pair_when : (by : List ℕ) (t : Ticking) (firsts : List ℕ) (place old : ℕ) (found : Option KeyPair) (b : Bool) → slice_get firsts place ≡ Some old → (not (is_among old t.update.removed) && stays by t (kept_pair t.update old)) ≡ b
+    → found ≡ (if b then Some (kept_pair t.update old) else None) → (other : ℕ) → slice_get firsts place ≡ Some other
+    → found ≡ (if not (is_among other t.update.removed) && stays by t (kept_pair t.update other) then Some (kept_pair t.update other) else None)
+pair_when by t firsts place old found b here when is other there =
+    subst (λ (k : ℕ). found ≡ (if not (is_among k t.update.removed) && stays by t (kept_pair t.update k) then Some (kept_pair t.update k) else None)) (some_same (sym here ∙ there))
+    (is ∙ sym (ap (λ b. if b then Some (kept_pair t.update old) else None) when))
+
+pub all_three : (r m s : Bool) → r ≡ false → m ≡ true → s ≡ true → (not r && (m && s)) ≡ true
+all_three r m s e f g = ap₂ (λ a b. not a && b) e (ap₂ (λ a b. a && b) f g)
+
+pub not_first : (r m s : Bool) → m ≡ false → (not r && (m && s)) ≡ false
+not_first true m s f = refl
+not_first false m s f = ap (λ b. b && s) f
+
+pub not_same : (r m s : Bool) → s ≡ false → (not r && (m && s)) ≡ false
+not_same true m s f = refl
+not_same false true s f = f
+not_same false false s f = refl
+
+module _ (by : List ℕ) (t : Ticking) (e : IsExact t) where
+  -- a first row is a row, and its key is small
+  pub first_there : (key : ℕ) → is_among key (first_keys by t.old.rows) ≡ true → is_among key (keys t.old.rows) ≡ true
+  first_there key own = (and_parts _ _ (sym (first_at by t.old key e.tick.old_table) ∙ own)).1
+
+  pub small_row : (key : ℕ) → is_among key (keys t.old.rows) ≡ true → key < 2 ^ 62
+  small_row key own =
+      of_among (λ k. k < 2 ^ 62) key (keys t.old.rows)
+      (every-map (λ k. k < 2 ^ 62) (λ (row : PlainRow). row.key) t.old.rows (every_weaker (IsRow t.old.width) (λ (row : PlainRow). row.key < 2 ^ 62) t.old.rows (λ row is. is.key) e.tick.old_table.rows)) own
+
+  pub stays_on : (key : ℕ) → is_among key (keys t.old.rows) ≡ true → is_among key t.update.removed ≡ false → is_among key (without t.update.removed (keys t.old.rows)) ≡ true
+  stays_on key there left = among-filter (λ key. not (is_among key t.update.removed)) key (keys t.old.rows) ∙ ap₂ (λ a b. not a && b) left there
+
+  -- a row that stays lands on a key
+  pub lands : (key : ℕ) → is_among key (without t.update.removed (keys t.old.rows)) ≡ true → is_past (2 ^ 62) (moved t.update.shifted key) ≡ false
+  lands key own = of_among (λ key. is_past (2 ^ 62) (moved t.update.shifted key) ≡ false) key (without t.update.removed (keys t.old.rows)) (lawful t.update.shifted (without t.update.removed (keys t.old.rows)) (exact_shift t e)).inside own
+
+  abbrev firsts : List ℕ
+  firsts = touched_firsts by t t.old.rows
+
+  pub firsts_there : AllByRecursion (λ key. is_among key (first_keys by t.old.rows) ≡ true) firsts
+  firsts_there = every-filter (λ key. is_among key (first_keys by t.old.rows) ≡ true) (λ key. is_touched by t (key_at by t.old.rows key)) (first_keys by t.old.rows) (each_among (first_keys by t.old.rows))
+
+  pub firsts_rise : IsRising firsts
+  firsts_rise = rising_some (λ key. is_touched by t (key_at by t.old.rows key)) (first_keys by t.old.rows) (first_keys_rise by t.old e.tick.old_table)
+
+  abbrev stays_first : ℕ → Bool
+  stays_first key = not (is_among key t.update.removed) && stays by t (kept_pair t.update key)
+
+  abbrev so_far : ℕ → List ℕ
+  so_far place = filter stays_first (take place firsts)
+
+  -- those before the one at a place have lesser keys, before and now
+  pub lesser_old : (place old : ℕ) (made : List KeyPair) → slice_get firsts place ≡ Some old → made ≡ filter (stays by t) (map (kept_pair t.update) (without t.update.removed (take place firsts))) → AllByRecursion (λ other. other < old) (old_keys made)
+  lesser_old place old made here are =
+      subst (λ (pairs : List KeyPair). AllByRecursion (λ other. other < old) (old_keys pairs)) (sym (are ∙ staying_map (stays by t) (kept_pair t.update) (λ key. not (is_among key t.update.removed)) (take place firsts)))
+      (every-map (λ other. other < old) (λ (pair : KeyPair). pair.old) (map (kept_pair t.update) (so_far place))
+      (every-map (λ (pair : KeyPair). pair.old < old) (kept_pair t.update) (so_far place)
+      (below_keys stays_first firsts place old (so_far place) firsts_rise here refl)))
+
+  pub lesser_new : (place old : ℕ) (made : List KeyPair) → slice_get firsts place ≡ Some old → is_among old t.update.removed ≡ false
+      → made ≡ filter (stays by t) (map (kept_pair t.update) (without t.update.removed (take place firsts))) → AllByRecursion (λ other. other < as_key (moved t.update.shifted old)) (new_keys made)
+  lesser_new place old made here left are =
+      let land : ℕ → ℕ = λ key. as_key (moved t.update.shifted key) in
+      let staying_keys : List ℕ = without t.update.removed (keys t.old.rows) in
+      let own : is_among old staying_keys ≡ true = stays_on old (first_there old (of_place (λ key. is_among key (first_keys by t.old.rows) ≡ true) place firsts old firsts_there here)) left in
+      subst (λ (pairs : List KeyPair). AllByRecursion (λ other. other < land old) (new_keys pairs)) (sym (are ∙ staying_map (stays by t) (kept_pair t.update) (λ key. not (is_among key t.update.removed)) (take place firsts)))
+      (every-map (λ other. other < land old) (λ (pair : KeyPair). pair.new) (map (kept_pair t.update) (so_far place))
+      (every-map (λ (pair : KeyPair). pair.new < land old) (kept_pair t.update) (so_far place)
+      (every_both (λ key. key < old) (λ key. is_among key staying_keys ≡ true) (λ key. land key < land old) (so_far place)
+      (λ key below stays. moves_up land staying_keys key old (rising_some (λ key. not (is_among key t.update.removed)) (keys t.old.rows) e.tick.old_table.rising) (rising_moved by [] t e) stays own below)
+      (below_keys stays_first firsts place old (so_far place) firsts_rise here refl)
+      (every_both (λ key. is_among key (first_keys by t.old.rows) ≡ true) (λ key. stays_first key ≡ true) (λ key. is_among key staying_keys ≡ true) (so_far place)
+      (λ key first passes. stays_on key (first_there key first) (is_false (and_parts _ _ passes).0))
+      (every-filter (λ key. is_among key (first_keys by t.old.rows) ≡ true) stays_first (take place firsts) (every-take (λ key. is_among key (first_keys by t.old.rows) ≡ true) place firsts firsts_there))
+      (filter_passes stays_first (take place firsts))))))
+
+  -- the key cells of a first row before, and of a row now, as they are noted and kept
+  pub has_cells : (aggs : List Agg) (old new : ℕ) (row : List ℤ) (kept : Grouped) → is_among old (first_keys by t.old.rows) ≡ true → row ≡ cells_at old (agg_table by aggs t.old).rows → is_among new (keys t.new.rows) ≡ true → kept ≡ indexed by None t.new.rows
+      → option_map_or (λ (member : Member). same_cells member.cells (take (length by) row)) (member_under new kept.members) false ≡ same_cells (key_at by t.old.rows old) (key_at by t.new.rows new)
+  has_cells aggs old new row kept own noted there are =
+      ap₂ (λ (cells : List ℤ) (kept : Grouped). option_map_or (λ (member : Member). same_cells member.cells cells) (member_under new kept.members) false) begins are
+      ∙ through (member_under new (indexed by None t.new.rows).members) (cells_known by None t.new.rows new there)
+      ∙ same_turned (key_at by t.new.rows new) (key_at by t.old.rows old)
+    where
+      begins : take (length by) row ≡ key_at by t.old.rows old
+      begins =
+          ap₂ take (sym (length-map by (cell (cells_at old t.old.rows)))) (noted ∙ cells-agg by aggs t.old old e.tick.old_table own)
+          ∙ take_front (key_at by t.old.rows old) _
+
+      through : (o : Option Member) → option_map (λ (member : Member). member.cells) o ≡ Some (key_at by t.new.rows new) → option_map_or (λ (member : Member). same_cells member.cells (key_at by t.old.rows old)) o false ≡ same_cells (key_at by t.new.rows new) (key_at by t.old.rows old)
+      through None f = absurd (cc)
+      through (Some member) f = ap (λ cells. same_cells cells (key_at by t.old.rows old)) (some_same f)
+
+  pub lands_small : (key : ℕ) → is_among key (without t.update.removed (keys t.old.rows)) ≡ true → as_key (moved t.update.shifted key) < 2 ^ 62
+  lands_small key own = (not_past (2 ^ 62) (moved t.update.shifted key) (lands key own)).1
+
+  pub begins_long : (aggs : List Agg) (old : ℕ) (row : List ℤ) → is_among old (first_keys by t.old.rows) ≡ true → row ≡ cells_at old (agg_table by aggs t.old).rows → length by ≤ length row
+  begins_long aggs old row own noted =
+      subst (λ (n : ℕ). length by ≤ n)
+      (sym (ap length (noted ∙ cells-agg by aggs t.old old e.tick.old_table own) ∙ length-append (key_at by t.old.rows old) (map (aggregate (group_rows by (key_at by t.old.rows old) t.old.rows)) aggs) ∙ ap (λ n. n + length (map (aggregate (group_rows by (key_at by t.old.rows old) t.old.rows)) aggs)) (length-map by (cell (cells_at old t.old.rows)))))
+      (omega arith)
+
+  -- a noted row that is not removed
+  pub row_of_place : (place old : ℕ) → slice_get firsts place ≡ Some old → is_among old (first_keys by t.old.rows) ≡ true
+  row_of_place place old here = of_place (λ key. is_among key (first_keys by t.old.rows) ≡ true) place firsts old firsts_there here
+
+  pub first_row_there : (key : ℕ) → is_among key (touched_firsts by t t.new.rows) ≡ true → is_among key (keys t.new.rows) ≡ true
+  first_row_there key own =
+      let first = (and_parts _ _ (sym (among-filter (λ key. is_touched by t (key_at by t.new.rows key)) key (first_keys by t.new.rows)) ∙ own)).1 in
+      (and_parts _ _ (sym (first_at by t.new key e.tick.new_table) ∙ first)).1

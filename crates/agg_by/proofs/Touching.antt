@@ -1,0 +1,88 @@
+-- The rows that a step takes out of their groups are there before, those that it puts in are there now, and the others move in order.
+use Rattle.std.proofs.Common.{◌≡◌, refl, ap, ap₂, sym, ◌∙◌, subst, Bool, true, false, not, ◌&&◌, ◌||◌, ℕ, ◌+◌, List, [], ◌∷◌, ◌++◌, map, take, Some, filter}
+use Rattle.std.specs.Prelude.{slice_get}
+use Rattle.std.specs.List.{AllByRecursion, list_any}
+use Rattle.std.proofs.lemmas.Bool.{and_parts}
+use Rattle.key_lists.specs.Keys.{is_among, without}
+use Rattle.key_lists.proofs.Among.{among-filter, each_among, of_among}
+use Rattle.key_lists.proofs.Every.{every, every_weaker, every-filter, every-map, every_unmapped, filter_filter, filter_same}
+use Rattle.row_set.proofs.United.{among-united}
+use Rattle.shift_data.specs.Moves.{IsLawful}
+use Rattle.shown_rows.proofs.Restricted.{exact_shift, is_modified, kept, modified_new}
+use Rattle.table_update.proofs.LawfulParts.{lawful_some}
+use Rattle.table_update.specs.Kept.{old_modified}
+use Rattle.tick_model.specs.declared.update.KeyPair.{KeyPair}
+use Rattle.tick_model.specs.Tables.{keys}
+use Rattle.tick_model.specs.Updates.{Update, kept_pair, new_keys, old_keys}
+use Rattle.tick_table.specs.Exact.{IsExact}
+use Rattle.tick_table.specs.Ticking.{Ticking}
+use Rattle.agg_by.specs.Steps.{come, gone}
+use Rattle.shown_rows.proofs.Walks.{take_next}
+use Rattle.agg_by.proofs.Untouched.{any-map}
+
+either_there : (a b c : Bool) → (a ≡ true → c ≡ true) → (b ≡ true → c ≡ true) → (a || b) ≡ true → c ≡ true
+either_there true b c f g h = f refl
+either_there false b c f g h = g h
+
+module _ (t : Ticking) (e : IsExact t) where
+  pub gone_there : AllByRecursion (λ key. is_among key (keys t.old.rows) ≡ true) (gone t)
+  gone_there =
+      every_weaker (λ key. is_among key (gone t) ≡ true) (λ key. is_among key (keys t.old.rows) ≡ true) (gone t)
+      (λ key own.
+      either_there (is_among key t.update.removed) (is_among key (old_modified (keys t.old.rows) t.update)) (is_among key (keys t.old.rows))
+      (λ removed. (and_parts _ _ (sym (among-filter (λ key. not (is_among key (old_keys (kept t e)))) key (keys t.old.rows)) ∙ sym (ap (λ (update : Update). is_among key update.removed) e.update) ∙ removed)).1)
+      (λ modified.
+      let stays : is_among key (without t.update.removed (keys t.old.rows)) ≡ true = (and_parts _ _ (sym (among-filter (λ key. is_modified t e (kept_pair t.update key)) key (without t.update.removed (keys t.old.rows))) ∙ modified)).1 in
+      (and_parts _ _ (sym (among-filter (λ key. not (is_among key t.update.removed)) key (keys t.old.rows)) ∙ stays)).1)
+      (sym (among-united key t.update.removed (old_modified (keys t.old.rows) t.update)) ∙ own))
+      (each_among (gone t))
+
+  modified_there : AllByRecursion (λ key. is_among key (keys t.new.rows) ≡ true) t.update.modified
+  modified_there =
+      subst (AllByRecursion (λ key. is_among key (keys t.new.rows) ≡ true)) (sym (modified_new t e))
+      (every-map (λ key. is_among key (keys t.new.rows) ≡ true) (λ (pair : KeyPair). pair.new) (filter (is_modified t e) (kept t e))
+      (every-filter (λ pair. is_among pair.new (keys t.new.rows) ≡ true) (is_modified t e) (kept t e)
+      (every_unmapped (λ key. is_among key (keys t.new.rows) ≡ true) (λ (pair : KeyPair). pair.new) (kept t e) e.tick.of_new)))
+
+  pub come_there : AllByRecursion (λ key. is_among key (keys t.new.rows) ≡ true) (come t)
+  come_there =
+      every_weaker (λ key. is_among key (come t) ≡ true) (λ key. is_among key (keys t.new.rows) ≡ true) (come t)
+      (λ key own.
+      either_there (is_among key t.update.added) (is_among key t.update.modified) (is_among key (keys t.new.rows))
+      (λ added. (and_parts _ _ (sym (among-filter (λ key. not (is_among key (new_keys (kept t e)))) key (keys t.new.rows)) ∙ sym (ap (λ (update : Update). is_among key update.added) e.update) ∙ added)).1)
+      (λ modified. of_among (λ key. is_among key (keys t.new.rows) ≡ true) key t.update.modified modified_there modified)
+      (sym (among-united key t.update.added t.update.modified) ∙ own))
+      (each_among (come t))
+
+  neither : (r m : Bool) → (not r && not (r || m)) ≡ not (r || m)
+  neither true m = refl
+  neither false m = refl
+
+  pub lawful_left : IsLawful t.update.shifted (without (gone t) (keys t.old.rows))
+  lawful_left =
+      subst (IsLawful t.update.shifted)
+      (filter_filter (λ key. not (is_among key (gone t))) (λ key. not (is_among key t.update.removed)) (keys t.old.rows)
+      ∙ filter_same (λ key. not (is_among key t.update.removed) && not (is_among key (gone t))) (λ key. not (is_among key (gone t))) (keys t.old.rows)
+      (every (λ key. (not (is_among key t.update.removed) && not (is_among key (gone t))) ≡ not (is_among key (gone t))) (keys t.old.rows)
+      (λ key. subst (λ b. (not (is_among key t.update.removed) && not b) ≡ not b) (sym (among-united key t.update.removed (old_modified (keys t.old.rows) t.update))) (neither (is_among key t.update.removed) (is_among key (old_modified (keys t.old.rows) t.update))))))
+      (lawful_some t.update.shifted (λ key. not (is_among key (gone t))) (without t.update.removed (keys t.old.rows)) (exact_shift t e))
+
+or_assoc : (a b c : Bool) → ((a || b) || c) ≡ (a || (b || c))
+or_assoc true b c = refl
+or_assoc false b c = refl
+
+pub or_none : (a : Bool) → (a || false) ≡ a
+or_none true = refl
+or_none false = refl
+
+pub any-append : {X : Type 0} (p : X → Bool) (xs ys : List X) → list_any p (xs ++ ys) ≡ (list_any p xs || list_any p ys)
+any-append p [] ys = refl
+any-append p (x ∷ xs) ys = ap (λ b. p x || b) (any-append p xs ys) ∙ sym (or_assoc (p x) (list_any p xs) (list_any p ys))
+
+-- whether one of the first so many passes, with one more
+pub any_next : {Y : Type 0} (p : Y → Bool) (f : ℕ → Y) (keys : List ℕ) (n key : ℕ) (before : Bool) → slice_get keys n ≡ Some key → ((before || list_any p (map f (take n keys))) || p (f key)) ≡ (before || list_any p (map f (take (n + 1) keys)))
+any_next p f keys n key before here =
+    or_assoc before (list_any p (map f (take n keys))) (p (f key))
+    ∙ ap (λ b. before || b)
+    (ap₂ (λ a b. a || b) (any-map p f (take n keys)) (sym (or_none (p (f key)))) ∙ sym (any-append (λ key. p (f key)) (take n keys) (key ∷ []))
+    ∙ ap (list_any (λ key. p (f key))) (sym (take_next keys n key here)) ∙ sym (any-map p f (take (n + 1) keys)))

@@ -1,0 +1,135 @@
+-- A whole step: what is kept before it, and what it reads.
+use Rattle.std.proofs.Common.{◌≡◌, refl, ap, ap₂, sym, ◌∙◌, subst, Bool, true, false, not, cond, ℕ, suc, ◌+◌, ◌*◌, ◌^◌, ◌≤◌, arith, List, [], ◌∷◌, ◌++◌, map, filter, length, None, ℤ}
+use Rattle.std.specs.List.{AllByRecursion, list_any}
+use Rattle.std.proofs.lemmas.Bool.{and_parts}
+use Rattle.std.proofs.Math.Nat.{mul-le-mul_left}
+use Rattle.key_lists.specs.Keys.{is_among, IsRising, without}
+use Rattle.key_lists.proofs.Among.{each_among}
+use Rattle.key_lists.proofs.Every.{every_unmapped, every_weaker, every-filter, every-map, filter_passes}
+use Rattle.key_lists.proofs.Rising.{as_filter, rising-filter, rising_some}
+use Rattle.row_groups.specs.Members.{Grouped, Member}
+use Rattle.row_set.specs.Sets.{united}
+use Rattle.shown_rows.proofs.Restricted.{kept, modified_even}
+use Rattle.table_update.specs.Kept.{old_modified}
+use Rattle.tick_model.specs.declared.plan.Agg.{Agg}
+use Rattle.tick_model.specs.declared.table.PlainRow.{PlainRow}
+use Rattle.tick_model.specs.declared.table.PlainTable.{PlainTable}
+use Rattle.tick_model.specs.declared.update.KeyPair.{KeyPair}
+use Rattle.tick_laws.specs.Checked.{keys_after}
+use Rattle.tick_model.specs.Rules.{update_fault}
+use Rattle.tick_model.specs.Tables.{keys, IsTable}
+use Rattle.tick_model.specs.Updates.{between, kept_pair, new_keys}
+use Rattle.tick_table.proofs.Between.{between_lawful, keys_after_between}
+use Rattle.tick_table.specs.Exact.{IsExact, counted}
+use Rattle.tick_table.specs.Ticking.{Ticking}
+use Rattle.agg_by.specs.Aggregator.{IsColumn}
+use Rattle.agg_by.specs.declared.kept.Kept.{Kept}
+use Rattle.agg_by.specs.declared.running.Running.{Running}
+use Rattle.agg_by.specs.declared.running.Running.TheVariants.{Count, Sum, Min, Max, First, Last}
+use Rattle.agg_by.specs.Answers.{IsWithin}
+use Rattle.agg_by.specs.Kept.{AnswerAll, Are, IsMade, Keeps, agg_of, indexed}
+use Rattle.agg_by.specs.Steps.{come, first_keys, gone, is_touched, key_at, starts, staying, stays, touched_cells, touched_firsts}
+use Rattle.agg_by.proofs.FirstKeys.{first_keys_rise, firsts_are, length-with_key}
+use Rattle.agg_by.proofs.GroupParts.{is_tick, staying_is, tick, touched}
+use Rattle.agg_by.proofs.GroupRows.{keys-agg}
+
+within_one : (width : ℕ) (running : Running) → IsColumn width (agg_of running) → IsWithin width running
+within_one width Count h = tt
+within_one width (Sum column sums) h = tt
+within_one width (Min column index) h = tt
+within_one width (Max column index) h = tt
+within_one width (First column) h = h
+within_one width (Last column) h = h
+
+-- the columns that are read are the table's
+pub within_all : (width : ℕ) (aggs : List Agg) (running : List Running) → map agg_of running ≡ aggs → AllByRecursion (IsColumn width) aggs → AllByRecursion (IsWithin width) running
+within_all width aggs running are columns =
+    every_weaker (λ running. IsColumn width (agg_of running)) (IsWithin width) running (within_one width)
+    (every_unmapped (IsColumn width) agg_of running (subst (AllByRecursion (IsColumn width)) (sym are) columns))
+
+-- what is kept where all is begun
+pub begun_keeps : (old new : Kept) (rows : List PlainRow) → IsMade old new → new.rows ≡ old.rows → ((rows : List PlainRow) → Are old.by old.aggs rows old.running.items → AnswerAll old.by old.aggs rows new.running.items)
+    → old.rows ≡ indexed old.by None rows → Are old.by old.aggs rows old.running.items → Keeps new rows
+begun_keeps old new rows made same begun indexed_rows are = record {
+  rows = same ∙ indexed_rows ∙ ap (λ by. indexed by None rows) (sym made.by);
+  running = subst (λ (by : List ℕ). AnswerAll by new.aggs rows new.running.items) (sym made.by) (subst (λ (aggs : List Agg). AnswerAll old.by aggs rows new.running.items) (sym made.aggs) (begun rows are));
+}
+
+length-united : (xs ys : List ℕ) → length (united xs ys) ≤ length xs + length ys
+length-united [] ys = omega arith
+length-united (x ∷ xs) ys = omega (arith, length-with_key x (united xs ys), length-united xs ys)
+
+-- the touched rows are counted
+pub touched_count : (t : Ticking) → IsExact t → length (gone t) + length (come t) ≤ counted t.update
+touched_count t e =
+    omega (arith, length-united t.update.removed (old_modified (keys t.old.rows) t.update), length-united t.update.added t.update.modified, modified_even t e)
+
+-- the reads of noting, and of a whole step
+pub noted_reads : (width aggs first second third touched firsts : ℕ) → second ≤ first + width * touched → third ≤ second + aggs * firsts → firsts ≤ touched → third ≤ first + (width + aggs) * touched
+noted_reads width aggs first second third touched firsts h k few = omega (arith, h, k, mul-le-mul_left aggs few)
+
+pub step_reads : (width aggs first second third fourth fifth touched firsts all : ℕ)
+    → second ≤ first + (width + aggs) * touched → third ≤ second + width * touched → fourth ≤ third + width * touched → fifth ≤ fourth + 2 * aggs * firsts → firsts ≤ touched → touched ≤ all → fifth ≤ first + 3 * (width + aggs) * all
+step_reads width aggs first second third fourth fifth touched firsts all h k l m few most =
+    omega (arith, h, k, l, m, mul-le-mul_left aggs few, mul-le-mul_left width most, mul-le-mul_left aggs most)
+
+pub wider_reads : (width by aggs first last all out : ℕ) → last ≤ first + 3 * (width + aggs) * all → last ≤ first + 4 * (width + (by + aggs)) * (all + out)
+wider_reads width by aggs first last all out h = omega (arith, h)
+
+-- what is found among the rows by what is kept of them
+pub found_firsts : (by : List ℕ) (t : Ticking) (table : PlainTable) → IsTable table → (index : Grouped) (went came firsts : List ℕ) → index ≡ indexed by None table.rows → went ≡ gone t → came ≡ come t → IsRising firsts
+    → ((first : ℕ) → is_among first firsts ≡ list_any (starts index.members first) (map (key_at by t.old.rows) went ++ map (key_at by t.new.rows) came)) → firsts ≡ touched_firsts by t table.rows
+found_firsts by t table is index went came firsts are w c rising found =
+    firsts_are by table is (touched_cells by t) firsts rising
+    (λ first.
+    found first
+    ∙ ap₂ (λ (members : List Member) (cells : List (List ℤ)). list_any (starts members first) cells) (ap (λ (index : Grouped). index.members) are)
+    (ap₂ (λ (went came : List ℕ). map (key_at by t.old.rows) went ++ map (key_at by t.new.rows) came) w c))
+
+pub touched_there : (by : List ℕ) (t : Ticking) (rows : List PlainRow) → AllByRecursion (λ key. is_among key (first_keys by rows) ≡ true) (touched_firsts by t rows)
+touched_there by t rows = every-filter (λ key. is_among key (first_keys by rows) ≡ true) (λ key. is_touched by t (key_at by rows key)) (first_keys by rows) (each_among (first_keys by rows))
+
+module _ (by : List ℕ) (aggs : List Agg) (t : Ticking) (e : IsExact t) where
+  -- the keys that are shown are brought on
+  pub shown_lawful : update_fault (2 ^ 62) (first_keys by t.old.rows) (between (tick by aggs t e)) ≡ None
+  shown_lawful = subst (λ (ks : List ℕ). update_fault (2 ^ 62) ks (between (tick by aggs t e)) ≡ None) (keys-agg by aggs t.old) (between_lawful (tick by aggs t e) (is_tick by aggs t e))
+
+  pub shown_after : keys_after (first_keys by t.old.rows) (between (tick by aggs t e)) ≡ first_keys by t.new.rows
+  shown_after = ap (λ (ks : List ℕ). keys_after ks (between (tick by aggs t e))) (sym (keys-agg by aggs t.old)) ∙ keys_after_between (tick by aggs t e) (is_tick by aggs t e) ∙ keys-agg by aggs t.new
+
+  staying_among : AllByRecursion (λ key. is_among key (touched_firsts by t t.new.rows) ≡ true) (new_keys (staying by t))
+  staying_among =
+      every-map (λ key. is_among key (touched_firsts by t t.new.rows) ≡ true) (λ (pair : KeyPair). pair.new) (staying by t)
+      (every_weaker (λ pair. stays by t pair ≡ true) (λ pair. is_among pair.new (touched_firsts by t t.new.rows) ≡ true) (staying by t) (λ pair h. (and_parts _ _ h).0)
+      (filter_passes (stays by t) (map (kept_pair t.update) (without t.update.removed (touched_firsts by t t.old.rows)))))
+
+  staying_rise : IsRising (new_keys (staying by t))
+  staying_rise = subst (λ (pairs : List KeyPair). IsRising (new_keys pairs)) (sym (staying_is by aggs t e)) (rising-filter (λ (pair : KeyPair). pair.new) (touched by aggs t e) (kept t e) e.tick.rising_new)
+
+  -- the first rows that are compared, and those that come, are the touched ones
+  pub read_few : length (new_keys (staying by t)) + length (without (new_keys (staying by t)) (touched_firsts by t t.new.rows)) ≡ length (touched_firsts by t t.new.rows)
+  read_few =
+      ap (λ (ks : List ℕ). length ks + length (without (new_keys (staying by t)) (touched_firsts by t t.new.rows)))
+      (sym (as_filter (new_keys (staying by t)) (touched_firsts by t t.new.rows) staying_rise (rising_some (λ key. is_touched by t (key_at by t.new.rows key)) (first_keys by t.new.rows) (first_keys_rise by t.new e.tick.new_table)) staying_among))
+      ∙ parted (λ key. is_among key (new_keys (staying by t))) (touched_firsts by t t.new.rows)
+    where
+      next : (a b n : ℕ) → a + b ≡ n → suc a + b ≡ suc n
+      next a b n h = omega (arith, h)
+
+      behind : (a b n : ℕ) → a + b ≡ n → a + suc b ≡ suc n
+      behind a b n h = omega (arith, h)
+
+      parted : (p : ℕ → Bool) (xs : List ℕ) → length (filter p xs) + length (filter (λ x. not (p x)) xs) ≡ length xs
+      parted p [] = refl
+      parted p (x ∷ xs) =
+          elim (p x) as (λ b. length (cond b (x ∷ filter p xs) (filter p xs)) + length (cond (not b) (x ∷ filter (λ x. not (p x)) xs) (filter (λ x. not (p x)) xs)) ≡ suc (length xs)) [
+            | true ↦ next (length (filter p xs)) (length (filter (λ x. not (p x)) xs)) (length xs) (parted p xs)
+            | false ↦ behind (length (filter p xs)) (length (filter (λ x. not (p x)) xs)) (length xs) (parted p xs)
+          ]
+
+-- the reads of a change
+pub change_reads : (aggs first last compared added firsts : ℕ) → last ≤ first + aggs * (2 * compared + added) → compared + added ≡ firsts → last ≤ first + 2 * aggs * firsts
+change_reads aggs first last compared added firsts h few = omega (arith, h, mul-le-mul_left aggs most)
+  where
+    most : 2 * compared + added ≤ 2 * firsts
+    most = omega (arith, few)

@@ -1,0 +1,16 @@
+use Rattle.std.proofs.Common.{ap, ◌∙◌, subst, ◌+◌, ◌*◌, ◌≤◌, length}
+use Rattle.tick_model.specs.Changes.{change_of}
+use Rattle.tick_table.specs.Exact.{counted, tick_of}
+use Rattle.agg_by.specs.Aggregator.{Aggregator, grouped}
+use Rattle.agg_by.proofs.Whole.{wider_reads}
+use Rattle.agg_by.proofs.agg_op.AggOp.step.Goals as goal
+
+pub returns-clause-change : goal.returns-clause-change
+returns-clause-change g c = c.in_ok-change.ensures.change ∙ ap (λ (aggregator : Aggregator). change_of (grouped aggregator.by aggregator.aggs (tick_of c.args.input.now))) c.self.view_is
+
+pub returns-clause-reads : goal.returns-clause-reads
+returns-clause-reads g c =
+    let t = c.args.input.now in
+    let out = counted c.in_ok-change.change.update in
+    subst (λ (aggregator : Aggregator). c.grouped_step.new.reads ≤ c.args.reads.now + 4 * (t.new.width + (length aggregator.by + length aggregator.aggs)) * (counted t.update + out)) c.self.view_is
+    (wider_reads t.new.width (length c.self.inside.kept.by) (length c.self.inside.kept.aggs) c.args.reads.now c.grouped_step.new.reads (counted t.update) out c.in_ok-change.ensures.reads)

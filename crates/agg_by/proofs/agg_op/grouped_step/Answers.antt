@@ -1,0 +1,97 @@
+use Rattle.std.proofs.Common.{◌≡◌, ap, ap₂, sym, ◌∙◌, subst, true, ◌+◌, ◌*◌, ◌≤◌, List, ℕ, length}
+use Rattle.std.specs.List.{AllByRecursion}
+use Rattle.key_lists.specs.Keys.{is_among}
+use Rattle.tick_laws.specs.Checked.{keys_after}
+use Rattle.tick_model.specs.Agg.{agg_table}
+use Rattle.tick_model.specs.Changes.{Change, change_of}
+use Rattle.tick_model.specs.declared.plan.Agg.{Agg}
+use Rattle.tick_model.specs.Tables.{keys}
+use Rattle.tick_model.specs.Updates.{between}
+use Rattle.tick_table.specs.Exact.{counted, tick_of}
+use Rattle.agg_by.specs.Aggregator.{IsColumn, grouped}
+use Rattle.agg_by.specs.Notes.{IsNoted}
+use Rattle.agg_by.specs.Steps.{first_keys, touched_firsts}
+use Rattle.agg_by.proofs.Touching.{come_there, gone_there}
+use Rattle.agg_by.proofs.GroupParts.{tick}
+use Rattle.agg_by.proofs.Whole.{begun_keeps, found_firsts, shown_after, shown_lawful, step_reads, touched_count, within_all}
+use Rattle.agg_by.proofs.agg_op.grouped_step.Goals as goal
+
+pub noted_groups-requires-clause-keeps : goal.noted_groups-requires-clause-keeps
+noted_groups-requires-clause-keeps g c =
+    begun_keeps c.args.kept.now c.begin.new.self c.args.input.now.old.rows c.in_ok-begin.ensures.made c.in_ok-begin.ensures.rows c.in_ok-begin.ensures.running c.requires.rows c.requires.running
+
+pub noted_groups-requires-clause-within : goal.noted_groups-requires-clause-within
+noted_groups-requires-clause-within g c =
+    let t = c.args.input.now in
+    let keeps = begun_keeps c.args.kept.now c.begin.new.self t.old.rows c.in_ok-begin.ensures.made c.in_ok-begin.ensures.rows c.in_ok-begin.ensures.running c.requires.rows c.requires.running in
+    within_all t.old.width c.args.kept.now.aggs c.begin.new.self.running.items (keeps.running.0 ∙ c.in_ok-begin.ensures.made.aggs)
+    (subst (λ (width : ℕ). AllByRecursion (IsColumn width) c.args.kept.now.aggs) c.requires.exact.tick.one_width c.requires.columns)
+
+pub bring_on-requires-clause-keeps : goal.bring_on-requires-clause-keeps
+bring_on-requires-clause-keeps g c =
+    begun_keeps c.args.kept.now c.begin.new.self c.args.input.now.old.rows c.in_ok-begin.ensures.made c.in_ok-begin.ensures.rows c.in_ok-begin.ensures.running c.requires.rows c.requires.running
+
+pub firsts_of-requires-clause-gone : goal.firsts_of-requires-clause-gone
+firsts_of-requires-clause-gone g c = subst (AllByRecursion (λ key. is_among key (keys c.args.input.now.old.rows) ≡ true)) (sym c.in_ok-moving.ensures.gone) (gone_there c.args.input.now c.requires.exact)
+
+pub firsts_of-requires-clause-come : goal.firsts_of-requires-clause-come
+firsts_of-requires-clause-come g c = subst (AllByRecursion (λ key. is_among key (keys c.args.input.now.new.rows) ≡ true)) (sym c.in_ok-moving.ensures.come) (come_there c.args.input.now c.requires.exact)
+
+pub group_change-requires-clause-ready : goal.group_change-requires-clause-ready
+group_change-requires-clause-ready g c =
+    let t = c.args.input.now in
+    let kept = c.bring_on.new.self in
+    let brought = c.in_ok-bring_on.ensures.made in
+    let notes = c.in_ok-notes.notes in record {
+      exact = c.requires.exact;
+      keeps = c.in_ok-bring_on.ensures.keeps;
+      within = within_all t.new.width c.args.kept.now.aggs kept.running.items (c.in_ok-bring_on.ensures.keeps.running.0 ∙ brought.aggs ∙ c.in_ok-begin.ensures.made.aggs) c.requires.columns;
+      noted = subst (λ (by : List ℕ). IsNoted notes (agg_table by kept.aggs t.old)) (sym brought.by) (subst (λ (aggs : List Agg). IsNoted notes (agg_table c.begin.new.self.by aggs t.old)) (sym brought.aggs) c.in_ok-notes.ensures.noted);
+      keys = c.in_ok-notes.ensures.keys ∙ ap (λ (by : List ℕ). touched_firsts by t t.old.rows) (sym brought.by);
+    }
+
+pub group_change-requires-clause-firsts : goal.group_change-requires-clause-firsts
+group_change-requires-clause-firsts g c =
+    let t = c.args.input.now in
+    found_firsts c.bring_on.new.self.by t t.new c.requires.exact.tick.new_table c.bring_on.new.self.rows _ _ c.in_ok-firsts.firsts c.in_ok-bring_on.ensures.keeps.rows c.in_ok-moving.ensures.gone c.in_ok-moving.ensures.come c.in_ok-firsts.ensures.rising c.in_ok-firsts.ensures.firsts
+
+pub apply_to_keys-requires : goal.apply_to_keys-requires
+apply_to_keys-requires g c =
+    let t = c.args.input.now in
+    let e = c.requires.exact in
+    let by = c.bring_on.new.self.by in
+    let aggs = c.bring_on.new.self.aggs in
+    let shown : c.args.shown.now ≡ first_keys by t.old.rows = c.requires.shown ∙ ap (λ (by : List ℕ). first_keys by t.old.rows) (sym (c.in_ok-bring_on.ensures.made.by ∙ c.in_ok-begin.ensures.made.by)) in
+    let update : c.change.inside.update ≡ between (tick by aggs t e) = ap (λ (change : Change). change.update) (c.change.view_is ∙ c.in_ok-change.ensures.change) in
+    rw (update, shown) (shown_lawful by aggs t e)
+
+pub returns-clause-shown : goal.returns-clause-shown
+returns-clause-shown g c =
+    let t = c.args.input.now in
+    let e = c.requires.exact in
+    let by = c.bring_on.new.self.by in
+    let aggs = c.bring_on.new.self.aggs in
+    let same : by ≡ c.args.kept.now.by = c.in_ok-bring_on.ensures.made.by ∙ c.in_ok-begin.ensures.made.by in
+    let shown : c.args.shown.now ≡ first_keys by t.old.rows = c.requires.shown ∙ ap (λ (by : List ℕ). first_keys by t.old.rows) (sym same) in
+    let update : c.change.inside.update ≡ between (tick by aggs t e) = ap (λ (change : Change). change.update) (c.change.view_is ∙ c.in_ok-change.ensures.change) in
+    c.in_ok-apply_to_keys.ensures ∙ ap₂ keys_after shown update ∙ shown_after by aggs t e ∙ ap (λ (by : List ℕ). first_keys by t.new.rows) same
+
+pub returns-clause-change : goal.returns-clause-change
+returns-clause-change g c =
+    c.in_ok-change.ensures.change
+    ∙ ap₂ (λ (by : List ℕ) (aggs : List Agg). change_of (grouped by aggs (tick_of c.args.input.now))) (c.in_ok-bring_on.ensures.made.by ∙ c.in_ok-begin.ensures.made.by) (c.in_ok-bring_on.ensures.made.aggs ∙ c.in_ok-begin.ensures.made.aggs)
+
+pub returns-clause-reads : goal.returns-clause-reads
+returns-clause-reads g c =
+    let t = c.args.input.now in
+    let width = t.new.width in
+    let aggs = c.args.kept.now.aggs in
+    let made = c.in_ok-begin.ensures.made in
+    let brought = c.in_ok-bring_on.ensures.made in
+    let touched = length c.in_ok-moving.moving.gone + length c.in_ok-moving.moving.come in
+    let first : c.noted_groups.new.reads ≤ c.args.reads.now + (width + length aggs) * touched =
+    subst (λ (aggs : List Agg). c.noted_groups.new.reads ≤ c.args.reads.now + (width + length aggs) * touched) made.aggs c.in_ok-notes.ensures.reads in
+    let last : c.group_change.new.reads ≤ c.firsts_of.new.reads + 2 * length aggs * length c.in_ok-firsts.firsts =
+    subst (λ (aggs : List Agg). c.group_change.new.reads ≤ c.firsts_of.new.reads + 2 * length aggs * length c.in_ok-firsts.firsts) (brought.aggs ∙ made.aggs) c.in_ok-change.ensures.reads in
+    let most : touched ≤ counted t.update = subst (λ (n : ℕ). n ≤ counted t.update) (sym (ap₂ (λ (gone come : List ℕ). length gone + length come) c.in_ok-moving.ensures.gone c.in_ok-moving.ensures.come)) (touched_count t c.requires.exact) in
+    step_reads width (length aggs) c.args.reads.now c.noted_groups.new.reads c.bring_on.new.reads c.firsts_of.new.reads c.group_change.new.reads touched (length c.in_ok-firsts.firsts) (counted t.update) first c.in_ok-bring_on.ensures.reads c.in_ok-firsts.ensures.reads last c.in_ok-firsts.ensures.few most

@@ -1,0 +1,49 @@
+-- What an aggregation keeps.
+--     Aggregator      what it was made of, what is kept of the rows, and the keys of the groups' first rows
+--     IsAggregator by aggs width      its columns are the input's, and the result has few
+--     StandsFor aggregator table      it stands for the rows of this table
+--     grouped by aggs tick      the tick of an aggregation, from that of its input
+use Rattle.std.specs.Prelude.{◌≡◌, ℕ, ◌+◌, ◌<◌, ◌≤◌, List, length, None}
+use Rattle.std.specs.List.{AllByRecursion}
+use Rattle.agg_by.specs.declared.running.Running.{Running}
+use Rattle.agg_by.specs.Kept.{Are, indexed}
+use Rattle.agg_by.specs.Steps.{first_keys}
+use Rattle.row_groups.specs.Members.{Grouped}
+use Rattle.tick_model.specs.declared.plan.Agg.{Agg}
+use Rattle.tick_model.specs.declared.plan.Agg.TheVariants.{Count, Sum, Min, Max, First, Last}
+use Rattle.tick_model.specs.declared.plan.Op.TheVariants.{Agg as Aggregated}
+use Rattle.tick_model.specs.declared.table.PlainTable.{PlainTable}
+use Rattle.tick_model.specs.Updates.{Tick}
+use Rattle.tick_laws.specs.Operated.{operated}
+
+pub record Aggregator : Type 0 where
+  pub by : List ℕ
+  pub aggs : List Agg
+  pub width : ℕ
+  pub rows : Grouped
+  pub running : List Running
+  pub shown : List ℕ
+
+-- the column that an aggregate names is one of so many
+abbrev pub IsColumn : ℕ → Agg → Type 0
+IsColumn width Count = Unit {0}
+IsColumn width (Sum column) = column < width
+IsColumn width (Min column) = column < width
+IsColumn width (Max column) = column < width
+IsColumn width (First column) = column < width
+IsColumn width (Last column) = column < width
+
+pub record IsAggregator (columns : List ℕ) (all : List Agg) (input_width : ℕ) : Type 0 where
+  pub some : 1 ≤ length columns + length all
+  pub few : length columns + length all ≤ 32
+  pub by_within : AllByRecursion (λ column. column < input_width) columns
+  pub aggs_within : AllByRecursion (IsColumn input_width) all
+
+-- what is kept is that of these rows
+pub record StandsFor (aggregator : Aggregator) (table : PlainTable) : Type 0 where
+  pub rows : aggregator.rows ≡ indexed aggregator.by None table.rows
+  pub running : Are aggregator.by aggregator.aggs table.rows aggregator.running
+  pub shown : aggregator.shown ≡ first_keys aggregator.by table.rows
+
+abbrev pub grouped : List ℕ → List Agg → Tick → Tick
+grouped by aggs input = operated (Aggregated 0 by aggs) (λ _. input)

@@ -1,0 +1,9 @@
+pub mod Moments
+pub mod Sums
+pub mod Kept
+pub mod Notes
+pub mod Answers
+pub mod Stepping
+pub mod Steps
+pub mod Rows
+pub mod Aggregator

@@ -1,0 +1,60 @@
+-- What a step touches.
+--     gone input, come input      the old keys of the rows that go or are modified, and the new keys of those that come or are modified
+--     staying_rows input      the rows that stay as they are, each under its key of now
+--     touched_cells by input      the key cells of these rows, before and now
+--     is_touched by input cells      whether a group is touched
+--     first_keys by rows      the keys of the first rows of the groups
+--     touched_firsts by input rows      those of the touched groups
+--     stays by input pair      whether both rows of a pair are first rows of one touched group
+use Rattle.std.specs.Prelude.{ℕ, ◌==◌, ◌&&◌, Bool, false, List, ◌++◌, filter, map, slice_get, ℤ}
+use Rattle.std.specs.List.{list_any}
+use Rattle.std.specs.Option.{option_map_or}
+use Rattle.key_lists.specs.Keys.{is_among, without}
+use Rattle.row_groups.specs.Members.{Member, group_of, keys_of}
+use Rattle.row_set.specs.Sets.{united}
+use Rattle.table_update.specs.Kept.{old_modified}
+use Rattle.tick_model.specs.Agg.{is_first, key_cells}
+use Rattle.tick_model.specs.Tables.{cells_at, keys, same_cells}
+use Rattle.tick_model.specs.Updates.{kept_pair, removing, shifting}
+use Rattle.tick_model.specs.declared.table.PlainRow.{PlainRow}
+use Rattle.tick_model.specs.declared.update.KeyPair.{KeyPair}
+use Rattle.tick_table.specs.Ticking.{Ticking}
+
+abbrev pub gone : Ticking → List ℕ
+gone input = united input.update.removed (old_modified (keys input.old.rows) input.update)
+
+abbrev pub come : Ticking → List ℕ
+come input = united input.update.added input.update.modified
+
+-- the rows that stay as they are, each under its key of now
+abbrev pub staying_rows : Ticking → List PlainRow
+staying_rows input = shifting input.update.shifted (removing (gone input) input.old.rows)
+
+-- the key cells of the row under a key
+abbrev pub key_at : List ℕ → List PlainRow → ℕ → List ℤ
+key_at by rows key = key_cells by (cells_at key rows)
+
+abbrev pub touched_cells : List ℕ → Ticking → List (List ℤ)
+touched_cells by input = map (key_at by input.old.rows) (gone input) ++ map (key_at by input.new.rows) (come input)
+
+abbrev pub is_touched : List ℕ → Ticking → List ℤ → Bool
+is_touched by input cells = list_any (same_cells cells) (touched_cells by input)
+
+abbrev pub first_keys : List ℕ → List PlainRow → List ℕ
+first_keys by rows = keys (filter (is_first by rows) rows)
+
+abbrev pub touched_firsts : List ℕ → Ticking → List PlainRow → List ℕ
+touched_firsts by input rows = filter (λ key. is_touched by input (key_at by rows key)) (first_keys by rows)
+
+-- whether the group with these key cells has its first row under the key
+abbrev pub starts : List Member → ℕ → List ℤ → Bool
+starts members key cells = option_map_or (λ first. first == key) (slice_get (keys_of (group_of cells members)) 0) false
+
+-- whether both rows of a pair are first rows of one touched group
+abbrev pub stays : List ℕ → Ticking → KeyPair → Bool
+stays by input pair =
+    is_among pair.new (touched_firsts by input input.new.rows)
+    && same_cells (key_at by input.old.rows pair.old) (key_at by input.new.rows pair.new)
+
+abbrev pub staying : List ℕ → Ticking → List KeyPair
+staying by input = filter (stays by input) (map (kept_pair input.update) (without input.update.removed (touched_firsts by input input.old.rows)))

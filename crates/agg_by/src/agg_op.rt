@@ -1,0 +1,266 @@
+//! The operator: what it keeps, and its step.
+
+ghost use Rattle.std.specs.Prelude.{◌≡◌, ◌+◌, ◌*◌, ◌≤◌, None, length, IfOk, OnOk};
+ghost use Rattle.std.specs.List.{AllByRecursion};
+ghost use Rattle.agg_by.specs.Aggregator.{IsAggregator, IsColumn, StandsFor, grouped};
+ghost use Rattle.agg_by.specs.Answers.{IsWithin};
+ghost use Rattle.agg_by.specs.Kept.{Are, IsMade, Keeps, indexed};
+ghost use Rattle.agg_by.specs.Notes.{IsNoted};
+ghost use Rattle.agg_by.specs.Rows.{AreReady};
+ghost use Rattle.agg_by.specs.Steps.{come as come_of, first_keys, gone as gone_of, touched_firsts};
+ghost use Rattle.tick_model.specs.Agg.{agg_table};
+ghost use Rattle.tick_model.specs.Changes.{change_of};
+ghost use Rattle.tick_table.specs.Exact.{IsExact, counted, tick_of};
+ghost use Rattle.tick_table.specs.Ticking.{no_rows};
+
+use crate::firsts::firsts_of;
+use crate::kept::Kept;
+use crate::moment::RowBuffer;
+use crate::notes::Notes;
+use crate::rows::GroupRows;
+use crate::staying::staying_firsts;
+use row_changes::{Touched, change_of_touched};
+use row_set::RowSet;
+use shown_rows::KeyPairs;
+use std::alloc::{AllocError, Global};
+use std::marker::Model;
+use std::sync::ledger::Ledger;
+use tick_model::items::Items;
+use tick_model::plan::Agg;
+use tick_table::{Change, Steps, TickTable};
+
+/// Shows a row for each group of its input's rows with equal key cells. It stands for the rows that it saw last.
+#[derive(Drop)]
+pub struct AggOp {
+    width: u32,
+    kept: Kept,
+    /// The keys of the first rows of the groups.
+    shown: RowSet,
+    /// A row that is read, and its key cells.
+    buffer: RowBuffer,
+    /// Room for the rows that are noted in a step.
+    noted: Vec<i64>,
+}
+
+impl Model for AggOp {
+    ghost use Rattle.std.specs.Coded.{codes};
+    ghost use Rattle.agg_by.specs.Aggregator.{Aggregator, IsAggregator};
+    ghost use Rattle.agg_by.specs.contracts.running.Running as running_type;
+    ghost use Rattle.tick_model.specs.contracts.plan.Agg as agg_type;
+
+    ghost Value = { Aggregator };
+
+    ghost coded = { Prim.hlevel (codes, running_type.the_row.coded, agg_type.the_row.coded) };
+
+    ghost view = { λ op. record {
+      by = op.kept.by;
+      aggs = op.kept.aggs;
+      width = op.width;
+      rows = op.kept.rows;
+      running = op.kept.running.items;
+      shown = op.shown;
+    } };
+
+    ghost invariant = { λ op. IsAggregator op.kept.by op.kept.aggs op.width };
+}
+
+/// The rows that a step takes out of their groups and puts into groups.
+#[derive(Debug, Drop)]
+struct Moving {
+    /// The old keys of the rows that go or are modified.
+    gone: RowSet,
+    /// The new keys of the rows that come or are modified.
+    come: RowSet,
+}
+
+impl Moving {
+    fn of(input: &TickTable) -> Result<Moving, AllocError>
+        requires { IsExact input.now }
+        ensures gone { IfOk result (λ moving. moving.gone ≡ gone_of input.now) }
+        ensures come { IfOk result (λ moving. moving.come ≡ come_of input.now) }
+    {
+        let update = input.update();
+        let (from, to) = KeyPairs::modified(input)?.into_keys();
+        let gone = update.removed().union(&from)?;
+        let come = update.added().union(&to)?;
+        Ok(Moving { gone, come })
+    }
+}
+
+impl AggOp {
+    /// An operator that has seen no rows, for an input of this width. It takes no memory.
+    pub fn new(alloc: Global, by: Items<u32>, aggs: Items<Agg>, width: u32) -> AggOp
+        requires { IsAggregator by aggs width }
+        ensures by { result.by ≡ by }
+        ensures aggs { result.aggs ≡ aggs }
+        ensures width { result.width ≡ width }
+        ensures stands { StandsFor result (no_rows width) }
+    {
+        AggOp {
+            width,
+            kept: Kept::new(alloc, by, aggs),
+            shown: RowSet::new(alloc),
+            buffer: RowBuffer::new(alloc),
+            noted: Vec::new(alloc),
+        }
+    }
+
+    /// The operator after the step that the input shows, and the change of its rows. It must stand for the input's rows before
+    /// the step; after a refusal it is given up.
+    pub fn step<L: Ledger>(
+        self,
+        alloc: Global,
+        input: &TickTable,
+        reads: &mut Steps<L>,
+    ) -> Result<(AggOp, Change), AllocError>
+        requires exact { IsExact input.now }
+        requires width { input.now.new.width ≡ self.width }
+        requires stands { StandsFor self input.now.old }
+        ensures by { IfOk result (λ out. out.0.by ≡ self.by) }
+        ensures aggs { IfOk result (λ out. out.0.aggs ≡ self.aggs) }
+        ensures width { IfOk result (λ out. out.0.width ≡ self.width) }
+        ensures stands { IfOk result (λ out. StandsFor out.0 input.now.new) }
+        ensures change { IfOk result (λ out. out.1 ≡ change_of (grouped self.by self.aggs (tick_of input.now))) }
+        ensures reads { IfOk result (λ out. reads.new ≤ reads.old + 4 * (input.now.new.width + (length self.by + length self.aggs)) * (counted input.now.update + counted out.1.update)) }
+    {
+        let AggOp {
+            width,
+            mut kept,
+            mut shown,
+            mut buffer,
+            noted,
+        } = self;
+        let (change, noted) = grouped_step(
+            alloc,
+            &mut kept,
+            &mut shown,
+            &mut buffer,
+            noted,
+            input,
+            reads,
+        )?;
+        Ok((
+            AggOp {
+                width,
+                kept,
+                shown,
+                buffer,
+                noted,
+            },
+            change,
+        ))
+    }
+}
+
+/// Brings all that is kept on by a step. Gives the change of the rows of the groups, and the room for notes.
+fn grouped_step<L: Ledger>(
+    alloc: Global,
+    kept: &mut Kept,
+    shown: &mut RowSet,
+    buffer: &mut RowBuffer,
+    noted: Vec<i64>,
+    input: &TickTable,
+    reads: &mut Steps<L>,
+) -> Result<(Change, Vec<i64>), AllocError>
+    requires exact { IsExact input.now }
+    requires few { length kept.old.by + length kept.old.aggs ≤ 32 }
+    requires columns { AllByRecursion (IsColumn input.now.new.width) kept.old.aggs }
+    requires rows { kept.old.rows ≡ indexed kept.old.by None input.now.old.rows }
+    requires running { Are kept.old.by kept.old.aggs input.now.old.rows kept.old.running.items }
+    requires shown { shown.old ≡ first_keys kept.old.by input.now.old.rows }
+    ensures made { OnOk result (IsMade kept.old kept.new) }
+    ensures keeps { OnOk result (Keeps kept.new input.now.new.rows) }
+    ensures shown { OnOk result (shown.new ≡ first_keys kept.old.by input.now.new.rows) }
+    ensures change { IfOk result (λ out. out.0 ≡ change_of (grouped kept.old.by kept.old.aggs (tick_of input.now))) }
+    ensures reads { OnOk result (reads.new ≤ reads.old + 3 * (input.now.new.width + length kept.old.aggs) * counted input.now.update) }
+{
+    let moving = Moving::of(input)?;
+    kept.begin(alloc)?;
+    let notes = noted_groups(alloc, kept, input, &moving, buffer, noted, reads)?;
+    kept.bring_on(input, &moving.gone, &moving.come, buffer, reads)?;
+    let firsts = firsts_of(
+        alloc,
+        kept,
+        input,
+        &moving.gone,
+        &moving.come,
+        buffer,
+        reads,
+    )?;
+    let rows = GroupRows {
+        input,
+        kept,
+        notes: &notes,
+    };
+    let change = group_change(alloc, &rows, firsts, shown, reads)?;
+    change.update.apply_to_keys(shown)?;
+    Ok((change, notes.into_cells()))
+}
+
+/// Notes the rows of the touched groups before the step.
+fn noted_groups<L: Ledger>(
+    alloc: Global,
+    kept: &Kept,
+    input: &TickTable,
+    moving: &Moving,
+    buffer: &mut RowBuffer,
+    noted: Vec<i64>,
+    reads: &mut Steps<L>,
+) -> Result<Notes, AllocError>
+    requires exact { IsExact input.now }
+    requires few { length kept.now.by + length kept.now.aggs ≤ 32 }
+    requires keeps { Keeps kept.now input.now.old.rows }
+    requires within { AllByRecursion (IsWithin input.now.old.width) kept.now.running.items }
+    requires gone { moving.now.gone ≡ gone_of input.now }
+    requires come { moving.now.come ≡ come_of input.now }
+    ensures noted { IfOk result (λ notes. IsNoted notes (agg_table kept.now.by kept.now.aggs input.now.old)) }
+    ensures keys { IfOk result (λ notes. notes.keys ≡ touched_firsts kept.now.by input.now input.now.old.rows) }
+    ensures reads { OnOk result (reads.new ≤ reads.old + (input.now.new.width + length kept.now.aggs) * (length moving.now.gone + length moving.now.come)) }
+{
+    let before = firsts_of(
+        alloc,
+        kept,
+        input,
+        &moving.gone,
+        &moving.come,
+        buffer,
+        reads,
+    )?;
+    Notes::take(kept, input, before, noted, reads)
+}
+
+/// The change of the rows of the groups, where `firsts` has the keys of the first rows of the touched groups now, and `shown`
+/// those of all groups before the step.
+fn group_change<L: Ledger>(
+    alloc: Global,
+    rows: &GroupRows<'_>,
+    firsts: RowSet,
+    shown: &RowSet,
+    reads: &mut Steps<L>,
+) -> Result<Change, AllocError>
+    requires ready { AreReady rows.now.input.now rows.now.kept.now rows.now.notes.now }
+    requires few { length rows.now.kept.now.by + length rows.now.kept.now.aggs ≤ 32 }
+    requires firsts { firsts ≡ touched_firsts rows.now.kept.now.by rows.now.input.now rows.now.input.now.new.rows }
+    requires shown { shown.now ≡ first_keys rows.now.kept.now.by rows.now.input.now.old.rows }
+    ensures change { IfOk result (λ change. change ≡ change_of (grouped rows.now.kept.now.by rows.now.kept.now.aggs (tick_of rows.now.input.now))) }
+    ensures reads { IfOk result (λ change. reads.new ≤ reads.old + 2 * length rows.now.kept.now.aggs * length firsts) }
+{
+    let staying = staying_firsts(alloc, rows.kept, rows.input, rows.notes, &firsts)?;
+    let (compared_before, compared_now) = staying.into_keys();
+    let removed = rows.notes.keys.minus(&compared_before)?;
+    let added = firsts.minus(&compared_now)?;
+    let shifted = rows
+        .input
+        .update()
+        .shifted()
+        .canonical_without(shown, &removed)?;
+    let touched = Touched {
+        removed,
+        added,
+        shifted,
+        compared_before,
+        compared_now,
+    };
+    let width = (rows.kept.by.len() + rows.kept.aggs.len()) as u32;
+    change_of_touched(alloc, rows, width, touched, reads)
+}

@@ -1,0 +1,181 @@
+//! What is kept of an input's rows, and how a step brings it on.
+
+ghost use Rattle.std.specs.Prelude.{◌≡◌, ◌+◌, ◌*◌, ◌≤◌, ◌++◌, [], List, None, IsTrue, OnOk, length};
+ghost use Rattle.std.specs.List.{AllByRecursion};
+ghost use Rattle.key_lists.specs.Keys.{is_among, without};
+ghost use Rattle.shift_data.specs.Moves.{IsLawful};
+ghost use Rattle.tick_model.specs.Agg.{agg_table};
+ghost use Rattle.tick_model.specs.Tables.{IsTable, cells_at, keys};
+ghost use Rattle.tick_model.specs.Updates.{removing, shifting};
+ghost use Rattle.tick_model.specs.declared.table.PlainRow.{PlainRow};
+ghost use Rattle.tick_table.specs.Exact.{IsExact};
+ghost use Rattle.agg_by.specs.Answers.{IsWithin};
+ghost use Rattle.agg_by.specs.Moments.{table_at};
+ghost use Rattle.agg_by.specs.Steps.{come as come_of, first_keys, gone as gone_of};
+
+use crate::moment::{Moment, RowBuffer};
+use crate::running::{Running, begun, bring_all_on, bring_rows_on, put_all, put_values, take_all};
+use row_groups::Groups;
+use row_set::RowSet;
+use std::alloc::{AllocError, Global};
+use std::sync::ledger::Ledger;
+use tick_model::items::Items;
+use tick_model::plan::Agg;
+use tick_table::{Steps, TickTable};
+
+/// The rows of an input by their key cells, and what answers each aggregate.
+#[derive(Drop)]
+pub struct Kept {
+    pub(crate) by: Items<u32>,
+    pub(crate) aggs: Items<Agg>,
+    /// The rows by their key cells, in each group by their keys.
+    pub(crate) rows: Groups,
+    /// The aggregates in their order; none before the first step.
+    pub(crate) running: Vec<Running>,
+}
+
+impl Kept {
+    ghost use Rattle.agg_by.specs.Kept.{Are, AnswerAll, AnswerBoth, IsMade, Keeps, indexed};
+
+    /// What is kept of no rows. It takes no memory.
+    pub(crate) fn new(alloc: Global, by: Items<u32>, aggs: Items<Agg>) -> Kept
+        ensures by { result.by ≡ by }
+        ensures aggs { result.aggs ≡ aggs }
+        ensures rows { result.rows ≡ record { width = length by; members = [] } }
+        ensures running { result.running.items ≡ [] }
+    {
+        let width = by.len();
+        Kept {
+            by,
+            aggs,
+            rows: Groups::new(alloc, width),
+            running: Vec::new(alloc),
+        }
+    }
+
+    /// Begins what answers the aggregates, at the first step.
+    pub(crate) fn begin(&mut self, alloc: Global) -> Result<(), AllocError>
+        ensures made { OnOk result (IsMade self.old self.new) }
+        ensures rows { OnOk result (self.new.rows ≡ self.old.rows) }
+        ensures running { OnOk result ((rows : List PlainRow) → Are self.old.by self.old.aggs rows self.old.running.items → AnswerAll self.old.by self.old.aggs rows self.new.running.items) }
+    {
+        if self.running.is_empty() {
+            self.running = begun(alloc, self.aggs.as_slice(), self.by.as_slice())?;
+        }
+        Ok(())
+    }
+
+    /// Brings all on by the step that the input shows, where `gone` has the old keys of the rows that go or are modified, and
+    /// `come` the new keys of those that come or are modified.
+    pub(crate) fn bring_on<L: Ledger>(
+        &mut self,
+        input: &TickTable,
+        gone: &RowSet,
+        come: &RowSet,
+        buffer: &mut RowBuffer,
+        reads: &mut Steps<L>,
+    ) -> Result<(), AllocError>
+        requires exact { IsExact input.now }
+        requires keeps { Keeps self.old input.now.old.rows }
+        requires gone { gone.now ≡ gone_of input.now }
+        requires come { come.now ≡ come_of input.now }
+        ensures keeps { OnOk result (Keeps self.new input.now.new.rows) }
+        ensures made { OnOk result (IsMade self.old self.new) }
+        ensures reads { OnOk result (reads.new ≤ reads.old + input.now.new.width * (length gone.now + length come.now)) }
+    {
+        self.take_rows(input, gone, buffer, reads)?;
+        self.move_rows(input, gone)?;
+        self.put_rows(input, come, buffer, reads)
+    }
+
+    /// Takes the cells of rows out of the sums.
+    fn take_rows<L: Ledger>(
+        &mut self,
+        input: &TickTable,
+        gone: &RowSet,
+        buffer: &mut RowBuffer,
+        reads: &mut Steps<L>,
+    ) -> Result<(), AllocError>
+        requires keeps { Keeps self.old input.now.old.rows }
+        requires gone { AllByRecursion (λ key. IsTrue (is_among key (keys input.now.old.rows))) gone.now }
+        requires old_table { IsTable input.now.old }
+        ensures made { OnOk result (IsMade self.old self.new) }
+        ensures rows { OnOk result (self.new.rows ≡ self.old.rows) }
+        ensures running { OnOk result (AnswerBoth self.old.by self.old.aggs (removing gone.now input.now.old.rows) input.now.old.rows self.new.running.items) }
+        ensures reads { OnOk result (reads.new ≤ reads.old + input.now.old.width * length gone.now) }
+    {
+        for position in 0..gone.len() {
+            let key = gone.get(position).unwrap();
+            buffer.read(Moment::Before, self.by.as_slice(), input, key, reads)?;
+            take_all(&mut self.running, buffer)?;
+        }
+        Ok(())
+    }
+
+    /// Takes rows out of the groups, and moves the others to their keys of now.
+    fn move_rows(&mut self, input: &TickTable, gone: &RowSet) -> Result<(), AllocError>
+        requires rows { self.old.rows ≡ indexed self.old.by None input.now.old.rows }
+        requires running { AnswerBoth self.old.by self.old.aggs (removing gone.now input.now.old.rows) input.now.old.rows self.old.running.items }
+        requires lawful { IsLawful input.now.update.shifted (without gone.now (keys input.now.old.rows)) }
+        ensures made { OnOk result (IsMade self.old self.new) }
+        ensures keeps { OnOk result (Keeps self.new (shifting input.now.update.shifted (removing gone.now input.now.old.rows))) }
+    {
+        let shifts = input.update().shifted();
+        bring_rows_on(&mut self.rows, gone, shifts)?;
+        bring_all_on(&mut self.running, gone, shifts)
+    }
+
+    /// Puts rows in.
+    fn put_rows<L: Ledger>(
+        &mut self,
+        input: &TickTable,
+        come: &RowSet,
+        buffer: &mut RowBuffer,
+        reads: &mut Steps<L>,
+    ) -> Result<(), AllocError>
+        requires keeps { Keeps self.old (removing come.now input.now.new.rows) }
+        requires come { AllByRecursion (λ key. IsTrue (is_among key (keys input.now.new.rows))) come.now }
+        requires new_table { IsTable input.now.new }
+        ensures made { OnOk result (IsMade self.old self.new) }
+        ensures keeps { OnOk result (Keeps self.new input.now.new.rows) }
+        ensures reads { OnOk result (reads.new ≤ reads.old + input.now.new.width * length come.now) }
+    {
+        for position in 0..come.len() {
+            let key = come.get(position).unwrap();
+            buffer.read(Moment::Now, self.by.as_slice(), input, key, reads)?;
+            self.rows.add(key, &buffer.key, 0)?;
+            put_all(&mut self.running, key, buffer)?;
+        }
+        Ok(())
+    }
+
+    /// Puts the row of a group, whose first row has this key, behind other cells.
+    pub(crate) fn put_group<L: Ledger>(
+        &self,
+        moment: Moment,
+        input: &TickTable,
+        first: u64,
+        cells: &mut Vec<i64>,
+        reads: &mut Steps<L>,
+    ) -> Result<(), AllocError>
+        requires table { IsTable (table_at moment input.now) }
+        requires keeps { Keeps self.now (table_at moment input.now).rows }
+        requires within { AllByRecursion (IsWithin (table_at moment input.now).width) self.now.running.items }
+        requires here { IsTrue (is_among first (first_keys self.now.by (table_at moment input.now).rows)) }
+        ensures cells { OnOk result (cells.new.items ≡ cells.old.items ++ cells_at first (agg_table self.now.by self.now.aggs (table_at moment input.now)).rows) }
+        ensures reads { OnOk result (reads.new ≤ reads.old + length self.now.aggs) }
+    {
+        let key_cells = self.rows.cells_of(first).unwrap();
+        let group = self.rows.group(key_cells);
+        cells.extend_from_slice(key_cells)?;
+        put_values(
+            &self.running,
+            key_cells,
+            &group,
+            moment,
+            input,
+            cells,
+            reads,
+        )
+    }
+}

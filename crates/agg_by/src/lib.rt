@@ -1,0 +1,22 @@
+//! `agg`: one row for each group of rows with equal key cells, under the key of the group's first row.
+//!
+//! The operator keeps the rows of its input by their groups (`row_groups`), and for each aggregate what answers it without a
+//! walk: a running sum of each group (`sums`), or the rows of each group in order of a column's cells (`running`). What a step
+//! touches are the groups of the rows that come, go or are modified, by their key cells before and now (`firsts`). Of each such
+//! group the row before is noted (`notes`) before the indexes are brought on (`kept`). A group that no row touches is not looked
+//! at; only its key moves with its first row.
+#![tactic(auto)]
+
+mod agg_op;
+mod firsts;
+mod kept;
+mod moment;
+mod notes;
+mod rows;
+mod running;
+mod staying;
+mod sums;
+#[cfg(test)]
+mod tests;
+
+pub use agg_op::AggOp;

@@ -1,0 +1,53 @@
+//! Where the rows of the groups are found, before the step and now.
+
+use crate::kept::Kept;
+use crate::moment::Moment;
+use crate::notes::Notes;
+use row_changes::Rows;
+use std::alloc::AllocError;
+use std::sync::ledger::Ledger;
+use tick_table::{Steps, TickTable};
+
+/// The rows of the groups: those of now by what is kept, and those of before by what is noted. A group that is not noted has
+/// the same row before and now.
+#[derive(Drop)]
+pub(crate) struct GroupRows<'a> {
+    pub input: &'a TickTable,
+    pub kept: &'a Kept,
+    pub notes: &'a Notes,
+}
+
+impl<L: Ledger> Rows<L> for GroupRows<'_> {
+    ghost use Rattle.std.specs.Prelude.{length};
+    ghost use Rattle.tick_model.specs.Agg.{agg_table};
+    ghost use Rattle.agg_by.specs.Rows.{AreReady};
+
+    ghost table_before = { λ rows. agg_table rows.kept.now.by rows.kept.now.aggs rows.input.now.old };
+
+    ghost table_now = { λ rows. agg_table rows.kept.now.by rows.kept.now.aggs rows.input.now.new };
+
+    ghost row_reads = { λ rows. length rows.kept.now.aggs };
+
+    ghost ready = { λ rows. AreReady rows.input.now rows.kept.now rows.notes.now };
+
+    fn before(
+        &self,
+        key: u64,
+        cells: &mut Vec<i64>,
+        reads: &mut Steps<L>,
+    ) -> Result<(), AllocError> {
+        match self.notes.row(key) {
+            Some(row) => cells.extend_from_slice(row),
+            None => {
+                let now = self.input.update().shifted().landing(key);
+                self.kept
+                    .put_group(Moment::Now, self.input, now, cells, reads)
+            }
+        }
+    }
+
+    fn now(&self, key: u64, cells: &mut Vec<i64>, reads: &mut Steps<L>) -> Result<(), AllocError> {
+        self.kept
+            .put_group(Moment::Now, self.input, key, cells, reads)
+    }
+}

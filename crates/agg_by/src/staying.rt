@@ -1,0 +1,89 @@
+//! The touched groups whose first row stays the first.
+
+ghost use Rattle.std.specs.Prelude.{◌≡◌, ℕ, ◌<◌, ◌≤◌, ◌&&◌, false, not, length, slice_get, take, None, Some, if◌then◌else◌, IfOk};
+ghost use Rattle.std.specs.Option.{option_map_or};
+ghost use Rattle.agg_by.specs.Kept.{Keeps};
+ghost use Rattle.agg_by.specs.Notes.{IsNoted};
+ghost use Rattle.agg_by.specs.Steps.{staying, stays, touched_firsts};
+ghost use Rattle.key_lists.specs.Keys.{is_among};
+ghost use Rattle.row_groups.specs.Members.{member_under};
+ghost use Rattle.tick_model.specs.Agg.{agg_table};
+ghost use Rattle.tick_model.specs.Tables.{same_cells};
+ghost use Rattle.tick_model.specs.Updates.{kept_pair};
+ghost use Rattle.tick_table.specs.Exact.{IsExact};
+
+use crate::kept::Kept;
+use crate::notes::Notes;
+use row_set::RowSet;
+use shown_rows::KeyPairs;
+use std::alloc::{AllocError, Global};
+use tick_model::update::KeyPair;
+use tick_table::TickTable;
+
+/// The first rows of noted groups that are first rows with the same key cells again, by their keys before and now. `firsts` has
+/// the keys of the first rows of the touched groups now.
+pub(crate) fn staying_firsts(
+    alloc: Global,
+    kept: &Kept,
+    input: &TickTable,
+    notes: &Notes,
+    firsts: &RowSet,
+) -> Result<KeyPairs, AllocError>
+    requires exact { IsExact input.now }
+    requires keeps { Keeps kept.now input.now.new.rows }
+    requires noted { IsNoted notes.now (agg_table kept.now.by kept.now.aggs input.now.old) }
+    requires keys { notes.now.keys ≡ touched_firsts kept.now.by input.now input.now.old.rows }
+    requires firsts { firsts.now ≡ touched_firsts kept.now.by input.now input.now.new.rows }
+    ensures { IfOk result (λ pairs. pairs ≡ staying kept.now.by input.now) }
+{
+    let mut staying = KeyPairs::new(alloc);
+    for position in 0..notes.keys.len() {
+        let Some(pair) = staying_pair(kept, input, notes, firsts, position) else {
+            continue;
+        };
+        staying = staying.with_last(pair)?;
+    }
+    Ok(staying)
+}
+
+/// The keys before and now of the noted first row at a position, if it is a first row with the same key cells again.
+fn staying_pair(
+    kept: &Kept,
+    input: &TickTable,
+    notes: &Notes,
+    firsts: &RowSet,
+    position: u64,
+) -> Option<KeyPair>
+    requires exact { IsExact input.now }
+    requires keeps { Keeps kept.now input.now.new.rows }
+    requires noted { IsNoted notes.now (agg_table kept.now.by kept.now.aggs input.now.old) }
+    requires keys { notes.now.keys ≡ touched_firsts kept.now.by input.now input.now.old.rows }
+    requires firsts { firsts.now ≡ touched_firsts kept.now.by input.now input.now.new.rows }
+    requires within { position < length notes.now.keys }
+    ensures { (old : ℕ) → slice_get notes.now.keys position ≡ Some old → result
+        ≡ (if not (is_among old input.now.update.removed) && stays kept.now.by input.now (kept_pair input.now.update old) then Some (kept_pair input.now.update old) else None) }
+{
+    let old = notes.keys.get(position).unwrap();
+    if input.update().removed().contains(old) {
+        return None;
+    }
+    let new = input.update().shifted().landing(old);
+    if !firsts.contains(new) {
+        return None;
+    }
+    if !has_key_cells(kept, new, notes.row_at(position)) {
+        return None;
+    }
+    Some(KeyPair { old, new })
+}
+
+/// Whether the row under a key has the key cells with which a group's row begins.
+fn has_key_cells(kept: &Kept, key: u64, row: &[i64]) -> bool
+    requires { length kept.now.by ≤ length row.now }
+    ensures { result ≡ option_map_or (λ member. same_cells member.cells (take (length kept.now.by) row.now)) (member_under key kept.now.rows.members) false }
+{
+    match kept.rows.cells_of(key) {
+        Some(cells) => cells == &row[..kept.by.len()],
+        None => false,
+    }
+}
