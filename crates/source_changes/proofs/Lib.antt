@@ -1,0 +1,13 @@
+pub mod Carrying
+pub mod Faulted
+pub mod Followed
+pub mod Gathered
+pub mod Looked
+pub mod Numbered
+pub mod Opened
+pub mod Placed
+pub mod Reading
+pub mod Standing
+pub mod Taken
+pub mod Ticked
+pub mod Walked

@@ -1,0 +1,18 @@
+use Rattle.std.proofs.Common.{ap, sym, ◌∙◌, List, length}
+use Rattle.std.specs.Prelude.{flat_map}
+use Rattle.std.specs.List.{range_with_len}
+use Rattle.tick_model.specs.declared.table.PlainRow.{PlainRow}
+use Rattle.tick_model.specs.Updates.{Update}
+use Rattle.source_changes.proofs.Opened.{opening_is}
+use Rattle.source_changes.proofs.opening.opening_change.Goals as goal
+
+pub returns : goal.returns
+returns c =
+    let nothing = c.removed.view_is ∙ c.none.ensures in
+    opening_is c.args.table.now c.requires _
+    (ap (λ (update : Update). update.removed) nothing)
+    (c.in_ok-added.ensures ∙ ap (λ (rows : List PlainRow). range_with_len 0 (length rows)) c.as_slice-rows.ensures ∙ sym c.requires.keys_are)
+    (ap (λ (update : Update). update.modified) nothing)
+    (ap (λ (update : Update). update.shifted) nothing)
+    (ap (λ (update : Update). update.columns) nothing)
+    (c.of.ensures ∙ c.in_ok-cells.ensures ∙ ap (flat_map (λ (row : PlainRow). row.cells)) c.as_slice-rows.ensures)

@@ -1,0 +1,16 @@
+use Rattle.std.proofs.Common.{◌≡◌, ap, ◌∙◌, Bool, length, rules, tests, unwrap_or}
+use Rattle.std.specs.List.{position}
+use Rattle.std.proofs.lemmas.Iterator.{YieldsList-from_slice}
+use Rattle.std.proofs.lemmas.Iterator.Search.{position_from_yields_List}
+use Rattle.tick_model.specs.Shifts.{holds}
+use Rattle.tick_model.specs.declared.update.ShiftRange.{ShiftRange}
+use Rattle.source_changes.proofs.Placed.{place_or_all}
+use Rattle.source_changes.proofs.records.shift_place.Goals as goal
+
+pub returns : goal.returns
+returns c =
+    let all = c.args.ranges.now in
+    let test : ShiftRange → Bool = λ range. holds range c.args.key in
+    let found : c.position.result ≡ position test all =
+    position_from_yields_List test _ _ c.position.result c.position.ensures.ran (YieldsList-from_slice all cc) (λ x b q k. search (rules, tests)) in
+    c.unwrap_or.ensures ∙ ap (λ o. unwrap_or o (length all)) found ∙ place_or_all test all

@@ -1,0 +1,6 @@
+pub mod Blocks
+pub mod Faults
+pub mod Openings
+pub mod Ready
+pub mod Stepping
+pub mod Told

@@ -1,0 +1,22 @@
+//! What a batch of the feed changes of the sources.
+//!
+//! The blocks of a batch are taken in the order of the feed. Each is checked on the keys that the blocks before it have left
+//! of its source (`SourceKeys`, which keeps the keys of every source through the steps). What the blocks of one source have
+//! changed so far is kept as one update and the rows that they told (`SourceStep`); the change of the source is made of it
+//! once, when all blocks are taken. A step costs the records of its batch, and never the rows of a table.
+#![tactic(auto)]
+
+mod blocks;
+mod changes;
+mod faults;
+mod opening;
+mod records;
+mod rows;
+mod steps;
+#[cfg(test)]
+mod tests;
+mod told;
+
+pub use changes::SourceKeys;
+pub use faults::BatchFault;
+pub use opening::opening_change;

@@ -1,0 +1,65 @@
+//! The change that opens a source.
+
+ghost use Rattle.std.specs.Prelude.{◌≡◌, ◌≤◌, IfOk, flat_map};
+ghost use Rattle.std.specs.List.{range_with_len};
+ghost use Rattle.source_changes.specs.Openings.{IsOpenedTable};
+ghost use Rattle.tick_model.specs.Changes.{change_of};
+ghost use Rattle.tick_model.specs.Sources.{opened};
+
+use row_set::RowSet;
+use std::alloc::{AllocError, Global};
+use table_update::Update;
+use tick_model::items::Items;
+use tick_model::table::{PlainRow, PlainTable};
+use tick_table::Change;
+
+/// The keys from 0 on, `count` of them.
+pub(crate) fn first_keys(alloc: Global, count: usize) -> Result<RowSet, AllocError>
+    requires { count ≤ 4194304 }
+    ensures { IfOk result (λ keys. keys ≡ range_with_len 0 count) }
+{
+    let mut keys = RowSet::new(alloc);
+    if count == 0 {
+        return Ok(keys);
+    }
+    keys.insert_range(0, count as u64 - 1)?;
+    Ok(keys)
+}
+
+/// The cells of the rows, one row after the other.
+fn all_cells(alloc: Global, rows: &[PlainRow]) -> Result<Vec<i64>, AllocError>
+    ensures { IfOk result (λ cells. cells.items ≡ flat_map (λ row. row.cells) rows.now) }
+{
+    let mut cells = Vec::new(alloc);
+    for row in rows {
+        cells.extend_from_slice(row.cells.as_slice())?;
+    }
+    Ok(cells)
+}
+
+/// The change that opens a source: all its rows come.
+pub fn opening_change(alloc: Global, table: &PlainTable) -> Result<Change, AllocError>
+    requires { IsOpenedTable table.now }
+    ensures { IfOk result (λ change. change ≡ change_of (opened table.now)) }
+{
+    let rows = table.rows.as_slice();
+    let added = first_keys(alloc, rows.len())?;
+    let cells = all_cells(alloc, rows)?;
+    let Update {
+        removed,
+        added: _,
+        modified,
+        shifted,
+        columns,
+    } = Update::none(alloc);
+    Ok(Change {
+        update: Update {
+            removed,
+            added,
+            modified,
+            shifted,
+            columns,
+        },
+        cells: Items::of(cells),
+    })
+}
