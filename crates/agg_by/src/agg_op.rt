@@ -121,7 +121,8 @@ impl AggOp {
         ensures width { IfOk result (λ out. out.0.width ≡ self.width) }
         ensures stands { IfOk result (λ out. StandsFor out.0 input.now.new) }
         ensures change { IfOk result (λ out. out.1 ≡ change_of (grouped self.by self.aggs (tick_of input.now))) }
-        ensures reads { IfOk result (λ out. reads.new ≤ reads.old + 4 * (input.now.new.width + (length self.by + length self.aggs)) * (counted input.now.update + counted out.1.update)) }
+        ensures reads { IfOk result (λ out. reads.new ≤ reads.old
+            + 4 * (input.now.new.width + (length self.by + length self.aggs)) * (counted input.now.update + counted out.1.update)) }
     {
         let AggOp {
             width,

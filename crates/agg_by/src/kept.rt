@@ -57,7 +57,8 @@ impl Kept {
     pub(crate) fn begin(&mut self, alloc: Global) -> Result<(), AllocError>
         ensures made { OnOk result (IsMade self.old self.new) }
         ensures rows { OnOk result (self.new.rows ≡ self.old.rows) }
-        ensures running { OnOk result ((rows : List PlainRow) → Are self.old.by self.old.aggs rows self.old.running.items → AnswerAll self.old.by self.old.aggs rows self.new.running.items) }
+        ensures running { OnOk result ((rows : List PlainRow) → Are self.old.by self.old.aggs rows self.old.running.items
+            → AnswerAll self.old.by self.old.aggs rows self.new.running.items) }
     {
         if self.running.is_empty() {
             self.running = begun(alloc, self.aggs.as_slice(), self.by.as_slice())?;

@@ -67,7 +67,8 @@ impl Notes {
     /// The row under a key, if it is noted.
     pub fn row(&self, key: u64) -> Option<&[i64]>
         requires { length self.now.keys * self.now.width ≤ vec_len self.now.cells }
-        ensures { (table : PlainTable) → IsNoted self.now table → option_map (λ row. row.now) result ≡ (if is_among key self.now.keys then Some (cells_at key table.rows) else None) }
+        ensures { (table : PlainTable) → IsNoted self.now table
+            → option_map (λ row. row.now) result ≡ (if is_among key self.now.keys then Some (cells_at key table.rows) else None) }
     {
         let position = self.keys.find(key).ok()?;
         Some(self.row_at(position))

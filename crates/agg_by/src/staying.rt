@@ -61,7 +61,8 @@ fn staying_pair(
     requires firsts { firsts.now ≡ touched_firsts kept.now.by input.now input.now.new.rows }
     requires within { position < length notes.now.keys }
     ensures { (old : ℕ) → slice_get notes.now.keys position ≡ Some old → result
-        ≡ (if not (is_among old input.now.update.removed) && stays kept.now.by input.now (kept_pair input.now.update old) then Some (kept_pair input.now.update old) else None) }
+        ≡ (if not (is_among old input.now.update.removed) && stays kept.now.by input.now (kept_pair input.now.update old)
+        then Some (kept_pair input.now.update old) else None) }
 {
     let old = notes.keys.get(position).unwrap();
     if input.update().removed().contains(old) {
