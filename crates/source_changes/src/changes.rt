@@ -49,10 +49,10 @@ fn place_of(nodes: &[Node], node: u32) -> usize
 }
 
 /// The sources before the first block of a step.
-fn unchanged_steps<'a>(
+fn unchanged_steps<'t, 'b>(
     alloc: Global,
-    tables: &[&'a TickTable],
-) -> Result<Vec<SourceStep<'a>>, AllocError>
+    tables: &[&'t TickTable],
+) -> Result<Vec<SourceStep<'t, 'b>>, AllocError>
     ensures stepping { IfOk result (λ steps. AllByRecursion IsStepping steps.items) }
     ensures ticks { IfOk result (λ steps. map ticked steps.items ≡ map (λ table. unchanged table.now.new) tables.now) }
 {
@@ -64,7 +64,7 @@ fn unchanged_steps<'a>(
 }
 
 /// The changes of the sources.
-fn changes_of(alloc: Global, steps: &[SourceStep<'_>]) -> Result<Vec<Change>, AllocError>
+fn changes_of(alloc: Global, steps: &[SourceStep<'_, '_>]) -> Result<Vec<Change>, AllocError>
     requires { AllByRecursion IsStepping steps.now }
     ensures { IfOk result (λ changes. changes.items ≡ map change_of (map ticked steps.now)) }
 {
@@ -76,12 +76,12 @@ fn changes_of(alloc: Global, steps: &[SourceStep<'_>]) -> Result<Vec<Change>, Al
 }
 
 /// Takes the blocks of a batch, in the order of the feed.
-fn take_blocks<'a>(
+fn take_blocks<'t, 'b>(
     alloc: Global,
     plan: &Plan,
-    blocks: &'a [Block],
+    blocks: &'b [Block],
     sets: &mut [RowSet],
-    steps: &mut [SourceStep<'a>],
+    steps: &mut [SourceStep<'t, 'b>],
 ) -> Result<(), BatchFault>
     requires blocks { (texts : ℕ) × AllByRecursion (IsLawfulBlock plan.now texts) blocks.now }
     requires stepping { AllByRecursion IsStepping steps.old }
@@ -120,12 +120,12 @@ impl SourceKeys {
 
     /// The change that a batch makes of each source, in order of the sources, where these are their tables before the step.
     /// After a refusal the keys are to be given up.
-    pub fn changes<'a>(
+    pub fn changes<'t, 'b>(
         &mut self,
         alloc: Global,
         plan: &Plan,
-        batch: &'a Batch,
-        tables: &[&'a TickTable],
+        batch: &'b Batch,
+        tables: &[&'t TickTable],
     ) -> Result<Vec<Change>, BatchFault>
         requires blocks { (texts : ℕ) × AllByRecursion (IsLawfulBlock plan.now texts) batch.now.blocks }
         requires tables { AreSourceTables (sources_of plan.now.nodes) (map (λ table. table.now.new) tables.now) }

@@ -10,7 +10,7 @@ use std::alloc::AllocError;
 use std::sync::ledger::Ledger;
 use tick_table::Steps;
 
-impl<L: Ledger> Rows<L> for SourceStep<'_> {
+impl<L: Ledger> Rows<L> for SourceStep<'_, '_> {
     ghost table_before = { λ step. step.old };
 
     ghost table_now = { λ step. now_of step };

@@ -30,13 +30,13 @@ use tick_table::{Change, Steps, TickTable};
 /// What the blocks of a step have changed of a source so far. A contract sees the table before the step, the update of all
 /// blocks so far, and the rows that they told.
 #[derive(Drop)]
-pub(crate) struct SourceStep<'a> {
-    table: &'a TickTable,
+pub(crate) struct SourceStep<'t, 'b> {
+    table: &'t TickTable,
     update: Update,
-    told: ToldRows<'a>,
+    told: ToldRows<'b>,
 }
 
-impl<'a> Model for SourceStep<'a> {
+impl<'t, 'b> Model for SourceStep<'t, 'b> {
     ghost use Rattle.source_changes.specs.Stepping.{Stepping};
 
     ghost Value = { Stepping };
@@ -44,9 +44,9 @@ impl<'a> Model for SourceStep<'a> {
     ghost view = { λ step. record { old = step.table.now.new; update = step.update; told = step.told } };
 }
 
-impl<'a> SourceStep<'a> {
+impl<'t, 'b> SourceStep<'t, 'b> {
     /// A source that no block has changed.
-    pub(crate) fn new(alloc: Global, table: &'a TickTable) -> SourceStep<'a>
+    pub(crate) fn new(alloc: Global, table: &'t TickTable) -> SourceStep<'t, 'b>
         ensures stepping { IsStepping result }
         ensures tick { ticked result ≡ unchanged table.now.new }
     {
@@ -66,7 +66,7 @@ impl<'a> SourceStep<'a> {
     }
 
     /// The told cells of the row under a key.
-    pub(crate) fn told_at(&self, key: u64) -> Option<&'a [i64]>
+    pub(crate) fn told_at(&self, key: u64) -> Option<&'b [i64]>
         ensures { option_map (λ cells. cells.now) result ≡ option_map (λ row. row.cells) (row_at key self.now.told) }
     {
         self.told.get(key)
@@ -93,7 +93,7 @@ impl<'a> SourceStep<'a> {
         &mut self,
         alloc: Global,
         keys: &mut RowSet,
-        block: &'a Block,
+        block: &'b Block,
     ) -> Result<(), BatchFault>
         requires stepping { IsStepping self.old }
         requires keys { keys.old ≡ table_keys (ticked self.old).new.rows }
@@ -116,7 +116,7 @@ impl<'a> SourceStep<'a> {
     }
 
     /// The step after a block, whose update this is.
-    fn go_on(&mut self, alloc: Global, next: Update, block: &'a Block) -> Result<(), AllocError>
+    fn go_on(&mut self, alloc: Global, next: Update, block: &'b Block) -> Result<(), AllocError>
         requires next { next ≡ update_said block.now }
         requires lawful { IsLawful block.now.shifts (without (update_said block.now).removed (table_keys self.old.told)) }
         requires follow { Follow (table_keys self.old.old.rows) self.old.update next }
