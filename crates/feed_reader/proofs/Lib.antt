@@ -15,3 +15,4 @@ pub mod FeedLaws
 pub mod AssembledLemmas
 pub mod PlainLemmas
 pub mod BoundLemmas
+pub mod PlainFeeds
