@@ -359,6 +359,7 @@ fn a_run_is_assembled(rt: HostRuntime) -> Result<(), Fail> {
     assert!(rt; matches!(rows[0].cells.as_slice(), [1, 1]));
     assert!(rt; matches!(rows[1].cells.as_slice(), [i64::MIN, 2]));
     let nodes = run.plan.nodes.as_slice();
+    assert!(rt; nodes.len() == 2);
     assert!(rt;
         matches!(
             &nodes[1].op,

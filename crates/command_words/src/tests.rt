@@ -1,0 +1,82 @@
+//! Words and the commands that they make.
+
+use crate::{Task, read_words};
+use std::alloc::{AllocError, Global};
+use std::process::Abort;
+use std::test::Fail;
+
+/// Words with one space between two of them, and what they ask for: the task and the four numbers, or nothing.
+#[derive(Clone, Copy)]
+struct Case {
+    words: &'static str,
+    told: &'static str,
+}
+
+const CASES: [Case; 8] = [
+    Case {
+        words: "run s f",
+        told: "run s f 1 0 0 2",
+    },
+    Case {
+        words: "run --workers 08 s --callers=16 f --snaps 64",
+        told: "run s f 8 16 64 2",
+    },
+    Case {
+        words: "demo --attempts=0 -- 10000",
+        told: "demo 10000 1 0 0 0",
+    },
+    Case {
+        words: "run - -- --workers",
+        told: "run - --workers 1 0 0 2",
+    },
+    Case {
+        words: "run s f --workers 1 --workers 1",
+        told: "",
+    },
+    Case {
+        words: "run s f --workers 65",
+        told: "",
+    },
+    Case {
+        words: "run s f --help",
+        told: "",
+    },
+    Case {
+        words: "demo 10001",
+        told: "",
+    },
+];
+
+fn told(alloc: Global, text: &str) -> Result<String, AllocError> {
+    let mut words = Vec::new(alloc);
+    for word in text.split_whitespace() {
+        words.push(String::from_str(alloc, word)?)?;
+    }
+    let Some(command) = read_words(alloc, words.as_slice())? else {
+        return Ok(String::new(alloc));
+    };
+    let task = match command.task {
+        Task::Run { script, feed } => {
+            format!(in alloc; "run {} {}", script.as_str(), feed.as_str())?
+        }
+        Task::Demo { steps } => format!(in alloc; "demo {steps}")?,
+    };
+    format!(in alloc;
+        "{task} {} {} {} {}",
+        command.workers, command.callers, command.snaps, command.attempts
+    )
+}
+
+fn check<R: Abort>(rt: &R, alloc: Global, case: &Case) -> Result<(), Fail> {
+    let told = told(alloc, case.words)?;
+    assert_eq!(rt; told.as_str(), case.told);
+    Ok(())
+}
+
+#[test]
+fn words_make_commands(rt: HostRuntime) -> Result<(), Fail> {
+    for case in &CASES {
+        check(&rt, rt.alloc(), case)?;
+    }
+    Ok(())
+}

@@ -1,0 +1,17 @@
+pub mod Same
+pub mod Copied
+pub mod Listed
+pub mod Filtering
+pub mod Viewing
+pub mod Joining
+pub mod Merging
+pub mod Heading
+pub mod Tailing
+pub mod Beginning
+pub mod Planning
+pub mod Roomy
+pub mod Made
+pub mod Sorting
+pub mod Matching
+pub mod Aggregating
+pub mod Alone

@@ -1,0 +1,68 @@
+-- In a lawful plan a merge has keys enough.
+use Rattle.std.proofs.Common.{◌≡◌, refl, ap, sym, ◌∙◌, subst, ℕ, ◌+◌, ◌*◌, ◌^◌, ◌<◌, ◌≤◌, arith, true, suc, List, [], ◌∷◌, ◌++◌, length, map, sum, get_or}
+use Rattle.std.specs.Prelude.{slice_index}
+use Rattle.std.specs.List.{All, AllByRecursion}
+use Rattle.std.proofs.lemmas.List.Elements.{recursion_from_All}
+use Rattle.key_lists.proofs.Every.{every_both, every_weaker, every-append, every-map, every_unmapped}
+use Rattle.tick_model.specs.declared.plan.Node.{Node}
+use Rattle.tick_model.specs.declared.plan.Op.{Op}
+use Rattle.tick_model.specs.declared.plan.Op.TheVariants.{Source, Keep, View, Join, Agg as AggOp, Merge, Sort, Head, Tail, AsOf}
+use Rattle.tick_model.specs.declared.plan.Plan.{Plan}
+use Rattle.tick_model.specs.declared.table.PlainRow.{PlainRow}
+use Rattle.tick_model.specs.declared.table.PlainTable.{PlainTable}
+use Rattle.tick_model.specs.Evaluation.{inputs_of}
+use Rattle.tick_model.specs.Merge.{merged_rows, region, row_from}
+use Rattle.tick_model.specs.Plans.{bound_of, columns_at, is_lawful, key_bounds}
+use Rattle.tick_model.specs.Ready.{HaveRoom}
+use Rattle.tick_model.specs.Tables.{IsRow, keys}
+use Rattle.tick_model.proofs.Results.{AreResults, IsResult, merged_room}
+use Rattle.tick_laws.specs.Bounded.{IsNodeTable}
+use Rattle.tick_laws.specs.Operated.{EachInput}
+use Rattle.tick_laws.proofs.LawfulPlans.{IsLawfulPlan, bound_is, bound_room, each_bound, lawful_plan}
+use Rattle.operators.specs.Inputs.{HasKeys}
+use Rattle.operators.specs.Planned.{op_at}
+
+roomy_rows : (offset : ℕ) (tables : List PlainTable) → HaveRoom offset tables → AllByRecursion (λ (row : PlainRow). row.key < 2 ^ 62) (merged_rows offset tables)
+roomy_rows offset [] h = tt
+roomy_rows offset (table ∷ tables) h =
+    every-append (λ (row : PlainRow). row.key < 2 ^ 62) (map (row_from offset) table.rows) (merged_rows (offset + region table) tables)
+    (every-map (λ (row : PlainRow). row.key < 2 ^ 62) (row_from offset) table.rows (recursion_from_All (λ (row : PlainRow). row.key + offset < 2 ^ 62) table.rows h.0.keys))
+    (roomy_rows (offset + region table) tables h.1)
+
+roomy_keys : (tables : List PlainTable) → HaveRoom 0 tables → AllByRecursion (λ key. key < 2 ^ 62) (keys (merged_rows 0 tables))
+roomy_keys tables h = every-map (λ key. key < 2 ^ 62) (λ (row : PlainRow). row.key) (merged_rows 0 tables) (roomy_rows 0 tables h)
+
+pub roomy_node : (plan : Plan) (n : ℕ) (d : Node) → is_lawful plan ≡ true → n < length plan.nodes → (table : ℕ → PlainTable)
+    → EachInput (op_at plan n d) (λ input. IsNodeTable (length (columns_at plan.nodes input)) (slice_index (key_bounds plan.nodes) input) (table input))
+    → HasKeys (op_at plan n d) (map table (inputs_of (op_at plan n d)))
+roomy_node plan n d lawful less table h = go (op_at plan n d) (subst (λ b. b < 2 ^ 62) (bound_is plan d l n less) (bound_room plan d l n less)) (every_weaker (λ i. i < n) (λ i. i < length plan.nodes) (inputs_of (op_at plan n d)) (λ i below. omega (arith, below, less)) (l.nodes n less).lesser) h
+  where
+    l : IsLawfulPlan plan d
+    l = lawful_plan plan d lawful
+
+    width : ℕ → ℕ
+    width input = length (columns_at plan.nodes input)
+
+    bound : ℕ → ℕ
+    bound = slice_index (key_bounds plan.nodes)
+
+    result_at : (i : ℕ) → i < length plan.nodes → IsNodeTable (width i) (bound i) (table i) → IsResult (width i) (bound i) (table i)
+    result_at i less t =
+        let b = each_bound plan d l i less in
+        record {
+          width_is = t.width_is;
+          few = t.count;
+          whole = every_weaker (IsRow (table i).width) (λ row. length row.cells ≡ width i) (table i).rows (λ row r. r.whole ∙ t.width_is) t.is_table.rows;
+          below = every_unmapped (λ key. key < bound i) (λ (row : PlainRow). row.key) (table i).rows t.below;
+          regions = (b.regions, b.are ∙ ap (λ k. 65536 * k) (next b.regions));
+        }
+      where
+        next : (k : ℕ) → k + 1 ≡ suc k
+        next k = omega arith
+
+    go : (op : Op) → bound_of op bound < 2 ^ 62 → AllByRecursion (λ i. i < length plan.nodes) (inputs_of op) → EachInput op (λ i. IsNodeTable (width i) (bound i) (table i)) → HasKeys op (map table (inputs_of op))
+    go (Merge inputs) room known t =
+        let small : sum (map bound inputs) ≤ 2 ^ 62 = omega (arith, room) in
+        let results : AreResults width bound table inputs = every_both (λ i. i < length plan.nodes) (λ i. IsNodeTable (width i) (bound i) (table i)) (λ i. IsResult (width i) (bound i) (table i)) inputs result_at known t in
+        roomy_keys (map table inputs) (merged_room (sum (map bound inputs)) width bound table inputs 0 small results (omega arith))
+    go op room known t = tt

@@ -1,0 +1,92 @@
+//! One type for every operator of a plan.
+
+ghost use Rattle.std.specs.Prelude.{◌≡◌, ℕ, ◌+◌, ◌*◌, ◌≤◌, None, length, map, sum, IfErr, IfOk, OnOk};
+ghost use Rattle.std.specs.List.{AllByRecursion};
+ghost use Rattle.merge_op.specs.Merged.{counted_in, news, olds, tables};
+ghost use Rattle.operators.specs.Inputs.{AreTables, AreTicks, HasKeys, IsCause};
+ghost use Rattle.operators.specs.Making.{CanBeMade};
+ghost use Rattle.operators.specs.Operating.{StandsFor, result_width};
+ghost use Rattle.tick_laws.specs.Operated.{operated};
+ghost use Rattle.tick_model.specs.Changes.{change_of};
+ghost use Rattle.tick_model.specs.Evaluation.{fault_of, inputs_of};
+ghost use Rattle.tick_model.specs.Updates.{Tick};
+ghost use Rattle.tick_model.specs.declared.table.PlainTable.{PlainTable};
+ghost use Rattle.tick_table.specs.Exact.{IsExact, counted, tick_of};
+ghost use Rattle.tick_table.specs.Ticking.{no_rows};
+
+use crate::fault::StepFault;
+use crate::running::Running;
+use std::alloc::{AllocError, Global};
+use std::marker::Model;
+use std::snapshot::Snapshot;
+use std::sync::ledger::Ledger;
+use tick_model::plan::Op;
+use tick_table::{Change, Shared, Steps};
+
+/// An operator of a plan, with what it keeps of its inputs' rows. It stands for the rows that it saw last.
+#[derive(Drop)]
+pub struct Operator {
+    /// What it was made of. It takes no bytes.
+    op: Snapshot<Op>,
+    running: Running,
+}
+
+impl Model for Operator {
+    ghost use Rattle.std.specs.Coded.{codes};
+    ghost use Rattle.operators.specs.Operating.{IsMadeOf, Operating, widths_of};
+    ghost use Rattle.operators.specs.contracts.running.Running as running_type;
+    ghost use Rattle.tick_model.specs.contracts.plan.Op as op_type;
+
+    ghost Value = { Operating };
+
+    ghost coded = { Prim.hlevel (codes, op_type.the_row.coded, running_type.the_row.coded) };
+
+    ghost view = { λ operator. record { op = operator.op.value; widths = widths_of operator.running; kept = operator.running } };
+
+    ghost invariant = { λ operator. IsMadeOf operator.op.value operator.running };
+}
+
+impl Operator {
+    /// The operator of a node whose inputs have these widths, in order. It has seen no rows.
+    pub fn new(alloc: Global, op: &Op, widths: &[u32]) -> Result<Operator, AllocError>
+        requires count { length widths.now ≡ length (inputs_of op.now) }
+        requires made { CanBeMade op.now widths.now }
+        ensures op { IfOk result (λ operator. operator.op ≡ op.now) }
+        ensures widths { IfOk result (λ operator. operator.widths ≡ widths.now) }
+        ensures stands { IfOk result (λ operator. StandsFor operator (map no_rows widths.now)) }
+    {
+        let running = Running::new(alloc, op, widths)?;
+        Ok(Operator {
+            op: Snapshot::of(op),
+            running,
+        })
+    }
+
+    /// The operator after the step that the inputs show, and the change of its rows. It must stand for the inputs' rows before
+    /// the step; after a refusal it is given up. What it is over is said by the tables, or ticks, of all nodes by their numbers,
+    /// of which it reads those of its inputs.
+    pub fn step<L: Ledger>(
+        self,
+        alloc: Global,
+        inputs: &[Shared],
+        reads: &mut Steps<L>,
+    ) -> Result<(Operator, Change), StepFault>
+        requires widths { map (λ input. input.new.width) (tables inputs.now) ≡ self.widths }
+        requires exact { AllByRecursion IsExact (tables inputs.now) }
+        requires rows { AllByRecursion (λ input. length input.new.rows ≤ 4194304) (tables inputs.now) }
+        requires keys { HasKeys self.op (news (tables inputs.now)) }
+        requires stands { StandsFor self (olds (tables inputs.now)) }
+        ensures op { IfOk result (λ out. out.0.op ≡ self.op) }
+        ensures widths { IfOk result (λ out. out.0.widths ≡ self.widths) }
+        ensures stands { IfOk result (λ out. StandsFor out.0 (news (tables inputs.now))) }
+        ensures sound { OnOk result ((table : ℕ → PlainTable) → AreTables self.op table (tables inputs.now) → fault_of self.op table ≡ None) }
+        ensures cause { IfErr result (λ fault. (table : ℕ → PlainTable) → AreTables self.op table (tables inputs.now) → IsCause fault (fault_of self.op table)) }
+        ensures change { IfOk result (λ out. (tick : ℕ → Tick) → AreTicks self.op tick (tables inputs.now) → out.1 ≡ change_of (operated self.op tick)) }
+        ensures reads { IfOk result (λ out. reads.new ≤ reads.old
+            + 4 * (sum self.widths + result_width self.op self.widths) * (counted_in (tables inputs.now) + counted out.1.update)) }
+    {
+        let Operator { op, running } = self;
+        let (running, change) = running.step(alloc, inputs, reads)?;
+        Ok((Operator { op, running }, change))
+    }
+}
