@@ -1,6 +1,6 @@
 //! Words and the commands that they make.
 
-use crate::{Task, read_words};
+use crate::{Command, Task, read_words};
 use std::alloc::{AllocError, Global};
 use std::process::Abort;
 use std::test::Fail;
@@ -47,24 +47,37 @@ const CASES: [Case; 8] = [
     },
 ];
 
-fn told(alloc: Global, text: &str) -> Result<String, AllocError> {
+fn words(alloc: Global, text: &str) -> Result<Vec<String>, AllocError> {
     let mut words = Vec::new(alloc);
     for word in text.split_whitespace() {
         words.push(String::from_str(alloc, word)?)?;
     }
-    let Some(command) = read_words(alloc, words.as_slice())? else {
-        return Ok(String::new(alloc));
-    };
-    let task = match command.task {
+    Ok(words)
+}
+
+fn told_task(alloc: Global, task: &Task) -> Result<String, AllocError> {
+    match task {
         Task::Run { script, feed } => {
-            format!(in alloc; "run {} {}", script.as_str(), feed.as_str())?
+            format!(in alloc; "run {} {}", script.as_str(), feed.as_str())
         }
-        Task::Demo { steps } => format!(in alloc; "demo {steps}")?,
-    };
+        Task::Demo { steps } => format!(in alloc; "demo {steps}"),
+    }
+}
+
+fn told_command(alloc: Global, command: &Command) -> Result<String, AllocError> {
+    let task = told_task(alloc, &command.task)?;
     format!(in alloc;
         "{task} {} {} {} {}",
         command.workers, command.callers, command.snaps, command.attempts
     )
+}
+
+fn told(alloc: Global, text: &str) -> Result<String, AllocError> {
+    let words = words(alloc, text)?;
+    match read_words(alloc, words.as_slice())? {
+        Some(command) => told_command(alloc, &command),
+        None => Ok(String::new(alloc)),
+    }
 }
 
 fn check<R: Abort>(rt: &R, alloc: Global, case: &Case) -> Result<(), Fail> {
