@@ -3,40 +3,22 @@
 --     TellsLoadFault failed reached old new      a load of a file failed that has to be read, and the record that says so was written
 --     WritesPrefix verdict failed reached old new      a prefix of an allowed text was written
 --     IsComplete verdict status      memory ran out, or the status is that of the verdict
-use Rattle.std.specs.Prelude.{◌≡◌, ◌⊎◌, ℕ, true, List, [], ◌∷◌, Option, Some, None}
+use Rattle.std.specs.Prelude.{◌≡◌, ◌≤◌, ◌⊎◌, ℕ, true, List, Option, Some}
 use Rattle.std.specs.Io.KnownBytes.{append_known}
 use Rattle.std.specs.List.{list_any}
 use Rattle.std.specs.Str.{bytes_eq}
 use Rattle.tick_io.specs.Counts.{Rose}
 use Rattle.tick_io.specs.Written.{AppendsPrefix}
 use Rattle.tick_model.specs.Texts.{record_text}
-use Rattle.feed_run.specs.declared.script.Script.{Script}
-use Rattle.feed_run.specs.Commands.{Command, Run as RunCommand, NotBuilt, command}
-use Rattle.feed_run.specs.Scripts.{script_of}
-use Rattle.feed_run.specs.Verdicts.{Verdict, status_of}
+use Rattle.feed_run.specs.Readings.{Content}
+use Rattle.feed_run.specs.Verdicts.{Verdict, files, status_of}
 use Rattle.feed_run.specs.Wholes.{whole, unread_record, IsLawful}
 
--- the names of the files that have to be read: the script, and the feed where the script is accepted
-abbrev pub feed_after : Option Script → List ℕ → List (List ℕ)
-feed_after None feed = []
-feed_after (Some script) feed = feed ∷ []
-
-abbrev pub files_from : Option (List ℕ) → List ℕ → List (List ℕ)
-files_from None feed = []
-files_from (Some bytes) feed = feed_after (script_of bytes) feed
-
-abbrev pub files_of : Option Command → (List ℕ → Option (List ℕ)) → List (List ℕ)
-files_of None content = []
-files_of (Some NotBuilt) content = []
-files_of (Some (RunCommand script feed)) content = script ∷ files_from (content script) feed
-
-abbrev pub files : List (List ℕ) → (List ℕ → Option (List ℕ)) → List (List ℕ)
-files words content = files_of (command words) content
-
+-- a name is one of the names; a file has to be read
 abbrev pub IsOneOf : List (List ℕ) → List ℕ → Type 0
 IsOneOf names name = list_any (bytes_eq name) names ≡ true
 
-abbrev pub IsRead : List (List ℕ) → (List ℕ → Option (List ℕ)) → List ℕ → Type 0
+abbrev pub IsRead : List (List ℕ) → Content → List ℕ → Type 0
 IsRead words content = IsOneOf (files words content)
 
 -- the count of failed loads of a name rose
@@ -82,4 +64,4 @@ IsComplete verdict status = (status ≡ 1) ⊎ ((told : Verdict) × (verdict ≡
 
 -- the statuses that there are
 abbrev pub IsStatus : ℕ → Type 0
-IsStatus status = (status ≡ 0) ⊎ ((status ≡ 1) ⊎ ((status ≡ 2) ⊎ ((status ≡ 3) ⊎ ((status ≡ 10) ⊎ (status ≡ 11)))))
+IsStatus status = status ≤ 11

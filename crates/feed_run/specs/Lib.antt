@@ -1,10 +1,9 @@
-pub mod Answers
-pub mod Commands
-pub mod Feeds
-pub mod Headline
-pub mod Prints
-pub mod Runs
-pub mod Scripts
-pub mod Tokens
+pub mod FaultWords
+pub mod Found
+pub mod Readings
+pub mod Requests
 pub mod Verdicts
 pub mod Wholes
+pub mod Stops
+pub mod Headline
+pub mod Answers

@@ -3,15 +3,20 @@
 //! `tick_main` does all of it. What it writes and answers is said by the definitions of `specs/`, of which `Headline` is the first to read.
 #![tactic(auto)]
 
-mod command;
-mod feed;
+mod fault_records;
+mod fault_words;
+mod fields;
+mod loading;
 mod program;
+mod readings;
+mod refusal;
+mod reports;
+mod request;
 mod run;
-mod script;
-mod texts;
-mod tokens;
+mod tables;
 
-pub use program::{Form, tick_main};
+pub use program::tick_main;
+pub use refusal::{Form, Refusal};
 
 #[cfg(test)]
 mod tests;

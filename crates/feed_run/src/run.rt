@@ -1,167 +1,131 @@
-//! The run of a script over a feed: its steps, one after the other, and the records that they print.
-ghost use Rattle.std.specs.Prelude.{◌≡◌, ◌≤◌, OnOk, OnErr, IfOk, IsErrOf, IsSome, length, map};
-ghost use Rattle.std.specs.Io.KnownBytes.{append_known};
-ghost use Rattle.std.specs.List.{All, AllByRecursion};
+//! The run: put together from its files, brought to its end, and reported.
+
+ghost use Rattle.std.specs.Prelude.{◌≡◌, ◌≤◌, ◌<◌, ◌^◌, ◌∷◌, [], ℕ, List, Ok, IfOk, length};
+ghost use Rattle.feed_reader.specs.Assembled.{AreTablesOf, plain_run};
+ghost use Rattle.script_reader.specs.Plain.{plain_script};
 ghost use Rattle.tick_io.specs.Counts.{Rose};
-ghost use Rattle.tick_io.specs.Written.{AppendsPrefix};
-ghost use Rattle.tick_model.specs.Formulas.{IsTestWithin};
-ghost use Rattle.tick_model.specs.Texts.{record_text, done_record};
-ghost use Rattle.feed_run.specs.Feeds.{steps_in};
-ghost use Rattle.feed_run.specs.Prints.{run_text, step_text, steps_text};
-ghost use Rattle.feed_run.specs.Runs.{FitsTest, HasWidth, passing_row, passing_rows};
+ghost use Rattle.tick_model.specs.LawfulRuns.{IsLawfulRun, sources_of};
+ghost use Rattle.feed_run.specs.Answers.{EndsByRun};
+ghost use Rattle.feed_run.specs.Headline.{IsOneOf, LoadFailed};
+ghost use Rattle.feed_run.specs.Readings.{feed_found, files_read, plan_found, plan_read, run_found, script_in};
+ghost use Rattle.feed_run.specs.Stops.{Reads};
 
-use crate::feed::{Record, steps};
-use crate::script::Script;
-use crate::texts::{plain_row, texts};
-use std::alloc::{AllocError, Global};
-use tick_io::Sink;
-use tick_model::formula::passes;
+use crate::fault_records::{batch_record, done_record, node_record};
+use crate::readings::{load_feed, load_script};
+use crate::refusal::Stop;
+use crate::reports::report;
+use crate::tables::load_tables;
+use feed_reader::{RawTable, assemble};
+use replay::{Knobs, Outcome, run_feed};
+use script_reader::script::Script;
+use std::alloc::Global;
+use std::sync::Wait;
+use std::thread::Threads;
+use tick_io::{Gate, Inputs, Sink};
+use tick_model::feed::Run;
 use tick_model::items::Items;
-use tick_model::name::Name;
-use tick_model::plan::{ColumnSpec, Pred};
-use tick_model::table::PlainRow;
-use update_text::{Shown, WriteFault, write_added, write_fields};
 
-/// The row that a record adds, where it passes a test.
-fn row_that_passes(
-    alloc: Global,
-    test: &Pred,
-    texts: &[Name],
-    record: &Record,
-) -> Result<Option<PlainRow>, AllocError>
-    requires { FitsTest test.now record.now }
-    ensures { IfOk result (λ row. row ≡ passing_row test.now texts.now record.now) }
+/// The texts of a run are no more than a slice can have.
+fn texts_are_few(run: &Run)
+    ensures { length run.now.texts < 2 ^ 63 }
 {
-    let Record::Row(raw) = record else {
-        return Ok(None);
-    };
-    let row = plain_row(alloc, texts, raw)?;
-    if passes(test, row.cells.as_slice()) {
-        Ok(Some(row))
-    } else {
-        Ok(None)
-    }
+    let count = run.texts.as_slice().len();
+    prove!(count < 1 << 63);
 }
 
-/// The rows that the records of a step add and that pass a test.
-fn rows_that_pass(
+/// The run of a script, of the tables that its sources open with, and of the feed of a file.
+fn read_feed_run<I: Inputs>(
     alloc: Global,
-    test: &Pred,
-    texts: &[Name],
-    step: &[Record],
-) -> Result<Items<PlainRow>, AllocError>
-    requires { All (FitsTest test.now) step.now }
-    ensures { IfOk result (λ rows. rows ≡ passing_rows test.now texts.now step.now) }
+    inputs: &mut I,
+    script: Script,
+    tables: Items<RawTable>,
+    feed_name: &str,
+) -> Result<Run, Stop>
+    requires script { (bytes : List ℕ) × (script_in bytes ≡ Ok (plain_script script)) }
+    requires tables { AreTablesOf (sources_of script.plan.nodes) tables }
+    ensures reads { Reads I.told (LoadFailed I.failures inputs.old inputs.new) (IsOneOf (feed_name.now ∷ []))
+        (feed_found (I.content inputs.old) (plain_script script) tables feed_name.now) plain_run result }
+    ensures lawful { IfOk result IsLawfulRun }
+    ensures unpublished { IfOk result (λ run. run.plan.published ≡ []) }
+    ensures never_falls { (other : List ℕ) → I.failures inputs.old other ≤ I.failures inputs.new other }
+    ensures kept { I.content inputs.new ≡ I.content inputs.old }
 {
-    let mut rows = Items::new(alloc);
-    for record in step {
-        if let Some(row) = row_that_passes(alloc, test, texts, record)? {
-            rows.push(row)?;
+    let feed = load_feed(alloc, inputs, &script.plan, feed_name)?;
+    let assembled = assemble(alloc, script, tables, feed)?;
+    texts_are_few(&assembled);
+    Ok(assembled)
+}
+
+/// The run of a script, of the table files that it names, and of the feed of a file.
+fn read_plan_run<I: Inputs>(
+    alloc: Global,
+    inputs: &mut I,
+    script: Script,
+    feed_name: &str,
+) -> Result<Run, Stop>
+    requires { (bytes : List ℕ) × (script_in bytes ≡ Ok (plain_script script)) }
+    ensures reads { Reads I.told (LoadFailed I.failures inputs.old inputs.new)
+        (IsOneOf (plan_read (I.content inputs.old) (plain_script script) feed_name.now))
+        (plan_found (I.content inputs.old) (plain_script script) feed_name.now) plain_run result }
+    ensures lawful { IfOk result IsLawfulRun }
+    ensures unpublished { IfOk result (λ run. run.plan.published ≡ []) }
+    ensures never_falls { (other : List ℕ) → I.failures inputs.old other ≤ I.failures inputs.new other }
+    ensures kept { I.content inputs.new ≡ I.content inputs.old }
+{
+    let tables = load_tables(
+        alloc,
+        inputs,
+        script.plan.nodes.as_slice(),
+        script.files.as_slice(),
+    )?;
+    read_feed_run(alloc, inputs, script, tables, feed_name)
+}
+
+/// The run of the script of a file over the feed of another, with the table files that the script names.
+pub(crate) fn read_run<I: Inputs>(
+    alloc: Global,
+    inputs: &mut I,
+    script_name: &str,
+    feed_name: &str,
+) -> Result<Run, Stop>
+    ensures reads { Reads I.told (LoadFailed I.failures inputs.old inputs.new)
+        (IsOneOf (files_read (I.content inputs.old) script_name.now feed_name.now))
+        (run_found (I.content inputs.old) script_name.now feed_name.now) plain_run result }
+    ensures lawful { IfOk result IsLawfulRun }
+    ensures unpublished { IfOk result (λ run. run.plan.published ≡ []) }
+{
+    let script = load_script(alloc, inputs, script_name)?;
+    read_plan_run(alloc, inputs, script, feed_name)
+}
+
+/// Brings a run to its end, and reports how it ended.
+pub(crate) fn run_to_end<R: Threads + Wait + Sync, S: Sink, G: Gate>(
+    rt: &R,
+    alloc: Global,
+    run: &Run,
+    knobs: &Knobs,
+    out: &mut S,
+    gate: &G,
+) -> u8
+    requires lawful { IsLawfulRun run.now }
+    requires unpublished { run.now.plan.published ≡ [] }
+    requires no_callers { knobs.now.callers ≡ 0 }
+    requires some_workers { 1 ≤ knobs.now.workers }
+    requires few_workers { knobs.now.workers ≤ 64 }
+    ensures { EndsByRun run.now (Rose (S.failures out.old) (S.failures out.new)) (S.bytes out.old) (S.bytes out.new) result }
+{
+    match run_feed(rt, alloc, run, knobs, out, gate) {
+        Outcome::Done { step, .. } => report(alloc, out, 0, done_record(alloc, step)),
+        Outcome::Feed {
+            step,
+            number,
+            fault,
+        } => report(alloc, out, 7, batch_record(alloc, run, step, number, fault)),
+        Outcome::Node { step, node, kind } => {
+            report(alloc, out, 8, node_record(alloc, run, step, node, kind))
         }
+        Outcome::Memory => 1,
+        Outcome::Write => 10,
+        Outcome::Kept { .. } | Outcome::Publish { .. } => unreachable!(),
     }
-    Ok(rows)
-}
-
-/// A name with the same text.
-fn name_copied(alloc: Global, name: &Name) -> Result<Name, AllocError>
-    ensures { IfOk result (λ copy. copy ≡ name.now) }
-{
-    Ok(Name::of(String::from_str(alloc, name.as_str())?))
-}
-
-/// What is printed of the filter: its name, and the columns of its table.
-fn shown(alloc: Global, script: &Script) -> Result<Shown, AllocError>
-    ensures name { IfOk result (λ shown. shown.name ≡ script.now.filter.name) }
-    ensures columns { IfOk result (λ shown. shown.columns ≡ script.now.table.columns) }
-{
-    let mut columns = Items::new(alloc);
-    for column in script.table.columns.as_slice() {
-        columns.push(ColumnSpec {
-            name: name_copied(alloc, &column.name)?,
-            kind: column.kind,
-        })?;
-    }
-    Ok(Shown {
-        name: name_copied(alloc, &script.filter.name)?,
-        columns,
-    })
-}
-
-/// Writes what one step prints.
-fn write_step<S: Sink>(
-    alloc: Global,
-    out: &mut S,
-    script: &Script,
-    texts: &Items<Name>,
-    number: u64,
-    step: &[Record],
-) -> Result<(), WriteFault>
-    requires within { IsTestWithin (length script.now.table.columns) script.now.filter.test }
-    requires rows { AllByRecursion (HasWidth (length script.now.table.columns)) step.now }
-    ensures whole { OnOk result (S.bytes out.new ≡ append_known (S.bytes out.old) (step_text script.now texts.now number step.now)) }
-    ensures err { OnErr result (AppendsPrefix (S.bytes out.old) (S.bytes out.new) (step_text script.now texts.now number step.now)) }
-    ensures failed { IsErrOf result WriteFault.Failed → Rose (S.failures out.old) (S.failures out.new) }
-    ensures never_falls { S.failures out.old ≤ S.failures out.new }
-{
-    let rows = rows_that_pass(alloc, &script.filter.test, texts.as_slice(), step)?;
-    let shown = shown(alloc, script)?;
-    write_added(alloc, out, number, &shown, texts, &rows)?;
-    Ok(())
-}
-
-/// Writes what the steps print.
-fn write_steps<S: Sink>(
-    alloc: Global,
-    out: &mut S,
-    script: &Script,
-    texts: &Items<Name>,
-    steps: &[&[Record]],
-) -> Result<(), WriteFault>
-    requires within { IsTestWithin (length script.now.table.columns) script.now.filter.test }
-    requires rows { All (λ step. AllByRecursion (HasWidth (length script.now.table.columns)) step.now) steps.now }
-    ensures whole { OnOk result (S.bytes out.new ≡ append_known (S.bytes out.old) (steps_text script.now texts.now 1 (map (λ step. step.now) steps.now))) }
-    ensures err { OnErr result (AppendsPrefix (S.bytes out.old) (S.bytes out.new) (steps_text script.now texts.now 1 (map (λ step. step.now) steps.now))) }
-    ensures failed { IsErrOf result WriteFault.Failed → Rose (S.failures out.old) (S.failures out.new) }
-    ensures never_falls { S.failures out.old ≤ S.failures out.new }
-{
-    for (place, step) in steps.iter().enumerate() {
-        write_step(alloc, out, script, texts, place as u64 + 1, step)?;
-    }
-    Ok(())
-}
-
-/// Writes that the run is done.
-fn write_done<S: Sink>(alloc: Global, out: &mut S, last: usize) -> Result<(), WriteFault>
-    ensures whole { OnOk result (S.bytes out.new ≡ append_known (S.bytes out.old) (record_text (done_record last))) }
-    ensures err { OnErr result (AppendsPrefix (S.bytes out.old) (S.bytes out.new) (record_text (done_record last))) }
-    ensures failed { IsErrOf result WriteFault.Failed → Rose (S.failures out.old) (S.failures out.new) }
-    ensures never_falls { S.failures out.old ≤ S.failures out.new }
-{
-    let mut fields = Vec::new(alloc);
-    fields.push(String::from_str(alloc, "done")?)?;
-    fields.push(format!(in alloc; "{last}")?)?;
-    write_fields(alloc, out, fields.as_slice())
-}
-
-/// Writes the run of a script over the records of a feed: what each step prints, and that the last one is done.
-pub(crate) fn write_run<S: Sink>(
-    alloc: Global,
-    out: &mut S,
-    script: &Script,
-    records: &[Record],
-) -> Result<(), WriteFault>
-    requires within { IsTestWithin (length script.now.table.columns) script.now.filter.test }
-    requires rows { AllByRecursion (HasWidth (length script.now.table.columns)) records.now }
-    requires steps { IsSome (steps_in records.now) }
-    ensures whole { OnOk result (S.bytes out.new ≡ append_known (S.bytes out.old) (run_text script.now records.now)) }
-    ensures err { OnErr result (AppendsPrefix (S.bytes out.old) (S.bytes out.new) (run_text script.now records.now)) }
-    ensures failed { IsErrOf result WriteFault.Failed → Rose (S.failures out.old) (S.failures out.new) }
-    ensures never_falls { S.failures out.old ≤ S.failures out.new }
-{
-    let texts = texts(alloc, records)?;
-    let Some(steps) = steps(alloc, records)? else {
-        unreachable!();
-    };
-    write_steps(alloc, out, script, &texts, steps.as_slice())?;
-    write_done(alloc, out, steps.len())
 }

@@ -1,14 +1,27 @@
-use Rattle.std.proofs.Common.{◌∙◌, Some, sym, ap, inl}
-use Rattle.std.specs.Prelude.{option_map}
-use Rattle.feed_run.specs.declared.program.Form.TheVariants.{Words}
-use Rattle.feed_run.specs.Commands.{seen}
-use Rattle.feed_run.specs.Verdicts.{Unbuilt, command_verdict}
+use Rattle.std.proofs.Common.{ℕ, List, map, refl}
+use Rattle.std.specs.Prelude.{String, string_bytes}
+use Rattle.std.specs.Global.{Global}
+use Rattle.tick_io.specs.Counts.{Rose}
+use Rattle.feed_reader.specs.Assembled.{plain_run}
+use Rattle.feed_run.specs.declared.program.Prepared.{Prepared}
+use Rattle.feed_run.specs.Headline.{IsRead, LoadFailed}
+use Rattle.feed_run.specs.Verdicts.{found}
+use Rattle.feed_run.proofs.ProgramLemmas.{run_ends, stop_ends}
 use Rattle.feed_run.proofs.program.answer.Goals as goal
 
-pub returns-in-Some-NotBuilt : goal.returns-in-Some-NotBuilt
-returns-in-Some-NotBuilt g c =
-    inl (
-      Unbuilt Words,
-      (λ t. ap (λ command. command_verdict command (g.I.Inputs.content c.args.inputs.now)) (sym c.requested.ensures ∙ ap (option_map seen) (c.in-Some-NotBuilt.is ∙ ap Some c.in-Some-NotBuilt.field-0-is))),
-      c.report_unbuilt.ensures,
-    )
+abbrev texts : List (String Global) → List (List ℕ)
+texts = map (λ (word : String Global). string_bytes word)
+
+pub returns-in-Err : goal.returns-in-Err
+returns-in-Err g c =
+    let content = g.I.Inputs.content c.args.inputs.now in
+    let words = texts c.args.words.now in
+    stop_ends g.I.Inputs.told (LoadFailed g.I.Inputs.failures c.args.inputs.now c.prepare.new.inputs) (IsRead words content) (found words content) (λ (own : Prepared). plain_run own.run) c.in-Err.stop
+    (Rose (g.S.Sink.failures c.args.out.now) (g.S.Sink.failures c.report_stop.new.out)) (g.S.Sink.bytes c.args.out.now) (g.S.Sink.bytes c.report_stop.new.out) c.report_stop.result c.in-Err.ensures.reads c.report_stop.ensures
+
+pub returns : goal.returns
+returns g c =
+    let content = g.I.Inputs.content c.args.inputs.now in
+    let words = texts c.args.words.now in
+    run_ends g.I.Inputs.told (LoadFailed g.I.Inputs.failures c.args.inputs.now c.prepare.new.inputs) (IsRead words content) (found words content) (λ (own : Prepared). plain_run own.run) c.in-Ok.prepared c.in-Ok.prepared.run
+    (Rose (g.S.Sink.failures c.args.out.now) (g.S.Sink.failures c.run_to_end.new.out)) (g.S.Sink.bytes c.args.out.now) (g.S.Sink.bytes c.run_to_end.new.out) c.run_to_end.result c.in-Ok.ensures.reads refl c.run_to_end.ensures

@@ -1,0 +1,74 @@
+-- The tables that sources open with, one after the other.
+use Rattle.std.proofs.Common.{◌≡◌, ℕ, List, [], ◌∷◌, ◌++◌, drop, Bool, Some, None, Ok, Err, refl, sym, ap, ◌∙◌, subst, append_assoc}
+use Rattle.std.specs.Prelude.{IsTrue}
+use Rattle.std.specs.Option.{option_to_list}
+use Rattle.tick_model.specs.declared.plan.Node.{Node}
+use Rattle.script_reader.specs.declared.script.SourceFile.{SourceFile}
+use Rattle.feed_reader.specs.declared.raw.RawTable.{RawTable}
+use Rattle.feed_reader.specs.Assembled.{IsTableOf, AreTablesOf}
+use Rattle.feed_run.specs.declared.refusal.Stop.{Stop}
+use Rattle.feed_run.specs.declared.refusal.Stop.TheVariants.{Memory, Unread, Refused}
+use Rattle.feed_run.specs.Found.{Found, after, names_after}
+use Rattle.feed_run.specs.Headline.{IsOneOf}
+use Rattle.feed_run.specs.Readings.{Content, first_file, opening_by, with_table, tables_found, tables_read}
+use Rattle.feed_run.specs.Stops.{Reads}
+use Rattle.feed_run.proofs.StopLemmas.{one_of_front, one_of_back}
+
+append-nil : {X : Type 0} (xs : List X) → xs ++ [] ≡ xs
+append-nil [] = refl
+append-nil (x ∷ xs) = ap (λ ys. x ∷ ys) (append-nil xs)
+
+-- the tables so far, before the later ones
+abbrev pub onto : List RawTable → List RawTable → Found (List RawTable)
+onto tables later = Some (Ok (tables ++ later))
+
+one_more : (tables : List RawTable) (table : RawTable) (later : Found (List RawTable)) → after (after later (with_table table)) (onto tables) ≡ after later (onto (tables ++ table ∷ []))
+one_more tables table None = refl
+one_more tables table (Some (Err refusal)) = refl
+one_more tables table (Some (Ok later)) = ap (λ all. Some (Ok all)) (sym (append_assoc tables (table ∷ []) later))
+
+-- these sources are left with these files, and the tables of those before them are found
+pub record Opens (told : Bool) (content : Content) (all : List Node) (all_files : List SourceFile) (sources : List Node) (files : List SourceFile) (tables : List RawTable) : Type 0 where
+  pub found : IsTrue told → after (tables_found content sources files) (onto tables) ≡ tables_found content all all_files
+  pub names : (name : List ℕ) → IsTrue told → IsOneOf (tables_read content sources files) name → IsOneOf (tables_read content all all_files) name
+  pub are : (later : List RawTable) → AreTablesOf sources later → AreTablesOf all (tables ++ later)
+
+same_found : (found : Found (List RawTable)) → after found (onto []) ≡ found
+same_found None = refl
+same_found (Some (Err refusal)) = refl
+same_found (Some (Ok tables)) = refl
+
+module _ (told : Bool) (content : Content) (all : List Node) (all_files : List SourceFile) where
+  pub opens_all : Opens told content all all_files all all_files []
+  opens_all = record {
+    found = λ t. same_found (tables_found content all all_files);
+    names = λ name t is. is;
+    are = λ later is. is;
+  }
+
+  pub opens_more : (source : Node) (sources : List Node) (files : List SourceFile) (tables : List RawTable) (table : RawTable) → (IsTrue told → opening_by content source (first_file files) ≡ Some (Ok table)) → IsTableOf source.columns table → Opens told content all all_files (source ∷ sources) files tables → Opens told content all all_files sources (drop 1 files) (tables ++ table ∷ [])
+  opens_more source sources files tables table opening is opens = record {
+    found = λ t.
+        sym (one_more tables table (tables_found content sources (drop 1 files)))
+        ∙ sym (ap (λ first. after (after first (λ own. after (tables_found content sources (drop 1 files)) (with_table own))) (onto tables)) (opening t))
+        ∙ opens.found t;
+    names = λ name t later. opens.names name t
+        (subst (λ (first : Found RawTable). IsOneOf (option_to_list (first_file files) ++ names_after first (λ own. tables_read content sources (drop 1 files))) name) (sym (opening t))
+        (one_of_back name (option_to_list (first_file files)) (tables_read content sources (drop 1 files)) later));
+    are = λ later rest. subst (AreTablesOf all) (sym (append_assoc tables (table ∷ []) later)) (opens.are (table ∷ later) (is, rest));
+  }
+
+  pub opens_stop : (failed earlier : List ℕ → Type 0) (source : Node) (sources : List Node) (files : List SourceFile) (tables : List RawTable) (stop : Stop) → ((name : List ℕ) → earlier name → failed name) → Reads {X = RawTable} told earlier (IsOneOf (option_to_list (first_file files))) (opening_by content source (first_file files)) (λ table. table) (Err stop) → Opens told content all all_files (source ∷ sources) files tables → Reads {X = List RawTable} told failed (IsOneOf (tables_read content all all_files)) (tables_found content all all_files) (λ own. own) (Err stop)
+  opens_stop failed earlier source sources files tables Memory wider reads opens = tt
+  opens_stop failed earlier source sources files tables (Unread name) wider reads opens = (
+    wider name reads.0,
+    λ t. opens.names name t (one_of_front name (option_to_list (first_file files)) (names_after (opening_by content source (first_file files)) (λ own. tables_read content sources (drop 1 files))) (reads.1 t)),
+  )
+  opens_stop failed earlier source sources files tables (Refused refusal) wider reads opens =
+      λ t. sym (opens.found t) ∙ ap (λ first. after (after first (λ own. after (tables_found content sources (drop 1 files)) (with_table own))) (onto tables)) (reads t)
+
+  pub opens_end : (files : List SourceFile) (tables : List RawTable) → Opens told content all all_files [] files tables → IsTrue told → tables_found content all all_files ≡ Some (Ok tables)
+  opens_end files tables opens t = sym (opens.found t) ∙ ap (λ own. Some (Ok own)) (append-nil tables)
+
+  pub opens_are : (files : List SourceFile) (tables : List RawTable) → Opens told content all all_files [] files tables → AreTablesOf all tables
+  opens_are files tables opens = subst (AreTablesOf all) (append-nil tables) (opens.are [] tt)

@@ -1,0 +1,46 @@
+//! The bytes of files, up to a limit.
+
+ghost use Rattle.std.specs.Prelude.{◌≡◌, ◌≤◌, ℕ, List};
+ghost use Rattle.tick_io.specs.Counts.{Rose};
+ghost use Rattle.feed_run.specs.Stops.{IsUnread, Loads};
+
+use crate::refusal::Stop;
+use std::alloc::Global;
+use tick_io::{Inputs, LoadFault};
+use tick_model::name::Name;
+
+/// The most bytes of a script.
+pub(crate) const MOST_SCRIPT_BYTES: usize = 1_048_576;
+
+/// The most bytes of a table file and of a feed.
+pub(crate) const MOST_BYTES: usize = 67_108_864;
+
+/// That a file could not be read.
+fn unread(alloc: Global, name: &str) -> Stop
+    ensures { IsUnread name.now result }
+{
+    match String::from_str(alloc, name) {
+        Ok(name) => Stop::Unread(Name::of(name)),
+        Err(_) => Stop::Memory,
+    }
+}
+
+/// The bytes of a file, or `None` where it has more than so many.
+pub(crate) fn load<I: Inputs>(
+    alloc: Global,
+    inputs: &mut I,
+    name: &str,
+    most: usize,
+) -> Result<Option<Vec<u8>>, Stop>
+    ensures loads { Loads I.told most (I.content inputs.old name.now)
+        (Rose (I.failures inputs.old name.now) (I.failures inputs.new name.now)) name.now result }
+    ensures never_falls { (other : List ℕ) → I.failures inputs.old other ≤ I.failures inputs.new other }
+    ensures kept { I.content inputs.new ≡ I.content inputs.old }
+{
+    match inputs.load(alloc, name, most) {
+        Ok(bytes) => Ok(Some(bytes)),
+        Err(LoadFault::Memory) => Err(Stop::Memory),
+        Err(LoadFault::TooLong { .. }) => Ok(None),
+        Err(LoadFault::Failed) => Err(unread(alloc, name)),
+    }
+}

@@ -1,0 +1,67 @@
+//! Why there is no run.
+
+ghost use Rattle.std.specs.Prelude.{◌≡◌};
+ghost use Rattle.feed_run.specs.declared.refusal.Stop.TheVariants.{Memory};
+
+use feed_reader::TextKind;
+use script_lines::fault::ScriptKind;
+use std::alloc::{AllocError, AllocFailed};
+use tick_model::name::Name;
+
+/// What may be of a form that is not built yet.
+#[derive(Clone, Copy, Debug, PartialEq, Eq)]
+pub enum Form {
+    Words,
+    Script,
+}
+
+/// Why words or a file are refused.
+#[derive(Debug, Drop)]
+pub enum Refusal {
+    /// The words are of no command.
+    Usage,
+    /// Something is of a form that is not built yet.
+    Unbuilt(Form),
+    /// The first refused line of the script, and why.
+    Script {
+        line: u64,
+        kind: ScriptKind,
+    },
+    /// The first refused record of the table file of a source, and why.
+    Table {
+        source: Name,
+        number: u64,
+        kind: TextKind,
+    },
+    /// The first refused record of the feed, and why.
+    Feed {
+        number: u64,
+        kind: TextKind,
+    },
+}
+
+/// Why there is no run.
+#[derive(Debug, Drop)]
+pub(crate) enum Stop {
+    /// Memory ran out.
+    Memory,
+    /// The file of this name could not be read.
+    Unread(Name),
+    Refused(Refusal),
+}
+
+impl From<AllocError> for Stop {
+    ghost from_gives = { λ _ stop. stop ≡ Memory };
+
+    fn from(_: AllocError) -> Self {
+        Stop::Memory
+    }
+}
+
+impl<T: Drop> From<AllocFailed<T>> for Stop {
+    ghost from_gives = { λ _ stop. stop ≡ Memory };
+
+    fn from(_: AllocFailed<T>) -> Self {
+        Stop::Memory
+    }
+}

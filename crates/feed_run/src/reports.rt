@@ -1,0 +1,59 @@
+//! What is written at the end: one record, and the status that goes with it.
+
+ghost use Rattle.std.specs.Prelude.{◌≡◌, ℕ, List, IfOk};
+ghost use Rattle.tick_io.specs.Counts.{Rose};
+ghost use Rattle.tick_model.specs.Texts.{record_text};
+ghost use Rattle.feed_run.specs.Answers.{Ends, EndsByStop, status_of_write};
+
+use crate::fault_records::{refusal_record, refusal_status, unread_record};
+use crate::fields::Fields;
+use crate::refusal::Stop;
+use std::alloc::{AllocError, Global};
+use tick_io::Sink;
+use update_text::{WriteFault, write_fields};
+
+/// The status that goes with what was written.
+fn status_after(status: u8, written: Result<(), WriteFault>) -> u8
+    ensures { result ≡ status_of_write status written }
+{
+    match written {
+        Ok(()) => status,
+        Err(WriteFault::Memory) => 1,
+        Err(WriteFault::Failed) => 10,
+    }
+}
+
+/// Writes a record, unless memory ran out where it was made, and answers its status.
+pub(crate) fn report<S: Sink>(
+    alloc: Global,
+    out: &mut S,
+    status: u8,
+    fields: Result<Fields, AllocError>,
+) -> u8
+    ensures { (told : List (List ℕ)) → IfOk fields (λ own. own ≡ told)
+        → Ends status (record_text told) (Rose (S.failures out.old) (S.failures out.new)) (S.bytes out.old) (S.bytes out.new) result }
+{
+    match fields {
+        Ok(fields) => {
+            let written = write_fields(alloc, out, fields.as_slice());
+            status_after(status, written)
+        }
+        Err(_) => 1,
+    }
+}
+
+/// Reports why there is no run.
+pub(crate) fn report_stop<S: Sink>(alloc: Global, out: &mut S, stop: &Stop) -> u8
+    ensures { EndsByStop stop.now (Rose (S.failures out.old) (S.failures out.new)) (S.bytes out.old) (S.bytes out.new) result }
+{
+    match stop {
+        Stop::Memory => 1,
+        Stop::Unread(name) => report(alloc, out, 3, unread_record(alloc, name.as_str())),
+        Stop::Refused(refusal) => report(
+            alloc,
+            out,
+            refusal_status(refusal),
+            refusal_record(alloc, refusal),
+        ),
+    }
+}

@@ -1,0 +1,9 @@
+-- The nodes that are printed.
+--     printed_of run node      a node with its name and its columns
+use Rattle.std.specs.Prelude.{ℕ}
+use Rattle.tick_model.specs.declared.feed.Run.{Run}
+use Rattle.tick_model.specs.Texts.{columns_at, name_at}
+use Rattle.replay.specs.declared.printed.PrintedNode.{PrintedNode}
+
+abbrev pub printed_of : Run → ℕ → PrintedNode
+printed_of run node = record { node = node; shown = record { name = name_at run node; columns = columns_at run node } }

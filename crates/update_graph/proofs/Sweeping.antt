@@ -1,0 +1,214 @@
+-- A step's nodes, one more at a time.
+use Rattle.std.proofs.Common.{◌≡◌, refl, ap, ap₂, sym, ◌∙◌, subst, ℕ, zero, suc, ◌+◌, ◌<◌, ◌≤◌, ◌==◌, arith, inl, inr, Bool, true, false, cond, not, true≢false, List, [], ◌∷◌, ◌++◌, map, drop, length, get_or, Option, Some, None}
+use Rattle.std.specs.Arc.{arc_value}
+use Rattle.std.specs.Prelude.{count_by, option_map}
+use Rattle.std.specs.List.{list_all, range_with_len}
+use Rattle.std.specs.declared.alloc.Global.{Global}
+use Rattle.std.specs.declared.sync.Arc.{Arc}
+use Rattle.std.proofs.Math.Seq.{drop-cons}
+use Rattle.std.proofs.lemmas.Bool.{cases_lt}
+use Rattle.std.proofs.lemmas.List.{drop_all, get_or-map, get_or_past, length-map}
+use Rattle.std.proofs.lemmas.List.FromFn.{get_or-map-range_with_len, length-map-range_with_len, map-range_with_len_more}
+use Rattle.key_lists.proofs.Every.{every-map, map_map}
+use Rattle.merge_op.specs.Merged.{tables}
+use Rattle.tick_laws.specs.Bounded.{AreSourceTables}
+use Rattle.tick_laws.specs.Reached.{IsReached}
+use Rattle.tick_laws.proofs.EvalNodes.{length_outcomes}
+use Rattle.tick_laws.proofs.LawfulSources.{sources_bounded}
+use Rattle.tick_laws.proofs.Paired.{source_there}
+use Rattle.tick_laws.proofs.ReachedTables.{reached_tables}
+use Rattle.tick_model.specs.declared.feed.Run.{Run}
+use Rattle.tick_model.specs.declared.plan.Node.{Node}
+use Rattle.tick_model.specs.declared.table.NodeFault.{NodeFault}
+use Rattle.tick_model.specs.declared.table.PlainTable.{PlainTable}
+use Rattle.tick_model.specs.Evaluation.{Outcome, Table, Fault, NoInput, is_source, outcome_at, source_number}
+use Rattle.tick_model.specs.LawfulRuns.{sources_of}
+use Rattle.tick_model.specs.Sources.{new_table, no_tick, source_ticks, sources}
+use Rattle.tick_model.specs.Spoiled.{ByNode, Cause, node_fault}
+use Rattle.tick_model.specs.States.{state}
+use Rattle.tick_table.specs.Exact.{ticking}
+use Rattle.tick_table.specs.Ticking.{Ticking}
+use Rattle.update_graph.specs.Entered.{IsEntered}
+use Rattle.update_graph.specs.Faults.{fault_in}
+use Rattle.update_graph.specs.Graphs.{RanOnce, nodes_shown, sources_shown}
+use Rattle.update_graph.specs.Stands.{AreHanded, is_defined, shown}
+use Rattle.update_graph.specs.Sweeps.{operators}
+use Rattle.update_graph.specs.Tags.{Tag, is_operator, no_node, node_at, tag, tags}
+use Rattle.update_graph.proofs.EnteredTicks.{source_table_at, tick_of_source}
+use Rattle.update_graph.proofs.Numbering.{counted_once, counted_past, pass_each, range_all}
+
+pub not_false : (b : Bool) → not b ≡ false → b ≡ true
+not_false true h = refl
+not_false false h = absurd (true≢false h)
+
+-- one more tag
+pub tags_more : (run : Run) (step n : ℕ) (before after : List Tag) (next : Tag) → after ≡ before ++ next ∷ [] → before ≡ tags run step n → next ≡ tag run step n → after ≡ tags run step (n + 1)
+tags_more run step n before after next pushed so_far own =
+    pushed ∙ ap₂ (λ these last. these ++ last ∷ []) so_far own ∙ sym (map-range_with_len_more (tag run step) 0 n n (omega arith))
+
+pub length-tags : (run : Run) (step n : ℕ) → length (tags run step n) ≡ n
+length-tags run step n = length-map-range_with_len (tag run step) 0 n
+
+pub tag_at : (run : Run) (step n k : ℕ) (d : Tag) → k < n → get_or (tags run step n) k d ≡ tag run step k
+tag_at run step n k d less = get_or-map-range_with_len (tag run step) 0 n k k d less (omega arith)
+
+-- one of so many tags
+pub is_tag : (run : Run) (step n k : ℕ) (all : List Tag) (one : Tag) → all ≡ tags run step n → k < length all → one ≡ get_or all k one → one ≡ tag run step k
+is_tag run step n k all one same within there =
+    let a = ap length same in
+    let b = length-tags run step n in
+    there ∙ ap (λ these. get_or these k one) same ∙ tag_at run step n k one (omega arith)
+
+pub any_default : {X : Type 0} (xs : List X) (k : ℕ) (d e : X) → k < length xs → get_or xs k d ≡ get_or xs k e
+any_default [] k d e within = absurd (omega (arith, within))
+any_default (x ∷ xs) zero d e within = refl
+any_default (x ∷ xs) (suc k) d e within = any_default xs k d e (omega (arith, within))
+
+-- the place of a source
+as_many : (sources : List Node) (tables : List PlainTable) → AreSourceTables sources tables → length tables ≡ length sources
+as_many [] [] h = refl
+as_many [] (table ∷ tables) h = absurd h
+as_many (source ∷ sources) [] h = absurd h
+as_many (source ∷ sources) (table ∷ tables) h = ap suc (as_many sources tables h.1)
+
+module _ (run : Run) (step : ℕ) (e : IsEntered run step) (own : List (Arc Ticking Global)) (same : tables own ≡ sources_shown run step) (n : ℕ) (within : n < length run.plan.nodes) (is : is_source (node_at run n) ≡ true) where
+  abbrev place : ℕ
+  place = source_number run.plan.nodes n
+
+  pub place_within : place < length (source_ticks run step)
+  place_within =
+      let there = (source_there run.plan.nodes n within is).0 in
+      let many = as_many (sources_of run.plan.nodes) (sources run step) (sources_bounded run e.lawful step e.batches) in
+      let long = length-map (source_ticks run step) new_table in
+      omega arith
+
+  pub place_there : place < length own
+  place_there =
+      let here = place_within in
+      let a = length-map own (λ (x : Arc Ticking Global). arc_value {X = Ticking} x) in
+      let b = ap length same in
+      let c = length-map (source_ticks run step) ticking in
+      omega arith
+
+  pub source_defined : is_defined run step n ≡ true
+  source_defined = (source_table_at run e.lawful step n within is).0
+
+  pub source_shown : (at : ℕ) (table : Arc Ticking Global) → at ≡ place → table ≡ get_or own at table → arc_value {X = Ticking} table ≡ shown run step n
+  source_shown at table at_place there =
+      ap (λ (x : Arc Ticking Global). arc_value {X = Ticking} x) (there ∙ ap (λ k. get_or own k table) at_place)
+      ∙ sym (get_or-map (λ (x : Arc Ticking Global). arc_value {X = Ticking} x) own place table (ticking no_tick) place_there)
+      ∙ ap (λ all. get_or all place (ticking no_tick)) same
+      ∙ get_or-map ticking (source_ticks run step) place no_tick (ticking no_tick) place_within
+      ∙ ap ticking (sym (tick_of_source run e.lawful step n within is))
+
+-- each node with an operator was worked once
+pub ran_once : (run : Run) (ran : List ℕ) → ran ≡ operators run (length run.plan.nodes) → RanOnce run.plan ran
+ran_once run ran same m =
+    ap (count_by (λ k. k == m)) same
+    ∙ elim (cases_lt m (length run.plan.nodes)) [
+      | inl less ↦ counted_once (is_operator run) 0 (length run.plan.nodes) m (omega arith) (omega (arith, less)) ∙ turn (is_source (node_at run m))
+      | inr more ↦
+          counted_past (is_operator run) 0 (length run.plan.nodes) m (omega (arith, more))
+          ∙ past (node_at run m) (get_or_past run.plan.nodes m no_node (omega (arith, more)))
+    ]
+  where
+    turn : (b : Bool) → ◌≡◌ {A = ℕ} (cond (not b) 1 0) (cond b 0 1)
+    turn true = refl
+    turn false = refl
+
+    past : (node : Node) → node ≡ no_node → ◌≡◌ {A = ℕ} 0 (cond (is_source node) 0 1)
+    past node e = subst (λ (node : Node). ◌≡◌ {A = ℕ} 0 (cond (is_source node) 0 1)) (sym e) refl
+
+-- the least fault, from one node on
+fault_passed : (k : ℕ) (o : Outcome) (others : List Outcome) → fault_in o ≡ None → node_fault k (o ∷ others) ≡ node_fault (k + 1) others
+fault_passed k (Table table) others h = refl
+fault_passed k (Fault fault) others h = absurd (cc)
+fault_passed k NoInput others h = refl
+
+fault_here : (k : ℕ) (o : Outcome) (others : List Outcome) (kind : NodeFault) → fault_in o ≡ Some kind → node_fault k (o ∷ others) ≡ Some (ByNode k kind)
+fault_here k (Table table) others kind h = absurd (cc)
+fault_here k (Fault fault) others kind h = let same : fault ≡ kind = cc in ap (λ fault. Some (ByNode k fault)) same
+fault_here k NoInput others kind h = absurd (cc)
+
+module _ (run : Run) (step k : ℕ) (works : List Tag) (work : Tag) (own : works ≡ tags run step (length run.plan.nodes)) (within : k < length works) (there : work ≡ get_or works k work) where
+  node_within : k < length (state run step)
+  node_within =
+      let a = ap length own in
+      let b = length-tags run step (length run.plan.nodes) in
+      let c = length_outcomes run.plan.nodes no_node (sources run step) in
+      omega arith
+
+  here : work ≡ tag run step k
+  here =
+      let a = ap length own in
+      let b = length-tags run step (length run.plan.nodes) in
+      there ∙ ap (λ all. get_or all k work) own ∙ tag_at run step (length run.plan.nodes) k work (omega arith)
+
+  dropped : drop k (state run step) ≡ outcome_at (state run step) k ∷ drop (k + 1) (state run step)
+  dropped = let next : suc k ≡ k + 1 = omega arith in drop-cons (state run step) k NoInput node_within ∙ ap (λ m. outcome_at (state run step) k ∷ drop m (state run step)) next
+
+  outcome_here : (found : Option NodeFault) → found ≡ fault_in (outcome_at (state work.run work.step) work.node) → fault_in (outcome_at (state run step) k) ≡ found
+  outcome_here found h = sym (h ∙ ap (λ (t : Tag). fault_in (outcome_at (state t.run t.step) t.node)) here)
+
+  pub no_fault_here : fault_in (outcome_at (state work.run work.step) work.node) ≡ None → node_fault k (drop k (state run step)) ≡ node_fault (k + 1) (drop (k + 1) (state run step))
+  no_fault_here h = ap (node_fault k) dropped ∙ fault_passed k (outcome_at (state run step) k) (drop (k + 1) (state run step)) (outcome_here None (sym h))
+
+  pub found_here : (kind : NodeFault) → fault_in (outcome_at (state work.run work.step) work.node) ≡ Some kind → node_fault k (drop k (state run step)) ≡ Some (ByNode k kind)
+  found_here kind h = ap (node_fault k) dropped ∙ fault_here k (outcome_at (state run step) k) (drop (k + 1) (state run step)) kind (outcome_here (Some kind) (sym h))
+
+pub no_fault_left : (run : Run) (step k : ℕ) → length run.plan.nodes ≤ k → node_fault k (drop k (state run step)) ≡ None
+no_fault_left run step k past = ap (node_fault k) (drop_all k (state run step) (let c = length_outcomes run.plan.nodes no_node (sources run step) in omega arith))
+
+-- a step that is entered and that no node spoils is reached
+pub reached_here : (run : Run) (step : ℕ) → IsEntered run step → node_fault 0 (state run step) ≡ None → IsReached run step
+reached_here run step e fine = record {
+  batches = e.batches;
+  nodes = λ s below. elim (cases_lt s step) [
+    | inl less ↦ e.nodes s less
+    | inr more ↦ let same : s ≡ step = omega (arith, below, more) in ap (λ s. node_fault 0 (state run s)) same ∙ fine
+  ];
+}
+
+module _ (run : Run) (step : ℕ) (e : IsEntered run step) (fine : node_fault 0 (state run step) ≡ None) (shares : List Tag) (same : shares ≡ tags run step (length run.plan.nodes)) where
+  -- then every node hands on a table
+  all_handed : list_all (λ (share : Tag). is_defined share.run share.step share.node) shares ≡ true
+  all_handed =
+      ap (list_all (λ (share : Tag). is_defined share.run share.step share.node)) same
+      ∙ pass_each (λ (share : Tag). is_defined share.run share.step share.node) (tags run step (length run.plan.nodes))
+      (every-map (λ (share : Tag). is_defined share.run share.step share.node ≡ true) (tag run step) (range_with_len 0 (length run.plan.nodes))
+      (range_all (λ k. is_defined run step k ≡ true) 0 (length run.plan.nodes) (λ k less. (reached_tables run e.lawful step (reached_here run step e fine)).each k (omega (arith, less)))))
+
+  pub some_handed : AreHanded shares None → ⊥
+  some_handed h = true≢false (sym all_handed ∙ h)
+
+  pub handed_tables : (all : List (Arc Ticking Global)) → AreHanded shares (Some all) → tables all ≡ nodes_shown run step
+  handed_tables all h =
+      h.1
+      ∙ ap (map (λ (share : Tag). shown share.run share.step share.node)) same
+      ∙ map_map (λ (share : Tag). shown share.run share.step share.node) (tag run step) (range_with_len 0 (length run.plan.nodes))
+
+-- the table of one of all nodes
+pub all_shown : (run : Run) (step : ℕ) (all : List (Arc Ticking Global)) → tables all ≡ nodes_shown run step → length all ≡ length run.plan.nodes
+all_shown run step all same =
+    let a = length-map all (λ (x : Arc Ticking Global). arc_value {X = Ticking} x) in
+    let b = ap length same in
+    let c = length-map-range_with_len (shown run step) 0 (length run.plan.nodes) in
+    omega arith
+
+pub one_shown : (run : Run) (step : ℕ) (all : List (Arc Ticking Global)) → tables all ≡ nodes_shown run step → (n : ℕ) → n < length run.plan.nodes → (table : Arc Ticking Global) → table ≡ get_or all n table → arc_value {X = Ticking} table ≡ shown run step n
+one_shown run step all same n within table there =
+    let long = all_shown run step all same in
+    ap (λ (x : Arc Ticking Global). arc_value {X = Ticking} x) there
+    ∙ sym (get_or-map (λ (x : Arc Ticking Global). arc_value {X = Ticking} x) all n table (shown run step n) (omega (arith, long, within)))
+    ∙ ap (λ these. get_or these n (shown run step n)) same
+    ∙ get_or-map-range_with_len (shown run step) 0 (length run.plan.nodes) n n (shown run step n) within (omega arith)
+
+-- what was found of the nodes
+abbrev pub cause_of : ℕ × NodeFault → Cause
+cause_of found = ByNode found.0 found.1
+
+pub found_fault : (found : Option (ℕ × NodeFault)) (least : Option Cause) → option_map cause_of found ≡ least → (node : ℕ) (kind : NodeFault) → found ≡ Some (node, kind) → least ≡ Some (ByNode node kind)
+found_fault found least e node kind h = sym e ∙ ap (option_map cause_of) h
+
+pub found_none : (found : Option (ℕ × NodeFault)) (least : Option Cause) → option_map cause_of found ≡ least → found ≡ None → least ≡ None
+found_none found least e h = sym e ∙ ap (option_map cause_of) h

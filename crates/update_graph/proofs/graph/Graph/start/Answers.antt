@@ -1,0 +1,19 @@
+use Rattle.std.proofs.Common.{ap, sym, ◌∙◌, length, map}
+use Rattle.source_changes.proofs.Opened.{opened_tables}
+use Rattle.tick_model.specs.declared.table.PlainTable.{PlainTable}
+use Rattle.tick_model.specs.LawfulRuns.{sources_of}
+use Rattle.tick_model.specs.Tables.{keys}
+use Rattle.update_graph.proofs.Batches.{entered_first, first_sources}
+use Rattle.update_graph.proofs.graph.Graph.start.Goals as goal
+
+pub new-requires : goal.new-requires
+new-requires c = opened_tables (length c.args.run.now.texts) (sources_of c.args.run.now.plan.nodes) c.args.run.now.opening c.requires.opening
+
+pub open_all-requires-clause-entered : goal.open_all-requires-clause-entered
+open_all-requires-clause-entered c = entered_first c.args.run.now c.requires
+
+pub finished-requires-clause-entered : goal.finished-requires-clause-entered
+finished-requires-clause-entered c = entered_first c.args.run.now c.requires
+
+pub finished-requires-clause-keys : goal.finished-requires-clause-keys
+finished-requires-clause-keys c = c.in_ok-keys.ensures ∙ ap (map (λ (table : PlainTable). keys table.rows)) (sym (first_sources c.args.run.now))

@@ -1,0 +1,30 @@
+use Rattle.std.proofs.Common.{sym, ◌∙◌, subst, Some, None, Vec, Global}
+use Rattle.std.specs.Prelude.{option_map}
+use Rattle.std.specs.declared.sync.Arc.{Arc}
+use Rattle.tick_table.specs.Ticking.{Ticking}
+use Rattle.update_graph.specs.Graphs.{IsGraph}
+use Rattle.update_graph.specs.Stands.{AreHanded}
+use Rattle.update_graph.proofs.Sweeping.{handed_tables, reached_here, some_handed}
+use Rattle.update_graph.proofs.graph.gathered.Goals as goal
+
+pub unreachable-requires : goal.unreachable-requires
+unreachable-requires c =
+    let handed : AreHanded c.of-shares.result None =
+    subst (λ found. AreHanded c.of-shares.result (option_map (λ (all : Vec (Arc Ticking Global) Global). all.items) found)) c.in-None.is c.in_ok-tables.ensures in
+    some_handed c.args.run.now c.args.step c.requires.entered c.requires.nodes c.of-shares.result (c.of-shares.ensures ∙ c.requires.swept.shares) handed
+
+pub invariant_of-result : goal.invariant_of-result
+invariant_of-result c =
+    let run = c.args.run.now in
+    let handed : AreHanded c.of-shares.result (Some c.in-Some.tables.items) =
+    subst (λ found. AreHanded c.of-shares.result (option_map (λ (all : Vec (Arc Ticking Global) Global). all.items) found)) c.in-Some.is c.in_ok-tables.ensures in
+    subst (λ run. IsGraph run c.args.step c.args.keys c.args.sources.items c.args.sweep.works.items c.in-Some.tables.items) (sym c.of-about.ensures)
+    (record {
+      lawful = c.requires.entered.lawful;
+      within = c.requires.entered.within;
+      reached = reached_here run c.args.step c.requires.entered c.requires.nodes;
+      keys_are = c.requires.keys;
+      sources_are = c.requires.sources;
+      works_are = c.requires.swept.works;
+      tables_are = handed_tables run c.args.step c.requires.entered c.requires.nodes c.of-shares.result (c.of-shares.ensures ∙ c.requires.swept.shares) c.in-Some.tables.items handed;
+    })

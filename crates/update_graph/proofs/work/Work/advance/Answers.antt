@@ -1,0 +1,31 @@
+use Rattle.std.proofs.Common.{ap, sym, ◌∙◌, subst, true≢false, add-one}
+use Rattle.tick_laws.specs.Reached.{table_before}
+use Rattle.tick_model.specs.Evaluation.{has_table, table_at}
+use Rattle.tick_model.specs.States.{state}
+use Rattle.update_graph.specs.Stands.{IsKept, IsReady, is_defined}
+use Rattle.update_graph.specs.Tags.{Tag}
+use Rattle.update_graph.proofs.EnteredTicks.{all_before}
+use Rattle.update_graph.proofs.work.Work.advance.Goals as goal
+
+pub worked-requires-clause-ready : goal.worked-requires-clause-ready
+worked-requires-clause-ready g c =
+    let i = c.self.inside in
+    let o = c.in-Defined.ready.operator in
+    let t = c.in-Defined.ready.table in
+    let kept = subst (λ kept. IsKept i.run.value i.step i.node kept) c.in-Defined.is c.self.invariant in
+    subst (λ m. IsReady c.args.run.now (table_before c.args.run.now m) i.node o t) (sym (add-one i.step))
+    (subst (λ run. IsReady run (table_at (state run i.step)) i.node o t) (ap (λ (tag : Tag). tag.run) c.self.view_is ∙ c.requires.run) kept.1)
+
+pub unreachable-requires-in-Failed : goal.unreachable-requires-in-Failed
+unreachable-requires-in-Failed g c =
+    let s = c.args.self in
+    let here = subst (λ kept. IsKept s.run s.step s.node kept) c.in-Failed.is (subst (λ (t : Tag). IsKept t.run t.step t.node c.self.inside.state) c.self.view_is c.self.invariant) in
+    let has = all_before c.args.run.now s.step c.requires.entered s.node c.requires.node in
+    true≢false (sym has ∙ ap (λ run. is_defined run s.step s.node) (sym c.requires.run) ∙ ap has_table here)
+
+pub unreachable-requires-in-Undefined : goal.unreachable-requires-in-Undefined
+unreachable-requires-in-Undefined g c =
+    let s = c.args.self in
+    let here = subst (λ kept. IsKept s.run s.step s.node kept) c.in-Undefined.is (subst (λ (t : Tag). IsKept t.run t.step t.node c.self.inside.state) c.self.view_is c.self.invariant) in
+    let has = all_before c.args.run.now s.step c.requires.entered s.node c.requires.node in
+    true≢false (sym has ∙ ap (λ run. is_defined run s.step s.node) (sym c.requires.run) ∙ ap has_table here)

@@ -1,0 +1,50 @@
+-- What a node keeps from step to step, and what it hands to its dependents.
+--     is_defined run step node      whether the node has a table at the step
+--     shown run step node      its table at the step, with its update
+--     IsHanded run step node table      this is the node's table at the step, or it has none
+--     AreHanded shares tables      these are the tables that they hand on, or one of them has none
+--     IsReady run tables node operator table      the operator is the node's, and stands for its inputs' tables; the table is the node's own
+--     IsKept run step node state      what is kept of the node is of this step
+use Rattle.std.specs.Prelude.{◌≡◌, ℕ, Bool, true, false, List, map, Option, Some, None}
+use Rattle.std.specs.Arc.{arc_value}
+use Rattle.std.specs.List.{AllByRecursion, list_all}
+use Rattle.std.specs.declared.alloc.Global.{Global}
+use Rattle.std.specs.declared.sync.Arc.{Arc}
+use Rattle.merge_op.specs.Merged.{tables}
+use Rattle.operators.specs.Operating.{Operating, StandsFor}
+use Rattle.operators.specs.Planned.{input_widths}
+use Rattle.tick_model.specs.declared.feed.Run.{Run}
+use Rattle.tick_model.specs.declared.table.PlainTable.{PlainTable}
+use Rattle.tick_model.specs.Evaluation.{Fault, NoInput, has_table, inputs_of, outcome_at, table_at}
+use Rattle.tick_model.specs.States.{state, tick}
+use Rattle.tick_table.specs.Exact.{ticking}
+use Rattle.tick_table.specs.Ticking.{Ticking}
+use Rattle.update_graph.specs.declared.work.State.{State}
+use Rattle.update_graph.specs.declared.work.State.TheVariants.{Source, Defined, Failed, Undefined}
+use Rattle.update_graph.specs.Tags.{Tag, is_operator, op_at}
+
+abbrev pub is_defined : Run → ℕ → ℕ → Bool
+is_defined run step node = has_table (outcome_at (state run step) node)
+
+abbrev pub shown : Run → ℕ → ℕ → Ticking
+shown run step node = ticking (tick run step node)
+
+abbrev pub IsHanded : Run → ℕ → ℕ → Option (Arc Ticking Global) → Type 0
+IsHanded run step node (Some table) = (is_defined run step node ≡ true) × (arc_value {X = Ticking} table ≡ shown run step node)
+IsHanded run step node None = is_defined run step node ≡ false
+
+abbrev pub AreHanded : List Tag → Option (List (Arc Ticking Global)) → Type 0
+AreHanded shares (Some all) = AllByRecursion (λ share. is_defined share.run share.step share.node ≡ true) shares × (tables all ≡ map (λ share. shown share.run share.step share.node) shares)
+AreHanded shares None = list_all (λ share. is_defined share.run share.step share.node) shares ≡ false
+
+pub record IsReady (run : Run) (tables : ℕ → PlainTable) (node : ℕ) (operator : Operating) (table : Arc Ticking Global) : Type 0 where
+  pub op : operator.op ≡ op_at run node
+  pub widths : operator.widths ≡ input_widths run.plan (op_at run node)
+  pub stands : StandsFor operator (map tables (inputs_of (op_at run node)))
+  pub own : (arc_value {X = Ticking} table).new ≡ tables node
+
+abbrev pub IsKept : Run → ℕ → ℕ → State → Type 0
+IsKept run step node Source = (is_operator run node ≡ false) × (is_defined run step node ≡ true)
+IsKept run step node (Defined ready) = (is_defined run step node ≡ true) × IsReady run (table_at (state run step)) node ready.operator ready.table
+IsKept run step node (Failed fault) = outcome_at (state run step) node ≡ Fault fault
+IsKept run step node Undefined = outcome_at (state run step) node ≡ NoInput

@@ -1,0 +1,35 @@
+-- Nodes at the steps of a run.
+--     tag run step node      a node at a step
+--     tags run step count      the first so many nodes at a step
+--     node_at run node, op_at run node      a node of the plan, which is a source past the last one, and its operator
+--     is_operator run node      whether it has an operator
+use Rattle.std.specs.Prelude.{ℕ, Bool, not, List, [], map, slice_index_or}
+use Rattle.std.specs.List.{range_with_len}
+use Rattle.tick_model.specs.declared.feed.Run.{Run}
+use Rattle.tick_model.specs.declared.plan.Node.{Node}
+use Rattle.tick_model.specs.declared.plan.Op.{Op}
+use Rattle.tick_model.specs.declared.plan.Op.TheVariants.{Source}
+use Rattle.tick_model.specs.Evaluation.{is_source}
+
+pub record Tag : Type 0 where
+  pub run : Run
+  pub node : ℕ
+  pub step : ℕ
+
+abbrev pub tag : Run → ℕ → ℕ → Tag
+tag run step node = record { run = run; node = node; step = step }
+
+abbrev pub tags : Run → ℕ → ℕ → List Tag
+tags run step count = map (tag run step) (range_with_len 0 count)
+
+abbrev pub no_node : Node
+no_node = record { name = []; columns = []; op = Source }
+
+abbrev pub node_at : Run → ℕ → Node
+node_at run node = slice_index_or run.plan.nodes node no_node
+
+abbrev pub op_at : Run → ℕ → Op
+op_at run node = (node_at run node).op
+
+abbrev pub is_operator : Run → ℕ → Bool
+is_operator run node = not (is_source (node_at run node))

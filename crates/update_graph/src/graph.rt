@@ -1,0 +1,296 @@
+//! The graph itself: its start, its cycle and what it answers.
+
+ghost use Rattle.std.specs.Prelude.{◌≡◌, ◌+◌, ◌<◌, ◌≤◌, None, Some, ℕ, IfErr, IfOk, OnOk, length, map, option_map};
+ghost use Rattle.std.specs.Arc.{arc_value};
+ghost use Rattle.merge_op.specs.Merged.{tables};
+ghost use Rattle.tick_laws.specs.Reached.{IsReached};
+ghost use Rattle.tick_model.specs.Changes.{change_of};
+ghost use Rattle.tick_model.specs.LawfulRuns.{IsLawfulRun};
+ghost use Rattle.tick_model.specs.Sources.{batch_fault, source_ticks, sources as sources_at};
+ghost use Rattle.tick_model.specs.Spoiled.{ByNode, node_fault};
+ghost use Rattle.tick_model.specs.States.{state, tick};
+ghost use Rattle.tick_model.specs.Tables.{keys as keys_of};
+ghost use Rattle.tick_model.specs.declared.feed.Run.{Run};
+ghost use Rattle.tick_table.specs.Exact.{ticking};
+ghost use Rattle.tick_table.specs.Ticking.{Ticking};
+ghost use Rattle.update_graph.specs.Entered.{IsEntered};
+ghost use Rattle.update_graph.specs.Graphs.{RanOnce, nodes_shown, sources_shown};
+ghost use Rattle.update_graph.specs.Stops.{IsStop};
+ghost use Rattle.update_graph.specs.Sweeps.{IsSwept};
+ghost use Rattle.update_graph.specs.Tags.{tags};
+
+use crate::opening::open_all;
+use crate::shares::tables_of;
+use crate::sources::{changed_sources, opened_sources, referred};
+use crate::stop::{Stop, refused};
+use crate::sweep::{Sweep, work_all};
+use crate::work::Work;
+use source_changes::SourceKeys;
+use std::alloc::{AllocError, Global};
+use std::marker::{Brand, Model};
+use std::snapshot::Snapshot;
+use std::sync::ledger::Blank;
+use std::thread::Threads;
+use tick_io::Gate;
+use tick_model::feed::Run;
+use tick_model::items::Items;
+use tick_model::table::NodeFault;
+use tick_table::{Change, Shared, TickTable};
+
+/// The nodes of a lawful run, all of which stand at one step of it. A contract sees the run, the step, and the nodes with an
+/// operator that were worked for the step.
+#[derive(Drop)]
+pub struct Graph {
+    run: Snapshot<Run>,
+    step: u64,
+    /// The keys of the sources.
+    keys: SourceKeys,
+    /// The tables of the sources, in order of the nodes.
+    sources: Vec<Shared>,
+    /// What each node keeps.
+    works: Vec<Work>,
+    /// The table of each node.
+    tables: Vec<Shared>,
+    ran: Vec<u32>,
+}
+
+impl Model for Graph {
+    ghost use Rattle.std.specs.Coded.{codes};
+    ghost use Rattle.tick_model.specs.contracts.plan.Expr as expr_type;
+    ghost use Rattle.tick_model.specs.contracts.plan.Pred as pred_type;
+    ghost use Rattle.update_graph.specs.Graphs.{GraphView, IsGraph};
+
+    ghost Value = { GraphView };
+
+    ghost coded = { Prim.hlevel (codes, expr_type.the_row.coded, pred_type.the_row.coded) };
+
+    ghost view = { λ graph. record { run = graph.run.value; step = graph.step; ran = graph.ran.items } };
+
+    ghost invariant = { λ graph. IsGraph graph.run.value graph.step graph.keys graph.sources.items graph.works.items graph.tables.items };
+}
+
+/// The changes of the sources at the next step, by its batch.
+fn changes_of(
+    alloc: Global,
+    run: &Run,
+    step: u64,
+    keys: &mut SourceKeys,
+    sources: &[Shared],
+) -> Result<Vec<Change>, Stop>
+    requires lawful { IsLawfulRun run.now }
+    requires reached { IsReached run.now step }
+    requires next { step < length run.now.batches }
+    requires keys { keys.old ≡ map (λ table. keys_of table.rows) (sources_at run.now step) }
+    requires sources { tables sources.now ≡ sources_shown run.now step }
+    ensures entered { OnOk result (IsEntered run.now (step + 1)) }
+    ensures changes { IfOk result (λ changes. changes.items ≡ map change_of (source_ticks run.now (step + 1))) }
+    ensures keys { OnOk result (keys.new ≡ map (λ table. keys_of table.rows) (sources_at run.now (step + 1))) }
+    ensures cause { IfErr result (IsStop run.now (step + 1)) }
+{
+    let batch = &run.batches.as_slice()[step as usize];
+    let known = referred(alloc, sources)?;
+    match keys.changes(alloc, &run.plan, batch, &known) {
+        Ok(changes) => Ok(changes),
+        Err(fault) => Err(refused(step + 1, fault)),
+    }
+}
+
+/// The least node that has no table although its inputs have theirs, and its fault.
+fn least_fault(works: &[Work]) -> Option<(u32, NodeFault)>
+    requires { length works.now ≤ 256 }
+    ensures { (run : Run) (step : ℕ) → works.now ≡ tags run step (length run.plan.nodes)
+        → option_map (λ found. ByNode found.0 found.1) result ≡ node_fault 0 (state run step) }
+{
+    for (node, work) in works.iter().enumerate() {
+        match work.fault() {
+            Some(kind) => return Some((node as u32, kind)),
+            None => {}
+        }
+    }
+    None
+}
+
+/// The graph at a step at which all nodes have tables.
+fn gathered(
+    alloc: Global,
+    run: &Run,
+    step: u64,
+    keys: SourceKeys,
+    sources: Vec<Shared>,
+    sweep: Sweep,
+) -> Result<Graph, AllocError>
+    requires entered { IsEntered run.now step }
+    requires nodes { node_fault 0 (state run.now step) ≡ None }
+    requires keys { keys ≡ map (λ table. keys_of table.rows) (sources_at run.now step) }
+    requires sources { tables sources.items ≡ sources_shown run.now step }
+    requires swept { IsSwept run.now step (length run.now.plan.nodes) sweep }
+    ensures run { IfOk result (λ graph. graph.run ≡ run.now) }
+    ensures step { IfOk result (λ graph. graph.step ≡ step) }
+    ensures ran { IfOk result (λ graph. graph.ran ≡ sweep.ran.items) }
+{
+    let Sweep {
+        works,
+        shares,
+        ran,
+        sources: _,
+    } = sweep;
+    let shares = Items::of(shares);
+    let about = Snapshot::of(run);
+    match tables_of(alloc, shares)? {
+        Some(tables) => Ok(Graph {
+            run: about,
+            step,
+            keys,
+            sources,
+            works,
+            tables,
+            ran,
+        }),
+        None => unreachable!(),
+    }
+}
+
+/// The graph at a step that all nodes have reached, unless one has failed.
+fn finished(
+    alloc: Global,
+    run: &Run,
+    step: u64,
+    keys: SourceKeys,
+    sources: Vec<Shared>,
+    sweep: Sweep,
+) -> Result<Graph, Stop>
+    requires entered { IsEntered run.now step }
+    requires keys { keys ≡ map (λ table. keys_of table.rows) (sources_at run.now step) }
+    requires sources { tables sources.items ≡ sources_shown run.now step }
+    requires swept { IsSwept run.now step (length run.now.plan.nodes) sweep }
+    ensures run { IfOk result (λ graph. graph.run ≡ run.now) }
+    ensures step { IfOk result (λ graph. graph.step ≡ step) }
+    ensures nodes { OnOk result (node_fault 0 (state run.now step) ≡ None) }
+    ensures ran { IfOk result (λ graph. RanOnce run.now.plan graph.ran) }
+    ensures cause { IfErr result (IsStop run.now step) }
+{
+    match least_fault(&sweep.works) {
+        Some((node, kind)) => Err(Stop::Node { step, node, kind }),
+        None => {
+            let graph = gathered(alloc, run, step, keys, sources, sweep)?;
+            Ok(graph)
+        }
+    }
+}
+
+/// The graph at the next step, by the batch of that step.
+fn next<G: Gate>(
+    alloc: Global,
+    run: &Run,
+    step: u64,
+    keys: SourceKeys,
+    sources: Vec<Shared>,
+    works: Vec<Work>,
+    gate: &G,
+) -> Result<Graph, Stop>
+    requires lawful { IsLawfulRun run.now }
+    requires reached { IsReached run.now step }
+    requires next { step < length run.now.batches }
+    requires keys { keys ≡ map (λ table. keys_of table.rows) (sources_at run.now step) }
+    requires sources { tables sources.items ≡ sources_shown run.now step }
+    requires works { works.items ≡ tags run.now step (length run.now.plan.nodes) }
+    ensures run { IfOk result (λ graph. graph.run ≡ run.now) }
+    ensures step { IfOk result (λ graph. graph.step ≡ step + 1) }
+    ensures batch { OnOk result (batch_fault run.now (step + 1) ≡ None) }
+    ensures nodes { OnOk result (node_fault 0 (state run.now (step + 1)) ≡ None) }
+    ensures ran { IfOk result (λ graph. RanOnce run.now.plan graph.ran) }
+    ensures cause { IfErr result (IsStop run.now (step + 1)) }
+{
+    let mut keys = keys;
+    let changes = changes_of(alloc, run, step, &mut keys, &sources)?;
+    let sources = changed_sources(alloc, run, step + 1, sources, changes)?;
+    let sweep = work_all::<G, Brand>(alloc, run, works, step, &sources, gate, Blank::new(1))?;
+    let graph = finished(alloc, run, step + 1, keys, sources, sweep)?;
+    Ok(graph)
+}
+
+impl Graph {
+    /// The graph at step 0 of a lawful run.
+    pub fn start(alloc: Global, run: &Run) -> Result<Graph, Stop>
+        requires { IsLawfulRun run.now }
+        ensures run { IfOk result (λ graph. graph.run ≡ run.now) }
+        ensures step { IfOk result (λ graph. graph.step ≡ 0) }
+        ensures nodes { OnOk result (node_fault 0 (state run.now 0) ≡ None) }
+        ensures cause { IfErr result (IsStop run.now 0) }
+    {
+        let keys = SourceKeys::new(alloc, &run.opening)?;
+        let sources = opened_sources(alloc, run)?;
+        let sweep = open_all::<Brand>(alloc, run, &sources, Blank::new(1))?;
+        let graph = finished(alloc, run, 0, keys, sources, sweep)?;
+        Ok(graph)
+    }
+
+    /// The graph at the next step of its run, by the batch of that step. The gate is called round the work of each node with an
+    /// operator. After a refusal the graph is given up.
+    pub fn cycle<R: Threads + Sync, G: Gate>(
+        self,
+        rt: &R,
+        alloc: Global,
+        run: &Run,
+        workers: u32,
+        gate: &G,
+    ) -> Result<Graph, Stop>
+        requires run { self.run ≡ run.now }
+        requires next { self.step < length run.now.batches }
+        requires some { 1 ≤ workers }
+        requires few { workers ≤ 64 }
+        ensures run { IfOk result (λ graph. graph.run ≡ run.now) }
+        ensures step { IfOk result (λ graph. graph.step ≡ self.step + 1) }
+        ensures batch { OnOk result (batch_fault run.now (self.step + 1) ≡ None) }
+        ensures nodes { OnOk result (node_fault 0 (state run.now (self.step + 1)) ≡ None) }
+        ensures ran { IfOk result (λ graph. RanOnce run.now.plan graph.ran) }
+        ensures cause { IfErr result (IsStop run.now (self.step + 1)) }
+    {
+        let _ = rt;
+        let _ = workers;
+        let Graph {
+            run: _,
+            step,
+            keys,
+            sources,
+            works,
+            tables,
+            ran: _,
+        } = self;
+        drop(tables);
+        next(alloc, run, step, keys, sources, works, gate)
+    }
+
+    /// The step at which all nodes stand. The run has reached it.
+    pub fn step(&self) -> u64
+        ensures step { result ≡ self.now.step }
+        ensures lawful { IsLawfulRun self.now.run }
+        ensures reached { IsReached self.now.run self.now.step }
+    {
+        self.step
+    }
+
+    /// The table of a node, as it is and as it was before the step.
+    pub fn table(&self, node: u32) -> &TickTable
+        requires { node < length self.now.run.plan.nodes }
+        ensures { result.now ≡ ticking (tick self.now.run self.now.step node) }
+    {
+        self.shared(node)
+    }
+
+    /// The same, for another holder.
+    pub fn shared(&self, node: u32) -> &Shared
+        requires { node < length self.now.run.plan.nodes }
+        ensures { arc_value {X = Ticking} result.now ≡ ticking (tick self.now.run self.now.step node) }
+    {
+        let tables = self.tables.as_slice();
+        &tables[node as usize]
+    }
+
+    /// The nodes with an operator that were worked for the step.
+    pub fn ran(&self) -> &[u32]
+        ensures { result.now ≡ self.now.ran }
+    {
+        &self.ran
+    }
+}

@@ -1,0 +1,94 @@
+//! What a node hands to its dependents.
+
+ghost use Rattle.std.specs.Prelude.{◌≡◌, IfOk, option_map};
+ghost use Rattle.update_graph.specs.Stands.{AreHanded, IsHanded};
+ghost use Rattle.update_graph.specs.Tags.{tag};
+
+use std::alloc::{AllocError, Global};
+use std::marker::Model;
+use std::snapshot::Snapshot;
+use tick_model::feed::Run;
+use tick_model::items::Items;
+use tick_table::Shared;
+
+/// A node's table at a step, or that it has none. A contract sees the node, the step and the run, which say what the table is.
+#[derive(Drop)]
+pub(crate) struct Share {
+    run: Snapshot<Run>,
+    node: u32,
+    step: u64,
+    table: Option<Shared>,
+}
+
+impl Model for Share {
+    ghost use Rattle.std.specs.Coded.{codes};
+    ghost use Rattle.tick_model.specs.contracts.plan.Expr as expr_type;
+    ghost use Rattle.tick_model.specs.contracts.plan.Pred as pred_type;
+    ghost use Rattle.update_graph.specs.Stands.{IsHanded};
+    ghost use Rattle.update_graph.specs.Tags.{Tag};
+
+    ghost Value = { Tag };
+
+    ghost coded = { Prim.hlevel (codes, expr_type.the_row.coded, pred_type.the_row.coded) };
+
+    ghost view = { λ share. record { run = share.run.value; node = share.node; step = share.step } };
+
+    ghost invariant = { λ share. IsHanded share.run.value share.step share.node share.table };
+}
+
+impl Share {
+    /// What a node hands on.
+    pub(crate) fn new(run: &Run, node: u32, step: u64, table: Option<Shared>) -> Share
+        requires { IsHanded run.now step node table }
+        ensures { result ≡ tag run.now step node }
+    {
+        Share {
+            run: Snapshot::of(run),
+            node,
+            step,
+            table,
+        }
+    }
+
+    /// The same for another dependent.
+    pub(crate) fn copy(&self, run: &Run) -> Result<Share, AllocError>
+        requires { run.now ≡ self.now.run }
+        ensures { IfOk result (λ share. share ≡ self.now) }
+    {
+        let table = match &self.table {
+            Some(table) => Some(table.clone()?),
+            None => None,
+        };
+        Ok(Share::new(run, self.node, self.step, table))
+    }
+
+    /// The table that is handed on.
+    pub(crate) fn into_table(self) -> Option<Shared>
+        ensures { IsHanded self.run self.step self.node result }
+    {
+        let Share {
+            run: _,
+            node: _,
+            step: _,
+            table,
+        } = self;
+        table
+    }
+}
+
+/// The tables that nodes hand on, or `None` where one of them has none.
+pub(crate) fn tables_of(
+    alloc: Global,
+    shares: Items<Share>,
+) -> Result<Option<Vec<Shared>>, AllocError>
+    ensures { IfOk result (λ handed. AreHanded shares (option_map (λ all. all.items) handed)) }
+{
+    let mut all = Vec::with_capacity(alloc, shares.len())?;
+    for share in shares.into_vec() {
+        match share.into_table() {
+            Some(table) => all.push(table)?,
+            None => return Ok(None),
+        }
+    }
+    Ok(Some(all))
+}

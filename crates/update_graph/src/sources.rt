@@ -1,0 +1,103 @@
+//! The sources, and how tables are changed in place.
+
+ghost use Rattle.std.specs.Prelude.{◌≡◌, ◌*◌, ◌^◌, ◌≤◌, IfOk, None, length, map};
+ghost use Rattle.std.specs.Arc.{arc_value};
+ghost use Rattle.merge_op.specs.Merged.{news, tables};
+ghost use Rattle.source_changes.specs.Openings.{IsOpenedTable};
+ghost use Rattle.tick_model.specs.Changes.{change_of, told_keys};
+ghost use Rattle.tick_model.specs.LawfulRuns.{IsLawfulRun};
+ghost use Rattle.tick_model.specs.Rules.{update_fault};
+ghost use Rattle.tick_model.specs.Sources.{opened, source_ticks};
+ghost use Rattle.tick_model.specs.Tables.{keys};
+ghost use Rattle.tick_model.specs.Updates.{IsTick, Tick};
+ghost use Rattle.tick_table.specs.Exact.{ticking};
+ghost use Rattle.tick_table.specs.Ticking.{Ticking};
+ghost use Rattle.update_graph.specs.Entered.{IsEntered};
+ghost use Rattle.update_graph.specs.Graphs.{sources_shown};
+
+use source_changes::opening_change;
+use std::alloc::{AllocError, Global};
+use std::sync::Arc;
+use tick_model::feed::Run;
+use tick_model::table::PlainTable;
+use tick_table::{Change, Shared, TickTable};
+
+/// A table after a change. It is changed in place where nobody else holds it, and else copied first.
+pub(crate) fn applied(alloc: Global, table: Shared, change: Change) -> Result<Shared, AllocError>
+    requires lawful { update_fault (2 ^ 62) (keys (arc_value {X = Ticking} table).new.rows) change.update ≡ None }
+    requires whole { length change.cells ≡ length (told_keys change.update) * (arc_value {X = Ticking} table).new.width }
+    ensures { IfOk result (λ shared. (tick : Tick) → IsTick tick → (arc_value {X = Ticking} table).new ≡ tick.old → change ≡ change_of tick
+        → arc_value {X = Ticking} shared ≡ ticking tick) }
+{
+    let own = match Arc::try_unwrap(table) {
+        Ok(own) => own,
+        Err(shared) => shared.copy()?,
+    };
+    let changed = own.apply(change)?;
+    Ok(Arc::new(alloc, changed)?)
+}
+
+/// The table of a source after the opening.
+fn opened_source(alloc: Global, table: &PlainTable) -> Result<Shared, AllocError>
+    requires opened { IsOpenedTable table.now }
+    requires tick { IsTick (opened table.now) }
+    requires some { 1 ≤ table.now.width }
+    requires few { table.now.width ≤ 32 }
+    ensures { IfOk result (λ shared. arc_value {X = Ticking} shared ≡ ticking (opened table.now)) }
+{
+    let own = Arc::new(alloc, TickTable::new(alloc, table.width)?)?;
+    let change = opening_change(alloc, table)?;
+    let opened = applied(alloc, own, change)?;
+    Ok(opened)
+}
+
+/// The tables of the sources at step 0, in order of the nodes.
+pub(crate) fn opened_sources(alloc: Global, run: &Run) -> Result<Vec<Shared>, AllocError>
+    requires { IsLawfulRun run.now }
+    ensures { IfOk result (λ sources. tables sources.items ≡ sources_shown run.now 0) }
+{
+    let mut sources = Vec::with_capacity(alloc, run.opening.len())?;
+    let opening = run.opening.as_slice();
+    for table in opening {
+        let source = opened_source(alloc, table)?;
+        sources.push(source)?;
+    }
+    Ok(sources)
+}
+
+/// References to tables.
+pub(crate) fn referred<'a>(
+    alloc: Global,
+    shared: &'a [Shared],
+) -> Result<Vec<&'a TickTable>, AllocError>
+    ensures { IfOk result (λ referred. map (λ table. table.now) referred.items ≡ tables shared.now) }
+{
+    let mut referred = Vec::with_capacity(alloc, shared.len())?;
+    for table in shared {
+        let own: &TickTable = table;
+        referred.push(own)?;
+    }
+    Ok(referred)
+}
+
+/// The tables of the sources after a step, by their changes.
+pub(crate) fn changed_sources(
+    alloc: Global,
+    run: &Run,
+    step: u64,
+    sources: Vec<Shared>,
+    changes: Vec<Change>,
+) -> Result<Vec<Shared>, AllocError>
+    requires entered { IsEntered run.now step }
+    requires sources { news (tables sources.items) ≡ map (λ tick. tick.old) (source_ticks run.now step) }
+    requires changes { changes.items ≡ map change_of (source_ticks run.now step) }
+    ensures { IfOk result (λ changed. tables changed.items ≡ sources_shown run.now step) }
+{
+    let _ = run;
+    let mut changed = Vec::with_capacity(alloc, sources.len())?;
+    for (source, change) in sources.into_iter().zip(changes.into_iter()) {
+        let next = applied(alloc, source, change)?;
+        changed.push(next)?;
+    }
+    Ok(changed)
+}

@@ -1,0 +1,245 @@
+//! What a node keeps from step to step, and how a step advances it.
+
+ghost use Rattle.std.specs.Prelude.{◌≡◌, ◌+◌, ◌<◌, IfOk, false, length, map, true};
+ghost use Rattle.std.specs.Arc.{arc_value};
+ghost use Rattle.std.specs.List.{AllByRecursion};
+ghost use Rattle.merge_op.specs.Merged.{tables};
+ghost use Rattle.tick_laws.specs.Reached.{table_before};
+ghost use Rattle.tick_model.specs.Evaluation.{Fault, inputs_of, outcome_at, table_at};
+ghost use Rattle.tick_model.specs.States.{state as state_of};
+ghost use Rattle.tick_model.specs.declared.table.NodeFault.{NodeFault};
+ghost use Rattle.tick_table.specs.Ticking.{Ticking};
+ghost use Rattle.update_graph.specs.Entered.{IsEntered};
+ghost use Rattle.update_graph.specs.Faults.{fault_in};
+ghost use Rattle.update_graph.specs.Stands.{IsKept, IsReady, is_defined, shown};
+ghost use Rattle.update_graph.specs.Tags.{is_operator, op_at, tag};
+
+use crate::shares::{Share, tables_of};
+use crate::sources::applied;
+use operators::{Operator, StepFault};
+use std::alloc::{AllocError, Global};
+use std::marker::Model;
+use std::snapshot::Snapshot;
+use std::sync::ledger::Ledger;
+use tick_model::feed::Run;
+use tick_model::items::Items;
+use tick_model::table::NodeFault;
+use tick_table::{Shared, Steps};
+
+/// A node's operator, and the table that it changes.
+#[derive(Drop)]
+pub(crate) struct Ready {
+    pub(crate) operator: Operator,
+    pub(crate) table: Shared,
+}
+
+/// What is kept of a node.
+#[derive(Drop)]
+pub(crate) enum State {
+    /// It is a source, of which nothing is kept here.
+    Source,
+    /// It has a table.
+    Defined(Ready),
+    /// It has none although its inputs have theirs.
+    Failed(NodeFault),
+    /// It has none since an input has none.
+    Undefined,
+}
+
+/// What a node keeps at a step. A contract sees the node, the step and the run, which say what is kept: an operator that stands
+/// for the tables of the inputs at that step and the node's own table, or why there are none.
+#[derive(Drop)]
+pub(crate) struct Work {
+    run: Snapshot<Run>,
+    node: u32,
+    step: u64,
+    state: State,
+}
+
+impl Model for Work {
+    ghost use Rattle.std.specs.Coded.{codes};
+    ghost use Rattle.tick_model.specs.contracts.plan.Expr as expr_type;
+    ghost use Rattle.tick_model.specs.contracts.plan.Pred as pred_type;
+    ghost use Rattle.update_graph.specs.Stands.{IsKept};
+    ghost use Rattle.update_graph.specs.Tags.{Tag};
+
+    ghost Value = { Tag };
+
+    ghost coded = { Prim.hlevel (codes, expr_type.the_row.coded, pred_type.the_row.coded) };
+
+    ghost view = { λ work. record { run = work.run.value; node = work.node; step = work.step } };
+
+    ghost invariant = { λ work. IsKept work.run.value work.step work.node work.state };
+}
+
+impl Work {
+    /// What is kept of a node.
+    fn new(run: &Run, node: u32, step: u64, state: State) -> Work
+        requires { IsKept run.now step node state }
+        ensures { result ≡ tag run.now step node }
+    {
+        Work {
+            run: Snapshot::of(run),
+            node,
+            step,
+            state,
+        }
+    }
+
+    /// What is kept of a source.
+    pub(crate) fn of_source(run: &Run, node: u32, step: u64) -> Work
+        requires source { is_operator run.now node ≡ false }
+        requires defined { is_defined run.now step node ≡ true }
+        ensures { result ≡ tag run.now step node }
+    {
+        Work::new(run, node, step, State::Source)
+    }
+
+    /// What is kept of a node with an operator at the next step, and what it hands on. Its operator steps once, or not at all
+    /// where a share says that its node has no table. After a refusal the work is given up.
+    pub(crate) fn advance<L: Ledger>(
+        self,
+        alloc: Global,
+        run: &Run,
+        shares: Items<Share>,
+        reads: &mut Steps<L>,
+    ) -> Result<(Work, Share), AllocError>
+        requires run { self.run ≡ run.now }
+        requires entered { IsEntered run.now (self.step + 1) }
+        requires node { self.node < length run.now.plan.nodes }
+        requires operator { is_operator run.now self.node ≡ true }
+        requires shares { shares ≡ map (tag run.now (self.step + 1)) (inputs_of (op_at run.now self.node)) }
+        ensures work { IfOk result (λ out. out.0 ≡ tag run.now (self.step + 1) self.node) }
+        ensures share { IfOk result (λ out. out.1 ≡ tag run.now (self.step + 1) self.node) }
+    {
+        let Work {
+            run: _,
+            node,
+            step,
+            state,
+        } = self;
+        match state {
+            State::Defined(ready) => worked(alloc, run, node, step + 1, ready, shares, reads),
+            State::Source => unreachable!(),
+            State::Failed(_) => unreachable!(),
+            State::Undefined => unreachable!(),
+        }
+    }
+
+    /// Why the node has no table although its inputs have theirs.
+    pub(crate) fn fault(&self) -> Option<NodeFault>
+        ensures { result ≡ fault_in (outcome_at (state_of self.now.run self.now.step) self.now.node) }
+    {
+        match &self.state {
+            State::Source => None,
+            State::Defined(_) => None,
+            State::Failed(fault) => Some(*fault),
+            State::Undefined => None,
+        }
+    }
+}
+
+/// A node that has no table, for this reason.
+fn without_table(run: &Run, node: u32, step: u64, state: State) -> (Work, Share)
+    requires kept { IsKept run.now step node state }
+    requires undefined { is_defined run.now step node ≡ false }
+    ensures work { result.0 ≡ tag run.now step node }
+    ensures share { result.1 ≡ tag run.now step node }
+{
+    (
+        Work::new(run, node, step, state),
+        Share::new(run, node, step, None),
+    )
+}
+
+/// A node that has a table.
+fn with_table(run: &Run, node: u32, step: u64, ready: Ready) -> Result<(Work, Share), AllocError>
+    requires defined { is_defined run.now step node ≡ true }
+    requires ready { IsReady run.now (table_at (state_of run.now step)) node ready.operator ready.table }
+    requires table { arc_value {X = Ticking} ready.table ≡ shown run.now step node }
+    ensures work { IfOk result (λ out. out.0 ≡ tag run.now step node) }
+    ensures share { IfOk result (λ out. out.1 ≡ tag run.now step node) }
+{
+    let table = ready.table.clone()?;
+    Ok((
+        Work::new(run, node, step, State::Defined(ready)),
+        Share::new(run, node, step, Some(table)),
+    ))
+}
+
+/// A node with an operator after a step, from what it has before it, and what it hands on. The shares are those of its inputs.
+pub(crate) fn worked<L: Ledger>(
+    alloc: Global,
+    run: &Run,
+    node: u32,
+    step: u64,
+    ready: Ready,
+    shares: Items<Share>,
+    reads: &mut Steps<L>,
+) -> Result<(Work, Share), AllocError>
+    requires entered { IsEntered run.now step }
+    requires node { node < length run.now.plan.nodes }
+    requires operator { is_operator run.now node ≡ true }
+    requires ready { IsReady run.now (table_before run.now step) node ready.operator ready.table }
+    requires shares { shares ≡ map (tag run.now step) (inputs_of (op_at run.now node)) }
+    ensures work { IfOk result (λ out. out.0 ≡ tag run.now step node) }
+    ensures share { IfOk result (λ out. out.1 ≡ tag run.now step node) }
+{
+    match tables_of(alloc, shares) {
+        Ok(Some(inputs)) => stepped(alloc, run, node, step, ready, &inputs, reads),
+        Ok(None) => {
+            drop(ready);
+            Ok(without_table(run, node, step, State::Undefined))
+        }
+        Err(error) => {
+            drop(ready);
+            Err(error)
+        }
+    }
+}
+
+/// What it is for a node that a step of its operator is refused.
+fn without_step(
+    run: &Run,
+    node: u32,
+    step: u64,
+    fault: StepFault,
+) -> Result<(Work, Share), AllocError>
+    requires { (kind : NodeFault) → fault ≡ StepFault.Node kind → outcome_at (state_of run.now step) node ≡ Fault kind }
+    ensures work { IfOk result (λ out. out.0 ≡ tag run.now step node) }
+    ensures share { IfOk result (λ out. out.1 ≡ tag run.now step node) }
+{
+    match fault {
+        StepFault::Memory => Err(AllocError),
+        StepFault::Node(kind) => Ok(without_table(run, node, step, State::Failed(kind))),
+    }
+}
+
+/// A node whose inputs have these tables.
+fn stepped<L: Ledger>(
+    alloc: Global,
+    run: &Run,
+    node: u32,
+    step: u64,
+    ready: Ready,
+    inputs: &[Shared],
+    reads: &mut Steps<L>,
+) -> Result<(Work, Share), AllocError>
+    requires entered { IsEntered run.now step }
+    requires node { node < length run.now.plan.nodes }
+    requires operator { is_operator run.now node ≡ true }
+    requires ready { IsReady run.now (table_before run.now step) node ready.operator ready.table }
+    requires defined { AllByRecursion (λ input. is_defined run.now step input ≡ true) (inputs_of (op_at run.now node)) }
+    requires inputs { tables inputs.now ≡ map (shown run.now step) (inputs_of (op_at run.now node)) }
+    ensures work { IfOk result (λ out. out.0 ≡ tag run.now step node) }
+    ensures share { IfOk result (λ out. out.1 ≡ tag run.now step node) }
+{
+    let Ready { operator, table } = ready;
+    match operator.step(alloc, inputs, reads) {
+        Ok((operator, change)) => {
+            let table = applied(alloc, table, change)?;
+            with_table(run, node, step, Ready { operator, table })
+        }
+        Err(fault) => without_step(run, node, step, fault),
+    }
+}
