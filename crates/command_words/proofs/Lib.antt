@@ -1,3 +1,15 @@
 pub mod NumberLemmas
-pub mod SpellingLemmas
+pub mod WordLooks
+pub mod UseLemmas
 pub mod PartLemmas
+pub mod LeafRules
+pub mod RunRules
+pub mod DemoRules
+pub mod HoldLemmas
+pub mod LeafSteps
+pub mod SettleLemmas
+pub mod PlaceLemmas
+pub mod LeafWalk
+pub mod EndLemmas
+pub mod TopLemmas
+pub mod Agreement

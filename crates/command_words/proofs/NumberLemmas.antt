@@ -5,7 +5,7 @@ use Rattle.std.specs.Char.{is_ascii_digit}
 use Rattle.std.specs.List.{list_all}
 use Rattle.std.specs.Str.{all_ascii_digits}
 use Rattle.std.specs.Str.Parse.{digits_value}
-use Rattle.std.proofs.lemmas.Bool.{lt-leb, and_right, and_parts, leb-true, ltb-true, ltb-false}
+use Rattle.std.proofs.lemmas.Bool.{lt-leb, and_right, and_parts, ltb-true, ltb-false}
 use Rattle.std.proofs.lemmas.Str.Parse.{IsNumeralModel, numerals_by_value, tells_all_ascii_digits}
 use Rattle.command_words.specs.Commands.{is_numeral, number_within}
 

@@ -8,9 +8,7 @@ use Rattle.std.specs.Str.Parse.{digits_value}
 use Rattle.command_words.specs.declared.command.Command.{Command}
 use Rattle.command_words.specs.declared.command.Task.{Task}
 use Rattle.command_words.specs.declared.command.Task.TheVariants.{Run, Demo}
-use Rattle.command_words.specs.declared.parts.Given.{Given}
-use Rattle.command_words.specs.declared.parts.Parts.{Parts}
-use Rattle.command_words.specs.Words.{parts_of}
+use Rattle.command_words.specs.Words.{Given, Parts, parts_of}
 
 -- the number that 1 to 9 digits spell, where it is in a range
 abbrev pub is_numeral : List ℕ → Bool

@@ -1,3 +1,4 @@
 pub mod Words
-pub mod Reading
 pub mod Commands
+pub mod Program
+pub mod Found

@@ -2,7 +2,16 @@
 --     parts_of words      the parts, or none where a word is neither
 use Rattle.std.specs.Prelude.{ℕ, ◌==◌, Bool, true, not, List, [], ◌∷◌, Option, Some, None, codes, option_map, if◌then◌else◌}
 use Rattle.std.specs.Str.{bytes_eq}
-use Rattle.command_words.specs.declared.parts.Parts.{Parts}
+
+-- an option with its value
+pub record Given : Type 0 where
+  pub name : List ℕ
+  pub value : List ℕ
+
+-- options and positional words, each in order
+pub record Parts : Type 0 where
+  pub options : List Given
+  pub positional : List (List ℕ)
 
 -- a word that does not begin with a minus sign, or is one alone
 abbrev pub is_positional : List ℕ → Bool

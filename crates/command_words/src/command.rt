@@ -1,13 +1,14 @@
 //! What the words ask for.
 
 ghost use Rattle.std.specs.Prelude.{◌≡◌, Some, IfOk, IfSome, map, string_bytes};
-ghost use Rattle.command_words.specs.Commands.{HasRanges, command as command_of, command_from, demo_task as demo_task_of, run_task as run_task_of, task_of, with_settings};
+ghost use Rattle.clap.specs.Words.{found_of, rows_of, subcommand_rows_of};
+ghost use Rattle.command_words.specs.Commands.{HasRanges, command as command_of};
+ghost use Rattle.command_words.specs.Found.{command_found, command_in, with_found_numbers};
 
-use crate::numbers::number_within;
-use crate::parts::{Given, Parts, read_parts};
-use crate::settings::{are_known, setting};
+use crate::found::{setting, task_in};
+use crate::program::matches_of;
+use clap::ArgMatches;
 use std::alloc::{AllocError, Global};
-use tick_model::items::Items;
 use tick_model::name::Name;
 
 /// What is to be done.
@@ -33,85 +34,47 @@ pub struct Command {
     pub attempts: u32,
 }
 
-/// `run SCRIPT FEED`.
-fn run_task(positional: Items<Name>) -> Option<Task>
-    ensures { result ≡ run_task_of positional }
-{
-    let mut words = positional.into_vec();
-    let feed = words.pop()?;
-    let script = words.pop()?;
-    if words.is_empty() {
-        Some(Task::Run { script, feed })
-    } else {
-        None
-    }
-}
-
-/// `demo STEPS`.
-fn demo_task(positional: &[Name]) -> Option<Task>
-    ensures { result ≡ demo_task_of positional.now }
-{
-    match positional {
-        [steps] => { number_within(steps.as_str(), 0, 10_000).map(|steps| Task::Demo { steps }) }
-        _ => None,
-    }
-}
-
-fn named_task(first: &str, positional: Items<Name>) -> Option<Task>
-    ensures { result ≡ task_of first.now positional }
-{
-    match first {
-        "run" => run_task(positional),
-        "demo" => demo_task(positional.as_slice()),
-        _ => None,
-    }
-}
-
 /// A task with the numbers that options give.
-fn with_options(
-    alloc: Global,
-    task: Option<Task>,
-    options: &[Given],
-) -> Result<Option<Command>, AllocError>
-    ensures command { IfOk result (λ command. command ≡ with_settings task options.now) }
-    ensures ranges { IfOk result (λ command. IfSome command HasRanges) }
+fn with_numbers(task: Task, matches: &ArgMatches<'_>) -> Option<Command>
+    ensures command { result ≡ with_found_numbers (Some task) (rows_of (found_of matches.now)) }
+    ensures ranges { IfSome result HasRanges }
 {
-    if !are_known(options) {
-        return Ok(None);
-    }
-    let Some(task) = task else {
-        return Ok(None);
-    };
-    let Some(workers) = setting(alloc, options, "workers", 1, 64, 1)? else {
-        return Ok(None);
-    };
-    let Some(callers) = setting(alloc, options, "callers", 0, 16, 0)? else {
-        return Ok(None);
-    };
-    let Some(snaps) = setting(alloc, options, "snaps", 0, 64, 0)? else {
-        return Ok(None);
-    };
-    let Some(attempts) = setting(alloc, options, "attempts", 0, 16, 2)? else {
-        return Ok(None);
-    };
-    Ok(Some(Command {
+    Some(Command {
         task,
-        workers,
-        callers,
-        snaps,
-        attempts,
-    }))
+        workers: setting(matches, "workers", 1, 64, 1)?,
+        callers: setting(matches, "callers", 0, 16, 0)?,
+        snaps: setting(matches, "snaps", 0, 64, 0)?,
+        attempts: setting(matches, "attempts", 0, 16, 2)?,
+    })
 }
 
-fn with_parts(alloc: Global, first: &str, parts: Parts) -> Result<Option<Command>, AllocError>
-    ensures command { IfOk result (λ command. command ≡ command_from first.now (Some parts)) }
+/// The command that a subcommand of this name makes.
+fn command_named(
+    alloc: Global,
+    name: &str,
+    matches: &ArgMatches<'_>,
+) -> Result<Option<Command>, AllocError>
+    ensures command { IfOk result (λ command. command ≡ command_found name.now (rows_of (found_of matches.now))) }
     ensures ranges { IfOk result (λ command. IfSome command HasRanges) }
 {
-    let Parts {
-        options,
-        positional,
-    } = parts;
-    with_options(alloc, named_task(first, positional), options.as_slice())
+    match task_in(alloc, name, matches)? {
+        Some(task) => Ok(with_numbers(task, matches)),
+        None => Ok(None),
+    }
+}
+
+/// The command that matches make.
+fn command_of_matches(
+    alloc: Global,
+    matches: &ArgMatches<'_>,
+) -> Result<Option<Command>, AllocError>
+    ensures command { IfOk result (λ command. command ≡ command_in (Some (subcommand_rows_of matches.now))) }
+    ensures ranges { IfOk result (λ command. IfSome command HasRanges) }
+{
+    match matches.subcommand() {
+        Some((name, matches)) => command_named(alloc, name, matches),
+        None => Ok(None),
+    }
 }
 
 /// The command that the words after the program's name make, or `None` where they are of no command.
@@ -119,11 +82,8 @@ pub fn read_words(alloc: Global, words: &[String]) -> Result<Option<Command>, Al
     ensures command { IfOk result (λ command. command ≡ command_of (map string_bytes words.now)) }
     ensures ranges { IfOk result (λ command. IfSome command HasRanges) }
 {
-    let [first, others @ ..] = words else {
-        return Ok(None);
-    };
-    match read_parts(alloc, others)? {
-        Some(parts) => with_parts(alloc, first.as_str(), parts),
+    match matches_of(alloc, words)? {
+        Some(matches) => command_of_matches(alloc, &matches),
         None => Ok(None),
     }
 }

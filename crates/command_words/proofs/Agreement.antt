@@ -1,0 +1,61 @@
+-- The words make one command, by `clap`'s account of its walk and by the rules.
+use Rattle.std.proofs.Common.{◌≡◌, ◌∙◌, Bool, true, false, refl, sym, ap, List, [], ◌∷◌, map, Option, Some, None, String, string_bytes, codes, bytes_eq}
+use Rattle.std.proofs.lemmas.Bool.{true≢false}
+use Rattle.std.proofs.lemmas.Str.{IsUtf8-string_bytes}
+use Rattle.clap.specs.Walk.{Text}
+use Rattle.command_words.specs.declared.command.Task.{Task}
+use Rattle.command_words.specs.Commands.{command, command_from, task_of, with_settings}
+use Rattle.command_words.specs.Found.{command_in}
+use Rattle.command_words.specs.Program.{found_in}
+use Rattle.command_words.specs.Words.{Parts, parts_of}
+use Rattle.command_words.proofs.DemoRules.{demo_leaf, demo_places}
+use Rattle.command_words.proofs.EndLemmas.{demo_ends, no_task, run_ends}
+use Rattle.command_words.proofs.LeafRules.{demo_rules, run_rules}
+use Rattle.command_words.proofs.LeafSteps.{outcome_whole}
+use Rattle.command_words.proofs.LeafWalk.{Texts, leaf_agrees}
+use Rattle.command_words.proofs.PartLemmas.{command_from-finish, finish_all, no_parts, prepend}
+use Rattle.command_words.proofs.PlaceLemmas.{told}
+use Rattle.command_words.proofs.RunRules.{run_leaf, run_places}
+use Rattle.command_words.proofs.TopLemmas.{demo_told, met_none, no_words, other_none, run_told}
+use Rattle.command_words.proofs.UseLemmas.{bytes_apart, bytes_same, bytes_self}
+
+prepend_to_none : (parts : Option Parts) → prepend no_parts parts ≡ parts
+prepend_to_none None = refl
+prepend_to_none (Some parts) = refl
+
+finished : (first : Text) (words : List Text) → finish_all first (prepend no_parts (parts_of words)) ≡ command (first ∷ words)
+finished first words = ap (finish_all first) (prepend_to_none (parts_of words)) ∙ sym (command_from-finish first (parts_of words))
+
+run_agrees : (words : List Text) → Texts words → command_in (found_in (codes "run" ∷ words)) ≡ command (codes "run" ∷ words)
+run_agrees words texts =
+    run_told words ∙ ap (told (codes "run")) (outcome_whole (codes "run") run_rules words) ∙ leaf_agrees (codes "run") run_rules run_places run_leaf run_ends words texts
+    ∙ finished (codes "run") words
+
+demo_agrees : (words : List Text) → Texts words → command_in (found_in (codes "demo" ∷ words)) ≡ command (codes "demo" ∷ words)
+demo_agrees words texts =
+    demo_told words ∙ ap (told (codes "demo")) (outcome_whole (codes "demo") demo_rules words) ∙ leaf_agrees (codes "demo") demo_rules demo_places demo_leaf demo_ends words texts
+    ∙ finished (codes "demo") words
+
+-- a first word of neither task makes no command
+no_command : (first : Text) (parts : Option Parts) → bytes_eq first (codes "run") ≡ false → bytes_eq first (codes "demo") ≡ false → command_from first parts ≡ None
+no_command first None run demo = refl
+no_command first (Some parts) run demo =
+    let task : task_of first parts.positional ≡ None = rw (run, demo) refl in
+    ap (λ (t : Option Task). with_settings t parts.options) task ∙ no_task parts.options
+
+swapped : (a b : Text) → bytes_eq a b ≡ false → bytes_eq b a ≡ false
+swapped a b apart = bytes_apart b a (λ same. true≢false (sym (bytes_self a) ∙ ap (bytes_eq a) (sym same) ∙ apart))
+
+pub agrees : (words : List Text) → Texts words → command_in (found_in words) ≡ command words
+agrees [] texts = no_words
+agrees (first ∷ words) texts = go (bytes_eq first (codes "run")) (bytes_eq first (codes "demo")) refl refl
+  where
+    go : (r d : Bool) → bytes_eq first (codes "run") ≡ r → bytes_eq first (codes "demo") ≡ d → command_in (found_in (first ∷ words)) ≡ command (first ∷ words)
+    go true d run demo = rw (bytes_same first (codes "run") run) (run_agrees words texts.1)
+    go false true run demo = rw (bytes_same first (codes "demo") demo) (demo_agrees words texts.1)
+    go false false run demo =
+        other_none first words texts.0 (met_none first (swapped first (codes "run") run) (swapped first (codes "demo") demo)) ∙ sym (no_command first (parts_of words) run demo)
+
+pub strings_are_texts : {Z : Type 0} (words : List (String Z)) → Texts (map string_bytes words)
+strings_are_texts [] = tt
+strings_are_texts (word ∷ words) = (IsUtf8-string_bytes word, strings_are_texts words)

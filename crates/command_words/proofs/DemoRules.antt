@@ -1,0 +1,60 @@
+-- The arguments of `demo`.
+use Rattle.std.proofs.Common.{◌≡◌, ◌+◌, ℕ, zero, suc, false, refl, ap, subst, arith, List, [], ◌∷◌, Some, None, codes, slice_get}
+use Rattle.clap.specs.Walk.{Text, arg_by_id, arg_by_index, arg_by_long}
+use Rattle.command_words.specs.Commands.{is_known}
+use Rattle.command_words.proofs.PartLemmas.{Known, workers, callers, snaps, attempts}
+use Rattle.command_words.proofs.LeafRules.{IsLeaf, differs, option_taker, demo_rules, word_taker}
+
+abbrev pub demo_places : List Text
+demo_places = codes "steps" ∷ []
+
+by_long : (name : Text) → Known name → arg_by_long demo_rules name ≡ Some (option_taker name)
+by_long name workers = refl
+by_long name callers = refl
+by_long name snaps = refl
+by_long name attempts = refl
+
+no_long : (name : Text) → is_known name ≡ false → arg_by_long demo_rules name ≡ None
+no_long name none = rw (differs name _ workers none, differs name _ callers none, differs name _ snaps none, differs name _ attempts none) refl
+
+by_name : (name : Text) → Known name → arg_by_id demo_rules name ≡ Some (option_taker name)
+by_name name workers = refl
+by_name name callers = refl
+by_name name snaps = refl
+by_name name attempts = refl
+
+the_name : (a b : Text) → Some a ≡ Some b → a ≡ b
+the_name a b e = cc
+
+by_word : (i : ℕ) (name : Text) → slice_get demo_places i ≡ Some name → arg_by_id demo_rules name ≡ Some (word_taker (i + 1) name)
+by_word zero name e = subst (λ (n : Text). arg_by_id demo_rules n ≡ Some (word_taker 1 n)) (the_name (codes "steps") name e) refl
+by_word (suc i) name e = cc
+
+by_place : (i : ℕ) (name : Text) → slice_get demo_places i ≡ Some name → arg_by_index demo_rules (i + 1) ≡ Some (word_taker (i + 1) name)
+by_place zero name e = ap (λ (n : Text). Some (word_taker 1 n)) (the_name (codes "steps") name e)
+by_place (suc i) name e = cc
+
+unknown : (i : ℕ) (name : Text) → slice_get demo_places i ≡ Some name → is_known name ≡ false
+unknown zero name e = subst (λ (n : Text). is_known n ≡ false) (the_name (codes "steps") name e) refl
+unknown (suc i) name e = cc
+
+apart : (i j : ℕ) (name : Text) → slice_get demo_places i ≡ Some name → slice_get demo_places j ≡ Some name → i ≡ j
+apart zero zero name e f = refl
+apart zero (suc j) name e f = cc
+apart (suc i) j name e f = cc
+
+pub demo_leaf : IsLeaf demo_rules demo_places
+demo_leaf = record {
+  by_long = by_long;
+  no_long = no_long;
+  no_short = λ char. refl;
+  by_name = by_name;
+  by_word = by_word;
+  by_place = by_place;
+  past = refl;
+  defaults = (refl, (refl, (refl, (refl, (refl, tt)))));
+  required = λ rows. refl;
+  unknown = unknown;
+  apart = apart;
+  few = omega arith;
+}
