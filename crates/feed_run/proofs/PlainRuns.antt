@@ -163,7 +163,7 @@ batch_fault_plain run (suc step) =
     ∙ blocks_fault_plain run.plan (map unchanged (sources run step)) (blocks_of run (suc step))
 
 -- states and ticks
-state_plain : (run : Run) (step : ℕ) → state (plain_run run) step ≡ state run step
+pub state_plain : (run : Run) (step : ℕ) → state (plain_run run) step ≡ state run step
 state_plain run step = ap (eval (plain_plan run.plan)) (sources_plain run step) ∙ eval_plain run.plan (sources run step)
 
 tick_of_plain : (op : Op) → tick_of (plain_op op) ≡ tick_of op
@@ -215,7 +215,7 @@ good_plain run = ap (step_before (length run.batches)) (first_spoiled_plain run)
 pub name_plain : (run : Run) → name_at (plain_run run) ≡ name_at run
 name_plain run = let at : List (List ℕ) → ℕ → List ℕ = λ names node. slice_index_or names node [] in ap at (names_plain run.plan.nodes)
 
-columns_plain : (run : Run) → columns_at (plain_run run) ≡ columns_at run
+pub columns_plain : (run : Run) → columns_at (plain_run run) ≡ columns_at run
 columns_plain run = let at : List (List ColumnSpec) → ℕ → List ColumnSpec = λ tables node. slice_index_or tables node [] in ap at (tables_plain run.plan.nodes)
 
 node_records_plain : (run : Run) (step : ℕ) → node_records (plain_run run) step ≡ node_records run step
@@ -224,7 +224,7 @@ node_records_plain run step = fun_ext (λ (node : ℕ).
     ∙ ap (λ (of : ℕ → List ColumnSpec). change_records step (name_at run node) (of node) run.texts (change_of (tick (plain_run run) step node))) (columns_plain run)
     ∙ ap (λ own. change_records step (name_at run node) (columns_at run node) run.texts (change_of own)) (tick_plain run step node))
 
-step_records_plain : (run : Run) → step_records (plain_run run) ≡ step_records run
+pub step_records_plain : (run : Run) → step_records (plain_run run) ≡ step_records run
 step_records_plain run = fun_ext (λ (step : ℕ). ap (λ of. flat_map of run.plan.printed) (node_records_plain run step))
 
 pub updates_plain : (run : Run) → updates_text (plain_run run) ≡ updates_text run

@@ -2,94 +2,91 @@
 use Rattle.std.proofs.Common.{◌≡◌, ℕ, List, [], Bool, Option, Some, None, Ok, Err, refl, sym, ap, ◌∙◌, subst, inl, inr, arith, ◌≤◌}
 use Rattle.std.specs.Prelude.{IsTrue, option_map}
 use Rattle.tick_model.specs.declared.feed.Run.{Run}
-use Rattle.tick_model.specs.Spoiled.{ByBatch, ByNode, ByPublication, good}
+use Rattle.tick_model.specs.Spoiled.{ByBatch, ByNode, ByPublication}
 use Rattle.feed_reader.specs.Assembled.{plain_run}
-use Rattle.feed_run.specs.declared.refusal.Refusal.TheVariants.{Usage, Unbuilt, Script, Table, Feed}
+use Rattle.replay.specs.declared.outcome.Knobs.{Knobs}
+use Rattle.feed_run.specs.declared.refusal.Refusal.TheVariants.{Usage, Script, Table, Feed}
 use Rattle.feed_run.specs.declared.refusal.Stop.{Stop}
 use Rattle.feed_run.specs.declared.refusal.Stop.TheVariants.{Memory, Unread, Refused as Stopped}
 use Rattle.feed_run.specs.Answers.{Ends, EndsByStop, EndsByRun, Answers}
 use Rattle.feed_run.specs.Found.{Found}
 use Rattle.feed_run.specs.Headline.{NoneFailed, IsComplete, IsStatus, TellsVerdict, TellsLoadFault, OfVerdict, OfLoad, WritesPrefix, WritesPrefixOrNothing}
 use Rattle.feed_run.specs.Stops.{Reads}
-use Rattle.feed_run.specs.Verdicts.{Verdict, Refused, Spoiled, Done, found_verdict, status_of}
-use Rattle.feed_run.specs.Wholes.{IsLawful, IsLawfulUpTo, whole}
-use Rattle.feed_run.proofs.EndLemmas.{plainly, verdict_plain, whole_plain, status_plain}
+use Rattle.feed_run.specs.Verdicts.{Verdict, Refused, Summary, Kept, Spoiled, Done, found_verdict, status_of}
+use Rattle.feed_run.specs.Wholes.{whole}
+use Rattle.feed_run.proofs.PlainVerdicts.{plainly, verdict_plain, whole_plain, lawful_plain, status_plain}
 
--- a run that was read and run to its end
-pub run_ends : {X : Type 0} (told : Bool) (unread read : List ℕ → Type 0) (found : Found Run) (view : X → Run) (value : X) (run : Run) (failed : Type 0) (old new : Option (List ℕ)) (answer : ℕ) → Reads told unread read found view (Ok value) → view value ≡ plain_run run → EndsByRun run failed old new answer → Answers told (found_verdict found) unread read failed old new answer
-run_ends told unread read found view value run failed old new answer reads is (of, verdict, ends) =
-    inl (
-      plainly of,
-      (λ t. ap found_verdict (reads t ∙ ap (λ own. Some (Ok own)) is) ∙ verdict_plain run ∙ ap (option_map plainly) verdict),
-      subst (λ (status : ℕ). Ends status (whole (plainly of) []) failed old new answer) (sym (status_plain of)) (subst (λ (text : List ℕ). Ends (status_of of) text failed old new answer) (sym (whole_plain of)) ends),
-    )
+module _ (told : Bool) (unread read : List ℕ → Type 0) (failed : Type 0) (old new : Option (List ℕ)) (answer : ℕ) where
+  -- a run that was read and run to its end
+  pub run_ends : (knobs : Knobs) (found : Found Run) (run : Run) → Reads told unread read found plain_run (Ok run) → EndsByRun run knobs failed old new answer → Answers told (found_verdict knobs found) unread read failed old new answer
+  run_ends knobs found run reads (of, verdict, (choice, lawful, ends)) =
+      inl (
+        plainly of,
+        (λ t. ap (found_verdict knobs) (reads t) ∙ verdict_plain run knobs ∙ ap (option_map plainly) verdict),
+        (
+          choice,
+          lawful_plain of choice lawful,
+          subst (λ (status : ℕ). Ends status (whole (plainly of) choice) failed old new answer) (sym (status_plain of)) (subst (λ (text : List ℕ). Ends (status_of of) text failed old new answer) (sym (whole_plain of choice)) ends),
+        ),
+      )
 
--- a run that was not read
-pub stop_ends : {X : Type 0} (told : Bool) (unread read : List ℕ → Type 0) (found : Found Run) (view : X → Run) (stop : Stop) (failed : Type 0) (old new : Option (List ℕ)) (answer : ℕ) → Reads told unread read found view (Err stop) → EndsByStop stop failed old new answer → Answers told (found_verdict found) unread read failed old new answer
-stop_ends told unread read found view Memory failed old new answer reads ends = inr (inr ends)
-stop_ends told unread read found view (Unread name) failed old new answer reads ends = inr (inl (name, reads.0, reads.1, ends))
-stop_ends told unread read found view (Stopped refusal) failed old new answer reads ends = inl (Refused refusal, (λ t. ap found_verdict (reads t)), ends)
-
--- the empty choice is lawful
-lawful_up_to : (last : Option ℕ) → IsLawfulUpTo last []
-lawful_up_to None = refl
-lawful_up_to (Some last) = record { count = refl; each = tt }
-
-pub lawful_choice : (told : Verdict) → IsLawful told []
-lawful_choice (Refused refusal) = refl
-lawful_choice (Spoiled run step cause) = lawful_up_to (good run)
-lawful_choice (Done run step) = record { count = refl; each = tt }
+  -- a run that was not read
+  pub stop_ends : (knobs : Knobs) (found : Found Run) (stop : Stop) → Reads {X = Run} told unread read found plain_run (Err stop) → EndsByStop stop failed old new answer → Answers told (found_verdict knobs found) unread read failed old new answer
+  stop_ends knobs found Memory reads ends = inr (inr ends)
+  stop_ends knobs found (Unread name) reads ends = inr (inl (name, reads.0, reads.1, ends))
+  stop_ends knobs found (Stopped refusal) reads ends = inl (Refused refusal, (λ t. ap (found_verdict knobs) (reads t)), ([], refl, ends))
 
 -- the statuses of verdicts: none is that of a fault
 pub record IsVerdictStatus (status : ℕ) : Type 0 where
-  pub most : status ≤ 11
+  pub most : status ≤ 10
   pub not_one : status ≡ 1 → ⊥
   pub not_three : status ≡ 3 → ⊥
   pub not_ten : status ≡ 10 → ⊥
 
 verdict_status : (told : Verdict) → IsVerdictStatus (status_of told)
 verdict_status (Refused Usage) = record { most = omega arith; not_one = λ e. cc; not_three = λ e. cc; not_ten = λ e. cc }
-verdict_status (Refused (Unbuilt form)) = record { most = omega arith; not_one = λ e. cc; not_three = λ e. cc; not_ten = λ e. cc }
 verdict_status (Refused (Script line kind)) = record { most = omega arith; not_one = λ e. cc; not_three = λ e. cc; not_ten = λ e. cc }
 verdict_status (Refused (Table source number kind)) = record { most = omega arith; not_one = λ e. cc; not_three = λ e. cc; not_ten = λ e. cc }
 verdict_status (Refused (Feed number kind)) = record { most = omega arith; not_one = λ e. cc; not_three = λ e. cc; not_ten = λ e. cc }
-verdict_status (Spoiled run step (ByBatch number rule)) = record { most = omega arith; not_one = λ e. cc; not_three = λ e. cc; not_ten = λ e. cc }
-verdict_status (Spoiled run step (ByNode node fault)) = record { most = omega arith; not_one = λ e. cc; not_three = λ e. cc; not_ten = λ e. cc }
-verdict_status (Spoiled run step (ByPublication number rows)) = record { most = omega arith; not_one = λ e. cc; not_three = λ e. cc; not_ten = λ e. cc }
-verdict_status (Done run step) = record { most = omega arith; not_one = λ e. cc; not_three = λ e. cc; not_ten = λ e. cc }
+verdict_status (Summary steps) = record { most = omega arith; not_one = λ e. cc; not_three = λ e. cc; not_ten = λ e. cc }
+verdict_status (Kept words) = record { most = omega arith; not_one = λ e. cc; not_three = λ e. cc; not_ten = λ e. cc }
+verdict_status (Spoiled run knobs step (ByBatch number rule)) = record { most = omega arith; not_one = λ e. cc; not_three = λ e. cc; not_ten = λ e. cc }
+verdict_status (Spoiled run knobs step (ByNode node fault)) = record { most = omega arith; not_one = λ e. cc; not_three = λ e. cc; not_ten = λ e. cc }
+verdict_status (Spoiled run knobs step (ByPublication number rows)) = record { most = omega arith; not_one = λ e. cc; not_three = λ e. cc; not_ten = λ e. cc }
+verdict_status (Done run knobs step) = record { most = omega arith; not_one = λ e. cc; not_three = λ e. cc; not_ten = λ e. cc }
 
 module _ (told : Bool) (verdict : Option Verdict) (unread read : List ℕ → Type 0) (failed : Type 0) (old new : Option (List ℕ)) (answer : ℕ) (t : IsTrue told) where
   pub tells_verdict : Answers told verdict unread read failed old new answer → TellsVerdict verdict answer old new
-  tells_verdict (inl (of, is, inl (status, written))) plain = (of, is t, status, ([], lawful_choice of, written))
-  tells_verdict (inl (of, is, inr (inl (one, prefix)))) plain = absurd (plain.0 one)
-  tells_verdict (inl (of, is, inr (inr (ten, fails, prefix)))) plain = absurd (plain.2 ten)
+  tells_verdict (inl (of, is, (choice, lawful, inl (status, written)))) plain = (of, is t, status, (choice, lawful, written))
+  tells_verdict (inl (of, is, (choice, lawful, inr (inl (one, prefix))))) plain = absurd (plain.0 one)
+  tells_verdict (inl (of, is, (choice, lawful, inr (inr (ten, fails, prefix))))) plain = absurd (plain.2 ten)
   tells_verdict (inr (inl (name, faulty, of, inl (three, written)))) plain = absurd (plain.1 three)
   tells_verdict (inr (inl (name, faulty, of, inr (inl (one, prefix))))) plain = absurd (plain.0 one)
   tells_verdict (inr (inl (name, faulty, of, inr (inr (ten, fails, prefix))))) plain = absurd (plain.2 ten)
   tells_verdict (inr (inr (one, same))) plain = absurd (plain.0 one)
 
   pub tells_load_fault : Answers told verdict unread read failed old new answer → answer ≡ 3 → TellsLoadFault unread read old new
-  tells_load_fault (inl (of, is, inl (status, written))) three = absurd ((verdict_status of).not_three (sym status ∙ three))
-  tells_load_fault (inl (of, is, inr (inl (one, prefix)))) three = cc
-  tells_load_fault (inl (of, is, inr (inr (ten, fails, prefix)))) three = cc
+  tells_load_fault (inl (of, is, (choice, lawful, inl (status, written)))) three = absurd ((verdict_status of).not_three (sym status ∙ three))
+  tells_load_fault (inl (of, is, (choice, lawful, inr (inl (one, prefix))))) three = cc
+  tells_load_fault (inl (of, is, (choice, lawful, inr (inr (ten, fails, prefix))))) three = cc
   tells_load_fault (inr (inl (name, faulty, of, inl (also, written)))) three = (name, faulty, of t, written)
   tells_load_fault (inr (inl (name, faulty, of, inr (inl (one, prefix))))) three = cc
   tells_load_fault (inr (inl (name, faulty, of, inr (inr (ten, fails, prefix))))) three = cc
   tells_load_fault (inr (inr (one, same))) three = cc
 
   pub tells_write_fault : Answers told verdict unread read failed old new answer → answer ≡ 10 → WritesPrefix verdict unread read old new
-  tells_write_fault (inl (of, is, inl (status, written))) ten = absurd ((verdict_status of).not_ten (sym status ∙ ten))
-  tells_write_fault (inl (of, is, inr (inl (one, prefix)))) ten = cc
-  tells_write_fault (inl (of, is, inr (inr (also, fails, prefix)))) ten = (OfVerdict of [] (is t) (lawful_choice of), prefix)
+  tells_write_fault (inl (of, is, (choice, lawful, inl (status, written)))) ten = absurd ((verdict_status of).not_ten (sym status ∙ ten))
+  tells_write_fault (inl (of, is, (choice, lawful, inr (inl (one, prefix))))) ten = cc
+  tells_write_fault (inl (of, is, (choice, lawful, inr (inr (also, fails, prefix))))) ten = (OfVerdict of choice (is t) lawful, prefix)
   tells_write_fault (inr (inl (name, faulty, of, inl (three, written)))) ten = cc
   tells_write_fault (inr (inl (name, faulty, of, inr (inl (one, prefix))))) ten = cc
   tells_write_fault (inr (inl (name, faulty, of, inr (inr (also, fails, prefix))))) ten = (OfLoad name faulty (of t), prefix)
   tells_write_fault (inr (inr (one, same))) ten = cc
 
   pub tells_memory : Answers told verdict unread read failed old new answer → answer ≡ 1 → WritesPrefixOrNothing verdict unread read old new
-  tells_memory (inl (of, is, inl (status, written))) one = absurd ((verdict_status of).not_one (sym status ∙ one))
-  tells_memory (inl (of, is, inr (inl (also, prefix)))) one = inl (OfVerdict of [] (is t) (lawful_choice of), prefix)
-  tells_memory (inl (of, is, inr (inr (ten, fails, prefix)))) one = cc
+  tells_memory (inl (of, is, (choice, lawful, inl (status, written)))) one = absurd ((verdict_status of).not_one (sym status ∙ one))
+  tells_memory (inl (of, is, (choice, lawful, inr (inl (also, prefix))))) one = inl (OfVerdict of choice (is t) lawful, prefix)
+  tells_memory (inl (of, is, (choice, lawful, inr (inr (ten, fails, prefix))))) one = cc
   tells_memory (inr (inl (name, faulty, of, inl (three, written)))) one = cc
   tells_memory (inr (inl (name, faulty, of, inr (inl (also, prefix))))) one = inl (OfLoad name faulty (of t), prefix)
   tells_memory (inr (inl (name, faulty, of, inr (inr (ten, fails, prefix))))) one = cc
@@ -97,33 +94,33 @@ module _ (told : Bool) (verdict : Option Verdict) (unread read : List ℕ → Ty
 
 module _ (told : Bool) (verdict : Option Verdict) (unread read : List ℕ → Type 0) (failed : Type 0) (old new : Option (List ℕ)) (answer : ℕ) where
   pub tells_unread : Answers told verdict unread read failed old new answer → answer ≡ 3 → (name : List ℕ) × unread name
-  tells_unread (inl (of, is, inl (status, written))) three = absurd ((verdict_status of).not_three (sym status ∙ three))
-  tells_unread (inl (of, is, inr (inl (one, prefix)))) three = cc
-  tells_unread (inl (of, is, inr (inr (ten, fails, prefix)))) three = cc
+  tells_unread (inl (of, is, (choice, lawful, inl (status, written)))) three = absurd ((verdict_status of).not_three (sym status ∙ three))
+  tells_unread (inl (of, is, (choice, lawful, inr (inl (one, prefix))))) three = cc
+  tells_unread (inl (of, is, (choice, lawful, inr (inr (ten, fails, prefix))))) three = cc
   tells_unread (inr (inl (name, faulty, of, ends))) three = (name, faulty)
   tells_unread (inr (inr (one, same))) three = cc
 
   pub tells_failed : Answers told verdict unread read failed old new answer → answer ≡ 10 → failed
-  tells_failed (inl (of, is, inl (status, written))) ten = absurd ((verdict_status of).not_ten (sym status ∙ ten))
-  tells_failed (inl (of, is, inr (inl (one, prefix)))) ten = cc
-  tells_failed (inl (of, is, inr (inr (also, fails, prefix)))) ten = fails
+  tells_failed (inl (of, is, (choice, lawful, inl (status, written)))) ten = absurd ((verdict_status of).not_ten (sym status ∙ ten))
+  tells_failed (inl (of, is, (choice, lawful, inr (inl (one, prefix))))) ten = cc
+  tells_failed (inl (of, is, (choice, lawful, inr (inr (also, fails, prefix))))) ten = fails
   tells_failed (inr (inl (name, faulty, of, inl (three, written)))) ten = cc
   tells_failed (inr (inl (name, faulty, of, inr (inl (one, prefix))))) ten = cc
   tells_failed (inr (inl (name, faulty, of, inr (inr (also, fails, prefix))))) ten = fails
   tells_failed (inr (inr (one, same))) ten = cc
 
   pub is_status : Answers told verdict unread read failed old new answer → IsStatus answer
-  is_status (inl (of, is, inl (status, written))) = subst IsStatus (sym status) (verdict_status of).most
-  is_status (inl (of, is, inr (inl (one, prefix)))) = omega (arith, one)
-  is_status (inl (of, is, inr (inr (ten, fails, prefix)))) = omega (arith, ten)
+  is_status (inl (of, is, (choice, lawful, inl (status, written)))) = subst IsStatus (sym status) (verdict_status of).most
+  is_status (inl (of, is, (choice, lawful, inr (inl (one, prefix))))) = omega (arith, one)
+  is_status (inl (of, is, (choice, lawful, inr (inr (ten, fails, prefix))))) = omega (arith, ten)
   is_status (inr (inl (name, faulty, of, inl (three, written)))) = omega (arith, three)
   is_status (inr (inl (name, faulty, of, inr (inl (one, prefix))))) = omega (arith, one)
   is_status (inr (inl (name, faulty, of, inr (inr (ten, fails, prefix))))) = omega (arith, ten)
   is_status (inr (inr (one, same))) = omega (arith, one)
 
   pub is_complete : IsTrue told → NoneFailed unread read → (failed → ⊥) → Answers told verdict unread read failed old new answer → IsComplete verdict answer
-  is_complete t none steady (inl (of, is, inl (status, written))) = inr (of, is t, status)
-  is_complete t none steady (inl (of, is, inr (inl (one, prefix)))) = inl one
-  is_complete t none steady (inl (of, is, inr (inr (ten, fails, prefix)))) = absurd (steady fails)
+  is_complete t none steady (inl (of, is, (choice, lawful, inl (status, written)))) = inr (of, is t, status)
+  is_complete t none steady (inl (of, is, (choice, lawful, inr (inl (one, prefix))))) = inl one
+  is_complete t none steady (inl (of, is, (choice, lawful, inr (inr (ten, fails, prefix))))) = absurd (steady fails)
   is_complete t none steady (inr (inl (name, faulty, of, ends))) = absurd (none name (of t) faulty)
   is_complete t none steady (inr (inr (one, same))) = inl one

@@ -1,4 +1,4 @@
--- What is found of a run: of the words, then of its script, then of its tables, then of its feed.
+-- What is found of a run: of its script, then of its tables, then of its feed.
 use Rattle.std.proofs.Common.{◌≡◌, ℕ, List, [], ◌∷◌, map, Bool, Some, Result, Ok, Err, sym, ap, ◌∙◌, subst}
 use Rattle.std.specs.Prelude.{IsTrue, option_map}
 use Rattle.tick_model.specs.declared.feed.Run.{Run}
@@ -9,13 +9,11 @@ use Rattle.script_reader.specs.declared.script.SourceFile.{SourceFile}
 use Rattle.script_reader.specs.Plain.{plain_node, plain_script}
 use Rattle.feed_reader.specs.declared.raw.RawTable.{RawTable}
 use Rattle.feed_reader.specs.Assembled.{plain_run}
-use Rattle.feed_run.specs.declared.refusal.Refusal.{Refusal}
 use Rattle.feed_run.specs.declared.refusal.Stop.{Stop}
-use Rattle.feed_run.specs.declared.refusal.Stop.TheVariants.{Memory, Unread, Refused}
-use Rattle.feed_run.specs.Found.{Found, after, names_after}
+use Rattle.feed_run.specs.Found.{Found, names_after}
 use Rattle.feed_run.specs.Headline.{IsOneOf}
 use Rattle.feed_run.specs.Readings.{Content, script_in, tables_found, tables_read, feed_found, plan_found, plan_read, run_found, files_read}
-use Rattle.feed_run.specs.Stops.{Reads, Says}
+use Rattle.feed_run.specs.Stops.{Reads}
 use Rattle.feed_run.proofs.PlainReadings.{tables_found_plain, tables_read_plain}
 use Rattle.feed_run.proofs.StopLemmas.{one_of_front, one_of_back, one_of_later, reads_on, reads_stopped}
 
@@ -62,20 +60,3 @@ module _ (told : Bool) (content : Content) (name feed : List ℕ) where
       reads_on told failed later (IsOneOf (files_read content name feed)) (IsOneOf (plan_read content (plain_script script) feed)) found next plain_script plain_run script result reads wider
       (λ other t is. one_of_later other name (names_after found (λ (of : Script). plan_read content of feed)) (subst (λ (of : Found Script). IsOneOf (names_after of (λ (all : Script). plan_read content all feed)) other) (sym (reads t)) is))
       (subst (λ (of : Content). Reads {X = Run} told later (IsOneOf (plan_read of (plain_script script) feed)) (plan_found of (plain_script script) feed) plain_run result) kept goes)
-
--- why there is no value is the same, whatever the value would be
-pub reads_none_of : {X Y Z : Type 0} (told : Bool) (failed read : List ℕ → Type 0) (found : Found Y) (view : X → Y) (other : Z → Y) (stop : Stop) → Reads told failed read found view (Err stop) → Reads told failed read found other (Err stop)
-reads_none_of told failed read found view other Memory reads = tt
-reads_none_of told failed read found view other (Unread name) reads = reads
-reads_none_of told failed read found view other (Refused refusal) reads = reads
-
--- the words
-module _ {X R : Type 0} (told : Bool) (failed : List ℕ → Type 0) (content : Content) (asked : Result (List ℕ × List ℕ) Refusal) (seen : R → List ℕ × List ℕ) (view : X → Run) where
-  pub request_stopped : (read : List ℕ → Type 0) (stop : Stop) → Says asked seen (Err stop) → Reads told failed read (after (Some asked) (λ names. run_found content names.0 names.1)) view (Err stop)
-  request_stopped read Memory says = tt
-  request_stopped read (Unread name) says = absurd says
-  request_stopped read (Refused refusal) says = λ t. ap (λ (of : Result (List ℕ × List ℕ) Refusal). after (Some of) (λ names. run_found content names.0 names.1)) says
-
-  pub request_goes_on : (request : R) (script feed : List ℕ) (result : Result X Stop) → Says asked seen (Ok request) → seen request ≡ (script, feed) → Reads told failed (IsOneOf (files_read content script feed)) (run_found content script feed) view result → Reads told failed (IsOneOf (names_after (Some asked) (λ names. files_read content names.0 names.1))) (after (Some asked) (λ names. run_found content names.0 names.1)) view result
-  request_goes_on request script feed result says same reads =
-      subst (λ (of : Result (List ℕ × List ℕ) Refusal). Reads told failed (IsOneOf (names_after (Some of) (λ names. files_read content names.0 names.1))) (after (Some of) (λ names. run_found content names.0 names.1)) view result) (sym (says ∙ ap Ok same)) reads

@@ -1,5 +1,5 @@
 -- Scripts that are taken, and the runs that are made of them.
-use Rattle.std.proofs.Common.{◌≡◌, ℕ, ◌<◌, ◌≤◌, ◌^◌, List, [], ◌∷◌, map, true, false, cond, Option, Result, Ok, Err, refl, sym, ap, ◌∙◌, length, arith}
+use Rattle.std.proofs.Common.{◌≡◌, ℕ, ◌<◌, ◌≤◌, ◌^◌, List, [], ◌∷◌, map, cond, Option, Result, Ok, Err, refl, sym, ap, ◌∙◌, length, arith}
 use mathlib.Core.Path.{fun_ext}
 use Rattle.std.specs.Prelude.{option_map, All}
 use Rattle.std.proofs.lemmas.Bool.{lt-ltb}
@@ -8,8 +8,6 @@ use Rattle.key_lists.proofs.Every.{all_from, every_unmapped, every_weaker}
 use Rattle.tick_model.specs.declared.feed.Run.{Run}
 use Rattle.tick_model.specs.declared.plan.Node.{Node}
 use Rattle.tick_model.specs.declared.plan.Plan.{Plan}
-use Rattle.tick_model.specs.declared.plan.Published.{Published}
-use Rattle.tick_model.specs.Changes.{is_none}
 use Rattle.tick_model.specs.LawfulRuns.{IsLawfulRun, sources_of}
 use Rattle.script_lines.specs.Lines.{lines_of}
 use Rattle.script_lines.specs.declared.fault.ScriptKind.TheVariants.{TooLong}
@@ -24,10 +22,9 @@ use Rattle.feed_reader.specs.Assembled.{AreTablesOf, plain_run, run_of}
 use Rattle.feed_reader.specs.Feeds.{feed_of}
 use Rattle.feed_reader.proofs.AssembledLemmas.{run_is_lawful}
 use Rattle.feed_reader.proofs.PlainFeeds.{feed_plain}
-use Rattle.feed_run.specs.declared.refusal.Form.TheVariants.{Script as ScriptForm}
 use Rattle.feed_run.specs.declared.refusal.Refusal.{Refusal}
-use Rattle.feed_run.specs.declared.refusal.Refusal.TheVariants.{Unbuilt, Script as ScriptRefused}
-use Rattle.feed_run.specs.Readings.{built_script, script_read, script_in, feed_read, feed_in}
+use Rattle.feed_run.specs.declared.refusal.Refusal.TheVariants.{Script as ScriptRefused}
+use Rattle.feed_run.specs.Readings.{script_read, script_in, feed_read, feed_in}
 use Rattle.feed_run.proofs.PlainReadings.{run_of_plain, tables_are_plain}
 
 -- a script that is too long
@@ -35,36 +32,25 @@ pub script_long : (bytes : List ℕ) → 1048576 < length bytes → script_in by
 unfolding script_of
 script_long bytes long = ap (λ b. script_read (cond b (Err (record { line = 0; kind = TooLong })) (after_lines 1 nothing (lines_of bytes)))) (lt-ltb 1048576 (length bytes) long)
 
--- a script that is taken publishes nothing
-none_there : (published : List Published) → is_none published ≡ true → published ≡ []
-none_there [] e = refl
-none_there (first ∷ others) e = cc
-
-built_taken : (own script : Script) → built_script own ≡ Ok script → (own ≡ script) × (own.plan.published ≡ [])
-built_taken own script e =
-    (elim (is_none own.plan.published) as (λ b. is_none own.plan.published ≡ b → cond b (Ok own) (Err (Unbuilt ScriptForm)) ≡ Ok script → (own ≡ script) × (own.plan.published ≡ [])) [
-      | true ↦ λ none same. (cc, none_there own.plan.published none)
-      | false ↦ λ none same. cc
-    ]) refl e
-
-read_taken : (told : Result Script Refused) (script : Script) → script_read told ≡ Ok script → (told ≡ Ok script) × (script.plan.published ≡ [])
+-- a script that is taken is one that is read
+read_taken : (told : Result Script Refused) (script : Script) → script_read told ≡ Ok script → told ≡ Ok script
 read_taken (Err refused) script e = cc
-read_taken (Ok own) script e = let taken = built_taken own script e in (ap Ok taken.0, sym (ap (λ (s : Script). s.plan.published) taken.0) ∙ taken.1)
+read_taken (Ok own) script e = let same : own ≡ script = cc in ap Ok same
 
-pub script_taken : (bytes : List ℕ) (script : Script) → script_in bytes ≡ Ok script → (script_of bytes ≡ Ok script) × (script.plan.published ≡ [])
+pub script_taken : (bytes : List ℕ) (script : Script) → script_in bytes ≡ Ok script → script_of bytes ≡ Ok script
 script_taken bytes script e = read_taken (script_of bytes) script e
 
 -- a script that is taken has few nodes, each of few columns
 pub few_nodes : (bytes : List ℕ) (script : Script) → script_in bytes ≡ Ok (plain_script script) → length script.plan.nodes ≤ 256
 few_nodes bytes script e =
-    let few : length (map plain_node script.plan.nodes) ≤ 256 = (script_lawful [] bytes (plain_script script) (script_taken bytes (plain_script script) e).0).few in
+    let few : length (map plain_node script.plan.nodes) ≤ 256 = (script_lawful [] bytes (plain_script script) (script_taken bytes (plain_script script) e)).few in
     omega (arith, few, length-map script.plan.nodes plain_node)
 
 pub few_columns : (bytes : List ℕ) (script : Script) → script_in bytes ≡ Ok (plain_script script) → All (λ node. length node.columns < 2 ^ 32) script.plan.nodes
 few_columns bytes script e =
     all_from (λ (node : Node). length node.columns < 2 ^ 32) script.plan.nodes
     (every_weaker (λ (node : Node). length node.columns ≤ 32) (λ node. length node.columns < 2 ^ 32) script.plan.nodes (λ node few. omega (arith, few))
-    (every_unmapped (λ (node : Node). length node.columns ≤ 32) plain_node script.plan.nodes (script_written bytes (plain_script script) (script_taken bytes (plain_script script) e).0).columns))
+    (every_unmapped (λ (node : Node). length node.columns ≤ 32) plain_node script.plan.nodes (script_written bytes (plain_script script) (script_taken bytes (plain_script script) e)).columns))
 
 -- a feed of its plan
 pub feed_in_plain : (plan : Plan) → feed_in (plain_plan plan) ≡ feed_in plan
@@ -80,10 +66,7 @@ module _ (script : Script) (tables : List RawTable) (feed : RawFeed) (run : Run)
 
   pub run_lawful : (lines bytes : List ℕ) → script_in lines ≡ Ok (plain_script script) → AreTablesOf (sources_of script.plan.nodes) tables → feed_of script.plan bytes ≡ Ok feed → length run.texts < 2 ^ 63 → IsLawfulRun run
   run_lawful lines bytes taken are fed few =
-      let read = (script_taken lines (plain_script script) taken).0 in
+      let read = script_taken lines (plain_script script) taken in
       let written = script_written lines (plain_script script) read in
       run_is_lawful (plain_script script) tables bytes feed run (sym run_is_plain) (tables_are_plain script.plan.nodes tables are) (feed_plain script.plan bytes ∙ fed) few
       (bound_lawful lines (plain_script script) run.texts read) written.numbers written.literals
-
-  pub run_unpublished : (lines : List ℕ) → script_in lines ≡ Ok (plain_script script) → run.plan.published ≡ []
-  run_unpublished lines taken = ap (λ (own : Run). own.plan.published) made ∙ (script_taken lines (plain_script script) taken).1

@@ -1,15 +1,23 @@
 -- What the parts of the program say of what they wrote and of their status.
-use Rattle.std.specs.Prelude.{◌≡◌, ◌⊎◌, ℕ, Bool, IsTrue, List, [], Option, Some, Result, Ok, Err}
+use Rattle.std.specs.Prelude.{◌≡◌, ◌≤◌, ◌⊎◌, ℕ, Bool, IsTrue, List, [], Option, Some, Result, Ok, Err}
 use Rattle.std.specs.Io.KnownBytes.{append_known}
 use Rattle.tick_io.specs.Written.{AppendsPrefix}
 use Rattle.tick_model.specs.declared.feed.Run.{Run}
 use Rattle.tick_model.specs.Texts.{record_text}
+use Rattle.command_words.specs.declared.command.Task.{Task}
+use Rattle.command_words.specs.declared.command.Task.TheVariants.{Run as RunTask, Demo}
+use Rattle.replay.specs.declared.outcome.Knobs.{Knobs}
 use Rattle.update_text.specs.declared.fault.WriteFault.{WriteFault}
 use Rattle.update_text.specs.declared.fault.WriteFault.TheVariants.{Memory, Failed}
 use Rattle.feed_run.specs.declared.refusal.Stop.{Stop}
 use Rattle.feed_run.specs.declared.refusal.Stop.TheVariants.{Memory as OutOfMemory, Unread, Refused}
 use Rattle.feed_run.specs.Verdicts.{Verdict, refusal_status, run_verdict, status_of}
-use Rattle.feed_run.specs.Wholes.{refusal_record, unread_record, whole}
+use Rattle.feed_run.specs.Wholes.{refusal_record, unread_record, whole, IsLawful}
+
+-- a made run has at most so many steps
+abbrev pub HasFewSteps : Task → Type 0
+HasFewSteps (RunTask script feed) = Unit {0}
+HasFewSteps (Demo steps) = steps ≤ 10000
 
 -- a text was written whole, and its status is answered; or a prefix of it, since memory ran out or the sink failed
 abbrev pub status_of_write : ℕ → Result (Unit {0}) WriteFault → ℕ
@@ -22,6 +30,10 @@ Ends status text failed old new answer =
     ((answer ≡ status) × (new ≡ append_known old text))
     ⊎ (((answer ≡ 1) × AppendsPrefix old new text) ⊎ ((answer ≡ 10) × failed × AppendsPrefix old new text))
 
+-- the text is that of a verdict, with the snapshots of a choice that callers may make
+abbrev pub EndsBy : Verdict → Type 0 → Option (List ℕ) → Option (List ℕ) → ℕ → Type 0
+EndsBy of failed old new answer = (choice : List (List ℕ)) × IsLawful of choice × Ends (status_of of) (whole of choice) failed old new answer
+
 -- why there is no run is reported
 abbrev pub EndsByStop : Stop → Type 0 → Option (List ℕ) → Option (List ℕ) → ℕ → Type 0
 EndsByStop OutOfMemory failed old new answer = (answer ≡ 1) × (new ≡ old)
@@ -29,12 +41,12 @@ EndsByStop (Unread name) failed old new answer = Ends 3 (record_text (unread_rec
 EndsByStop (Refused refusal) failed old new answer = Ends (refusal_status refusal) (record_text (refusal_record refusal)) failed old new answer
 
 -- a run was run to its end, and reported
-abbrev pub EndsByRun : Run → Type 0 → Option (List ℕ) → Option (List ℕ) → ℕ → Type 0
-EndsByRun run failed old new answer = (of : Verdict) × (run_verdict run ≡ Some of) × Ends (status_of of) (whole of []) failed old new answer
+abbrev pub EndsByRun : Run → Knobs → Type 0 → Option (List ℕ) → Option (List ℕ) → ℕ → Type 0
+EndsByRun run knobs failed old new answer = (of : Verdict) × (run_verdict run knobs ≡ Some of) × EndsBy of failed old new answer
 
 -- the program ended with a verdict, or with a load that failed, or out of memory before it wrote anything
 abbrev pub EndsByVerdict : Bool → Option Verdict → Type 0 → Option (List ℕ) → Option (List ℕ) → ℕ → Type 0
-EndsByVerdict told verdict failed old new answer = (of : Verdict) × (IsTrue told → verdict ≡ Some of) × Ends (status_of of) (whole of []) failed old new answer
+EndsByVerdict told verdict failed old new answer = (of : Verdict) × (IsTrue told → verdict ≡ Some of) × EndsBy of failed old new answer
 
 abbrev pub EndsByLoad : Bool → (List ℕ → Type 0) → (List ℕ → Type 0) → Type 0 → Option (List ℕ) → Option (List ℕ) → ℕ → Type 0
 EndsByLoad told unread read failed old new answer = (name : List ℕ) × unread name × (IsTrue told → read name) × Ends 3 (record_text (unread_record name)) failed old new answer

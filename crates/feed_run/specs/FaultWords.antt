@@ -11,8 +11,6 @@ use Rattle.tick_model.specs.declared.update.FeedRule.{FeedRule}
 use Rattle.tick_model.specs.declared.update.FeedRule.TheVariants as rules
 use Rattle.tick_model.specs.declared.update.UpdateFault.{UpdateFault}
 use Rattle.tick_model.specs.declared.update.UpdateFault.TheVariants as updates
-use Rattle.feed_run.specs.declared.refusal.Form.{Form}
-use Rattle.feed_run.specs.declared.refusal.Form.TheVariants as forms
 
 -- why a line of a script is refused
 abbrev pub script_word : ScriptKind → List ℕ
@@ -41,11 +39,6 @@ text_word texts.OutOfOrder = codes "out-of-order"
 text_word texts.NotUtf8 = codes "not-utf8"
 text_word texts.Unfinished = codes "unfinished"
 text_word texts.TooLong = codes "too-long"
-
--- what is of a form that is not built yet
-abbrev pub form_word : Form → List ℕ
-form_word forms.Words = codes "words"
-form_word forms.Script = codes "script"
 
 -- the rule that a block breaks, with its numbers
 abbrev pub update_fields : UpdateFault → List (List ℕ)

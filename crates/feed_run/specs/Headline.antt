@@ -64,4 +64,4 @@ IsComplete verdict status = (status ≡ 1) ⊎ ((told : Verdict) × (verdict ≡
 
 -- the statuses that there are
 abbrev pub IsStatus : ℕ → Type 0
-IsStatus status = status ≤ 11
+IsStatus status = status ≤ 10

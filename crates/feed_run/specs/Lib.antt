@@ -1,9 +1,9 @@
 pub mod FaultWords
 pub mod Found
 pub mod Readings
-pub mod Requests
 pub mod Verdicts
 pub mod Wholes
+pub mod Summaries
 pub mod Stops
 pub mod Headline
 pub mod Answers

@@ -1,12 +1,11 @@
 -- What the files of a run say.
 --     run_found content script feed      the run of the script and the feed that lie in the files of these names
 --     files_read content script feed      the names of the files that are read: up to the first that is not there or is refused
-use Rattle.std.specs.Prelude.{ℕ, List, [], ◌∷◌, ◌++◌, drop, Option, Some, None, Result, Ok, Err, option_map, if◌then◌else◌}
+use Rattle.std.specs.Prelude.{ℕ, List, [], ◌∷◌, ◌++◌, drop, Option, Some, None, Result, Ok, Err, option_map}
 use Rattle.std.specs.Option.{option_to_list}
 use Rattle.tick_model.specs.declared.feed.Run.{Run}
 use Rattle.tick_model.specs.declared.plan.Node.{Node}
 use Rattle.tick_model.specs.declared.plan.Plan.{Plan}
-use Rattle.tick_model.specs.Changes.{is_none}
 use Rattle.tick_model.specs.LawfulRuns.{sources_of}
 use Rattle.script_reader.specs.declared.script.Script.{Script}
 use Rattle.script_reader.specs.declared.script.SourceFile.{SourceFile}
@@ -17,21 +16,17 @@ use Rattle.feed_reader.specs.Answers.{Reading}
 use Rattle.feed_reader.specs.Assembled.{run_of}
 use Rattle.feed_reader.specs.Feeds.{feed_of}
 use Rattle.feed_reader.specs.Tables.{table_of}
-use Rattle.feed_run.specs.declared.refusal.Form.TheVariants.{Script as ScriptForm}
 use Rattle.feed_run.specs.declared.refusal.Refusal.{Refusal}
-use Rattle.feed_run.specs.declared.refusal.Refusal.TheVariants.{Unbuilt, Script as ScriptRefused, Table as TableRefused, Feed as FeedRefused}
+use Rattle.feed_run.specs.declared.refusal.Refusal.TheVariants.{Script as ScriptRefused, Table as TableRefused, Feed as FeedRefused}
 use Rattle.feed_run.specs.Found.{Found, after, names_after}
 
 -- the bytes of the files, by their names
 abbrev pub Content : Type 0
 Content = List ℕ → Option (List ℕ)
 
--- a script, which is to publish nothing yet
-abbrev pub built_script : Script → Result Script Refusal
-built_script script = if is_none script.plan.published then Ok script else Err (Unbuilt ScriptForm)
-
+-- a script
 abbrev pub script_read : Result Script Refused → Result Script Refusal
-script_read (Ok script) = built_script script
+script_read (Ok script) = Ok script
 script_read (Err refused) = Err (ScriptRefused refused.line refused.kind)
 
 abbrev pub script_in : List ℕ → Result Script Refusal

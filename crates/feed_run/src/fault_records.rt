@@ -2,11 +2,11 @@
 
 ghost use Rattle.std.specs.Prelude.{◌≡◌, IfOk};
 ghost use Rattle.tick_model.specs.Spoiled.{ByBatch, ByNode};
-ghost use Rattle.tick_model.specs.Texts.{done_record as done_record_of, name_at};
+ghost use Rattle.tick_model.specs.Texts.{done_record as done_record_of, name_at, published_node as published_node_of};
 ghost use Rattle.feed_run.specs.Verdicts.{refusal_status as status_of_refusal};
-ghost use Rattle.feed_run.specs.Wholes.{cause_record, refusal_record as refusal_record_of, unread_record as unread_record_of};
+ghost use Rattle.feed_run.specs.Wholes.{cause_record, kept_record as kept_record_of, publication_record as publication_record_of, refusal_record as refusal_record_of, unread_record as unread_record_of};
 
-use crate::fault_words::{form_word, script_word, text_word, with_node_fault, with_rule};
+use crate::fault_words::{script_word, text_word, with_node_fault, with_rule};
 use crate::fields::Fields;
 use crate::refusal::Refusal;
 use std::alloc::{AllocError, Global};
@@ -27,7 +27,6 @@ pub(crate) fn refusal_record(alloc: Global, refusal: &Refusal) -> Result<Fields,
 {
     match refusal {
         Refusal::Usage => Fields::of_fault(alloc, "2", "usage"),
-        Refusal::Unbuilt(form) => Fields::of_fault(alloc, "11", "unbuilt")?.text(form_word(*form)),
         Refusal::Script { line, kind } => Fields::of_fault(alloc, "4", "script")?
             .number(*line)?
             .text(script_word(*kind)),
@@ -51,11 +50,17 @@ pub(crate) fn refusal_status(refusal: &Refusal) -> u8
 {
     match refusal {
         Refusal::Usage => 2,
-        Refusal::Unbuilt(_) => 11,
         Refusal::Script { .. } => 4,
         Refusal::Table { .. } => 5,
         Refusal::Feed { .. } => 6,
     }
+}
+
+/// That the snapshots to be kept have too many words.
+pub(crate) fn kept_record(alloc: Global, words: u64) -> Result<Fields, AllocError>
+    ensures { IfOk result (λ fields. fields ≡ kept_record_of words) }
+{
+    Fields::of_fault(alloc, "2", "kept")?.number(words)
 }
 
 /// The rule that the batch of a step breaks, and the record that breaks it.
@@ -97,6 +102,34 @@ pub(crate) fn node_record(
         .number(step)?
         .text(node_name(run, node))?;
     with_node_fault(fields, fault)
+}
+
+fn published_node(run: &Run, number: u32) -> u32
+    ensures { result ≡ published_node_of run.now.plan.published number }
+{
+    match run.plan.published.as_slice().get(number as usize) {
+        Some(published) => published.node,
+        None => 0,
+    }
+}
+
+/// The published table that has too many rows at a step, how many, and how many it may have.
+pub(crate) fn publication_record(
+    alloc: Global,
+    run: &Run,
+    step: u64,
+    number: u32,
+    rows: u64,
+    limit: u64,
+) -> Result<Fields, AllocError>
+    ensures { IfOk result (λ fields. fields ≡ publication_record_of run.now step number rows limit) }
+{
+    let node = published_node(run, number);
+    Fields::of_fault(alloc, "9", "publish")?
+        .number(step)?
+        .text(node_name(run, node))?
+        .number(rows)?
+        .number(limit)
 }
 
 /// That every step up to the last one is done.

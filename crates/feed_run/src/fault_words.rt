@@ -1,10 +1,9 @@
 //! The words by which the records of faults tell a kind, a rule or a node's fault.
 
 ghost use Rattle.std.specs.Prelude.{◌≡◌, ◌++◌, IfOk};
-ghost use Rattle.feed_run.specs.FaultWords.{form_word as form_word_of, node_fields, rule_fields, script_word as script_word_of, text_word as text_word_of, update_fields};
+ghost use Rattle.feed_run.specs.FaultWords.{node_fields, rule_fields, script_word as script_word_of, text_word as text_word_of, update_fields};
 
 use crate::fields::Fields;
-use crate::refusal::Form;
 use feed_reader::TextKind;
 use script_lines::fault::ScriptKind;
 use std::alloc::AllocError;
@@ -46,16 +45,6 @@ pub(crate) fn text_word(kind: TextKind) -> &'static str
         TextKind::NotUtf8 => "not-utf8",
         TextKind::Unfinished => "unfinished",
         TextKind::TooLong => "too-long",
-    }
-}
-
-/// What is of a form that is not built yet.
-pub(crate) fn form_word(form: Form) -> &'static str
-    ensures { result.now ≡ form_word_of form }
-{
-    match form {
-        Form::Words => "words",
-        Form::Script => "script",
     }
 }
 

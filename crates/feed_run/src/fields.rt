@@ -46,6 +46,20 @@ impl Fields {
         Fields::new(alloc).text("done")
     }
 
+    /// The fields with which the first record of a summary begins.
+    pub(crate) fn of_demo(alloc: Global) -> Result<Fields, AllocError>
+        ensures { IfOk result (λ fields. fields ≡ codes "demo" ∷ []) }
+    {
+        Fields::new(alloc).text("demo")
+    }
+
+    /// The fields with which the record of a node's size begins.
+    pub(crate) fn of_size(alloc: Global) -> Result<Fields, AllocError>
+        ensures { IfOk result (λ fields. fields ≡ codes "size" ∷ []) }
+    {
+        Fields::new(alloc).text("size")
+    }
+
     /// One more field.
     pub(crate) fn text(self, text: &str) -> Result<Fields, AllocError>
         ensures { IfOk result (λ fields. fields ≡ self ++ text.now ∷ []) }

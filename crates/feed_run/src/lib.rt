@@ -1,8 +1,9 @@
-//! The program's work: its words, its files, and the run of a script over a feed.
+//! The program's work: its words, its files, the run of a script over a feed with callers beside it, and the summary of a made run.
 //!
 //! `tick_main` does all of it. What it writes and answers is said by the definitions of `specs/`, of which `Headline` is the first to read.
 #![tactic(auto)]
 
+mod demo;
 mod fault_records;
 mod fault_words;
 mod fields;
@@ -11,12 +12,12 @@ mod program;
 mod readings;
 mod refusal;
 mod reports;
-mod request;
 mod run;
+mod summary;
 mod tables;
 
 pub use program::tick_main;
-pub use refusal::{Form, Refusal};
+pub use refusal::Refusal;
 
 #[cfg(test)]
 mod tests;

@@ -1,53 +1,62 @@
 //! All that the program does.
 
-ghost use Rattle.std.specs.Prelude.{◌≡◌, ◌≤◌, [], IfOk, IsTrue, map, string_bytes};
-ghost use Rattle.feed_reader.specs.Assembled.{plain_run};
+ghost use Rattle.std.specs.Prelude.{◌≡◌, ◌≤◌, IsTrue, map, string_bytes};
 ghost use Rattle.tick_io.specs.Counts.{Rose};
-ghost use Rattle.tick_model.specs.LawfulRuns.{IsLawfulRun};
-ghost use Rattle.feed_run.specs.Answers.{Answers};
-ghost use Rattle.feed_run.specs.Headline.{IsComplete, IsRead, IsStatus, LoadFailed, NoneFailed, SomeName, TellsLoadFault, TellsVerdict, WritesPrefix, WritesPrefixOrNothing};
-ghost use Rattle.feed_run.specs.Stops.{Reads};
-ghost use Rattle.feed_run.specs.Verdicts.{found, verdict};
+ghost use Rattle.feed_run.specs.Answers.{Answers, HasFewSteps};
+ghost use Rattle.feed_run.specs.Headline.{IsComplete, IsOneOf, IsRead, IsStatus, LoadFailed, NoneFailed, SomeName, TellsLoadFault, TellsVerdict, WritesPrefix, WritesPrefixOrNothing};
+ghost use Rattle.feed_run.specs.Verdicts.{knobs_of as knobs_of_command, task_files, task_verdict, verdict};
 
-use crate::refusal::Stop;
+use crate::demo::demo;
+use crate::refusal::{Refusal, Stop};
 use crate::reports::report_stop;
-use crate::request::requested;
 use crate::run::{read_run, run_to_end};
+use command_words::{Command, Task, read_words};
 use replay::Knobs;
-use std::alloc::Global;
+use std::alloc::{AllocError, Global};
 use std::sync::Wait;
 use std::thread::Threads;
 use tick_io::{Gate, Inputs, Sink};
-use tick_model::feed::Run;
 
-/// A run, and how it is run.
-#[derive(Debug, Drop)]
-struct Prepared {
-    run: Run,
-    knobs: Knobs,
+/// How a command is run.
+fn knobs_of(command: &Command) -> Knobs
+    ensures { result ≡ knobs_of_command command.now }
+{
+    Knobs {
+        workers: command.workers,
+        callers: command.callers,
+        snaps: command.snaps,
+        attempts: command.attempts,
+    }
 }
 
-/// The run that the words ask for, read from its files.
-fn prepare<I: Inputs>(alloc: Global, words: &[String], inputs: &mut I) -> Result<Prepared, Stop>
-    ensures reads { Reads I.told (LoadFailed I.failures inputs.old inputs.new) (IsRead (map string_bytes words.now) (I.content inputs.old))
-        (found (map string_bytes words.now) (I.content inputs.old)) (λ own. plain_run own.run) result }
-    ensures lawful { IfOk result (λ own. IsLawfulRun own.run) }
-    ensures unpublished { IfOk result (λ own. own.run.plan.published ≡ []) }
-    ensures no_callers { IfOk result (λ own. own.knobs.callers ≡ 0) }
-    ensures some_workers { IfOk result (λ own. 1 ≤ own.knobs.workers) }
-    ensures few_workers { IfOk result (λ own. own.knobs.workers ≤ 64) }
+/// Does what a task asks for, and answers the status.
+fn run_task<R: Threads + Wait + Sync, I: Inputs, S: Sink, G: Gate>(
+    rt: &R,
+    alloc: Global,
+    task: &Task,
+    knobs: &Knobs,
+    inputs: &mut I,
+    out: &mut S,
+    gate: &G,
+) -> u8
+    requires few_steps { HasFewSteps task.now }
+    requires some_workers { 1 ≤ knobs.now.workers }
+    requires few_workers { knobs.now.workers ≤ 64 }
+    requires few_callers { knobs.now.callers ≤ 16 }
+    requires few_snaps { knobs.now.snaps ≤ 64 }
+    ensures { Answers I.told (task_verdict (I.content inputs.old) knobs.now task.now)
+        (LoadFailed I.failures inputs.old inputs.new) (IsOneOf (task_files (I.content inputs.old) task.now))
+        (Rose (S.failures out.old) (S.failures out.new)) (S.bytes out.old) (S.bytes out.new) result }
 {
-    let request = requested(alloc, words)?;
-    let own = read_run(
-        alloc,
-        inputs,
-        request.script.as_str(),
-        request.feed.as_str(),
-    )?;
-    Ok(Prepared {
-        run: own,
-        knobs: request.knobs,
-    })
+    let (script, feed) = match task {
+        Task::Run { script, feed } => (script.as_str(), feed.as_str()),
+        Task::Demo { steps } => return demo(rt, alloc, *steps, knobs, out, gate),
+    };
+    let own = match read_run(alloc, inputs, script, feed) {
+        Ok(own) => own,
+        Err(stop) => return report_stop(alloc, out, &stop),
+    };
+    run_to_end(rt, alloc, &own, knobs, out, gate)
 }
 
 /// Does what the words ask for, and answers the status.
@@ -63,17 +72,20 @@ fn answer<R: Threads + Wait + Sync, I: Inputs, S: Sink, G: Gate>(
         (LoadFailed I.failures inputs.old inputs.new) (IsRead (map string_bytes words.now) (I.content inputs.old))
         (Rose (S.failures out.old) (S.failures out.new)) (S.bytes out.old) (S.bytes out.new) result }
 {
-    let prepared = match prepare(alloc, words, inputs) {
-        Ok(prepared) => prepared,
-        Err(stop) => return report_stop(alloc, out, &stop),
+    let command = match read_words(alloc, words) {
+        Ok(Some(command)) => command,
+        Ok(None) => return report_stop(alloc, out, &Stop::Refused(Refusal::Usage)),
+        Err(AllocError) => return 1,
     };
-    run_to_end(rt, alloc, &prepared.run, &prepared.knobs, out, gate)
+    let knobs = knobs_of(&command);
+    run_task(rt, alloc, &command.task, &knobs, inputs, out, gate)
 }
 
 /// All that the program does, from the words after its name to the status with which it ends.
 ///
-/// The words, the script, its table files and the feed decide a verdict, which gives the status and the bytes written. Beside these, status 1 says that memory
-/// ran out, 3 that a file could not be read, and 10 that the output could not be written.
+/// The words, the script, its table files and the feed decide a verdict, which gives the status and the bytes written, but for the steps at
+/// which callers take their snapshots beside the run. Beside these, status 1 says that memory ran out, 3 that a file could not be read, and
+/// 10 that the output could not be written.
 pub fn tick_main<R: Threads + Wait + Sync, I: Inputs, S: Sink, G: Gate>(
     rt: &R,
     alloc: Global,

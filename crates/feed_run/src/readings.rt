@@ -5,12 +5,12 @@ ghost use Rattle.feed_reader.specs.Assembled.{IsTableOf};
 ghost use Rattle.feed_reader.specs.Feeds.{feed_of};
 ghost use Rattle.script_reader.specs.Plain.{plain_script};
 ghost use Rattle.feed_run.specs.Headline.{IsOneOf, LoadFailed};
-ghost use Rattle.feed_run.specs.Readings.{built_script, feed_in, script_in, table_in};
+ghost use Rattle.feed_run.specs.Readings.{feed_in, script_in, table_in};
 ghost use Rattle.feed_run.specs.Stops.{IsRefusal, Reads, Says};
 ghost use Rattle.feed_run.specs.declared.refusal.Refusal.TheVariants.{Table};
 
 use crate::loading::{MOST_BYTES, MOST_SCRIPT_BYTES, load};
-use crate::refusal::{Form, Refusal, Stop};
+use crate::refusal::{Refusal, Stop};
 use feed_reader::{RawFeed, RawTable, TextFault, TextKind, read_feed, read_table};
 use script_lines::fault::ScriptKind;
 use script_reader::fault::ScriptFault;
@@ -21,23 +21,12 @@ use tick_io::Inputs;
 use tick_model::name::Name;
 use tick_model::plan::{Node, Plan};
 
-/// The script, which is to publish nothing yet.
-fn built(script: Script) -> Result<Script, Stop>
-    ensures { Says (built_script (plain_script script)) plain_script result }
-{
-    if script.plan.published.is_empty() {
-        Ok(script)
-    } else {
-        Err(Stop::Refused(Refusal::Unbuilt(Form::Script)))
-    }
-}
-
 /// The script that bytes spell.
 fn spelled_script(alloc: Global, bytes: &[u8]) -> Result<Script, Stop>
     ensures { Says (script_in bytes.now) plain_script result }
 {
     match read_script(alloc, bytes) {
-        Ok(script) => built(script),
+        Ok(script) => Ok(script),
         Err(ScriptFault::Memory) => Err(Stop::Memory),
         Err(ScriptFault::Refused { line, kind }) => {
             Err(Stop::Refused(Refusal::Script { line, kind }))

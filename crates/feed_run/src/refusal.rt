@@ -8,20 +8,11 @@ use script_lines::fault::ScriptKind;
 use std::alloc::{AllocError, AllocFailed};
 use tick_model::name::Name;
 
-/// What may be of a form that is not built yet.
-#[derive(Clone, Copy, Debug, PartialEq, Eq)]
-pub enum Form {
-    Words,
-    Script,
-}
-
 /// Why words or a file are refused.
 #[derive(Debug, Drop)]
 pub enum Refusal {
     /// The words are of no command.
     Usage,
-    /// Something is of a form that is not built yet.
-    Unbuilt(Form),
     /// The first refused line of the script, and why.
     Script {
         line: u64,

@@ -1,8 +1,10 @@
 //! What is written at the end: one record, and the status that goes with it.
 
-ghost use Rattle.std.specs.Prelude.{◌≡◌, ℕ, List, IfOk};
+ghost use Rattle.std.specs.Io.KnownBytes.{append_known};
+ghost use Rattle.std.specs.Prelude.{◌≡◌, ◌≤◌, ℕ, List, IfOk, IsErrOf, OnErr, OnOk};
 ghost use Rattle.tick_io.specs.Counts.{Rose};
-ghost use Rattle.tick_model.specs.Texts.{record_text};
+ghost use Rattle.tick_io.specs.Written.{AppendsPrefix};
+ghost use Rattle.tick_model.specs.Texts.{record_text, records_text};
 ghost use Rattle.feed_run.specs.Answers.{Ends, EndsByStop, status_of_write};
 
 use crate::fault_records::{refusal_record, refusal_status, unread_record};
@@ -10,6 +12,7 @@ use crate::fields::Fields;
 use crate::refusal::Stop;
 use std::alloc::{AllocError, Global};
 use tick_io::Sink;
+use tick_model::items::Items;
 use update_text::{WriteFault, write_fields};
 
 /// The status that goes with what was written.
@@ -36,6 +39,38 @@ pub(crate) fn report<S: Sink>(
     match fields {
         Ok(fields) => {
             let written = write_fields(alloc, out, fields.as_slice());
+            status_after(status, written)
+        }
+        Err(_) => 1,
+    }
+}
+
+/// Writes records, one after the other.
+fn write_records<S: Sink>(alloc: Global, out: &mut S, records: &[Fields]) -> Result<(), WriteFault>
+    ensures whole { OnOk result (S.bytes out.new ≡ append_known (S.bytes out.old) (records_text records.now)) }
+    ensures err { OnErr result (AppendsPrefix (S.bytes out.old) (S.bytes out.new) (records_text records.now)) }
+    ensures failed { IsErrOf result WriteFault.Failed → Rose (S.failures out.old) (S.failures out.new) }
+    ensures never_falls { S.failures out.old ≤ S.failures out.new }
+{
+    for fields in records {
+        write_fields(alloc, out, fields.as_slice())?;
+    }
+    Ok(())
+}
+
+/// Writes records, unless memory ran out where they were made, and answers their status.
+pub(crate) fn report_all<S: Sink>(
+    alloc: Global,
+    out: &mut S,
+    status: u8,
+    records: Result<Items<Fields>, AllocError>,
+) -> u8
+    ensures { (told : List ℕ) → IfOk records (λ own. records_text own ≡ told)
+        → Ends status told (Rose (S.failures out.old) (S.failures out.new)) (S.bytes out.old) (S.bytes out.new) result }
+{
+    match records {
+        Ok(records) => {
+            let written = write_records(alloc, out, records.as_slice());
             status_after(status, written)
         }
         Err(_) => 1,

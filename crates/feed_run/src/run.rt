@@ -10,7 +10,9 @@ ghost use Rattle.feed_run.specs.Headline.{IsOneOf, LoadFailed};
 ghost use Rattle.feed_run.specs.Readings.{feed_found, files_read, plan_found, plan_read, run_found, script_in};
 ghost use Rattle.feed_run.specs.Stops.{Reads};
 
-use crate::fault_records::{batch_record, done_record, node_record};
+use crate::fault_records::{
+    batch_record, done_record, kept_record, node_record, publication_record,
+};
 use crate::readings::{load_feed, load_script};
 use crate::refusal::Stop;
 use crate::reports::report;
@@ -46,7 +48,6 @@ fn read_feed_run<I: Inputs>(
     ensures reads { Reads I.told (LoadFailed I.failures inputs.old inputs.new) (IsOneOf (feed_name.now ∷ []))
         (feed_found (I.content inputs.old) (plain_script script) tables feed_name.now) plain_run result }
     ensures lawful { IfOk result IsLawfulRun }
-    ensures unpublished { IfOk result (λ run. run.plan.published ≡ []) }
     ensures never_falls { (other : List ℕ) → I.failures inputs.old other ≤ I.failures inputs.new other }
     ensures kept { I.content inputs.new ≡ I.content inputs.old }
 {
@@ -68,7 +69,6 @@ fn read_plan_run<I: Inputs>(
         (IsOneOf (plan_read (I.content inputs.old) (plain_script script) feed_name.now))
         (plan_found (I.content inputs.old) (plain_script script) feed_name.now) plain_run result }
     ensures lawful { IfOk result IsLawfulRun }
-    ensures unpublished { IfOk result (λ run. run.plan.published ≡ []) }
     ensures never_falls { (other : List ℕ) → I.failures inputs.old other ≤ I.failures inputs.new other }
     ensures kept { I.content inputs.new ≡ I.content inputs.old }
 {
@@ -92,7 +92,6 @@ pub(crate) fn read_run<I: Inputs>(
         (IsOneOf (files_read (I.content inputs.old) script_name.now feed_name.now))
         (run_found (I.content inputs.old) script_name.now feed_name.now) plain_run result }
     ensures lawful { IfOk result IsLawfulRun }
-    ensures unpublished { IfOk result (λ run. run.plan.published ≡ []) }
 {
     let script = load_script(alloc, inputs, script_name)?;
     read_plan_run(alloc, inputs, script, feed_name)
@@ -108,14 +107,15 @@ pub(crate) fn run_to_end<R: Threads + Wait + Sync, S: Sink, G: Gate>(
     gate: &G,
 ) -> u8
     requires lawful { IsLawfulRun run.now }
-    requires unpublished { run.now.plan.published ≡ [] }
-    requires no_callers { knobs.now.callers ≡ 0 }
     requires some_workers { 1 ≤ knobs.now.workers }
     requires few_workers { knobs.now.workers ≤ 64 }
-    ensures { EndsByRun run.now (Rose (S.failures out.old) (S.failures out.new)) (S.bytes out.old) (S.bytes out.new) result }
+    requires few_callers { knobs.now.callers ≤ 16 }
+    requires few_snaps { knobs.now.snaps ≤ 64 }
+    ensures { EndsByRun run.now knobs.now (Rose (S.failures out.old) (S.failures out.new)) (S.bytes out.old) (S.bytes out.new) result }
 {
     match run_feed(rt, alloc, run, knobs, out, gate) {
         Outcome::Done { step, .. } => report(alloc, out, 0, done_record(alloc, step)),
+        Outcome::Kept { words } => report(alloc, out, 2, kept_record(alloc, words)),
         Outcome::Feed {
             step,
             number,
@@ -124,8 +124,18 @@ pub(crate) fn run_to_end<R: Threads + Wait + Sync, S: Sink, G: Gate>(
         Outcome::Node { step, node, kind } => {
             report(alloc, out, 8, node_record(alloc, run, step, node, kind))
         }
+        Outcome::Publish {
+            step,
+            number,
+            rows,
+            limit,
+        } => report(
+            alloc,
+            out,
+            9,
+            publication_record(alloc, run, step, number, rows, limit),
+        ),
         Outcome::Memory => 1,
         Outcome::Write => 10,
-        Outcome::Kept { .. } | Outcome::Publish { .. } => unreachable!(),
     }
 }

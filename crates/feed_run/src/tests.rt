@@ -2,7 +2,10 @@
 
 mod cut;
 mod day;
+mod gate;
+mod made;
 mod refused;
+mod snapshots;
 mod worked;
 
 use crate::tick_main;
@@ -14,7 +17,7 @@ use std::process::Abort;
 use std::sync::Wait;
 use std::test::Fail;
 use std::thread::Threads;
-use tick_io::{MemoryInputs, MemorySink, OpenGate};
+use tick_io::{Gate, MemoryInputs, MemorySink, OpenGate};
 use worked::RUNS;
 
 /// A script, a feed, the status and what is written.
@@ -82,6 +85,32 @@ fn files(alloc: Global, case: &Case) -> Result<Vec<(String, Vec<u8>)>, AllocErro
     Ok(files)
 }
 
+/// A script and a feed.
+fn files_of(alloc: Global, script: &str, feed: &str) -> Result<Vec<(String, Vec<u8>)>, AllocError> {
+    let mut files = Vec::new(alloc);
+    put_file(alloc, &mut files, "s", Some(script))?;
+    put_file(alloc, &mut files, "f", Some(feed))?;
+    Ok(files)
+}
+
+/// Makes a call, and gives its status and what was written to.
+fn call<R: Threads + Wait + Sync, G: Gate>(
+    rt: &R,
+    alloc: Global,
+    words_text: &str,
+    files: Vec<(String, Vec<u8>)>,
+    failing: u64,
+    gate: &G,
+) -> Result<(u8, MemorySink), AllocError> {
+    let words = words(alloc, words_text)?;
+    let mut inputs = MemoryInputs::new(alloc, files, Vec::new(alloc));
+    let mut failing_calls = Vec::new(alloc);
+    failing_calls.push(failing)?;
+    let mut out = MemorySink::new(alloc, failing_calls);
+    let status = tick_main(rt, alloc, words.as_slice(), &mut inputs, &mut out, gate);
+    Ok((status, out))
+}
+
 /// Makes a call and compares its status and bytes.
 fn compare<R: Abort + Threads + Wait + Sync>(
     rt: &R,
@@ -92,19 +121,7 @@ fn compare<R: Abort + Threads + Wait + Sync>(
     status: u8,
     bytes: &str,
 ) -> Result<(), Fail> {
-    let words = words(alloc, words_text)?;
-    let mut inputs = MemoryInputs::new(alloc, files, Vec::new(alloc));
-    let mut failing_calls = Vec::new(alloc);
-    failing_calls.push(failing)?;
-    let mut out = MemorySink::new(alloc, failing_calls);
-    let answer = tick_main(
-        rt,
-        alloc,
-        words.as_slice(),
-        &mut inputs,
-        &mut out,
-        &OpenGate,
-    );
+    let (answer, out) = call(rt, alloc, words_text, files, failing, &OpenGate)?;
     assert_eq!(rt; answer, status);
     assert_eq!(rt; out.bytes(), bytes.as_bytes());
     Ok(())
@@ -221,12 +238,6 @@ fn words_and_files_are_answered(rt: HostRuntime) -> Result<(), Fail> {
             words: "run s f --workers 0",
             status: 2,
             bytes: "fault,2,usage\n",
-            ..whole
-        },
-        Case {
-            words: "run s f --callers 1",
-            status: 11,
-            bytes: "fault,11,unbuilt,words\n",
             ..whole
         },
         Case {

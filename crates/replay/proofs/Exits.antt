@@ -6,12 +6,10 @@ use Rattle.tick_io.specs.Written.{AppendsPrefix}
 use Rattle.tick_io.proofs.Prefixes.{append_known-append_known, prefix_after, prefix_longer}
 use Rattle.tick_model.specs.declared.feed.Run.{Run}
 use Rattle.tick_model.specs.Texts.{records_text, step_records}
-use Rattle.update_graph.specs.declared.stop.Stop.{Stop}
-use Rattle.update_graph.specs.Stops.{IsStop}
-use Rattle.replay.specs.Outcomes.{IsTold}
-use Rattle.replay.specs.Stopped.{outcome_of_stop}
+use Rattle.replay.specs.declared.outcome.Outcome.{Outcome}
+use Rattle.replay.specs.Causes.{IsCause}
 use Rattle.replay.specs.ToCome.{text_from}
-use Rattle.replay.proofs.Spoils.{AreGoodBefore, stop_spoils}
+use Rattle.replay.proofs.Spoils.{AreGoodBefore, cause_spoils}
 use Rattle.replay.proofs.TextsToCome.{good_before, text_ends, text_ends_after, text_next}
 
 -- nothing was written
@@ -27,10 +25,9 @@ pub all_written : (old new : Option (List ℕ)) (text : List ℕ) → new ≡ ap
 all_written old new text whole = (length text, omega arith, whole ∙ ap (append_known old) (sym (take_all (length text) text (omega arith))))
 
 module _ (run : Run) (step : ℕ) (within : step ≤ length run.batches) where
-  -- where the graph stops, nothing more is to come
-  pub stop_ends : (stop : Stop) (bytes : Option (List ℕ)) → AreGoodBefore run step → IsStop run step stop → IsTold (outcome_of_stop stop) → bytes ≡ append_known bytes (text_from run step)
-  stop_ends stop bytes before is told =
-      sym (ap (append_known bytes) (text_ends run step (stop_spoils run step stop within before is told)) ∙ nothing_appended bytes)
+  -- where the step is spoiled, nothing more is to come
+  pub cause_stops : (outcome : Outcome) → AreGoodBefore run step → IsCause run step outcome → text_from run step ≡ []
+  cause_stops outcome before is = text_ends run step (cause_spoils run step outcome within before is)
 
   -- a step that is good is the first of what is to come
   pub step_comes : AreGoodBefore run (step + 1) → text_from run step ≡ records_text (step_records run step) ++ text_from run (step + 1)
@@ -43,15 +40,16 @@ module _ (run : Run) (step : ℕ) (within : step ≤ length run.batches) where
       subst (AppendsPrefix old new) (sym (step_comes before)) (prefix_longer old new (records_text (step_records run step)) (text_from run (step + 1)) prefix)
 
 -- the steps up to one are printed, and the text of those after it is still to come
-module _ (run : Run) (step at : ℕ) (stands : at ≡ step) (old mid : Option (List ℕ)) (done : List ℕ) (written : mid ≡ append_known old done) (splits : done ++ text_from run (step + 1) ≡ text_from run 0) where
-  splits_there : done ++ text_from run (at + 1) ≡ text_from run 0
+module _ (run : Run) (step at : ℕ) (stands : at ≡ step) (old mid : Option (List ℕ)) (done all : List ℕ) (written : mid ≡ append_known old done) (splits : done ++ text_from run (step + 1) ≡ all) where
+  splits_there : done ++ text_from run (at + 1) ≡ all
   splits_there = ap (λ n. done ++ text_from run (n + 1)) stands ∙ splits
 
-  pub ended_after : (new : Option (List ℕ)) → new ≡ append_known mid (text_from run (at + 1)) → new ≡ append_known old (text_from run 0)
-  ended_after new more =
-      more ∙ ap (λ known. append_known known (text_from run (at + 1))) written ∙ append_known-append_known old done (text_from run (at + 1)) ∙ ap (append_known old) splits_there
+  -- nothing more was written, and nothing was to come
+  pub ended_after : (new : Option (List ℕ)) → new ≡ mid → text_from run (at + 1) ≡ [] → new ≡ append_known old all
+  ended_after new same none =
+      same ∙ written ∙ ap (append_known old) (sym (append-nil done) ∙ ap (λ rest. done ++ rest) (sym none) ∙ splits_there)
 
-  pub begun_after : (new : Option (List ℕ)) → AppendsPrefix mid new (text_from run (at + 1)) → AppendsPrefix old new (text_from run 0)
+  pub begun_after : (new : Option (List ℕ)) → AppendsPrefix mid new (text_from run (at + 1)) → AppendsPrefix old new all
   begun_after new prefix = subst (AppendsPrefix old new) splits_there (prefix_after old mid new done (text_from run (at + 1)) written prefix)
 
   pub step_after : (new : Option (List ℕ)) → new ≡ append_known mid (records_text (step_records run (at + 1))) → new ≡ append_known old (done ++ records_text (step_records run (step + 1)))
@@ -60,12 +58,12 @@ module _ (run : Run) (step at : ℕ) (stands : at ≡ step) (old mid : Option (L
       ∙ ap (λ known. append_known known (records_text (step_records run (step + 1)))) written
       ∙ append_known-append_known old done (records_text (step_records run (step + 1)))
 
-  pub splits_after : step + 1 ≤ length run.batches → AreGoodBefore run (step + 1 + 1) → (done ++ records_text (step_records run (step + 1))) ++ text_from run (step + 1 + 1) ≡ text_from run 0
+  pub splits_after : step + 1 ≤ length run.batches → AreGoodBefore run (step + 1 + 1) → (done ++ records_text (step_records run (step + 1))) ++ text_from run (step + 1 + 1) ≡ all
   splits_after within before =
       append_assoc done (records_text (step_records run (step + 1))) (text_from run (step + 1 + 1))
       ∙ ap (λ rest. done ++ rest) (sym (step_comes run (step + 1) within before)) ∙ splits
 
-  pub all_after : step ≡ length run.batches → mid ≡ append_known old (text_from run 0)
+  pub all_after : step ≡ length run.batches → mid ≡ append_known old all
   all_after last =
       written ∙ ap (append_known old)
       (sym (append-nil done) ∙ ap (λ rest. done ++ rest) (sym (ap (λ n. text_from run (n + 1)) last ∙ text_ends_after run)) ∙ splits)

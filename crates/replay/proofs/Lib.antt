@@ -1,7 +1,17 @@
+pub mod CallTexts
+pub mod ChoicesMade
 pub mod Exits
+pub mod Keeping
+pub mod PastLimits
 pub mod Prints
+pub mod PublishedTables
+pub mod KeptInEnd
 pub mod Reaching
 pub mod RecordCounts
 pub mod RowsCounted
+pub mod SnapshotsAdded
+pub mod SnapshotsTold
 pub mod Spoils
+pub mod TablesInTurn
 pub mod TextsToCome
+pub mod WholeTexts

@@ -1,4 +1,4 @@
--- A run reaches a step after the others.
+-- A run reaches a step after the others, and it is good.
 use Rattle.std.proofs.Common.{◌≡◌, refl, subst, ℕ, zero, suc, ◌+◌, ◌≤◌, arith, inl, inr, None}
 use Rattle.std.proofs.lemmas.Bool.{cases_lt}
 use Rattle.tick_model.specs.declared.feed.Run.{Run}
@@ -6,6 +6,7 @@ use Rattle.tick_model.specs.Sources.{batch_fault}
 use Rattle.tick_model.specs.Spoiled.{node_fault}
 use Rattle.tick_model.specs.States.{state}
 use Rattle.tick_laws.specs.Reached.{IsReached}
+use Rattle.replay.specs.Standing.{IsGood, IsWithin}
 
 -- what holds at a number holds at each up to it that is not below
 at_first : (P : ℕ → Type 0) (s : ℕ) → s ≤ 0 → P 0 → P s
@@ -29,4 +30,13 @@ pub reached_more : (run : Run) (step : ℕ) → IsReached run step → batch_fau
 reached_more run step reached batch nodes = record {
   batches = λ s within. one_more (λ k. batch_fault run k ≡ None) step s reached.batches within batch;
   nodes = λ s within. one_more (λ k. node_fault 0 (state run k) ≡ None) step s reached.nodes within nodes;
+}
+
+pub good_first : (run : Run) → node_fault 0 (state run 0) ≡ None → IsWithin run 0 → IsGood run 0
+good_first run nodes within = record { reached = reached_first run nodes; within = λ s none. at_first (IsWithin run) s none within }
+
+pub good_more : (run : Run) (step : ℕ) → IsGood run step → batch_fault run (step + 1) ≡ None → node_fault 0 (state run (step + 1)) ≡ None → IsWithin run (step + 1) → IsGood run (step + 1)
+good_more run step good batch nodes within = record {
+  reached = reached_more run step good.reached batch nodes;
+  within = λ s below. one_more (IsWithin run) step s good.within below within;
 }

@@ -7,8 +7,7 @@ use Rattle.std.proofs.lemmas.Grind.{flat_map-append}
 use Rattle.tick_model.specs.declared.feed.Run.{Run}
 use Rattle.tick_model.specs.Spoiled.{first_spoiled, spoiled_by, step_before}
 use Rattle.tick_model.specs.Texts.{record_text, records_text, step_records}
-use Rattle.replay.specs.Outcomes.{good_text, text_until}
-use Rattle.replay.specs.ToCome.{good_steps, text_from}
+use Rattle.replay.specs.ToCome.{good_steps, good_updates, text_from, updates_until}
 use Rattle.replay.proofs.Spoils.{AreGoodBefore}
 
 -- what is found passes
@@ -72,10 +71,10 @@ module _ (run : Run) where
   text_ends_after = text_past (length run.batches + 1) good_within
 
   -- from the opening on it is the text of all good steps
-  pub text_whole : text_from run 0 ≡ good_text run
+  pub text_whole : text_from run 0 ≡ good_updates run
   text_whole = go (first_spoiled run)
     where
-      go : (o : Option ℕ) → steps_text 0 (unwrap_or o (length run.batches + 1) - 0) ≡ text_until run (step_before (length run.batches) o)
+      go : (o : Option ℕ) → steps_text 0 (unwrap_or o (length run.batches + 1) - 0) ≡ updates_until run (step_before (length run.batches) o)
       go None = let all : length run.batches + 1 - 0 ≡ length run.batches + 1 = omega arith in ap (steps_text 0) all
       go (Some zero) = refl
       go (Some (suc step)) = let all : suc step - 0 ≡ step + 1 = omega arith in ap (steps_text 0) all

@@ -1,5 +1,11 @@
+pub mod Causes
+pub mod Kept
+pub mod Opened
 pub mod Outcomes
 pub mod Printed
+pub mod Snapshots
 pub mod Standing
+pub mod Steps
 pub mod Stopped
 pub mod ToCome
+pub mod Wholes

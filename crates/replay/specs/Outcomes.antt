@@ -1,16 +1,22 @@
 -- What the run of a feed ends with, and what it writes.
---     IsVerdict run outcome      the outcome is the one that the definitions give to the run
+--     IsVerdict run knobs outcome      the outcome is the one that the definitions give to the run and to how it is run
 --     IsTold outcome      memory did not run out, and the sink did not fail
---     IsComplete run outcome      memory ran out, or the outcome is that of the run
---     good_text run      the updates of the printed nodes up to the last good step
-use Rattle.std.specs.Prelude.{◌≡◌, ℕ, List, [], Option, Some, None, length, map}
+--     IsComplete run knobs outcome      memory ran out, or the outcome is that of the run
+--     WritesWhole run knobs old new      the whole text was written, with the snapshots of a choice that callers may make
+--     WritesPrefix run knobs old new      a prefix of such a text was written
+use Rattle.std.specs.Prelude.{◌≡◌, ℕ, ◌<◌, ◌≤◌, ◌++◌, List, [], Option, Some, None, length, map, nat_lt, slice_index_or, if◌then◌else◌}
+use Rattle.std.specs.Io.KnownBytes.{append_known}
+use Rattle.tick_io.specs.Written.{AppendsPrefix}
 use Rattle.tick_model.specs.declared.feed.Run.{Run}
+use Rattle.tick_model.specs.Choices.{IsChoice}
 use Rattle.tick_model.specs.Evaluation.{table_of}
-use Rattle.tick_model.specs.Spoiled.{Cause, ByBatch, ByNode, first_spoiled, good, spoiled_by}
+use Rattle.tick_model.specs.Spoiled.{Cause, ByBatch, ByNode, ByPublication, first_spoiled, good, spoiled_by}
 use Rattle.tick_model.specs.States.{state}
-use Rattle.tick_model.specs.Texts.{updates_records, updates_text}
+use Rattle.tick_model.specs.Texts.{snapshots_text, updates_records, updates_text}
+use Rattle.replay.specs.declared.outcome.Knobs.{Knobs}
 use Rattle.replay.specs.declared.outcome.Outcome.{Outcome}
 use Rattle.replay.specs.declared.outcome.Outcome.TheVariants.{Done, Memory, Kept, Feed, Node, Publish, Write}
+use Rattle.replay.specs.Kept.{kept_words, most_words}
 
 -- how many rows each node has at a step
 abbrev pub row_counts : Run → ℕ → List ℕ
@@ -28,29 +34,54 @@ pub record IsFirstSpoiled (run : Run) (step : ℕ) (cause : Cause) : Type 0 wher
   pub first : first_spoiled run ≡ Some step
   pub by : spoiled_by run step ≡ Some cause
 
--- nothing is published and no snapshot is kept, so neither spoils a run
-abbrev pub IsVerdict : Run → Outcome → Type 0
-IsVerdict run (Done step records rows) = IsDone run step records rows
-IsVerdict run Memory = ⊥
-IsVerdict run (Kept words) = ⊥
-IsVerdict run (Feed step number fault) = IsFirstSpoiled run step (ByBatch number fault)
-IsVerdict run (Node step node kind) = IsFirstSpoiled run step (ByNode node kind)
-IsVerdict run (Publish step number rows limit) = ⊥
-IsVerdict run Write = ⊥
+-- the most rows of a published table
+abbrev pub limit_at : Run → ℕ → ℕ
+limit_at run number = slice_index_or (map (λ published. published.limit) run.plan.published) number 0
+
+-- what the steps end with
+abbrev pub IsEnd : Run → Outcome → Type 0
+IsEnd run (Done step records rows) = IsDone run step records rows
+IsEnd run Memory = ⊥
+IsEnd run (Kept words) = ⊥
+IsEnd run (Feed step number fault) = IsFirstSpoiled run step (ByBatch number fault)
+IsEnd run (Node step node kind) = IsFirstSpoiled run step (ByNode node kind)
+IsEnd run (Publish step number rows limit) = IsFirstSpoiled run step (ByPublication number rows) × (limit ≡ limit_at run number)
+IsEnd run Write = ⊥
+
+-- the words to be kept are too many; or they are not, and the steps end so
+abbrev pub IsVerdict : Run → Knobs → Outcome → Type 0
+IsVerdict run knobs (Kept words) = (words ≡ kept_words run knobs) × (most_words < words)
+IsVerdict run knobs outcome = (kept_words run knobs ≤ most_words) × IsEnd run outcome
 
 abbrev pub IsTold : Outcome → Type 0
 IsTold Memory = ⊥
 IsTold Write = ⊥
 IsTold outcome = Unit {0}
 
-abbrev pub IsComplete : Run → Outcome → Type 0
-IsComplete run Memory = Unit {0}
-IsComplete run outcome = IsVerdict run outcome
+abbrev pub IsComplete : Run → Knobs → Outcome → Type 0
+IsComplete run knobs Memory = Unit {0}
+IsComplete run knobs outcome = IsVerdict run knobs outcome
 
--- where step 0 is spoiled there is no good step, and nothing is written
-abbrev pub text_until : Run → Option ℕ → List ℕ
-text_until run None = []
-text_until run (Some last) = updates_text run last
+-- the last step that is written: the last good one, and none where there is no good step or too many words would be kept
+abbrev pub last_written : Run → Knobs → Option ℕ
+last_written run knobs = if nat_lt most_words (kept_words run knobs) then None else good run
 
-abbrev pub good_text : Run → List ℕ
-good_text run = text_until run (good run)
+-- the updates up to a step, and the snapshots at the steps of a choice
+abbrev pub text_until : Run → Option ℕ → List (List ℕ) → List ℕ
+text_until run None choice = []
+text_until run (Some last) choice = updates_text run last ++ snapshots_text run choice
+
+-- a choice that the callers may make, up to the last step that is written
+abbrev pub IsLawfulChoice : Knobs → Option ℕ → List (List ℕ) → Type 0
+IsLawfulChoice knobs None choice = choice ≡ []
+IsLawfulChoice knobs (Some last) choice = IsChoice knobs.callers knobs.snaps last choice
+
+pub record WritesWhole (run : Run) (knobs : Knobs) (old new : Option (List ℕ)) : Type 0 where
+  pub choice : List (List ℕ)
+  pub lawful : IsLawfulChoice knobs (last_written run knobs) choice
+  pub written : new ≡ append_known old (text_until run (last_written run knobs) choice)
+
+pub record WritesPrefix (run : Run) (knobs : Knobs) (old new : Option (List ℕ)) : Type 0 where
+  pub choice : List (List ℕ)
+  pub lawful : IsLawfulChoice knobs (last_written run knobs) choice
+  pub written : AppendsPrefix old new (text_until run (last_written run knobs) choice)

@@ -1,5 +1,6 @@
 //! How a run is run, and what it ends with.
-ghost use Rattle.std.specs.Prelude.{◌≡◌};
+ghost use Rattle.std.specs.Prelude.{◌≡◌, IsFalse, IsTrue};
+ghost use Rattle.replay.specs.Outcomes.{IsTold};
 ghost use Rattle.replay.specs.declared.outcome.Outcome.TheVariants.{Memory};
 ghost use Rattle.replay.specs.Stopped.{outcome_of_stop, outcome_of_write};
 
@@ -59,6 +60,19 @@ pub enum Outcome {
     },
     /// The sink failed.
     Write,
+}
+
+impl Outcome {
+    /// Whether memory did not run out and the sink did not fail.
+    pub(crate) fn is_told(&self) -> bool
+        ensures told { IsTrue result → IsTold self.now }
+        ensures not { IsFalse result → IsTold self.now → ⊥ }
+    {
+        match self {
+            Outcome::Memory | Outcome::Write => false,
+            _ => true,
+        }
+    }
 }
 
 impl From<AllocError> for Outcome {

@@ -1,7 +1,7 @@
 //! The nodes that are printed.
 ghost use Rattle.std.specs.List.{AllByRecursion};
 ghost use Rattle.std.specs.Prelude.{◌≡◌, ◌<◌, IfOk, length, map};
-ghost use Rattle.replay.specs.Printed.{printed_of};
+ghost use Rattle.replay.specs.Printed.{printed_of, published_of};
 
 use std::alloc::{AllocError, Global};
 use tick_model::feed::Run;
@@ -63,4 +63,16 @@ pub(crate) fn printed_nodes(alloc: Global, run: &Run) -> Result<Items<PrintedNod
         printed.push(printed_node(alloc, run, *number)?)?;
     }
     Ok(printed)
+}
+
+/// The published tables of a run, in their order, as they are printed.
+pub(crate) fn published_nodes(alloc: Global, run: &Run) -> Result<Items<PrintedNode>, AllocError>
+    requires { AllByRecursion (λ table. table.node < length run.now.plan.nodes) run.now.plan.published }
+    ensures { IfOk result (λ published. published ≡ map (published_of run.now) run.now.plan.published) }
+{
+    let mut published = Items::new(alloc);
+    for table in run.plan.published.as_slice() {
+        published.push(printed_node(alloc, run, table.node)?)?;
+    }
+    Ok(published)
 }

@@ -1,14 +1,21 @@
 //! The run itself.
-ghost use Rattle.std.specs.Io.KnownBytes.{append_known};
-ghost use Rattle.std.specs.Prelude.{◌≡◌, ◌≤◌, [], IfErr, IfOk, IsErrOf, OnErr, OnOk, length};
+ghost use Rattle.std.specs.Prelude.{◌≡◌, ◌≤◌, ◌<◌, length};
+ghost use Rattle.snapshot_store.specs.Lines.{count};
+ghost use Rattle.snapshot_store.specs.Models.{IsOf};
 ghost use Rattle.tick_io.specs.Counts.{Rose};
-ghost use Rattle.tick_io.specs.Written.{AppendsPrefix};
 ghost use Rattle.tick_model.specs.LawfulRuns.{IsLawfulRun};
-ghost use Rattle.replay.specs.Outcomes.{IsComplete, IsTold, IsVerdict, good_text};
-ghost use Rattle.replay.specs.Standing.{IsAt};
-ghost use Rattle.replay.specs.ToCome.{text_from};
+ghost use Rattle.replay.specs.Kept.{kept_words as words_kept, most_words};
+ghost use Rattle.replay.specs.Opened.{IsOpened};
+ghost use Rattle.replay.specs.Outcomes.{IsComplete, IsEnd, IsTold, IsVerdict, WritesPrefix, WritesWhole};
+ghost use Rattle.replay.specs.Snapshots.{EachReader, HasRead, callers_of};
+ghost use Rattle.replay.specs.Standing.{IsLast};
+ghost use Rattle.replay.specs.Wholes.{AddsPrefix, AddsWhole, HasEndedFrom};
 
-use crate::progress::Progress;
+use crate::beside::run_beside;
+use crate::kept::{MOST_WORDS, kept_words};
+use crate::last_calls::last_snapshots;
+use crate::opening::{Opened, Publication, open_run};
+use crate::snapshots::write_snapshots;
 use crate::{Knobs, Outcome};
 use std::alloc::{AllocError, Global};
 use std::sync::Wait;
@@ -16,39 +23,119 @@ use std::thread::Threads;
 use tick_io::{Gate, Sink};
 use tick_model::feed::Run;
 
-/// Opens a run and brings it to its last step, printing each step.
-fn bring_to_end<R: Threads + Sync, S: Sink, G: Gate>(
+/// Ends a run: each caller makes its last call, and what the callers have kept is written.
+fn ended<R: Wait, S: Sink>(
     rt: &R,
     alloc: Global,
     run: &Run,
-    workers: u32,
+    knobs: &Knobs,
+    publication: Publication,
+    outcome: Outcome,
     out: &mut S,
-    gate: &G,
-) -> Result<Progress, Outcome>
+) -> Outcome
     requires lawful { IsLawfulRun run.now }
-    requires unpublished { run.now.plan.published ≡ [] }
-    requires some_workers { 1 ≤ workers }
-    requires few_workers { workers ≤ 64 }
-    ensures stands { IfOk result (IsAt run.now (length run.now.batches)) }
-    ensures whole { OnOk result (S.bytes out.new ≡ append_known (S.bytes out.old) (text_from run.now 0)) }
-    ensures verdict { IfErr result (λ outcome. IsTold outcome → IsVerdict run.now outcome) }
-    ensures ended { IfErr result (λ outcome. IsTold outcome → S.bytes out.new ≡ append_known (S.bytes out.old) (text_from run.now 0)) }
-    ensures prefix { OnErr result (AppendsPrefix (S.bytes out.old) (S.bytes out.new) (text_from run.now 0)) }
-    ensures failed { IsErrOf result Outcome.Write → Rose (S.failures out.old) (S.failures out.new) }
+    requires few_callers { knobs.now.callers ≤ 16 }
+    requires few_snaps { knobs.now.snaps ≤ 64 }
+    requires store { publication.store.run ≡ run.now }
+    requires own { IsOf publication.store publication.writer.table publication.writer.run }
+    requires count { length publication.readers.items ≡ callers_of run.now.plan.published knobs.now.callers }
+    requires read { EachReader (λ number. HasRead publication.store number knobs.now.snaps) publication.readers.items }
+    requires told { IsTold outcome }
+    requires last { IsLast run.now publication.writer.step }
+    ensures same { IsTold result → result ≡ outcome }
+    ensures whole { IsTold result → AddsWhole run.now knobs.now publication.writer.step (S.bytes out.old) (S.bytes out.new) }
+    ensures prefix { AddsPrefix run.now knobs.now publication.writer.step (S.bytes out.old) (S.bytes out.new) }
+    ensures failed { result ≡ Outcome.Write → Rose (S.failures out.old) (S.failures out.new) }
     ensures never_falls { S.failures out.old ≤ S.failures out.new }
 {
-    let mut progress = Progress::open(alloc, run, out)?;
-    for _step in 0..run.batches.len() {
-        progress = progress.advance(rt, alloc, run, workers, out, gate)?;
+    let published = run.plan.published.len() as u32;
+    let all = match last_snapshots(rt, alloc, knobs, published, publication) {
+        Ok(all) => all,
+        Err(AllocError) => return Outcome::Memory,
+    };
+    match write_snapshots(alloc, out, run, all.as_slice()) {
+        Ok(()) => outcome,
+        Err(fault) => Outcome::from(fault),
     }
-    Ok(progress)
+}
+
+/// Brings a run that was opened to its end, with the callers beside it. Where memory ran out or the sink failed, nothing more is written.
+fn run_opened<R: Threads + Wait + Sync, S: Sink, G: Gate>(
+    rt: &R,
+    alloc: Global,
+    run: &Run,
+    knobs: &Knobs,
+    opened: Opened,
+    gate: &G,
+    out: &mut S,
+) -> Outcome
+    requires lawful { IsLawfulRun run.now }
+    requires some_workers { 1 ≤ knobs.now.workers }
+    requires few_workers { knobs.now.workers ≤ 64 }
+    requires few_callers { knobs.now.callers ≤ 16 }
+    requires few_snaps { knobs.now.snaps ≤ 64 }
+    requires opened { IsOpened run.now knobs.now opened }
+    ensures { HasEndedFrom run.now knobs.now 1 result (S.bytes out.old) (S.bytes out.new) (S.failures out.old) (S.failures out.new) }
+{
+    let Opened {
+        progress,
+        publication,
+    } = opened;
+    let Publication {
+        store,
+        mut writer,
+        mut readers,
+    } = publication;
+    let outcome = run_beside(
+        rt,
+        alloc,
+        run,
+        knobs,
+        gate,
+        &store,
+        progress,
+        readers.as_mut_slice(),
+        &mut writer,
+        out,
+    );
+    if !outcome.is_told() {
+        return outcome;
+    }
+    let publication = Publication {
+        store,
+        writer,
+        readers,
+    };
+    ended(rt, alloc, run, knobs, publication, outcome, out)
+}
+
+/// Runs a run whose snapshots can be kept.
+fn run_kept<R: Threads + Wait + Sync, S: Sink, G: Gate>(
+    rt: &R,
+    alloc: Global,
+    run: &Run,
+    knobs: &Knobs,
+    out: &mut S,
+    gate: &G,
+) -> Outcome
+    requires lawful { IsLawfulRun run.now }
+    requires some_workers { 1 ≤ knobs.now.workers }
+    requires few_workers { knobs.now.workers ≤ 64 }
+    requires few_callers { knobs.now.callers ≤ 16 }
+    requires few_snaps { knobs.now.snaps ≤ 64 }
+    ensures { HasEndedFrom run.now knobs.now 0 result (S.bytes out.old) (S.bytes out.new) (S.failures out.old) (S.failures out.new) }
+{
+    match open_run(alloc, run, knobs, out) {
+        Ok(opened) => run_opened(rt, alloc, run, knobs, opened, gate, out),
+        Err(outcome) => outcome,
+    }
 }
 
 /// Runs a run from its opening to its last step, or to the first step that is spoiled, and writes the updates of its printed nodes at
-/// every step before that one.
+/// every step before that one. Beside it callers take snapshots of the published tables, which are written last.
 ///
-/// Nothing is published and there are no callers, so no snapshot is taken. Where memory runs out or the sink fails, a prefix of those
-/// updates was written.
+/// Where the snapshots would have too many words, or step 0 is spoiled, nothing is written. Where nothing is published, no snapshot is
+/// taken. Where memory runs out or the sink fails, a prefix of those texts was written.
 pub fn run_feed<R: Threads + Wait + Sync, S: Sink, G: Gate>(
     rt: &R,
     alloc: Global,
@@ -58,23 +145,20 @@ pub fn run_feed<R: Threads + Wait + Sync, S: Sink, G: Gate>(
     gate: &G,
 ) -> Outcome
     requires lawful { IsLawfulRun run.now }
-    requires unpublished { run.now.plan.published ≡ [] }
-    requires no_callers { knobs.now.callers ≡ 0 }
     requires some_workers { 1 ≤ knobs.now.workers }
     requires few_workers { knobs.now.workers ≤ 64 }
-    ensures verdict { IsTold result → IsVerdict run.now result }
-    ensures whole { IsTold result → S.bytes out.new ≡ append_known (S.bytes out.old) (good_text run.now) }
+    requires few_callers { knobs.now.callers ≤ 16 }
+    requires few_snaps { knobs.now.snaps ≤ 64 }
+    ensures verdict { IsTold result → IsVerdict run.now knobs.now result }
+    ensures whole { IsTold result → WritesWhole run.now knobs.now (S.bytes out.old) (S.bytes out.new) }
     ensures failed { result ≡ Outcome.Write → Rose (S.failures out.old) (S.failures out.new) }
-    ensures prefix { AppendsPrefix (S.bytes out.old) (S.bytes out.new) (good_text run.now) }
-    ensures complete { (Rose (S.failures out.old) (S.failures out.new) → ⊥) → IsComplete run.now result }
+    ensures prefix { WritesPrefix run.now knobs.now (S.bytes out.old) (S.bytes out.new) }
+    ensures complete { (Rose (S.failures out.old) (S.failures out.new) → ⊥) → IsComplete run.now knobs.now result }
     ensures never_falls { S.failures out.old ≤ S.failures out.new }
 {
-    let progress = match bring_to_end(rt, alloc, run, knobs.workers, out, gate) {
-        Ok(progress) => progress,
-        Err(outcome) => return outcome,
-    };
-    match progress.done(alloc, run) {
-        Ok(done) => done,
-        Err(AllocError) => Outcome::Memory,
+    let words = kept_words(run, knobs);
+    if words > MOST_WORDS {
+        return Outcome::Kept { words };
     }
+    run_kept(rt, alloc, run, knobs, out, gate)
 }

@@ -3,7 +3,7 @@
 use super::Row;
 
 /// A script, a feed, the status and the record of the refusal.
-pub(super) const REFUSED: [Row; 17] = [
+pub(super) const REFUSED: [Row; 18] = [
     (
         "table t x:long\nprint t\n",
         "t,t\na,0,1\n",
@@ -100,5 +100,11 @@ pub(super) const REFUSED: [Row; 17] = [
         "",
         4,
         "fault,4,script,1,too-many-columns\n",
+    ),
+    (
+        "table t x:long\npublish t 0\n",
+        "",
+        4,
+        "fault,4,script,2,number-range\n",
     ),
 ];

@@ -3,7 +3,7 @@
 use super::Row;
 
 /// A script, a feed, the status and what is written.
-pub(super) const RUNS: [Row; 37] = [
+pub(super) const RUNS: [Row; 38] = [
     (
         "table t sym:text qty:long\nbig = where t qty > 10\nprint big\n",
         "t,t\na,0,IBM,5\na,1,AAPL,20\n.\n",
@@ -220,5 +220,11 @@ pub(super) const RUNS: [Row; 37] = [
         "t,q\na,0,A,10,100\na,1,A,10,150\nt,t\na,0,A,10\na,1,B,10\n.\n",
         0,
         "step,1,j\na,0,A,10,150\na,1,B,10,\ndone,1\n",
+    ),
+    (
+        "table t x:long\npublish t 2\n",
+        "t,t\na,0,1\na,1,2\na,2,3\n.\nt,t\nr,0,0\n.\n",
+        9,
+        "fault,9,publish,1,t,3,2\n",
     ),
 ];

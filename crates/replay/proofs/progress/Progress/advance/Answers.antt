@@ -3,46 +3,26 @@ use Rattle.std.specs.Io.KnownBytes.{append_known}
 use Rattle.std.proofs.lemmas.Result.{err_from_is_err_and}
 use Rattle.tick_io.specs.Written.{AppendsPrefix}
 use Rattle.tick_model.specs.Texts.{step_records}
-use Rattle.replay.proofs.Exits.{step_begun, stop_ends}
+use Rattle.replay.specs.ToCome.{text_from}
+use Rattle.replay.proofs.Exits.{none_written, step_begun}
 use Rattle.replay.proofs.Prints.{count_is, on_err, step_is}
-use Rattle.replay.proofs.Reaching.{reached_more}
 use Rattle.replay.proofs.RecordCounts.{length-updates_more, updates_few}
-use Rattle.replay.proofs.Spoils.{reached_good, stop_tells}
+use Rattle.replay.proofs.Spoils.{good_before_next}
 use Rattle.replay.proofs.progress.Progress.advance.Goals as goal
-
-pub returns-in_err-graph-clause-verdict : goal.returns-in_err-graph-clause-verdict
-returns-in_err-graph-clause-verdict g c =
-    let run = c.args.run.now in
-    let step = c.args.self.graph.step in
-    let reached = c.requires.stands.reached in
-    let p = err_from_is_err_and c.from_residual.result c.from_residual.ensures.1 in
-    rw (p.1, p.2) (stop_tells run (step + 1) c.in_err-graph.field-0.0 (omega (arith, c.requires.next)) (reached_good run c.requires.unpublished step reached) c.in_err-graph.ensures.cause)
-
-pub returns-in_err-graph-clause-ended : goal.returns-in_err-graph-clause-ended
-returns-in_err-graph-clause-ended g c =
-    let run = c.args.run.now in
-    let step = c.args.self.graph.step in
-    let reached = c.requires.stands.reached in
-    let p = err_from_is_err_and c.from_residual.result c.from_residual.ensures.1 in
-    rw (p.1, p.2) (stop_ends run (step + 1) (omega (arith, c.requires.next)) c.in_err-graph.field-0.0 (g.S.Sink.bytes c.args.out.now) (reached_good run c.requires.unpublished step reached) c.in_err-graph.ensures.cause)
 
 pub returns-in_err-more-clause-prefix : goal.returns-in_err-more-clause-prefix
 returns-in_err-more-clause-prefix g c =
     let run = c.args.run.now in
     let step = c.args.self.graph.step in
-    let reached = c.requires.stands.reached in
-    let next = reached_more run step reached c.in_ok-graph.ensures.batch c.in_ok-graph.ensures.nodes in
     on_err c.from_residual-in_err-more.result
-    (step_begun run (step + 1) (omega (arith, c.requires.next)) (g.S.Sink.bytes c.args.out.now) (g.S.Sink.bytes c.write_step.new.out) (reached_good run c.requires.unpublished (step + 1) next)
+    (step_begun run (step + 1) (omega (arith, c.requires.next)) (g.S.Sink.bytes c.args.out.now) (g.S.Sink.bytes c.write_step.new.out) (good_before_next run (step + 1) c.in_ok-graph.ensures.good)
     (subst (AppendsPrefix (g.S.Sink.bytes c.args.out.now) (g.S.Sink.bytes c.write_step.new.out)) (step_is run (step + 1) _ _ c.in_ok-graph.ensures.run c.in_ok-graph.ensures.step) c.in_err-more.ensures.err))
 
 pub overflow_add-result : goal.overflow_add-result
 overflow_add-result g c =
     let run = c.args.run.now in
     let step = c.args.self.graph.step in
-    let reached = c.requires.stands.reached in
-    let next = reached_more run step reached c.in_ok-graph.ensures.batch c.in_ok-graph.ensures.nodes in
-    let few = updates_few run c.requires.lawful (step + 1) (omega (arith, c.requires.next)) next in
+    let few = updates_few run c.requires.lawful (step + 1) (omega (arith, c.requires.next)) c.in_ok-graph.ensures.good.reached in
     let more : c.in_ok-more.more ≡ length (step_records run (step + 1)) = count_is run (step + 1) _ _ c.in_ok-more.more c.in_ok-graph.ensures.run c.in_ok-graph.ensures.step c.in_ok-more.ensures.count in
     let small : c.args.self.records + c.in_ok-more.more < 2 ^ 64 = omega (arith, few, length-updates_more run step, c.requires.stands.records_are, more) in
     search rules
@@ -55,7 +35,7 @@ returns-clause-stands g c =
     record {
       run_is = c.in_ok-graph.ensures.run;
       step_is = c.in_ok-graph.ensures.step;
-      reached = reached_more run step c.requires.stands.reached c.in_ok-graph.ensures.batch c.in_ok-graph.ensures.nodes;
+      good = c.in_ok-graph.ensures.good;
       printed_are = c.requires.stands.printed_are;
       records_are = omega (arith, length-updates_more run step, c.requires.stands.records_are, more);
     }
@@ -63,3 +43,12 @@ returns-clause-stands g c =
 pub returns-clause-whole : goal.returns-clause-whole
 returns-clause-whole g c =
     c.in_ok-more.ensures.whole ∙ ap (append_known (g.S.Sink.bytes c.args.out.now)) (step_is c.args.run.now (c.args.self.graph.step + 1) _ _ c.in_ok-graph.ensures.run c.in_ok-graph.ensures.step)
+
+pub returns-in_err-graph-clause-failed : goal.returns-in_err-graph-clause-failed
+returns-in_err-graph-clause-failed g c is =
+    let p = err_from_is_err_and c.from_residual.result c.from_residual.ensures.1 in
+    absurd (c.in_err-graph.ensures.no_write (cc))
+
+pub returns-in_err-graph-clause-prefix : goal.returns-in_err-graph-clause-prefix
+returns-in_err-graph-clause-prefix g c =
+    on_err c.from_residual.result (none_written (g.S.Sink.bytes c.args.out.now) (text_from c.args.run.now (c.args.self.graph.step + 1)))

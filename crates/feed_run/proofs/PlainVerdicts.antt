@@ -1,0 +1,76 @@
+-- The verdict on a run and its text are the same wherever its formulas lie.
+use Rattle.std.proofs.Common.{◌≡◌, ℕ, List, ◌∷◌, [], ◌++◌, true, false, cond, ltb, Option, Some, None, refl, sym, ap, ◌∙◌, subst}
+use Rattle.std.specs.Fmt.{decimal}
+use Rattle.std.specs.Prelude.{codes, option_map}
+use Rattle.tick_model.specs.declared.feed.Run.{Run}
+use Rattle.tick_model.specs.Spoiled.{Cause, ByBatch, ByNode, ByPublication, first_spoiled, spoiled_by, good}
+use Rattle.tick_model.specs.Texts.{record_text, updates_text, snapshots_text, done_record, published_node}
+use Rattle.feed_reader.specs.Assembled.{plain_run}
+use Rattle.replay.specs.declared.outcome.Knobs.{Knobs}
+use Rattle.replay.specs.Kept.{kept_words, most_words}
+use Rattle.replay.specs.Outcomes.{IsLawfulChoice, limit_at, text_until}
+use Rattle.feed_run.specs.FaultWords.{node_fields}
+use Rattle.feed_run.specs.Verdicts.{Verdict, Refused, Summary, Kept, Spoiled, Done, steps_verdict, run_verdict, status_of}
+use Rattle.feed_run.specs.Wholes.{cause_record, whole, IsLawful}
+use Rattle.feed_run.proofs.PlainRuns.{first_spoiled_plain, spoiled_plain, good_plain, name_plain, updates_plain}
+use Rattle.feed_run.proofs.PlainTexts.{snapshots_plain}
+
+-- a verdict, without where the formulas of its run lie
+abbrev pub plainly : Verdict → Verdict
+plainly (Refused refusal) = Refused refusal
+plainly (Summary steps) = Summary steps
+plainly (Kept words) = Kept words
+plainly (Spoiled run knobs step cause) = Spoiled (plain_run run) knobs step cause
+plainly (Done run knobs step) = Done (plain_run run) knobs step
+
+plainly_spoiled : (run : Run) (knobs : Knobs) (step : ℕ) (cause : Option Cause) → option_map (Spoiled (plain_run run) knobs step) cause ≡ option_map plainly (option_map (Spoiled run knobs step) cause)
+plainly_spoiled run knobs step None = refl
+plainly_spoiled run knobs step (Some cause) = refl
+
+steps_plain : (run : Run) (knobs : Knobs) (first : Option ℕ) → steps_verdict (plain_run run) knobs first ≡ option_map plainly (steps_verdict run knobs first)
+steps_plain run knobs None = refl
+steps_plain run knobs (Some step) = ap (λ (of : ℕ → Option Cause). option_map (Spoiled (plain_run run) knobs step) (of step)) (spoiled_plain run) ∙ plainly_spoiled run knobs step (spoiled_by run step)
+
+pub verdict_plain : (run : Run) (knobs : Knobs) → run_verdict (plain_run run) knobs ≡ option_map plainly (run_verdict run knobs)
+verdict_plain run knobs =
+    elim (ltb most_words (kept_words run knobs)) as (λ b. cond b (Some (Kept (kept_words run knobs))) (steps_verdict (plain_run run) knobs (first_spoiled (plain_run run))) ≡ option_map plainly (cond b (Some (Kept (kept_words run knobs))) (steps_verdict run knobs (first_spoiled run)))) [
+      | true ↦ refl
+      | false ↦ ap (steps_verdict (plain_run run) knobs) (first_spoiled_plain run) ∙ steps_plain run knobs (first_spoiled run)
+    ]
+
+cause_plain : (run : Run) (step : ℕ) (cause : Cause) → cause_record (plain_run run) step cause ≡ cause_record run step cause
+cause_plain run step (ByBatch number rule) = refl
+cause_plain run step (ByNode node fault) =
+    ap (λ (name : ℕ → List ℕ). codes "fault" ∷ codes "8" ∷ codes "node" ∷ decimal step ∷ name node ∷ node_fields fault) (name_plain run)
+cause_plain run step (ByPublication number rows) =
+    ap (λ (name : ℕ → List ℕ). codes "fault" ∷ codes "9" ∷ codes "publish" ∷ decimal step ∷ name (published_node run.plan.published number) ∷ decimal rows ∷ decimal (limit_at run number) ∷ []) (name_plain run)
+
+texts_plain : (run : Run) (last : Option ℕ) (choice : List (List ℕ)) → text_until (plain_run run) last choice ≡ text_until run last choice
+texts_plain run None choice = refl
+texts_plain run (Some last) choice =
+    ap (λ (of : ℕ → List ℕ). of last ++ snapshots_text (plain_run run) choice) (updates_plain run)
+    ∙ ap (λ snapshots. updates_text run last ++ snapshots) (snapshots_plain run choice)
+
+pub whole_plain : (of : Verdict) (choice : List (List ℕ)) → whole (plainly of) choice ≡ whole of choice
+whole_plain (Refused refusal) choice = refl
+whole_plain (Summary steps) choice = refl
+whole_plain (Kept words) choice = refl
+whole_plain (Spoiled run knobs step cause) choice =
+    ap (λ last. text_until (plain_run run) last choice ++ record_text (cause_record (plain_run run) step cause)) (good_plain run)
+    ∙ ap (λ texts. texts ++ record_text (cause_record (plain_run run) step cause)) (texts_plain run (good run) choice)
+    ∙ ap (λ fields. text_until run (good run) choice ++ record_text fields) (cause_plain run step cause)
+whole_plain (Done run knobs step) choice = ap (λ texts. texts ++ record_text (done_record step)) (texts_plain run (Some step) choice)
+
+pub lawful_plain : (of : Verdict) (choice : List (List ℕ)) → IsLawful of choice → IsLawful (plainly of) choice
+lawful_plain (Refused refusal) choice may = may
+lawful_plain (Summary steps) choice may = may
+lawful_plain (Kept words) choice may = may
+lawful_plain (Spoiled run knobs step cause) choice may = subst (λ last. IsLawfulChoice knobs last choice) (sym (good_plain run)) may
+lawful_plain (Done run knobs step) choice may = may
+
+pub status_plain : (of : Verdict) → status_of (plainly of) ≡ status_of of
+status_plain (Refused refusal) = refl
+status_plain (Summary steps) = refl
+status_plain (Kept words) = refl
+status_plain (Spoiled run knobs step cause) = refl
+status_plain (Done run knobs step) = refl

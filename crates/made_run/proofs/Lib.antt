@@ -1,0 +1,13 @@
+pub mod Blocks
+pub mod Drawn
+pub mod Groups
+pub mod Joined
+pub mod Lawful
+pub mod Numbers
+pub mod Outcomes
+pub mod PlainRuns
+pub mod Rows
+pub mod Searches
+pub mod Shifts
+pub mod Trades
+pub mod Unspoiled

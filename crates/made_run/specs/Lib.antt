@@ -1,0 +1,5 @@
+pub mod Draws
+pub mod Plan
+pub mod Run
+pub mod Steps
+pub mod Tables

@@ -1,0 +1,74 @@
+//! What a made run begins with: its tables and its texts.
+
+ghost use Rattle.std.specs.Prelude.{◌≡◌, ◌<◌, map, IfOk};
+ghost use Rattle.made_run.specs.Tables.{opening as opening_tables, ref_row as row_of, ref_table as table_of_ref, texts as texts_of, trades_table};
+
+use crate::plan::named;
+use std::alloc::{AllocError, Global};
+use tick_model::items::Items;
+use tick_model::name::Name;
+use tick_model::table::{PlainRow, PlainTable};
+
+/// So many symbols there are; the two sectors come behind them.
+const SYMBOLS: u32 = 8;
+
+const LOT: i64 = 100;
+
+fn ref_row(alloc: Global, symbol: u32) -> Result<PlainRow, AllocError>
+    ensures { IfOk result (λ row. row ≡ row_of symbol) }
+{
+    let sector = if symbol % 2 == 0 {
+        SYMBOLS
+    } else {
+        SYMBOLS + 1
+    };
+    Ok(PlainRow {
+        key: u64::from(symbol),
+        cells: Items::of(vec![in alloc; i64::from(symbol), i64::from(sector), LOT]?),
+    })
+}
+
+fn ref_table(alloc: Global) -> Result<PlainTable, AllocError>
+    ensures { IfOk result (λ table. table ≡ table_of_ref) }
+{
+    let mut rows = Items::new(alloc);
+    for symbol in 0..SYMBOLS {
+        rows.push(ref_row(alloc, symbol)?)?;
+    }
+    Ok(PlainTable { width: 3, rows })
+}
+
+/// The tables of `trades`, which is empty, and of `ref`.
+pub fn opening(alloc: Global) -> Result<Items<PlainTable>, AllocError>
+    ensures { IfOk result (λ tables. tables ≡ opening_tables) }
+{
+    let mut tables = Items::new(alloc);
+    tables.push(PlainTable {
+        width: 4,
+        rows: Items::new(alloc),
+    })?;
+    tables.push(ref_table(alloc)?)?;
+    Ok(tables)
+}
+
+fn names(alloc: Global, texts: &[&str]) -> Result<Items<Name>, AllocError>
+    ensures { IfOk result (λ names. names ≡ map (λ text. text.now) texts.now) }
+{
+    let mut names = Items::new(alloc);
+    for text in texts {
+        names.push(named(alloc, text)?)?;
+    }
+    Ok(names)
+}
+
+/// The symbols and the sectors.
+pub fn texts(alloc: Global) -> Result<Items<Name>, AllocError>
+    ensures { IfOk result (λ texts. texts ≡ texts_of) }
+{
+    names(
+        alloc,
+        &[
+            "S0", "S1", "S2", "S3", "S4", "S5", "S6", "S7", "even", "odd",
+        ],
+    )
+}

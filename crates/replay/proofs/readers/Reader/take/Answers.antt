@@ -1,0 +1,35 @@
+use Rattle.std.proofs.Common.{◌≡◌, ◌+◌, ◌%◌, ◌≤◌, ◌∷◌, ◌++◌, [], ◌∙◌, ap, sym, subst, length, List}
+use Rattle.std.specs.Prelude.{slice_index}
+use Rattle.snapshot_store.specs.Looks.{latest}
+use Rattle.tick_model.specs.Words.{line}
+use Rattle.replay.specs.declared.readers.KeptSnapshot.{KeptSnapshot}
+use Rattle.replay.specs.Snapshots.{HasKept, steps_of, table_number}
+use Rattle.replay.proofs.Keeping.{IsNext, kept_more, last_kept, snapshot_next}
+use Rattle.replay.proofs.readers.Reader.take.Goals as goal
+
+pub returns-clause-more : goal.returns-clause-more
+returns-clause-more g c =
+    let run = c.args.store.now.run in
+    let before = c.args.self.now in
+    let after = c.snapshot-taken.new.caller in
+    let next : IsNext run ((c.args.number + c.args.call) % c.args.published) before.caller after c.snapshot-taken.result.step =
+    snapshot_next run _ c.args.attempts before.caller after c.snapshot-taken.result c.snapshot-taken.ensures.snapshot c.snapshot-taken.ensures.rises in
+    let kept : KeptSnapshot = record { step = c.snapshot-taken.result.step; words = c.in_ok-words.words } in
+    let words : kept.words ≡ line run kept.step (table_number run c.args.number c.args.call) =
+    c.in_ok-words.ensures ∙ c.words.ensures ∙ next.words ∙ ap (λ n. line run kept.step ((c.args.number + c.args.call) % n)) c.requires.published in
+    record {
+      own = c.snapshot-taken.ensures.own;
+      kept_are = subst (HasKept run c.args.number (c.args.call + 1) (latest after.looks)) (sym c.in_ok-push.ensures.ok)
+          (kept_more run c.args.number c.args.call (latest before.caller.looks) before.kept c.requires.reader.kept_are kept (latest after.looks) next.not_older next.seen words);
+    }
+
+pub returns-clause-not_older : goal.returns-clause-not_older
+returns-clause-not_older g c =
+    let run = c.args.store.now.run in
+    let before = c.args.self.now in
+    let after = c.snapshot-taken.new.caller in
+    let next : IsNext run ((c.args.number + c.args.call) % c.args.published) before.caller after c.snapshot-taken.result.step =
+    snapshot_next run _ c.args.attempts before.caller after c.snapshot-taken.result c.snapshot-taken.ensures.snapshot c.snapshot-taken.ensures.rises in
+    let kept : KeptSnapshot = record { step = c.snapshot-taken.result.step; words = c.in_ok-words.words } in
+    subst (λ step. latest before.caller.looks ≤ step)
+    (sym (ap (λ all. slice_index (steps_of all) c.args.call) c.in_ok-push.ensures.ok ∙ last_kept run c.args.number c.args.call (latest before.caller.looks) before.kept c.requires.reader.kept_are kept)) next.not_older

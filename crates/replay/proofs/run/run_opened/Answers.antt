@@ -1,0 +1,44 @@
+use Rattle.std.proofs.Common.{◌≡◌, ◌≤◌, ap, sym, subst, arith, rules, length}
+use Rattle.tick_io.proofs.RisingCounts.{rose_earlier}
+use Rattle.replay.specs.Outcomes.{IsEnd, IsTold}
+use Rattle.replay.specs.Snapshots.{EachReader, HasRead}
+use Rattle.replay.proofs.KeptInEnd.{written_back}
+use Rattle.replay.proofs.WholeTexts.{all_after_updates, some_after_updates, some_updates}
+use Rattle.replay.proofs.run.run_opened.Goals as goal
+
+pub returns-then-not-is_told : goal.returns-then-not-is_told
+returns-then-not-is_told g c =
+    let ran = c.run_beside-outcome.ensures.ran in
+    let untold : IsTold c.run_beside-outcome.result → ⊥ = search rules in
+    record {
+      end = λ told. absurd (untold told);
+      whole = λ told. absurd (untold told);
+      prefix = some_updates c.args.run.now c.args.knobs.now 1 (g.S.Sink.bytes c.args.out.now) (g.S.Sink.bytes c.run_beside-outcome.new.out) ran.prefix;
+      failed = ran.failed;
+      never_falls = ran.never_falls;
+    }
+
+pub ended-requires-clause-read : goal.ended-requires-clause-read
+ended-requires-clause-read g c κs within =
+    let readers = c.args.opened.publication.readers in
+    let new = c.run_beside-outcome.new.readers in
+    let long : length new ≡ length readers.items = omega (arith, ap length c.as_mut_slice.ensures.value, c.run_beside-outcome.auto.readers) in
+    subst (EachReader (λ number. HasRead c.args.opened.publication.store number c.args.knobs.now.snaps)) (sym (written_back readers.len new readers.items long readers.ok.0)) c.run_beside-outcome.ensures.read
+
+pub returns : goal.returns
+returns g c =
+    let run = c.args.run.now in
+    let knobs = c.args.knobs.now in
+    let ran = c.run_beside-outcome.ensures.ran in
+    let told : IsTold c.run_beside-outcome.result = search rules in
+    let last = c.run_beside-outcome.new.writer.step in
+    let old = g.S.Sink.bytes c.args.out.now in
+    let mid = g.S.Sink.bytes c.run_beside-outcome.new.out in
+    let new = g.S.Sink.bytes c.ended.new.out in
+    record {
+      end = λ still. subst (IsEnd run) (sym (c.ended.ensures.same still)) (ran.end told);
+      whole = λ still. all_after_updates run knobs 1 last (ran.last_is told).good_is old mid new (ran.whole told) (c.ended.ensures.whole still);
+      prefix = some_after_updates run knobs 1 last (ran.last_is told).good_is old mid new (ran.whole told) c.ended.ensures.prefix;
+      failed = λ is. rose_earlier (g.S.Sink.failures c.args.out.now) (g.S.Sink.failures c.run_beside-outcome.new.out) (g.S.Sink.failures c.ended.new.out) ran.never_falls (c.ended.ensures.failed is);
+      never_falls = omega (arith, ran.never_falls, c.ended.ensures.never_falls);
+    }

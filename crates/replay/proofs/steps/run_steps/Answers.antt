@@ -1,0 +1,34 @@
+use Rattle.std.proofs.Common.{◌≡◌, ◌∙◌, ap, sym, subst, length, Some}
+use Rattle.tick_laws.specs.Reached.{IsReached}
+use Rattle.replay.specs.Outcomes.{IsEnd}
+use Rattle.replay.proofs.Exits.{all_written}
+use Rattle.replay.proofs.Spoils.{good_before_next, last_at_end}
+use Rattle.replay.proofs.steps.run_steps.Goals as goal
+
+pub returns-in-Ok-done-clause-ran : goal.returns-in-Ok-done-clause-ran
+returns-in-Ok-done-clause-ran g c =
+    let run = c.args.run.now in
+    let made = c.in-Ok.ensures in
+    record {
+      end = λ told. c.in-Ok-done.ensures;
+      last_is = λ told. record {
+        good_is = last_at_end run (good_before_next run (length run.batches) made.stands.good) ∙ ap Some (sym made.writer);
+        reached = subst (IsReached run) (sym made.writer) made.stands.good.reached;
+      };
+      whole = λ told. made.whole;
+      prefix = all_written _ _ _ made.whole;
+      failed = λ is. absurd (subst (IsEnd run) is c.in-Ok-done.ensures);
+      never_falls = made.never_falls;
+    }
+
+pub returns-in-Err-done-clause-ran : goal.returns-in-Err-done-clause-ran
+returns-in-Err-done-clause-ran g c =
+    let made = c.in-Ok.ensures in
+    record {
+      end = λ told. absurd told;
+      last_is = λ told. absurd told;
+      whole = λ told. absurd told;
+      prefix = all_written _ _ _ made.whole;
+      failed = λ is. absurd (cc);
+      never_falls = made.never_falls;
+    }
