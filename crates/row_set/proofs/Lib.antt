@@ -8,6 +8,7 @@ pub mod Longest
 pub mod Lookups
 pub mod Merged
 pub mod Middles
+pub mod Opened
 pub mod Parted
 pub mod Places
 pub mod Shifted

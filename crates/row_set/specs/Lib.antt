@@ -1,4 +1,5 @@
 pub mod Choice
+pub mod Gaps
 pub mod Moves
 pub mod Ranges
 pub mod Sets

@@ -8,6 +8,7 @@
 
 mod algebra;
 mod edits;
+mod gaps;
 mod ranges;
 mod rows;
 mod search;
