@@ -9,17 +9,12 @@ use Rattle.key_lists.proofs.Every.{every_weaker}
 use Rattle.key_lists.proofs.Rising.{rising_same, rising_some}
 use Rattle.row_set.specs.declared.ranges.Range.{Range}
 use Rattle.row_set.specs.Ranges.{keys_from, keys_of, holds, AreApart, Meets}
+pub use Rattle.row_set.specs.Ranges.{left_edge, right_edge}
 use Rattle.row_set.proofs.Held.{among-in, among-keys, holds-true, holds_before, holds_after, none_before, none_after}
 use Rattle.row_set.proofs.Apart.{apart-take, apart_raised, apart-append, keys_rise}
 use Rattle.row_set.proofs.Counts.{blank}
 use Rattle.row_set.proofs.Lookups.{any-append}
 use Rattle.row_set.proofs.Middles.{span, IsMet, met, any_parts, before_head, after_tail}
-
-abbrev pub left_edge : ℕ → Range → List Range
-left_edge first head = cond (ltb head.first first) (span head.first (first - 1) ∷ []) []
-
-abbrev pub right_edge : ℕ → Range → List Range
-right_edge last tail = cond (ltb last tail.last) (span (last + 1) tail.last ∷ []) []
 
 abbrev outside : ℕ → ℕ → ℕ → Bool
 outside first last key = not (holds key (span first last))

@@ -13,5 +13,6 @@ pub mod Parted
 pub mod Places
 pub mod Shifted
 pub mod Spliced
+pub mod Swept
 pub mod United
 pub mod Windows

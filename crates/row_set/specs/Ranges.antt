@@ -5,8 +5,11 @@
 --     AreApart low ranges      the ranges ascend from low on, and a key is left out between any two of them
 --     starts_of start ranges      the position at which each range begins, where the first begins at start
 --     Meets low high ranges from to      which ranges meet the keys from low to high
+--     stretched first last met      the range from first to last, stretched over those that it meets
+--     left_edge first range      what is left of the range before first, if anything
+--     right_edge last range      what is left of it after last, if anything
 --     IsStored ranges starts      how a set is kept
-use Rattle.std.specs.Prelude.{◌≡◌, ℕ, ◌+◌, ◌-◌, ◌^◌, ◌<◌, ◌≤◌, ◌==◌, ◌&&◌, Bool, List, [], ◌∷◌, length, take, drop, slice_range, nat_le, if◌then◌else◌}
+use Rattle.std.specs.Prelude.{◌≡◌, ℕ, ◌+◌, ◌-◌, ◌^◌, ◌<◌, ◌≤◌, ◌==◌, ◌&&◌, Bool, List, [], ◌∷◌, length, take, drop, slice_range, slice_index_or, min, max, nat_le, nat_lt, if◌then◌else◌}
 use Rattle.std.specs.List.{AllByRecursion, flat_map, range_with_len}
 use Rattle.row_set.specs.declared.ranges.Range.{Range}
 
@@ -48,6 +51,16 @@ AreApart low (range ∷ ranges) = IsRangeFrom low range × AreApart (range.last 
 abbrev pub starts_of : ℕ → List Range → List ℕ
 starts_of start [] = []
 starts_of start (range ∷ ranges) = start ∷ starts_of (start + length (keys_in range)) ranges
+
+abbrev pub stretched : ℕ → ℕ → List Range → Range
+stretched first last [] = record { first = first; last = last }
+stretched first last (head ∷ rest) = record { first = min first head.first; last = max last (slice_index_or (head ∷ rest) (length rest) head).last }
+
+abbrev pub left_edge : ℕ → Range → List Range
+left_edge first range = if nat_lt range.first first then (record range { last = first - 1 }) ∷ [] else []
+
+abbrev pub right_edge : ℕ → Range → List Range
+right_edge last range = if nat_lt last range.last then (record range { first = last + 1 }) ∷ [] else []
 
 pub record IsStored (ranges : List Range) (starts : List ℕ) : Type 0 where
   pub apart : AreApart 0 ranges

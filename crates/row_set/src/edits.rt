@@ -1,7 +1,8 @@
 //! Edits of a set's ranges in place, where there is room for them.
 ghost use Rattle.std.specs.Prelude.{◌≡◌, ◌+◌, ◌-◌, ◌^◌, ◌<◌, ◌≤◌, ◌∷◌, [], ◌++◌, length, take, drop, OnOk, vec_len, vec_capacity};
 ghost use Rattle.key_lists.specs.Keys.{without};
-ghost use Rattle.row_set.specs.Ranges.{AreApart, keys_of, keys_from, starts_of};
+ghost use Rattle.row_set.specs.Gaps.{listed};
+ghost use Rattle.row_set.specs.Ranges.{AreApart, keys_of, keys_from, left_edge, right_edge, starts_of, stretched};
 ghost use Rattle.row_set.specs.Sets.{united};
 
 use crate::ranges::Range;
@@ -40,15 +41,17 @@ fn put(ranges: &mut Vec<Range>, at: usize, to: usize, range: Range)
 }
 
 /// Takes out the ranges from `from` up to `to`.
-fn cut(ranges: &mut Vec<Range>, from: usize, to: usize)
+pub(crate) fn cut(ranges: &mut Vec<Range>, from: usize, to: usize)
     requires order { from ≤ to }
     requires within { to ≤ vec_len ranges.old }
     ensures items { ranges.new.items ≡ take from ranges.old.items ++ drop to ranges.old.items }
     ensures capacity { vec_capacity ranges.old ≤ vec_capacity ranges.new }
 {
     let len = ranges.len();
-    ranges.copy_within(to..len, from);
-    ranges.truncate(len - (to - from));
+    if from < to {
+        ranges.copy_within(to..len, from);
+        ranges.truncate(len - (to - from));
+    }
 }
 
 /// Puts other ranges in the place of those from `from` up to `to`. There is room for them.
@@ -86,6 +89,47 @@ pub(crate) fn recount(starts: &mut Vec<u64>, ranges: &[Range], from: usize)
     }
 }
 
+/// The range from `first` to `last`, stretched over those that it meets.
+pub(crate) fn joined(met: &[Range], first: u64, last: u64) -> Range
+    ensures { result ≡ stretched first last met.now }
+{
+    match met {
+        [] => Range { first, last },
+        [head, ..] => Range {
+            first: first.min(head.first),
+            last: last.max(met[met.len() - 1].last),
+        },
+    }
+}
+
+/// What is left of a range before this key.
+pub(crate) fn left_edge(range: Range, first: u64) -> Option<Range>
+    ensures { listed result ≡ left_edge first range }
+{
+    if range.first < first {
+        Some(Range {
+            first: range.first,
+            last: first - 1,
+        })
+    } else {
+        None
+    }
+}
+
+/// What is left of a range after this key.
+pub(crate) fn right_edge(range: Range, last: u64) -> Option<Range>
+    ensures { listed result ≡ right_edge last range }
+{
+    if last < range.last {
+        Some(Range {
+            first: last + 1,
+            last: range.last,
+        })
+    } else {
+        None
+    }
+}
+
 /// Adds every key from `first` to `last`. The ranges before the index that it gives stay.
 pub(crate) fn insert_keys(ranges: &mut Vec<Range>, first: u64, last: u64) -> usize
     requires apart { AreApart 0 ranges.old.items }
@@ -100,14 +144,7 @@ pub(crate) fn insert_keys(ranges: &mut Vec<Range>, first: u64, last: u64) -> usi
     ensures capacity { vec_capacity ranges.old ≤ vec_capacity ranges.new }
 {
     let (from, to) = meeting(ranges, first.saturating_sub(1), last + 1);
-    let joined = if from < to {
-        Range {
-            first: first.min(ranges[from].first),
-            last: last.max(ranges[to - 1].last),
-        }
-    } else {
-        Range { first, last }
-    };
+    let joined = joined(&ranges[from..to], first, last);
     splice(ranges, from, to, &[joined]);
     from
 }
@@ -129,59 +166,13 @@ pub(crate) fn remove_keys(ranges: &mut Vec<Range>, first: u64, last: u64) -> usi
     if from == to {
         return ranges.len();
     }
-    let head = ranges[from];
-    let tail = ranges[to - 1];
-    let left = Range {
-        first: head.first,
-        last: first.saturating_sub(1),
-    };
-    let right = Range {
-        first: last + 1,
-        last: tail.last,
-    };
-    match (head.first < first, last < tail.last) {
-        (true, true) => splice(ranges, from, to, &[left, right]),
-        (true, false) => splice(ranges, from, to, &[left]),
-        (false, true) => splice(ranges, from, to, &[right]),
-        (false, false) => splice(ranges, from, to, &[]),
-    }
-    from
-}
-
-/// Adds every key of other ranges. The ranges before the index that it gives stay.
-pub(crate) fn insert_ranges(ranges: &mut Vec<Range>, others: &[Range]) -> usize
-    requires apart { AreApart 0 ranges.old.items }
-    requires others_apart { AreApart 0 others.now }
-    requires room { vec_len ranges.old + length others.now ≤ vec_capacity ranges.old }
-    ensures apart { AreApart 0 ranges.new.items }
-    ensures keys { keys_of ranges.new.items ≡ united (keys_of others.now) (keys_of ranges.old.items) }
-    ensures within { result ≤ vec_len ranges.new }
-    ensures before { take result ranges.new.items ≡ take result ranges.old.items }
-    ensures growth { vec_len ranges.new ≤ vec_len ranges.old + length others.now }
-    ensures capacity { vec_capacity ranges.old ≤ vec_capacity ranges.new }
-{
-    let mut from = ranges.len();
-    for range in others {
-        from = from.min(insert_keys(ranges, range.first, range.last));
-    }
-    from
-}
-
-/// Removes every key of other ranges. The ranges before the index that it gives stay.
-pub(crate) fn remove_ranges(ranges: &mut Vec<Range>, others: &[Range]) -> usize
-    requires apart { AreApart 0 ranges.old.items }
-    requires others_apart { AreApart 0 others.now }
-    requires room { vec_len ranges.old + length others.now ≤ vec_capacity ranges.old }
-    ensures apart { AreApart 0 ranges.new.items }
-    ensures keys { keys_of ranges.new.items ≡ without (keys_of others.now) (keys_of ranges.old.items) }
-    ensures within { result ≤ vec_len ranges.new }
-    ensures before { take result ranges.new.items ≡ take result ranges.old.items }
-    ensures growth { vec_len ranges.new ≤ vec_len ranges.old + length others.now }
-    ensures capacity { vec_capacity ranges.old ≤ vec_capacity ranges.new }
-{
-    let mut from = ranges.len();
-    for range in others {
-        from = from.min(remove_keys(ranges, range.first, range.last));
+    let left = left_edge(ranges[from], first);
+    let right = right_edge(ranges[to - 1], last);
+    match (left, right) {
+        (Some(left), Some(right)) => splice(ranges, from, to, &[left, right]),
+        (Some(left), None) => splice(ranges, from, to, &[left]),
+        (None, Some(right)) => splice(ranges, from, to, &[right]),
+        (None, None) => splice(ranges, from, to, &[]),
     }
     from
 }

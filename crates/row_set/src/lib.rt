@@ -13,6 +13,7 @@ mod ranges;
 mod rows;
 mod search;
 mod shifts;
+mod sweeps;
 #[cfg(test)]
 mod tests;
 

@@ -8,10 +8,11 @@ ghost use Rattle.row_set.specs.Moves.{IsKey, moved_key, moved_keys};
 ghost use Rattle.row_set.specs.Sets.{IsKeySet, count_below, common, found, last_key, united};
 
 use crate::algebra::{Choice, KEYS_END, rest_from, stretch_from};
-use crate::edits::{insert_keys, insert_ranges, make_room, recount, remove_keys, remove_ranges};
+use crate::edits::{insert_keys, make_room, recount, remove_keys};
 use crate::ranges::Range;
 use crate::search;
 use crate::shifts::shift_keys;
+use crate::sweeps::{insert_ranges, remove_ranges};
 use std::alloc::{AllocError, Global};
 use std::marker::Model;
 

@@ -1,0 +1,100 @@
+use Rattle.std.proofs.Common.{◌≡◌, refl, ◌+◌, ◌-◌, ◌<◌, ◌≤◌, ◌++◌, ap, ap₂, sym, ◌∙◌, subst, length, take, drop, take-take, arith}
+use Rattle.std.specs.List.{AllByRecursion}
+use Rattle.std.proofs.lemmas.List.{take_rest, take-append-le}
+use Rattle.key_lists.specs.Keys.{without}
+use Rattle.key_lists.proofs.Every.{every-append}
+use Rattle.row_set.specs.Gaps.{around, listed}
+use Rattle.row_set.specs.Ranges.{AreApart, Meets, keys_from, keys_of, left_edge}
+use Rattle.row_set.proofs.Apart.{apart_back}
+use Rattle.row_set.proofs.Edges.{none_removed}
+use Rattle.row_set.proofs.Swept.{AreAround, ends_below, front_same, left_ends_before, meets_after, put_out, rest_after}
+use Rattle.row_set.proofs.sweeps.remove_next.Goals as goal
+
+pub meeting-from-requires-clause-apart : goal.meeting-from-requires-clause-apart
+meeting-from-requires-clause-apart c =
+    let old = c.args.ranges.now in
+    subst (λ those. AreApart 0 those) (sym (take_rest old c.args.gap.end)) (apart_back 0 (take c.args.gap.start old) (drop c.args.gap.end old) c.requires.apart)
+
+pub returns-then-from-to-clause-keys : goal.returns-then-from-to-clause-keys
+returns-then-from-to-clause-keys c =
+    let old = c.args.ranges.now in
+    let first = c.args.first in
+    let last = c.args.last in
+    let start = c.args.gap.start in
+    let end = c.args.gap.end in
+    let from = c.meeting-from.result.0 in
+    let to = c.meeting-from.result.1 in
+    let all = around c.args.gap old in
+    let met : Meets first last (drop end old) from to = subst (λ those. Meets first last those from to) (take_rest old end) c.meeting-from.ensures in
+    let is : Meets first last all (start + from) (start + to) = meets_after first last from to start end old c.requires.gap.order c.requires.gap.within (ends_below first (take start old) c.requires.passed) met in
+    ap keys_of c.pass-gap.ensures.same ∙ none_removed first last (start + from) (start + to) all c.requires.apart is (ap (λ n. start + n) c.if-from-to.true)
+
+pub returns-then-from-to-clause-passed : goal.returns-then-from-to-clause-passed
+returns-then-from-to-clause-passed c =
+    let old = c.args.ranges.now in
+    let first = c.args.first in
+    let last = c.args.last in
+    let start = c.args.gap.start in
+    let end = c.args.gap.end in
+    let from = c.meeting-from.result.0 in
+    let to = c.meeting-from.result.1 in
+    let all = around c.args.gap old in
+    let met : Meets first last (drop end old) from to = subst (λ those. Meets first last those from to) (take_rest old end) c.meeting-from.ensures in
+    let is : Meets first last all (start + from) (start + to) = meets_after first last from to start end old c.requires.gap.order c.requires.gap.within (ends_below first (take start old) c.requires.passed) met in
+    let after : AreAround c.pass-gap.result.start c.pass-gap.result.end c.pass-gap.new.ranges all = record { within = omega (arith, c.pass-gap.ensures.gap.order, c.pass-gap.ensures.gap.within); same = c.pass-gap.ensures.same } in
+    let front : take c.pass-gap.result.start c.pass-gap.new.ranges ≡ take (start + from) all = front_same c.pass-gap.result.start c.pass-gap.result.end c.pass-gap.new.ranges all after ∙ ap (λ n. take n all) c.pass-gap.ensures.start in
+    subst (λ those. AllByRecursion (λ range. range.last < first) those) (sym front) is.before
+
+pub returns : goal.returns
+returns c =
+    let old = c.args.ranges.now in
+    let first = c.args.first in
+    let last = c.args.last in
+    let start = c.args.gap.start in
+    let end = c.args.gap.end in
+    let from = c.meeting-from.result.0 in
+    let to = c.meeting-from.result.1 in
+    let all = around c.args.gap old in
+    let moved = c.pass-gap.new.ranges in
+    let place = c.pass-gap.result.start in
+    let next = c.pass-gap.result.end in
+    let placed = c.put_before-gap.new.ranges in
+    let newer = c.put_before-gap.result.start in
+    let new = c.put_after.new.ranges in
+    let left = listed c.left_edge-left.result in
+    let right = listed c.right_edge-right.result in
+    let count : start + to - (start + from) ≡ to - from = omega arith in
+    let met : Meets first last (drop end old) from to = subst (λ those. Meets first last those from to) (take_rest old end) c.meeting-from.ensures in
+    let is : Meets first last all (start + from) (start + to) = meets_after first last from to start end old c.requires.gap.order c.requires.gap.within (ends_below first (take start old) c.requires.passed) met in
+    let after : AreAround place next moved all = record { within = omega (arith, c.pass-gap.ensures.gap.order, c.pass-gap.ensures.gap.within); same = c.pass-gap.ensures.same } in
+    let rest : drop (next + (to - from)) placed ≡ drop (next + (to - from)) moved =
+        rest_after place next newer (to - from) moved placed left (omega (arith, c.put_before-gap.ensures.gap.order, c.put_before-gap.ensures.gap.within))
+        (ap (λ n. take newer placed ++ drop n placed) (sym c.put_before-gap.ensures.end) ∙ c.put_before-gap.ensures.added) c.put_before-gap.ensures.before in
+    let put : around c.put_after.result new ≡ (take place moved ++ left) ++ (right ++ drop (next + (start + to - (start + from))) moved) =
+        c.put_after.ensures.replaced
+        ∙ ap (λ n. take newer placed ++ (right ++ drop (n + (to - from)) placed)) c.put_before-gap.ensures.end
+        ∙ ap₂ (λ xs ys. xs ++ (right ++ ys)) c.put_before-gap.ensures.before rest
+        ∙ ap (λ n. (take place moved ++ left) ++ (right ++ drop (next + n) moved)) (sym count) in
+    let whole : AreApart 0 (around c.put_after.result new) × (keys_of (around c.put_after.result new) ≡ without (keys_from first last) (keys_of all)) = ? in
+    let front : take c.put_after.result.start new ≡ take (start + from) all ++ left =
+        ap (λ n. take n new) c.put_after.ensures.start
+        ∙ c.put_after.ensures.before
+        ∙ c.put_before-gap.ensures.before
+        ∙ ap (λ xs. xs ++ left) (front_same place next moved all after ∙ ap (λ n. take n all) c.pass-gap.ensures.start) in
+    let le : start ≤ place = omega (arith, c.pass-gap.ensures.start) in
+    let most : start ≤ newer = omega (arith, le, c.put_before-gap.ensures.start) in
+    record {
+      gap = c.put_after.ensures.gap;
+      apart = whole.0;
+      keys = whole.1;
+      passed = ?;
+      before =
+          sym (take-take start newer new most)
+          ∙ ap (take start) (c.put_after.ensures.before ∙ c.put_before-gap.ensures.before)
+          ∙ take-append-le start (take place moved) left ?
+          ∙ take-take start place moved le
+          ∙ c.pass-gap.ensures.before;
+      start = omega (arith, most, c.put_after.ensures.start);
+      size = ?;
+      len = c.put_after.ensures.len ∙ c.put_before-gap.ensures.len ∙ c.pass-gap.ensures.len;
+    }
