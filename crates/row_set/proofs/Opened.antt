@@ -3,6 +3,9 @@ use Rattle.std.proofs.Common.{◌≡◌, ap, ap₂, sym, ◌∙◌, ℕ, ◌+◌
 use Rattle.std.proofs.Math.Seq.{paste}
 use Rattle.std.proofs.lemmas.List.{take_at, drop_at, drop-drop}
 use Rattle.std.proofs.lemmas.List.Edits.{take-paste, drop-paste}
+use Rattle.std.specs.Prelude.{Option, None, Some}
+use Rattle.row_set.specs.declared.ranges.Range.{Range}
+use Rattle.row_set.specs.Gaps.{listed}
 
 -- the parts of a list on both sides of a gap
 pub front_of : {X : Type 0} (start end : ℕ) (xs : List X) → start ≤ length xs → take start (take start xs ++ drop end xs) ≡ take start xs
@@ -21,12 +24,16 @@ passed start end count xs order within =
     let some : count ≤ length (drop end xs) = omega (arith, length-drop end xs) in
     let whole : start + count + (end - start) ≡ end + count = omega arith in
     let rest : drop (end + count) new ≡ drop (end + count) xs =
-        ap (λ n. drop n new) (sym whole)
-        ∙ sym (drop-drop (end - start) (start + count) new)
-        ∙ ap (drop (end - start)) (drop-paste xs start (drop end xs) count (omega arith) some)
-        ∙ drop-drop (end - start) (start + count) xs
-        ∙ ap (λ n. drop n xs) whole in
+    ap (λ n. drop n new) (sym whole)
+    ∙ sym (drop-drop (end - start) (start + count) new)
+    ∙ ap (drop (end - start)) (drop-paste xs start (drop end xs) count (omega arith) some)
+    ∙ drop-drop (end - start) (start + count) xs
+    ∙ ap (λ n. drop n xs) whole in
     ap₂ ◌++◌ (take-paste xs start (drop end xs) count (omega arith) some) rest
     ∙ append_assoc (take start xs) (take count (drop end xs)) (drop (end + count) xs)
     ∙ ap (λ back. take start xs ++ (take count (drop end xs) ++ back)) (sym (drop-drop count end xs))
     ∙ ap (λ back. take start xs ++ back) (take-append-drop count (drop end xs))
+
+pub listed_few : (range : Option Range) → length (listed range) ≤ 1
+listed_few None = omega arith
+listed_few (Some range) = omega arith

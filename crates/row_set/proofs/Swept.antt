@@ -1,5 +1,5 @@
 -- Ranges that are edited at a gap.
-use Rattle.std.proofs.Common.{◌≡◌, ap, ap₂, sym, ◌∙◌, subst, ℕ, ◌+◌, ◌-◌, ◌^◌, ◌<◌, ◌≤◌, min, max, cond, ltb, lt-ltb, le-ltb, arith, List, [], ◌∷◌, ◌++◌, length, take, drop, slice_range, get_or, length-append, length-drop, length-take-le, append_assoc, get_or-drop, inl, inr}
+use Rattle.std.proofs.Common.{◌≡◌, ap, ap₂, sym, ◌∙◌, subst, ℕ, ◌+◌, ◌-◌, ◌^◌, ◌<◌, ◌≤◌, min, max, cond, ltb, lt-ltb, le-ltb, arith, List, [], ◌∷◌, ◌++◌, length, take, drop, slice_range, get_or, length-append, length-drop, length-take-le, append_assoc, get_or-drop, take-take, inl, inr}
 use Rattle.std.specs.List.{AllByRecursion}
 use Rattle.std.proofs.Math.Seq.{take-append-add, drop-append-add}
 use Rattle.std.proofs.lemmas.Bool.{cases_lt}
@@ -7,10 +7,12 @@ use Rattle.std.proofs.lemmas.List.{get_or_default, get_or-take, drop-drop}
 use Rattle.key_lists.specs.Keys.{without}
 use Rattle.key_lists.proofs.Every.{every_weaker, every-append}
 use Rattle.row_set.specs.declared.ranges.Range.{Range}
+use Rattle.row_set.specs.Gaps.{ArePassed}
 use Rattle.row_set.specs.Ranges.{AreApart, Meets, keys_from, keys_of, left_edge, right_edge, stretched}
 use Rattle.row_set.specs.Sets.{united}
 use Rattle.row_set.proofs.Counts.{blank}
 use Rattle.row_set.proofs.Edges.{none_removed, removed}
+use Rattle.row_set.proofs.Lookups.{apart_at}
 use Rattle.row_set.proofs.Middles.{alone_apart, alone_keys, joined_apart, joined_keys, middle_first, span}
 use Rattle.row_set.proofs.Opened.{back_of, front_of}
 
@@ -26,12 +28,12 @@ stretched_over first last from to ranges lt within =
     let size : length rest ≡ to - from - 1 = length-take-le (to - from - 1) (drop (from + 1) ranges) (omega (arith, length-drop (from + 1) ranges)) in
     let place : from + (to - from - 1) ≡ to - 1 = omega arith in
     let end : get_or (head ∷ rest) (length rest) head ≡ get_or ranges (to - 1) blank =
-        ap (λ n. get_or (head ∷ rest) n head) size
-        ∙ ap (λ those. get_or those (to - from - 1) head) (sym parts)
-        ∙ get_or-take (to - from) (drop from ranges) (to - from - 1) head (omega arith)
-        ∙ get_or-drop from ranges (to - from - 1) head
-        ∙ ap (λ n. get_or ranges n head) place
-        ∙ get_or_default ranges (to - 1) head blank (omega arith) in
+    ap (λ n. get_or (head ∷ rest) n head) size
+    ∙ ap (λ those. get_or those (to - from - 1) head) (sym parts)
+    ∙ get_or-take (to - from) (drop from ranges) (to - from - 1) head (omega arith)
+    ∙ get_or-drop from ranges (to - from - 1) head
+    ∙ ap (λ n. get_or ranges n head) place
+    ∙ get_or_default ranges (to - 1) head blank (omega arith) in
     stretched_first first last (slice_range ranges from to) rest head parts ∙ ap (λ (range : Range). span (min first head.first) (max last range.last)) end
 
 stretched_alone : (first last from to : ℕ) (ranges : List Range) → to ≤ from → stretched first last (slice_range ranges from to) ≡ span first last
@@ -45,7 +47,7 @@ stretched_whole first last from to ranges new h le small is same =
     elim (cases_lt from to) [
       | inl lt ↦
           let whole : new ≡ take from ranges ++ (span (min first (get_or ranges from blank).first) (max last (get_or ranges (to - 1) blank).last) ∷ drop to ranges) =
-              same ∙ ap (λ range. take from ranges ++ (range ∷ drop to ranges)) (stretched_over first last from to ranges lt is.within) in
+          same ∙ ap (λ range. take from ranges ++ (range ∷ drop to ranges)) (stretched_over first last from to ranges lt is.within) in
           (subst (λ those. AreApart 0 those) (sym whole) (joined_apart first last from to ranges h le small is lt), joined_keys first last from to ranges new h le small is lt whole)
       | inr none ↦
           let whole : new ≡ take from ranges ++ (span first last ∷ drop to ranges) = same ∙ ap (λ range. take from ranges ++ (range ∷ drop to ranges)) (stretched_alone first last from to ranges none) in
@@ -152,3 +154,18 @@ ends_before first ranges h = every_weaker (λ range. range.last + 2 ≤ first) (
 
 pub ends_below : (first : ℕ) (ranges : List Range) → AllByRecursion (λ range. range.last + 2 ≤ first) ranges → AllByRecursion (λ range. range.last < first) ranges
 ends_below first ranges h = every_weaker (λ range. range.last + 2 ≤ first) (λ range. range.last < first) ranges (λ range ends. omega (arith, ends)) h
+
+-- the ranges that end before one of the others are passed at the next
+pub passed_rest : (first last : ℕ) (front rest : List Range) → first ≤ last → AreApart (last + 2) rest → AllByRecursion (λ range. range.last < first) front → ArePassed front rest
+passed_rest first last front [] le h below = tt
+passed_rest first last front (other ∷ rest) le h below = every_weaker (λ range. range.last < first) (λ range. range.last + 2 ≤ other.first) front (λ range ends. omega (arith, ends, le, h.0.above)) below
+
+pub passed_next : (i : ℕ) (front others : List Range) → AreApart 0 others → i < length others → AllByRecursion (λ range. range.last < (get_or others i blank).first) front → ArePassed front (drop (i + 1) others)
+passed_next i front others h lt below =
+    let parts : AreApart 0 (get_or others i blank ∷ drop (i + 1) others) = apart_at i others lt h in
+    passed_rest (get_or others i blank).first (get_or others i blank).last front (drop (i + 1) others) parts.0.ascends parts.1 below
+
+-- what stands before a gap stays when it stays before a later one
+pub same_front : (start place : ℕ) (new moved old : List Range) → start ≤ place → take place new ≡ take place moved → take start moved ≡ take start old → take start new ≡ take start old
+same_front start place new moved old le here there =
+    sym (take-take start place new le) ∙ ap (take start) here ∙ take-take start place moved le ∙ there

@@ -76,6 +76,52 @@ fn small_sets_in_large_ones(rt: HostRuntime) -> Result<(), Fail> {
     Ok(())
 }
 
+/// The multiples of three below 600, each a range of its own.
+fn scattered_keys(alloc: Global) -> Result<RowSet, AllocError> {
+    let mut rows = RowSet::new(alloc);
+    for index in 0..200 {
+        rows.insert_range(3 * index, 3 * index)?;
+    }
+    Ok(rows)
+}
+
+/// Forty ranges of seven keys, with eight keys between any two.
+fn many_ranges(alloc: Global) -> Result<RowSet, AllocError> {
+    let mut rows = RowSet::new(alloc);
+    for index in 0..40 {
+        rows.insert_range(15 * index + 4, 15 * index + 10)?;
+    }
+    Ok(rows)
+}
+
+#[test]
+fn many_ranges_removed_at_once(rt: HostRuntime) -> Result<(), Fail> {
+    let mut rows = scattered_keys(rt.alloc())?;
+    rows.remove_all(&many_ranges(rt.alloc())?)?;
+    let mut expected = scattered_keys(rt.alloc())?;
+    for index in 0..40 {
+        expected.remove_range(15 * index + 4, 15 * index + 10)?;
+    }
+    assert_eq!(rt; rows.len(), 120);
+    assert_eq!(rt; rows.ranges(), expected.ranges());
+    assert_eq!(rt; rows.find(599), Err(120));
+    Ok(())
+}
+
+#[test]
+fn many_ranges_inserted_at_once(rt: HostRuntime) -> Result<(), Fail> {
+    let mut rows = scattered_keys(rt.alloc())?;
+    rows.insert_all(&many_ranges(rt.alloc())?)?;
+    let mut expected = scattered_keys(rt.alloc())?;
+    for index in 0..40 {
+        expected.insert_range(15 * index + 4, 15 * index + 10)?;
+    }
+    assert_eq!(rt; rows.len(), 400);
+    assert_eq!(rt; rows.ranges(), expected.ranges());
+    assert_eq!(rt; rows.find(599), Err(400));
+    Ok(())
+}
+
 #[test]
 fn moves(rt: HostRuntime) -> Result<(), Fail> {
     let mut rows = RowSet::new(rt.alloc());

@@ -29,23 +29,23 @@ returns c =
     let new = c.put_after.new.ranges in
     let range = c.joined-range.result in
     let met : Meets (first - 1) (last + 1) (drop end old) from to =
-        subst (λ low. Meets low (last + 1) (drop end old) from to) c.saturating_sub.ensures
-        (subst (λ those. Meets c.saturating_sub.result (last + 1) those from to) (take_rest old end) c.meeting-from.ensures) in
+    subst (λ low. Meets low (last + 1) (drop end old) from to) c.saturating_sub.ensures
+    (subst (λ those. Meets c.saturating_sub.result (last + 1) those from to) (take_rest old end) c.meeting-from.ensures) in
     let is : Meets (first - 1) (last + 1) all (start + from) (start + to) =
-        meets_after (first - 1) (last + 1) from to start end old c.requires.gap.order c.requires.gap.within (ends_before first (take start old) c.requires.passed) met in
+    meets_after (first - 1) (last + 1) from to start end old c.requires.gap.order c.requires.gap.within (ends_before first (take start old) c.requires.passed) met in
     let given : AreAround start end old all = record { within = omega (arith, c.requires.gap.order, c.requires.gap.within); same = refl } in
     let after : AreAround place next moved all = record { within = omega (arith, c.pass-gap.ensures.gap.order, c.pass-gap.ensures.gap.within); same = c.pass-gap.ensures.same } in
     let one : range ≡ stretched first last (slice_range all (start + from) (start + to)) = c.joined-range.ensures ∙ ap (stretched first last) (part_same start end from to old all given) in
     let count : start + to - (start + from) ≡ to - from = omega arith in
     let put : around c.put_after.result new ≡ take place moved ++ (range ∷ drop (next + (start + to - (start + from))) moved) =
-        c.put_after.ensures.replaced ∙ ap (λ n. take place moved ++ (range ∷ drop (next + n) moved)) (sym count) in
+    c.put_after.ensures.replaced ∙ ap (λ n. take place moved ++ (range ∷ drop (next + n) moved)) (sym count) in
     let whole : AreApart 0 (around c.put_after.result new) × (keys_of (around c.put_after.result new) ≡ united (keys_from first last) (keys_of all)) =
-        put_in first last (start + from) (start + to) place next moved all (around c.put_after.result new) range c.requires.apart c.requires.order c.requires.small is after c.pass-gap.ensures.start one put in
+    put_in first last (start + from) (start + to) place next moved all (around c.put_after.result new) range c.requires.apart c.requires.order c.requires.small is after c.pass-gap.ensures.start one put in
     let front : take c.put_after.result.start new ≡ take (start + from) all =
-        ap (λ n. take n new) c.put_after.ensures.start
-        ∙ c.put_after.ensures.before
-        ∙ front_same place next moved all after
-        ∙ ap (λ n. take n all) c.pass-gap.ensures.start in
+    ap (λ n. take n new) c.put_after.ensures.start
+    ∙ c.put_after.ensures.before
+    ∙ front_same place next moved all after
+    ∙ ap (λ n. take n all) c.pass-gap.ensures.start in
     let le : start ≤ place = omega (arith, c.pass-gap.ensures.start) in
     record {
       gap = c.put_after.ensures.gap;

@@ -1,0 +1,17 @@
+use Rattle.std.proofs.Common.{◌≡◌, ◌≤◌, ◌+◌, length, take, drop}
+use Rattle.row_set.specs.Gaps.{ArePassed, IsGap, around}
+use Rattle.row_set.specs.Ranges.{AreApart, keys_of}
+use Rattle.key_lists.specs.Keys.{without}
+use Rattle.row_set.proofs.sweeps.remove_each.Given as goal
+
+abbrev pub invariant-loop-range : goal.invariant-loop-range
+invariant-loop-range l = record {
+  gap : IsGap l.at l.ranges;
+  room : l.at.start + (length l.others) ≤ l.at.end + l.range-index;
+  apart : AreApart 0 (around l.at l.ranges);
+  keys : keys_of (around l.at l.ranges) ≡ without (keys_of (take l.range-index l.others)) (keys_of (around l.fn.gap l.fn.ranges));
+  passed : ArePassed (take l.at.start l.ranges) (drop l.range-index l.others);
+  before : take l.fn.gap.start l.ranges ≡ take l.fn.gap.start l.fn.ranges;
+  start : l.fn.gap.start ≤ l.at.start;
+  len : length l.ranges ≡ length l.fn.ranges;
+}
