@@ -1,14 +1,13 @@
 -- Where a search cuts a list of ranges.
-use Rattle.std.proofs.Common.{◌≡◌, ap, sym, ◌∙◌, subst, Bool, true, false, ℕ, zero, suc, ◌+◌, ◌-◌, ◌<◌, ◌≤◌, arith, List, [], ◌∷◌, length, take, drop, get_or, leb, ltb, leb-true, leb-false, ltb-true, ltb-false, inl, inr}
+use Rattle.std.proofs.Common.{◌≡◌, sym, subst, Bool, true, false, ℕ, zero, suc, ◌+◌, ◌-◌, ◌<◌, ◌≤◌, arith, List, [], ◌∷◌, length, length-drop, take, drop, get_or, leb, ltb, leb-true, leb-false, ltb-true, ltb-false}
 use Rattle.std.specs.List.{AllByRecursion}
 use Rattle.std.specs.List.Sorted.{IsPartitionPoint, IsPartitionedBy, IsNonDecreasingBy}
-use Rattle.std.proofs.lemmas.Bool.{cases_lt}
-use Rattle.std.proofs.lemmas.List.{drop-take}
+use Rattle.std.proofs.lemmas.List.{drop-drop, drop_more}
 use Rattle.std.proofs.lemmas.List.Sorted.{IsPartitionedBy-ltb, IsPartitionedBy-leb}
 use Rattle.key_lists.proofs.Every.{every_weaker, all_from}
 use Rattle.row_set.specs.declared.ranges.Range.{Range}
 use Rattle.row_set.specs.Ranges.{IsRangeFrom, AreApart, Meets}
-use Rattle.row_set.proofs.Apart.{each_range}
+use Rattle.row_set.proofs.Apart.{apart-drop, each_above, each_range}
 
 pub every_take : {X : Type 0} (P : X → Type 0) (xs : List X) (i : ℕ) → ((k : ℕ) (d : X) → k < i → P (get_or xs k d)) → AllByRecursion P (take i xs)
 every_take P xs zero h = tt
@@ -76,42 +75,27 @@ every-drop P zero xs h = h
 every-drop P (suc n) [] h = tt
 every-drop P (suc n) (x ∷ xs) h = every-drop P n xs h.1
 
-every_front_at : {X : Type 0} (P : X → Type 0) (n k : ℕ) (xs : List X) (d : X) → k < n → k < length xs → AllByRecursion P (take n xs) → P (get_or xs k d)
-every_front_at P n k [] d lt within h = absurd (omega arith)
-every_front_at P zero k (x ∷ xs) d lt within h = absurd (omega arith)
-every_front_at P (suc n) zero (x ∷ xs) d lt within h = h.0
-every_front_at P (suc n) (suc k) (x ∷ xs) d lt within h = every_front_at P n k xs d (omega arith) (omega arith) h.1
-
-every_back_at : {X : Type 0} (P : X → Type 0) (n k : ℕ) (xs : List X) (d : X) → n ≤ k → k < length xs → AllByRecursion P (drop n xs) → P (get_or xs k d)
-every_back_at P n k [] d le within h = absurd (omega arith)
-every_back_at P zero zero (x ∷ xs) d le within h = h.0
-every_back_at P zero (suc k) (x ∷ xs) d le within h = every_back_at P zero k xs d (omega arith) (omega arith) h.1
-every_back_at P (suc n) zero (x ∷ xs) d le within h = absurd (omega arith)
-every_back_at P (suc n) (suc k) (x ∷ xs) d le within h = every_back_at P n k xs d (omega arith) (omega arith) h
-
-pub meets : (low high from to : ℕ) (ranges : List Range) → AreApart 0 ranges → low ≤ high → from ≤ length ranges → to ≤ length ranges → AllByRecursion (λ range. range.last < low) (take from ranges) → AllByRecursion (λ range. low ≤ range.last) (drop from ranges) → AllByRecursion (λ range. range.first ≤ high) (take to ranges) → AllByRecursion (λ range. high < range.first) (drop to ranges) → Meets low high ranges from to
-meets low high from to ranges h le from_in to_in before lows highs after =
-    let order : from ≤ to =
-    elim (cases_lt to from) [
-      | inl lt ↦
-          let blank : Range = record { first = 0; last = 0 } in
-          let begins : high < (get_or ranges to blank).first = every_back_at (λ range. high < range.first) to to ranges blank (omega arith) (omega arith) after in
-          let ends : (get_or ranges to blank).last < low = every_front_at (λ range. range.last < low) from to ranges blank lt (omega arith) before in
-          absurd (omega (arith, begins, ends, (range_at 0 ranges h to blank (omega arith)).ascends))
-      | inr ok ↦ ok
-    ] in
-    let whole : from + (to - from) ≡ to = omega arith in
+-- those up to the from-th end before the keys, and of the rest count begin in time
+pub meets : (low high from count : ℕ) (ranges : List Range) → from ≤ length ranges → count ≤ length (drop from ranges) → AllByRecursion (λ range. range.last < low) (take from ranges) → AllByRecursion (λ range. low ≤ range.last) (drop from ranges) → AllByRecursion (λ range. range.first ≤ high) (take count (drop from ranges)) → AllByRecursion (λ range. high < range.first) (drop count (drop from ranges)) → Meets low high ranges from (from + count)
+meets low high from count ranges from_in count_in before lows highs after =
+    let size : from + count - from ≡ count = omega arith in
     record {
-      order = order;
-      within = to_in;
+      order = omega arith;
+      within = omega (arith, from_in, count_in, length-drop from ranges);
       before = before;
-      lows = every-take (λ range. low ≤ range.last) (to - from) (drop from ranges) lows;
-      highs =
-          subst (λ those. AllByRecursion (λ range. range.first ≤ high) those)
-          (ap (λ n. drop from (take n ranges)) (sym whole) ∙ drop-take from (to - from) ranges)
-          (every-drop (λ range. range.first ≤ high) from (take to ranges) highs);
-      after = after;
+      lows = every-take (λ range. low ≤ range.last) (from + count - from) (drop from ranges) lows;
+      highs = subst (λ n. AllByRecursion (λ range. range.first ≤ high) (take n (drop from ranges))) (sym size) highs;
+      after = subst (λ those. AllByRecursion (λ range. high < range.first) those) (drop-drop count from ranges) after;
     }
+
+-- where one of the ranges begins after the key, so do those after it
+pub later_begin : (key i : ℕ) (d : Range) (ranges : List Range) → AreApart 0 ranges → i < length ranges → key < (get_or ranges i d).first → AllByRecursion (λ range. key < range.first) (drop i ranges)
+later_begin key i d ranges h lt below =
+    let range = get_or ranges i d in
+    let parts : drop i ranges ≡ range ∷ drop (i + 1) ranges = drop_more ranges i d lt in
+    let apart : AreApart 0 (range ∷ drop (i + 1) ranges) = subst (λ those. AreApart 0 those) parts (apart-drop 0 i ranges h) in
+    subst (λ those. AllByRecursion (λ range. key < range.first) those) (sym parts)
+    (below, every_weaker (λ other. range.last + 2 ≤ other.first) (λ other. key < other.first) (drop (i + 1) ranges) (λ other above. omega (arith, above, below, apart.0.ascends)) (each_above (range.last + 2) (drop (i + 1) ranges) apart.1))
 
 every_front : (P : Range → Type 0) (d : Range) (ranges : List Range) → ((k : ℕ) → k < length ranges → P (get_or ranges k d)) → AllByRecursion P (take (length ranges) ranges)
 every_front P d [] h = tt

@@ -1,5 +1,5 @@
 -- Ranges that are edited at a gap.
-use Rattle.std.proofs.Common.{◌≡◌, ap, ap₂, sym, ◌∙◌, subst, ℕ, ◌+◌, ◌-◌, ◌^◌, ◌<◌, ◌≤◌, min, max, cond, ltb, lt-ltb, le-ltb, arith, List, [], ◌∷◌, ◌++◌, length, take, drop, slice_range, get_or, length-append, length-drop, length-take-le, append_assoc, get_or-drop, take-take, inl, inr}
+use Rattle.std.proofs.Common.{◌≡◌, ap, ap₂, sym, ◌∙◌, subst, ℕ, ◌+◌, ◌-◌, ◌^◌, ◌<◌, ◌≤◌, min, max, cond, lt-ltb, le-ltb, arith, List, [], ◌∷◌, ◌++◌, length, take, drop, slice_range, get_or, length-append, length-drop, length-take-le, append_assoc, get_or-drop, take-take, inl, inr}
 use Rattle.std.specs.List.{AllByRecursion}
 use Rattle.std.proofs.Math.Seq.{take-append-add, drop-append-add}
 use Rattle.std.proofs.lemmas.Bool.{cases_lt}
@@ -11,7 +11,7 @@ use Rattle.row_set.specs.Gaps.{ArePassed}
 use Rattle.row_set.specs.Ranges.{AreApart, Meets, keys_from, keys_of, left_edge, right_edge, stretched}
 use Rattle.row_set.specs.Sets.{united}
 use Rattle.row_set.proofs.Counts.{blank}
-use Rattle.row_set.proofs.Edges.{none_removed, removed}
+use Rattle.row_set.proofs.Edges.{removed}
 use Rattle.row_set.proofs.Lookups.{apart_at}
 use Rattle.row_set.proofs.Middles.{alone_apart, alone_keys, joined_apart, joined_keys, middle_first, span}
 use Rattle.row_set.proofs.Opened.{back_of, front_of}

@@ -3,7 +3,7 @@
 --     around gap ranges      the ranges before the gap, and then those after it
 --     listed range      the range, if there is one
 --     ArePassed ranges others      the ranges end, with a key to spare, before the first of the others begins
-use Rattle.std.specs.Prelude.{ℕ, ◌+◌, ◌≤◌, List, [], ◌∷◌, ◌++◌, length, take, drop, Option, None, Some}
+use Rattle.std.specs.Prelude.{◌+◌, ◌≤◌, List, [], ◌∷◌, ◌++◌, length, take, drop, Option, None, Some}
 use Rattle.std.specs.List.{AllByRecursion}
 use Rattle.row_set.specs.declared.ranges.Range.{Range}
 use Rattle.row_set.specs.declared.gaps.Gap.{Gap}

@@ -35,13 +35,28 @@ pub(crate) fn begun_by(ranges: &[Range], key: u64) -> usize
     ranges.partition_point(|range| range.first <= key)
 }
 
+/// How many of the ranges begin at the key or before it. Where that is none or one, this is seen at once.
+fn few_begun_by(ranges: &[Range], key: u64) -> usize
+    requires { AreApart 0 ranges.now }
+    ensures within { result ≤ length ranges.now }
+    ensures begun { AllByRecursion (λ range. range.first ≤ key) (take result ranges.now) }
+    ensures others { AllByRecursion (λ range. key < range.first) (drop result ranges.now) }
+{
+    match ranges {
+        [range, ..] if key < range.first => 0,
+        [_, range, ..] if key < range.first => 1,
+        _ => begun_by(ranges, key),
+    }
+}
+
 /// From which one and up to which one the ranges meet the keys from `low` to `high`.
 pub(crate) fn meeting(ranges: &[Range], low: u64, high: u64) -> (usize, usize)
     requires apart { AreApart 0 ranges.now }
     requires order { low ≤ high }
     ensures { Meets low high ranges.now result.0 result.1 }
 {
-    (ended_before(ranges, low), begun_by(ranges, high))
+    let from = ended_before(ranges, low);
+    (from, from + few_begun_by(&ranges[from..], high))
 }
 
 /// The number of keys in all ranges.

@@ -1,6 +1,24 @@
+use Rattle.std.proofs.Common.{◌≤◌, ◌<◌, subst, sym, length, take, drop}
+use Rattle.std.specs.List.{AllByRecursion}
+use Rattle.std.proofs.lemmas.List.{take_rest}
+use Rattle.row_set.specs.Ranges.{AreApart}
+use Rattle.row_set.proofs.Apart.{apart-drop}
 use Rattle.row_set.proofs.Places.{meets}
 use Rattle.row_set.proofs.search.meeting.Goals as goal
 
+pub few_begun_by-requires : goal.few_begun_by-requires
+few_begun_by-requires c =
+    let from = c.ended_before-from.result in
+    subst (λ those. AreApart 0 those) (sym (take_rest c.args.ranges.now from)) (apart-drop 0 from c.args.ranges.now c.requires.apart)
+
 pub returns : goal.returns
 returns c =
-    meets c.args.low c.args.high c.ended_before.result c.begun_by.result c.args.ranges.now c.requires.apart c.requires.order c.ended_before.ensures.within c.begun_by.ensures.within c.ended_before.ensures.ended c.ended_before.ensures.others c.begun_by.ensures.begun c.begun_by.ensures.others
+    let ranges = c.args.ranges.now in
+    let from = c.ended_before-from.result in
+    let count = c.few_begun_by.result in
+    let rest = take_rest ranges from in
+    meets c.args.low c.args.high from count ranges c.ended_before-from.ensures.within
+    (subst (λ those. count ≤ length those) rest c.few_begun_by.ensures.within)
+    c.ended_before-from.ensures.ended c.ended_before-from.ensures.others
+    (subst (λ those. AllByRecursion (λ range. range.first ≤ c.args.high) (take count those)) rest c.few_begun_by.ensures.begun)
+    (subst (λ those. AllByRecursion (λ range. c.args.high < range.first) (drop count those)) rest c.few_begun_by.ensures.others)

@@ -1,4 +1,4 @@
-use Rattle.std.proofs.Common.{◌≡◌, ◌+◌, ap, ◌∙◌, get_or, take, arith}
+use Rattle.std.proofs.Common.{ap, ◌∙◌, get_or, take, arith}
 use Rattle.row_set.specs.Gaps.{around}
 use Rattle.row_set.specs.Ranges.{keys_from, keys_of}
 use Rattle.row_set.specs.Sets.{united}

@@ -1,4 +1,4 @@
-use Rattle.std.proofs.Common.{◌≡◌, ◌+◌, refl, ap, ◌∙◌, get_or, take, arith}
+use Rattle.std.proofs.Common.{refl, ap, ◌∙◌, get_or, take, arith}
 use Rattle.key_lists.specs.Keys.{without}
 use Rattle.row_set.specs.Gaps.{around}
 use Rattle.row_set.specs.Ranges.{keys_from, keys_of}

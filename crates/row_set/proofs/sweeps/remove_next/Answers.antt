@@ -1,4 +1,4 @@
-use Rattle.std.proofs.Common.{◌≡◌, refl, ◌+◌, ◌-◌, ◌<◌, ◌≤◌, ◌++◌, ap, ap₂, sym, ◌∙◌, subst, length, length-drop, length-take-le, get_or, take, drop, take-take, arith}
+use Rattle.std.proofs.Common.{◌≡◌, ◌+◌, ◌-◌, ◌<◌, ◌≤◌, ◌++◌, ap, ap₂, sym, ◌∙◌, subst, length, length-drop, length-take-le, get_or, take, drop, take-take, arith}
 use Rattle.std.specs.List.{AllByRecursion}
 use Rattle.std.proofs.lemmas.List.{get_or_default, take_rest, take-append-le}
 use Rattle.key_lists.specs.Keys.{without}
