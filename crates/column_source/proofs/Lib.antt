@@ -3,6 +3,7 @@ pub mod SlotLists
 pub mod Parts
 pub mod Listings
 pub mod NoteLists
+pub mod NoteRuns
 pub mod Noting
 pub mod Longer
 pub mod Replaced

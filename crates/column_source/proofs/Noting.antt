@@ -1,8 +1,8 @@
 -- What noting a slot leaves as it was.
-use Rattle.std.proofs.Common.{◌≡◌, refl, ap, sym, ◌∙◌, subst, Bool, false, cond, ℕ, ◌+◌, ◌-◌, ◌^◌, ◌<◌, arith, List, [], ◌∷◌, ◌++◌, length, take, drop, get_or, Option, Some, None, ℤ, inl, inr, unwrap_or, nat_cmp, true≢false, is_some, suc, Less, Equal, Greater}
+use Rattle.std.proofs.Common.{◌≡◌, refl, ap, sym, ◌∙◌, subst, Bool, true, false, cond, ℕ, ◌+◌, ◌-◌, ◌^◌, ◌<◌, arith, List, [], ◌∷◌, ◌++◌, length, take, drop, get_or, Option, Some, None, ℤ, inl, inr, unwrap_or, nat_cmp, true≢false, is_some, IsSome, ◌==◌, suc, Less, Equal, Greater}
 use Rattle.std.specs.Ordering.{match_ordering}
 use Rattle.std.specs.List.{AllByRecursion}
-use Rattle.std.specs.BTreeMap.{is_at, insert_entry}
+use Rattle.std.specs.BTreeMap.{insert_entry}
 use Rattle.std.proofs.lemmas.Bool.{ne_eqb, eq-eqb, cases_eq}
 use Rattle.column_source.specs.declared.block.Block.{Block}
 use Rattle.column_source.specs.Entries.{cell_under, Ascend}
@@ -10,7 +10,7 @@ use Rattle.column_source.specs.Slots.{slot_at}
 use Rattle.column_source.specs.Notes.{note_under, restored}
 use Rattle.column_source.specs.Blocks.{IsBlock, IsColumn, AreApart, kept}
 use Rattle.column_source.proofs.Listings.{around, kept_in, kept_ascend}
-use Rattle.column_source.proofs.NoteLists.{is_eq-nat_cmp, same_restored}
+use Rattle.column_source.proofs.NoteLists.{same_restored}
 
 -- the kept cell of a slot that the step began with
 pub kept_slot : (blocks : List Block) (index place : ℕ) (block : Block) → index < length blocks → block ≡ get_or blocks index block → AllByRecursion IsBlock blocks → AreApart 0 blocks → place < block.len_before → cell_under (block.first_before + place) (kept blocks) ≡ slot_at block.slots.items place
@@ -26,7 +26,7 @@ kept_slot blocks index place block lt is sound apart within =
     same = omega arith
 
 -- a note of what a key had puts the same back
-pub noted_same : (notes others : List (ℕ × Option ℤ)) (blocks : List Block) (key : ℕ) (cell : Option ℤ) → AllByRecursion IsBlock blocks → AreApart 0 blocks → note_under key notes ≡ None → cell_under key (kept blocks) ≡ cell → ((other : ℕ) → note_under other others ≡ cond (is_at (nat_cmp key) other) (Some cell) (note_under other notes)) → restored others (kept blocks) ≡ restored notes (kept blocks)
+pub noted_same : (notes others : List (ℕ × Option ℤ)) (blocks : List Block) (key : ℕ) (cell : Option ℤ) → AllByRecursion IsBlock blocks → AreApart 0 blocks → note_under key notes ≡ None → cell_under key (kept blocks) ≡ cell → ((other : ℕ) → note_under other others ≡ cond (other == key) (Some cell) (note_under other notes)) → restored others (kept blocks) ≡ restored notes (kept blocks)
 noted_same notes others blocks key cell sound apart absent has updates =
     same_restored others notes (kept blocks) (kept blocks) ascend ascend each
   where
@@ -37,12 +37,23 @@ noted_same notes others blocks key cell sound apart absent has updates =
     each other =
         elim (cases_eq other key) [
           | inl same ↦
-              ap (λ noted. unwrap_or noted (cell_under other (kept blocks))) (updates other ∙ ap (λ b. cond b (Some cell) (note_under other notes)) (is_eq-nat_cmp key other ∙ eq-eqb other key same))
+              ap (λ noted. unwrap_or noted (cell_under other (kept blocks))) (updates other ∙ ap (λ b. cond b (Some cell) (note_under other notes)) (eq-eqb other key same))
               ∙ sym has ∙ ap (λ k. cell_under k (kept blocks)) (sym same)
               ∙ sym (ap (λ noted. unwrap_or noted (cell_under other (kept blocks))) (ap (λ k. note_under k notes) same ∙ absent))
           | inr differs ↦
-              ap (λ noted. unwrap_or noted (cell_under other (kept blocks))) (updates other ∙ ap (λ b. cond b (Some cell) (note_under other notes)) (is_eq-nat_cmp key other ∙ ne_eqb other key differs))
+              ap (λ noted. unwrap_or noted (cell_under other (kept blocks))) (updates other ∙ ap (λ b. cond b (Some cell) (note_under other notes)) (ne_eqb other key differs))
         ]
+
+-- one more note: of its key and of those before it something is noted
+pub now_noted : (notes others : List (ℕ × Option ℤ)) (key : ℕ) (cell : Option ℤ) → ((other : ℕ) → note_under other others ≡ cond (other == key) (Some cell) (note_under other notes)) → IsSome (note_under key others)
+now_noted notes others key cell updates = subst IsSome (sym (updates key ∙ ap (λ b. cond b (Some cell) (note_under key notes)) (eq-eqb key key refl))) refl
+
+pub still_noted : (notes others : List (ℕ × Option ℤ)) (key : ℕ) (cell : Option ℤ) → ((other : ℕ) → note_under other others ≡ cond (other == key) (Some cell) (note_under other notes)) → (other : ℕ) → IsSome (note_under other notes) → IsSome (note_under other others)
+still_noted notes others key cell updates other some = subst IsSome (sym (updates other)) (either (other == key))
+  where
+    either : (b : Bool) → IsSome (cond b (Some cell) (note_under other notes))
+    either true = refl
+    either false = some
 
 pub every-insert_entry : (P : ℕ → Type 0) (key : ℕ) (cell : Option ℤ) (notes : List (ℕ × Option ℤ)) → P key → AllByRecursion (λ note. P note.0) notes → AllByRecursion (λ note. P note.0) (insert_entry nat_cmp notes key cell)
 every-insert_entry P key cell [] own h = (own, tt)

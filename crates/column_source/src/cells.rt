@@ -4,13 +4,13 @@ ghost use Rattle.tick_model.specs.Rules.{shift_fault};
 ghost use Rattle.column_source.specs.Entries.{IsEntryList, cell_under, keys_of, left_entries, moved_entries, put};
 
 use crate::blocks::Blocks;
-use crate::directory::{Notes, cell_at, cell_before, set};
+use crate::directory::{cell_at, cell_before, set};
 use crate::drops::drop_ranges;
 use crate::moves::shift;
+use crate::notes::Notes;
 use row_set::RowSet;
 use shift_data::ShiftData;
 use std::alloc::{AllocError, Global};
-use std::collections::BTreeMap;
 use std::marker::Model;
 
 /// The cells of one column by row key: those of now, and those from before the step.
@@ -41,7 +41,7 @@ impl Column {
     {
         Column {
             blocks: Blocks::new(alloc),
-            notes: BTreeMap::new(alloc),
+            notes: Notes::new(alloc),
         }
     }
 
@@ -50,7 +50,7 @@ impl Column {
         ensures { IfOk result (λ copy. copy ≡ self.now) }
     {
         let blocks = self.blocks.copy()?;
-        let notes = self.notes.clone()?;
+        let notes = self.notes.copy()?;
         Ok(Column { blocks, notes })
     }
 

@@ -8,11 +8,8 @@ ghost use Rattle.column_source.specs.Notes.{note_under, restored};
 
 use crate::block::{BLOCK_LEN, Block};
 use crate::blocks::Blocks;
+use crate::notes::Notes;
 use std::alloc::AllocError;
-use std::collections::BTreeMap;
-
-/// What was under the keys, as they were when the step began, of the slots touched since: a cell or none.
-pub(crate) type Notes = BTreeMap<u64, Option<i64>>;
 
 /// A row goes into the block before it where fewer slots than these stay empty between.
 const GAP_LEN: usize = 16;
@@ -54,8 +51,8 @@ pub(crate) fn cell_before(blocks: &Blocks, notes: &Notes, key: u64) -> Option<i6
     requires apart { AreApart 0 blocks.now }
     ensures { result ≡ cell_under key (restored notes.now.entries (kept blocks.now)) }
 {
-    match notes.get(&key) {
-        Some(noted) => *noted,
+    match notes.get(key) {
+        Some(noted) => noted,
         None => kept_at(blocks, key),
     }
 }
@@ -92,7 +89,7 @@ pub(crate) fn note(
         return Ok(());
     }
     let key = before.first + place as u64;
-    if notes.contains_key(&key) {
+    if notes.contains_key(key) {
         return Ok(());
     }
     notes.insert(key, blocks.slot(index, place as u64))?;

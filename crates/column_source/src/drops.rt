@@ -1,5 +1,5 @@
 //! Rows that are left out of the blocks of a column.
-ghost use Rattle.std.specs.Prelude.{◌≡◌, ℕ, ◌+◌, ◌^◌, ◌<◌, ◌≤◌, List, Option, ℤ, length, take, IsSome, OnOk, OnErr};
+ghost use Rattle.std.specs.Prelude.{◌≡◌, ℕ, ◌+◌, ◌^◌, ◌<◌, ◌≤◌, List, Option, ℤ, length, take, drop, IsSome, OnOk, OnErr};
 ghost use Rattle.std.specs.List.{AllByRecursion};
 ghost use Rattle.column_source.specs.Entries.{Ascend};
 ghost use Rattle.column_source.specs.Notes.{note_under, restored};
@@ -8,7 +8,8 @@ ghost use Rattle.column_source.specs.Drops.{AreNoted, AreOutside, Leaves, Leaves
 
 use crate::block::Block;
 use crate::blocks::Blocks;
-use crate::directory::{Notes, note};
+use crate::directory::note;
+use crate::notes::Notes;
 use row_set::Range;
 use std::alloc::AllocError;
 
@@ -102,6 +103,19 @@ fn leave_block(block: &mut Block, first: u64, last: u64)
     trim(block);
 }
 
+/// Takes off the first slots, so many.
+fn cut_front(slots: &mut Vec<Option<i64>>, count: usize)
+    requires { count ≤ length slots.old.items }
+    ensures { slots.new.items ≡ drop count slots.old.items }
+{
+    if count == 0 {
+        return;
+    }
+    let len = slots.len();
+    slots.copy_within(count..len, 0);
+    slots.truncate(len - count);
+}
+
 /// Takes off the empty slots before the first row.
 fn trim(block: &mut Block)
     requires first { block.old.first < 2 ^ 62 }
@@ -116,9 +130,7 @@ fn trim(block: &mut Block)
     ensures end { block.new.first_before + block.new.len_before ≡ block.old.first_before + block.old.len_before }
 {
     let empty = leading(&block.slots);
-    let left = block.slots.len() - empty;
-    block.slots.rotate_left(empty);
-    block.slots.truncate(left);
+    cut_front(&mut block.slots, empty);
     block.first += empty as u64;
     let gone = empty.min(block.len_before);
     block.first_before += gone as u64;

@@ -9,6 +9,7 @@ mod drops;
 mod firsts;
 mod joins;
 mod moves;
+mod notes;
 #[cfg(test)]
 mod tests;
 

@@ -7,9 +7,9 @@ use Rattle.column_source.proofs.directory.cell_before.Goals as goal
 pub returns-in-Some : goal.returns-in-Some
 returns-in-Some c =
     let old = cell_under c.args.key (kept c.args.blocks.now) in
-    ap (λ noted. unwrap_or noted old) c.in-Some.ensures.value ∙ sym (cell_restored c.args.key c.args.notes.now.entries (kept c.args.blocks.now))
+    ap (λ noted. unwrap_or noted old) c.in-Some.ensures ∙ sym (cell_restored c.args.key c.args.notes.now.entries (kept c.args.blocks.now))
 
 pub returns-in-None : goal.returns-in-None
 returns-in-None c =
     let old = cell_under c.args.key (kept c.args.blocks.now) in
-    c.kept_at.ensures ∙ ap (λ noted. unwrap_or noted old) c.in-None.ensures.value ∙ sym (cell_restored c.args.key c.args.notes.now.entries (kept c.args.blocks.now))
+    c.kept_at.ensures ∙ ap (λ noted. unwrap_or noted old) c.in-None.ensures ∙ sym (cell_restored c.args.key c.args.notes.now.entries (kept c.args.blocks.now))

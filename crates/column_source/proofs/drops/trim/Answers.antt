@@ -1,24 +1,16 @@
-use Rattle.std.proofs.Common.{◌≡◌, ◌+◌, ◌-◌, ◌≤◌, ap, ◌∙◌, take, drop, length, min, arith, take_all, length-drop}
-use Rattle.std.proofs.lemmas.List.{take-append-le}
+use Rattle.std.proofs.Common.{◌≡◌, ◌+◌, ◌-◌, ap, ◌∙◌, drop, min}
 use Rattle.column_source.specs.Drops.{leading}
 use Rattle.column_source.proofs.Clearing.{IsTrimmed, trimmed_rows, trimmed_kept, trimmed_block, trimmed_noted}
 use Rattle.column_source.proofs.drops.trim.Goals as goal
 
-shown : (c : goal.After-block-3-1) → IsTrimmed c.args.block.now (record { first = c.args.block.now.first + c.leading-empty.result; first_before = c.args.block.now.first_before + c.min-gone.result; len_before = c.args.block.now.len_before - c.min-gone.result; slots = c.truncate.new.self })
+shown : (c : goal.After-block-3-1) → IsTrimmed c.args.block.now (record { first = c.args.block.now.first + c.leading-empty.result; first_before = c.args.block.now.first_before + c.min-gone.result; len_before = c.args.block.now.len_before - c.min-gone.result; slots = c.cut_front.new.slots })
 shown c =
     let block = c.args.block.now in
     let slots = block.slots.items in
     let n = c.leading-empty.result in
     let empty : n ≡ leading slots = c.leading-empty.ensures.leading ∙ ap leading c.deref.ensures.value in
-    let left : c.len.result - n ≤ length (drop n slots) = omega (arith, c.len.ensures, length-drop n slots) in
-    let all : length (drop n slots) ≤ c.len.result - n = omega (arith, c.len.ensures, length-drop n slots) in
     record {
-      slots =
-          c.truncate.ensures.items
-          ∙ ap (take (c.len.result - n)) c.rotate_left.ensures.items
-          ∙ take-append-le (c.len.result - n) (drop n slots) (take n slots) left
-          ∙ take_all (c.len.result - n) (drop n slots) all
-          ∙ ap (λ k. drop k slots) empty;
+      slots = c.cut_front.ensures ∙ ap (λ k. drop k slots) empty;
       first = ap (λ k. block.first + k) empty;
       first_before = ap (λ k. block.first_before + k) (c.min-gone.ensures ∙ ap (λ k. min k block.len_before) empty);
       len_before = ap (λ k. block.len_before - k) (c.min-gone.ensures ∙ ap (λ k. min k block.len_before) empty);

@@ -1,5 +1,4 @@
-use Rattle.std.proofs.Common.{◌≡◌, ap, ◌∙◌, subst, sym, rules}
-use Rattle.std.proofs.lemmas.Map.Entries.{entries_from_clone}
+use Rattle.std.proofs.Common.{◌≡◌, ap, ◌∙◌, subst, sym}
 use Rattle.column_source.specs.Blocks.{IsColumn, rows, kept}
 use Rattle.column_source.specs.Notes.{restored}
 use Rattle.column_source.proofs.Copies.{copied_column, rows-copies, kept-copies}
@@ -10,7 +9,7 @@ invariant_of-result c =
     let blocks = c.self.inside.blocks in
     let notes = c.self.inside.notes.entries in
     let copies = c.in_ok-blocks.blocks in
-    let same : c.in_ok-notes.notes.entries ≡ notes = entries_from_clone _ _ (λ x y e. search rules) (λ v w e. search rules) notes c.in_ok-notes.notes.entries c.in_ok-notes.ensures.cases in
+    let same : c.in_ok-notes.notes.entries ≡ notes = ap (λ list. list.entries) c.in_ok-notes.ensures in
     subst (IsColumn copies) (sym same) (copied_column blocks copies notes c.in_ok-blocks.ensures c.self.invariant)
 
 pub returns : goal.returns
@@ -18,7 +17,7 @@ returns c =
     let blocks = c.self.inside.blocks in
     let notes = c.self.inside.notes.entries in
     let copies = c.in_ok-blocks.blocks in
-    let same : c.in_ok-notes.notes.entries ≡ notes = entries_from_clone _ _ (λ x y e. search rules) (λ v w e. search rules) notes c.in_ok-notes.notes.entries c.in_ok-notes.ensures.cases in
+    let same : c.in_ok-notes.notes.entries ≡ notes = ap (λ list. list.entries) c.in_ok-notes.ensures in
     ap (λ xs. record { now = xs; before = restored c.in_ok-notes.notes.entries (kept copies) }) (rows-copies blocks copies c.in_ok-blocks.ensures)
     ∙ ap (λ xs. record { now = rows blocks; before = restored c.in_ok-notes.notes.entries xs }) (kept-copies blocks copies c.in_ok-blocks.ensures)
     ∙ ap (λ ns. record { now = rows blocks; before = restored ns (kept blocks) }) same
