@@ -1,6 +1,7 @@
 pub mod Applied
 pub mod Asked
 pub mod InPlace
+pub mod OneRange
 pub mod Kept
 pub mod Keys
 pub mod Lawful

@@ -1,6 +1,7 @@
 //! The keys of a set moved in place.
-ghost use Rattle.std.specs.Prelude.{◌≡◌, ◌-◌, ◌^◌, ◌<◌, pos, negsuc, ◌<ℤ◌, [], IfSome, IfNone, OnOk};
+ghost use Rattle.std.specs.Prelude.{◌≡◌, ◌-◌, ◌^◌, ◌<◌, ◌≤◌, pos, negsuc, ◌<ℤ◌, [], ◌∷◌, IfSome, IfNone, OnOk};
 ghost use Rattle.row_set.specs.Sets.{IsKeySet};
+ghost use Rattle.tick_model.specs.Printable.{IsShiftRange};
 ghost use Rattle.tick_model.specs.Rules.{landed};
 ghost use Rattle.tick_model.specs.Shifts.{delta_at};
 ghost use Rattle.shift_data.specs.ShiftLists.{IsShiftList};
@@ -14,12 +15,34 @@ use row_set::RowSet;
 use std::alloc::{AllocError, Global};
 use tick_model::update::ShiftRange;
 
-/// Moves the keys: those that a range holds are taken out and put in where they land.
+/// Moves the keys. Those of a lone range move where they lie.
 pub(crate) fn move_keys(
     alloc: Global,
     shifts: &[ShiftRange],
     keys: &mut RowSet,
 ) -> Result<(), AllocError>
+    requires shifts { IsShiftList shifts.now }
+    requires lawful { IsLawful shifts.now keys.old }
+    ensures { OnOk result (keys.new ≡ landed shifts.now keys.old) }
+{
+    match shifts {
+        [range] => move_one(*range, keys),
+        _ => move_parts(alloc, shifts, keys),
+    }
+}
+
+/// Moves the keys that one range holds.
+fn move_one(range: ShiftRange, keys: &mut RowSet) -> Result<(), AllocError>
+    requires order { range.begin ≤ range.end }
+    requires range { IsShiftRange (2 ^ 62) range }
+    requires lawful { IsLawful (range ∷ []) keys.old }
+    ensures { OnOk result (keys.new ≡ landed (range ∷ []) keys.old) }
+{
+    keys.shift_range(range.begin, range.end, range.delta)
+}
+
+/// Moves the keys part by part: those that a range holds are taken out and put in where they land.
+fn move_parts(alloc: Global, shifts: &[ShiftRange], keys: &mut RowSet) -> Result<(), AllocError>
     requires shifts { IsShiftList shifts.now }
     requires lawful { IsLawful shifts.now keys.old }
     ensures { OnOk result (keys.new ≡ landed shifts.now keys.old) }

@@ -12,8 +12,8 @@ use Rattle.shift_data.proofs.Asked.{lands_inside}
 use Rattle.shift_data.proofs.InPlace.{nonzero_bits, zero_bits, left_more, came_more, staying_step, moved_in_place}
 use Rattle.shift_data.proofs.Keys.{from_none}
 use Rattle.shift_data.proofs.Segments.{fits_delta}
-use Rattle.shift_data.proofs.in_place.move_keys.Goals as goal
-use Rattle.shift_data.proofs.in_place.move_keys.Goals.{then-part-ne0+in_ok-insert_range+in_ok-insert_range-2, else-part-ne0}
+use Rattle.shift_data.proofs.in_place.move_parts.Goals as goal
+use Rattle.shift_data.proofs.in_place.move_parts.Goals.{then-part-ne0+in_ok-insert_range+in_ok-insert_range-2, else-part-ne0}
 
 pub loop-part-init : goal.loop-part-init
 loop-part-init c =

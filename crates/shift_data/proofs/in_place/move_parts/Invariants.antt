@@ -3,7 +3,7 @@ use Rattle.tick_model.specs.Rules.{landed}
 use Rattle.tick_model.specs.Shifts.{delta_at}
 use Rattle.shift_data.specs.Movers.{movers}
 use Rattle.shift_data.specs.Parts.{from_on}
-use Rattle.shift_data.proofs.in_place.move_keys.Given as goal
+use Rattle.shift_data.proofs.in_place.move_parts.Given as goal
 
 abbrev pub invariant-loop-part : goal.invariant-loop-part
 invariant-loop-part l =
