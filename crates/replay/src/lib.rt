@@ -20,6 +20,8 @@ mod rows;
 mod run;
 mod snapshots;
 mod steps;
+#[cfg(test)]
+mod tests;
 mod writing;
 
 pub use outcome::{Knobs, Outcome};
