@@ -1,5 +1,5 @@
 -- The keys of several ranges, added and removed one range after another.
-use Rattle.std.proofs.Common.{◌≡◌, refl, ap, sym, ◌∙◌, Bool, true, false, not, ◌&&◌, ◌||◌, ℕ, ◌+◌, ◌<◌, min, arith, List, [], ◌∷◌, ◌++◌, length, take, get_or, take-take, append-nil}
+use Rattle.std.proofs.Common.{◌≡◌, refl, ap, sym, ◌∙◌, Bool, true, false, not, ◌&&◌, ◌||◌, ℕ, ◌+◌, ◌<◌, min, arith, List, [], ◌∷◌, ◌++◌, length, take, drop, get_or, take-take, take-append-drop, append-nil}
 use Rattle.std.proofs.lemmas.List.{take_more}
 use Rattle.key_lists.specs.Keys.{is_among, IsRising, without}
 use Rattle.key_lists.proofs.Every.{filter_filter, filter_same, every, filter_all}
@@ -49,6 +49,14 @@ united_more others i keys h lt = united_append (keys_of (take i others)) (keys_i
 
 pub without_more : (others : List Range) (i : ℕ) (keys : List ℕ) → i < length others → without (keys_from (get_or others i blank).first (get_or others i blank).last) (without (keys_of (take i others)) keys) ≡ without (keys_of (take (i + 1) others)) keys
 without_more others i keys lt = without_append (keys_of (take i others)) (keys_in (get_or others i blank)) keys ∙ ap (λ those. without those keys) (keys_more others i lt)
+
+-- some that come first remove nothing
+pub without_rest : (others : List Range) (i : ℕ) (keys new : List ℕ) → keys ≡ without (keys_of (take i others)) keys → new ≡ without (keys_of (drop i others)) keys → new ≡ without (keys_of others) keys
+without_rest others i keys new none is =
+    is
+    ∙ ap (without (keys_of (drop i others))) none
+    ∙ without_append (keys_of (take i others)) (keys_of (drop i others)) keys
+    ∙ ap (λ those. without those keys) (sym (keys_of-append (take i others) (drop i others)) ∙ ap keys_of (take-append-drop i others))
 
 pub without_none : (keys : List ℕ) → keys ≡ without [] keys
 without_none keys = sym (filter_all keys)

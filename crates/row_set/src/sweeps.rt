@@ -144,8 +144,25 @@ pub(crate) fn insert_ranges(ranges: &mut Vec<Range>, others: &[Range]) -> usize
     gap.start
 }
 
-/// Removes every key of other ranges. The ranges before the index that it gives stay.
-pub(crate) fn remove_ranges(ranges: &mut Vec<Range>, others: &[Range]) -> usize
+/// How many of the others come before the first that meets the ranges.
+fn count_unmet(ranges: &[Range], others: &[Range]) -> usize
+    requires apart { AreApart 0 ranges.now }
+    requires others_apart { AreApart 0 others.now }
+    ensures within { result ≤ length others.now }
+    ensures unmet { keys_of ranges.now ≡ without (keys_of (take result others.now)) (keys_of ranges.now) }
+{
+    for (index, range) in others.iter().enumerate() {
+        let (from, to) = meeting(ranges, range.first, range.last);
+        if from < to {
+            return index;
+        }
+    }
+    others.len()
+}
+
+/// Removes every key of other ranges, of which the first is best one that meets the ranges. The ranges before the index that
+/// it gives stay.
+fn remove_met(ranges: &mut Vec<Range>, others: &[Range]) -> usize
     requires apart { AreApart 0 ranges.old.items }
     requires others_apart { AreApart 0 others.now }
     requires room { vec_len ranges.old + length others.now ≤ vec_capacity ranges.old }
@@ -163,4 +180,23 @@ pub(crate) fn remove_ranges(ranges: &mut Vec<Range>, others: &[Range]) -> usize
     let left = remove_each(ranges, gap, others);
     cut(ranges, left.start, left.end);
     gap.start
+}
+
+/// Removes every key of other ranges. The ranges before the index that it gives stay.
+pub(crate) fn remove_ranges(ranges: &mut Vec<Range>, others: &[Range]) -> usize
+    requires apart { AreApart 0 ranges.old.items }
+    requires others_apart { AreApart 0 others.now }
+    requires room { vec_len ranges.old + length others.now ≤ vec_capacity ranges.old }
+    ensures apart { AreApart 0 ranges.new.items }
+    ensures keys { keys_of ranges.new.items ≡ without (keys_of others.now) (keys_of ranges.old.items) }
+    ensures within { result ≤ vec_len ranges.new }
+    ensures before { take result ranges.new.items ≡ take result ranges.old.items }
+    ensures growth { vec_len ranges.new ≤ vec_len ranges.old + length others.now }
+    ensures capacity { vec_capacity ranges.old ≤ vec_capacity ranges.new }
+{
+    let unmet = count_unmet(ranges, others);
+    if unmet == others.len() {
+        return ranges.len();
+    }
+    remove_met(ranges, &others[unmet..])
 }
