@@ -110,6 +110,15 @@ impl<W: Tagged, H: Tagged> Play<Slot<W, H>, View<W>> for LiftIn {
     ghost then = { lifts_in (tags W.run W.node W.step) (tags H.run H.node H.step) };
 }
 
+/// Tells how a seat's marks stand to the edges.
+pub struct Look;
+
+impl<W, H> Play<Slot<W, H>, View<W>> for Look {
+    ghost use Rattle.graph_words.specs.Plays.{looks};
+
+    ghost then = { looks };
+}
+
 /// How a view is split, and how two are joined.
 pub struct Parting;
 

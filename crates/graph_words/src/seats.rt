@@ -1,14 +1,24 @@
-//! Seats are split and joined.
+//! Seats are split and joined, and looked at.
 
 ghost use Rattle.std.specs.Prelude.{◌≡◌, ◌<◌};
 ghost use Rattle.graph_words.specs.Views.{less_one, one_part, both_views};
-ghost use Rattle.graph_words.specs.Seats.{IsSeatOf};
+ghost use Rattle.graph_words.specs.Seats.{IsMarkedByFrom, IsSeatOf, IsUpward};
 
 use crate::claims::{ClaimSeat, Claims};
 use crate::graph::Tagged;
-use crate::plays::Parting;
+use crate::plays::{Look, Parting};
 
 impl<W: Tagged, H: Tagged> Claims<W, H> {
+    /// Tells how a seat's marks stand to the edges, whatever steps were made. It changes nothing.
+    pub fn look(&self, seat: &mut ClaimSeat<W, H>)
+        requires of { IsSeatOf self.now seat.old }
+        ensures same { seat.new ≡ seat.old }
+        ensures upward { IsUpward self.now.plan }
+        ensures marks { IsMarkedByFrom self.now.plan seat.old.view }
+    {
+        self.table.shared.load::<Look>(&mut seat.seat, 0);
+    }
+
     /// A new seat with one part of this one, and no node. The seat has more than one part.
     pub fn split(&self, seat: &mut ClaimSeat<W, H>) -> ClaimSeat<W, H>
         requires of { IsSeatOf self.now seat.old }
