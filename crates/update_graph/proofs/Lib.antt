@@ -1,8 +1,17 @@
 mod Batches
 mod Changing
+mod Claimed
+mod ClaimedWorks
+mod Counting
 mod EnteredTicks
+mod ExampleRuns
+mod FirstSeat
+mod Handing
+mod Holding
 mod Numbering
 mod OperatorLaws
+mod PlanEdges
 mod PlanLimits
 mod StepInputs
 mod Sweeping
+mod WorkSent

@@ -1,7 +1,12 @@
+pub mod Edges
 pub mod Entered
+pub mod Examples
 pub mod Faults
 pub mod Graphs
+pub mod Holdings
+pub mod Reads
 pub mod Stands
+pub mod Steps
 pub mod Stops
 pub mod Sweeps
 pub mod Tags

@@ -45,6 +45,6 @@ pub record IsReady (run : Run) (tables : ℕ → PlainTable) (node : ℕ) (opera
 
 abbrev pub IsKept : Run → ℕ → ℕ → State → Type 0
 IsKept run step node Source = (is_operator run node ≡ false) × (is_defined run step node ≡ true)
-IsKept run step node (Defined ready) = (is_defined run step node ≡ true) × IsReady run (table_at (state run step)) node ready.operator ready.table
+IsKept run step node (Defined ready) = (is_defined run step node ≡ true) × IsReady run (table_at (state run step)) node ready.operator ready.table × (arc_value {X = Ticking} ready.table ≡ shown run step node)
 IsKept run step node (Failed fault) = outcome_at (state run step) node ≡ Fault fault
 IsKept run step node Undefined = outcome_at (state run step) node ≡ NoInput

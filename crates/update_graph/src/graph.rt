@@ -13,18 +13,22 @@ ghost use Rattle.tick_model.specs.Tables.{keys as keys_of};
 ghost use Rattle.tick_model.specs.declared.feed.Run.{Run};
 ghost use Rattle.tick_table.specs.Exact.{ticking};
 ghost use Rattle.tick_table.specs.Ticking.{Ticking};
+ghost use Rattle.update_graph.specs.Edges.{edges_of};
 ghost use Rattle.update_graph.specs.Entered.{IsEntered};
 ghost use Rattle.update_graph.specs.Graphs.{RanOnce, nodes_shown, sources_shown};
 ghost use Rattle.update_graph.specs.Stops.{IsStop};
 ghost use Rattle.update_graph.specs.Sweeps.{IsSwept};
 ghost use Rattle.update_graph.specs.Tags.{tags};
 
+use crate::edges::all_edges;
 use crate::opening::open_all;
 use crate::shares::tables_of;
 use crate::sources::{changed_sources, opened_sources, referred};
+use crate::step::work_step;
 use crate::stop::{Stop, refused};
-use crate::sweep::{Sweep, work_all};
+use crate::sweep::{Sweep, swept};
 use crate::work::Work;
+use graph_words::Edge;
 use source_changes::SourceKeys;
 use std::alloc::{AllocError, Global};
 use std::marker::{Brand, Model};
@@ -43,6 +47,8 @@ use tick_table::{Change, Shared, TickTable};
 pub struct Graph {
     run: Snapshot<Run>,
     step: u64,
+    /// The edges of the plan.
+    edges: Vec<Edge>,
     /// The keys of the sources.
     keys: SourceKeys,
     /// The tables of the sources, in order of the nodes.
@@ -66,7 +72,7 @@ impl Model for Graph {
 
     ghost view = { λ graph. record { run = graph.run.value; step = graph.step; ran = graph.ran.items } };
 
-    ghost invariant = { λ graph. IsGraph graph.run.value graph.step graph.keys graph.sources.items graph.works.items graph.tables.items };
+    ghost invariant = { λ graph. IsGraph graph.run.value graph.step graph.edges.items graph.keys graph.sources.items graph.works.items graph.tables.items };
 }
 
 /// The changes of the sources at the next step, by its batch.
@@ -115,12 +121,14 @@ fn gathered(
     alloc: Global,
     run: &Run,
     step: u64,
+    edges: Vec<Edge>,
     keys: SourceKeys,
     sources: Vec<Shared>,
     sweep: Sweep,
 ) -> Result<Graph, AllocError>
     requires entered { IsEntered run.now step }
     requires nodes { node_fault 0 (state run.now step) ≡ None }
+    requires edges { edges.items ≡ edges_of run.now.plan }
     requires keys { keys ≡ map (λ table. keys_of table.rows) (sources_at run.now step) }
     requires sources { tables sources.items ≡ sources_shown run.now step }
     requires swept { IsSwept run.now step (length run.now.plan.nodes) sweep }
@@ -140,6 +148,7 @@ fn gathered(
         Some(tables) => Ok(Graph {
             run: about,
             step,
+            edges,
             keys,
             sources,
             works,
@@ -155,11 +164,13 @@ fn finished(
     alloc: Global,
     run: &Run,
     step: u64,
+    edges: Vec<Edge>,
     keys: SourceKeys,
     sources: Vec<Shared>,
     sweep: Sweep,
 ) -> Result<Graph, Stop>
     requires entered { IsEntered run.now step }
+    requires edges { edges.items ≡ edges_of run.now.plan }
     requires keys { keys ≡ map (λ table. keys_of table.rows) (sources_at run.now step) }
     requires sources { tables sources.items ≡ sources_shown run.now step }
     requires swept { IsSwept run.now step (length run.now.plan.nodes) sweep }
@@ -172,28 +183,33 @@ fn finished(
     match least_fault(&sweep.works) {
         Some((node, kind)) => Err(Stop::Node { step, node, kind }),
         None => {
-            let graph = gathered(alloc, run, step, keys, sources, sweep)?;
+            let graph = gathered(alloc, run, step, edges, keys, sources, sweep)?;
             Ok(graph)
         }
     }
 }
 
 /// The graph at the next step, by the batch of that step.
-fn next<G: Gate>(
+fn next<R: Threads + Sync, G: Gate>(
+    rt: &R,
     alloc: Global,
     run: &Run,
     step: u64,
+    edges: Vec<Edge>,
     keys: SourceKeys,
     sources: Vec<Shared>,
     works: Vec<Work>,
+    workers: u32,
     gate: &G,
 ) -> Result<Graph, Stop>
     requires lawful { IsLawfulRun run.now }
     requires reached { IsReached run.now step }
     requires next { step < length run.now.batches }
+    requires edges { edges.items ≡ edges_of run.now.plan }
     requires keys { keys ≡ map (λ table. keys_of table.rows) (sources_at run.now step) }
     requires sources { tables sources.items ≡ sources_shown run.now step }
     requires works { works.items ≡ tags run.now step (length run.now.plan.nodes) }
+    requires few { workers ≤ 64 }
     ensures run { IfOk result (λ graph. graph.run ≡ run.now) }
     ensures step { IfOk result (λ graph. graph.step ≡ step + 1) }
     ensures batch { OnOk result (batch_fault run.now (step + 1) ≡ None) }
@@ -204,8 +220,19 @@ fn next<G: Gate>(
     let mut keys = keys;
     let changes = changes_of(alloc, run, step, &mut keys, &sources)?;
     let sources = changed_sources(alloc, run, step + 1, sources, changes)?;
-    let sweep = work_all::<G, Brand>(alloc, run, works, step, &sources, gate, Blank::new(1))?;
-    let graph = finished(alloc, run, step + 1, keys, sources, sweep)?;
+    let works = work_step(
+        rt,
+        alloc,
+        run,
+        works,
+        step + 1,
+        &edges,
+        &sources,
+        workers,
+        gate,
+    )?;
+    let sweep = swept(alloc, run, step + 1, works, &sources)?;
+    let graph = finished(alloc, run, step + 1, edges, keys, sources, sweep)?;
     Ok(graph)
 }
 
@@ -218,10 +245,11 @@ impl Graph {
         ensures nodes { OnOk result (node_fault 0 (state run.now 0) ≡ None) }
         ensures cause { IfErr result (IsStop run.now 0) }
     {
+        let edges = all_edges(alloc, run)?;
         let keys = SourceKeys::new(alloc, &run.opening)?;
         let sources = opened_sources(alloc, run)?;
         let sweep = open_all::<Brand>(alloc, run, &sources, Blank::new(1))?;
-        let graph = finished(alloc, run, 0, keys, sources, sweep)?;
+        let graph = finished(alloc, run, 0, edges, keys, sources, sweep)?;
         Ok(graph)
     }
 
@@ -246,11 +274,10 @@ impl Graph {
         ensures ran { IfOk result (λ graph. RanOnce run.now.plan graph.ran) }
         ensures cause { IfErr result (IsStop run.now (self.step + 1)) }
     {
-        let _ = rt;
-        let _ = workers;
         let Graph {
             run: _,
             step,
+            edges,
             keys,
             sources,
             works,
@@ -258,7 +285,9 @@ impl Graph {
             ran: _,
         } = self;
         drop(tables);
-        next(alloc, run, step, keys, sources, works, gate)
+        next(
+            rt, alloc, run, step, edges, keys, sources, works, workers, gate,
+        )
     }
 
     /// The step at which all nodes stand. The run has reached it.

@@ -1,17 +1,29 @@
 //! The update graph: the nodes of a run, brought from step to step, each once and after its inputs.
 //!
 //! A step begins with the sources, which the step's batch changes. Each other node then makes its change from those of its
-//! inputs, and applies it to its own table in place. A node that fails marks its dependents as undefined; all other nodes are
+//! inputs, and applies it to its own table in place. The nodes are claimed for the step: the first seat hands on the tables of
+//! the sources, and then as many workers as were asked for work the nodes, each those that its own deliveries made ready or
+//! that another has put on offer. A node that fails marks its dependents as undefined; all other nodes are
 //! still worked, and the least node that failed is named.
 #![tactic(auto)]
 
+mod edges;
+mod first_seat;
 mod graph;
 mod opening;
 mod shares;
 mod sources;
+mod step;
 mod stop;
 mod sweep;
+mod team;
+#[cfg(test)]
+mod tests;
 mod work;
+mod worker;
+mod workers;
 
 pub use graph::Graph;
+pub use shares::Share;
 pub use stop::Stop;
+pub use work::Work;

@@ -14,7 +14,8 @@ ghost use Rattle.update_graph.specs.Stands.{IsReady};
 ghost use Rattle.update_graph.specs.Sweeps.{IsSwept};
 ghost use Rattle.update_graph.specs.Tags.{is_operator, op_at};
 
-use crate::sweep::{Sweep, inputs_of, shares_for};
+use crate::edges::inputs_of;
+use crate::sweep::{Sweep, shares_for};
 use crate::work::{Ready, worked};
 use operators::Operator;
 use std::alloc::{AllocError, Global};

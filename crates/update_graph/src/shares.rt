@@ -4,6 +4,7 @@ ghost use Rattle.std.specs.Prelude.{◌≡◌, IfOk, option_map};
 ghost use Rattle.update_graph.specs.Stands.{AreHanded, IsHanded};
 ghost use Rattle.update_graph.specs.Tags.{tag};
 
+use graph_words::Tagged;
 use std::alloc::{AllocError, Global};
 use std::marker::Model;
 use std::snapshot::Snapshot;
@@ -13,7 +14,7 @@ use tick_table::Shared;
 
 /// A node's table at a step, or that it has none. A contract sees the node, the step and the run, which say what the table is.
 #[derive(Drop)]
-pub(crate) struct Share {
+pub struct Share {
     run: Snapshot<Run>,
     node: u32,
     step: u64,
@@ -34,6 +35,14 @@ impl Model for Share {
     ghost view = { λ share. record { run = share.run.value; node = share.node; step = share.step } };
 
     ghost invariant = { λ share. IsHanded share.run.value share.step share.node share.table };
+}
+
+impl Tagged for Share {
+    ghost run = { λ share. share.run };
+
+    ghost node = { λ share. share.node };
+
+    ghost step = { λ share. share.step };
 }
 
 impl Share {

@@ -1,6 +1,6 @@
 //! What a node keeps from step to step, and how a step advances it.
 
-ghost use Rattle.std.specs.Prelude.{◌≡◌, ◌+◌, ◌<◌, IfOk, false, length, map, true};
+ghost use Rattle.std.specs.Prelude.{◌≡◌, ◌+◌, ◌<◌, ◌≤◌, IfOk, OnOk, false, length, map, true};
 ghost use Rattle.std.specs.Arc.{arc_value};
 ghost use Rattle.std.specs.List.{AllByRecursion};
 ghost use Rattle.merge_op.specs.Merged.{tables};
@@ -11,11 +11,13 @@ ghost use Rattle.tick_model.specs.declared.table.NodeFault.{NodeFault};
 ghost use Rattle.tick_table.specs.Ticking.{Ticking};
 ghost use Rattle.update_graph.specs.Entered.{IsEntered};
 ghost use Rattle.update_graph.specs.Faults.{fault_in};
+ghost use Rattle.update_graph.specs.Reads.{all_defined, most_reads};
 ghost use Rattle.update_graph.specs.Stands.{IsKept, IsReady, is_defined, shown};
 ghost use Rattle.update_graph.specs.Tags.{is_operator, op_at, tag};
 
 use crate::shares::{Share, tables_of};
 use crate::sources::applied;
+use graph_words::Tagged;
 use operators::{Operator, StepFault};
 use std::alloc::{AllocError, Global};
 use std::marker::Model;
@@ -49,7 +51,7 @@ pub(crate) enum State {
 /// What a node keeps at a step. A contract sees the node, the step and the run, which say what is kept: an operator that stands
 /// for the tables of the inputs at that step and the node's own table, or why there are none.
 #[derive(Drop)]
-pub(crate) struct Work {
+pub struct Work {
     run: Snapshot<Run>,
     node: u32,
     step: u64,
@@ -70,6 +72,14 @@ impl Model for Work {
     ghost view = { λ work. record { run = work.run.value; node = work.node; step = work.step } };
 
     ghost invariant = { λ work. IsKept work.run.value work.step work.node work.state };
+}
+
+impl Tagged for Work {
+    ghost run = { λ work. work.run };
+
+    ghost node = { λ work. work.node };
+
+    ghost step = { λ work. work.step };
 }
 
 impl Work {
@@ -97,7 +107,7 @@ impl Work {
 
     /// What is kept of a node with an operator at the next step, and what it hands on. Its operator steps once, or not at all
     /// where a share says that its node has no table. After a refusal the work is given up.
-    pub(crate) fn advance<L: Ledger>(
+    pub fn advance<L: Ledger>(
         self,
         alloc: Global,
         run: &Run,
@@ -111,6 +121,8 @@ impl Work {
         requires shares { shares ≡ map (tag run.now (self.step + 1)) (inputs_of (op_at run.now self.node)) }
         ensures work { IfOk result (λ out. out.0 ≡ tag run.now (self.step + 1) self.node) }
         ensures share { IfOk result (λ out. out.1 ≡ tag run.now (self.step + 1) self.node) }
+        ensures reads { OnOk result (is_defined run.now (self.step + 1) self.node ≡ true → reads.new ≤ reads.old + most_reads run.now (self.step + 1) self.node) }
+        ensures none { OnOk result (all_defined shares ≡ false → reads.new ≡ reads.old) }
     {
         let Work {
             run: _,
@@ -124,6 +136,21 @@ impl Work {
             State::Failed(_) => unreachable!(),
             State::Undefined => unreachable!(),
         }
+    }
+
+    /// What a node with an operator hands on.
+    pub(crate) fn share(&self, run: &Run) -> Result<Share, AllocError>
+        requires run { run.now ≡ self.now.run }
+        requires operator { is_operator self.now.run self.now.node ≡ true }
+        ensures { IfOk result (λ share. share ≡ self.now) }
+    {
+        let table = match &self.state {
+            State::Source => unreachable!(),
+            State::Defined(ready) => Some(ready.table.clone()?),
+            State::Failed(_) => None,
+            State::Undefined => None,
+        };
+        Ok(Share::new(run, self.node, self.step, table))
     }
 
     /// Why the node has no table although its inputs have theirs.
@@ -184,6 +211,8 @@ pub(crate) fn worked<L: Ledger>(
     requires shares { shares ≡ map (tag run.now step) (inputs_of (op_at run.now node)) }
     ensures work { IfOk result (λ out. out.0 ≡ tag run.now step node) }
     ensures share { IfOk result (λ out. out.1 ≡ tag run.now step node) }
+    ensures reads { OnOk result (is_defined run.now step node ≡ true → reads.new ≤ reads.old + most_reads run.now step node) }
+    ensures none { OnOk result (all_defined shares ≡ false → reads.new ≡ reads.old) }
 {
     match tables_of(alloc, shares) {
         Ok(Some(inputs)) => stepped(alloc, run, node, step, ready, &inputs, reads),
@@ -208,6 +237,7 @@ fn without_step(
     requires { (kind : NodeFault) → fault ≡ StepFault.Node kind → outcome_at (state_of run.now step) node ≡ Fault kind }
     ensures work { IfOk result (λ out. out.0 ≡ tag run.now step node) }
     ensures share { IfOk result (λ out. out.1 ≡ tag run.now step node) }
+    ensures undefined { OnOk result (is_defined run.now step node ≡ false) }
 {
     match fault {
         StepFault::Memory => Err(AllocError),
@@ -233,6 +263,7 @@ fn stepped<L: Ledger>(
     requires inputs { tables inputs.now ≡ map (shown run.now step) (inputs_of (op_at run.now node)) }
     ensures work { IfOk result (λ out. out.0 ≡ tag run.now step node) }
     ensures share { IfOk result (λ out. out.1 ≡ tag run.now step node) }
+    ensures reads { OnOk result (is_defined run.now step node ≡ true → reads.new ≤ reads.old + most_reads run.now step node) }
 {
     let Ready { operator, table } = ready;
     match operator.step(alloc, inputs, reads) {

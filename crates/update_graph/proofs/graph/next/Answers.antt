@@ -1,5 +1,6 @@
-use Rattle.std.proofs.Common.{ap, sym, ◌∙◌, ◌+◌, arith}
+use Rattle.std.proofs.Common.{◌≡◌, ap, sym, ◌∙◌, ◌+◌, ◌-◌, arith, length}
 use Rattle.merge_op.specs.Merged.{news}
+use Rattle.update_graph.specs.Tags.{tags}
 use Rattle.update_graph.proofs.Batches.{sources_new, sources_old}
 use Rattle.update_graph.proofs.graph.next.Goals as goal
 
@@ -8,3 +9,8 @@ changed_sources-requires-clause-sources g c = ap news c.requires.sources ∙ sou
 
 pub returns-clause-batch : goal.returns-clause-batch
 returns-clause-batch g c = c.in_ok-changes.ensures.entered.batches (c.args.step + 1) (omega arith)
+
+pub work_step-requires-clause-works : goal.work_step-requires-clause-works
+work_step-requires-clause-works g c κs within =
+    let same : c.args.step ≡ c.args.step + 1 - 1 = omega arith in
+    c.requires.works ∙ ap (λ k. tags c.args.run.now k (length c.args.run.now.plan.nodes)) same

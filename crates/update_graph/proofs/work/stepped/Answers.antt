@@ -1,4 +1,4 @@
-use Rattle.std.proofs.Common.{ap, sym, ◌∙◌, subst}
+use Rattle.std.proofs.Common.{ap, sym, ◌∙◌, subst, true≢false}
 use Rattle.merge_op.specs.Merged.{news, tables}
 use Rattle.operators.specs.Inputs.{HasKeys, IsCause}
 use Rattle.operators.specs.Operating.{StandsFor}
@@ -7,6 +7,7 @@ use Rattle.tick_model.specs.States.{tick}
 use Rattle.tick_table.specs.Ticking.{Ticking}
 use Rattle.update_graph.specs.Tags.{node_at}
 use Rattle.update_graph.proofs.Changing.{change_fits, change_lawful}
+use Rattle.update_graph.proofs.Counting.{always, counted_reads, weaker}
 use Rattle.update_graph.proofs.StepInputs.{exact_are, has, keys_are, news_are, no_fault, not_true, olds_are, own_change, own_fault, own_tick, rows_are, widths_are}
 use Rattle.update_graph.proofs.work.stepped.Goals as goal
 
@@ -89,3 +90,16 @@ without_step-requires g c = λ kind e.
     let is = not_true (is_source (node_at run n)) c.requires.operator in
     own_fault run c.args.step c.requires.entered n c.requires.node is c.requires.defined (tables c.args.inputs.now) c.requires.inputs c.args.ready.operator.op c.requires.ready.op kind
     (λ table h. subst (λ fault. IsCause fault (fault_of c.args.ready.operator.op table)) e (c.in-Err.ensures.cause table h))
+
+pub returns-in_ok-table-in-Ok-clause-reads : goal.returns-in_ok-table-in-Ok-clause-reads
+returns-in_ok-table-in-Ok-clause-reads g c =
+    let run = c.args.run.now in
+    let n = c.args.node in
+    let all = tables c.args.inputs.now in
+    let is = not_true (is_source (node_at run n)) c.requires.operator in
+    let f = no_fault run c.args.step c.requires.entered n c.requires.node is c.requires.defined all c.requires.inputs c.args.ready.operator.op c.requires.ready.op c.in-Ok.ensures.sound in
+    let own = own_change run c.args.step c.requires.entered n c.requires.node is c.requires.defined all c.requires.inputs c.args.ready.operator.op c.requires.ready.op c.in-Ok.change c.in-Ok.ensures.change f in
+    always c.with_table.result (λ defined. counted_reads run c.args.step n c.args.reads.now c.step.new.reads c.args.ready.operator.op c.args.ready.operator.widths all c.in-Ok.change c.requires.ready.op c.requires.ready.widths c.requires.inputs own c.in-Ok.ensures.reads)
+
+pub returns-in-Err-clause-reads : goal.returns-in-Err-clause-reads
+returns-in-Err-clause-reads g c = weaker c.without_step.result (λ undefined defined. absurd (true≢false (sym defined ∙ undefined))) c.without_step.ensures.undefined

@@ -4,6 +4,7 @@ use Rattle.tick_model.specs.declared.table.PlainTable.{PlainTable}
 use Rattle.tick_model.specs.LawfulRuns.{IsLawfulRun}
 use Rattle.tick_model.specs.Sources.{sources}
 use Rattle.tick_model.specs.Tables.{keys}
+use Rattle.update_graph.specs.Edges.{edges_of}
 use Rattle.update_graph.specs.Graphs.{GraphView, sources_shown}
 use Rattle.update_graph.specs.Tags.{tags}
 use Rattle.update_graph.proofs.graph.Graph.cycle.Goals as goal
@@ -16,6 +17,9 @@ next-requires-clause-reached g c κs within = subst (λ run. IsReached run c.sel
 
 pub next-requires-clause-next : goal.next-requires-clause-next
 next-requires-clause-next g c κs within = subst (λ (v : GraphView). v.step < length c.args.run.now.batches) (sym c.self.view_is) c.requires.next
+
+pub next-requires-clause-edges : goal.next-requires-clause-edges
+next-requires-clause-edges g c κs within = c.self.invariant.edges_are ∙ ap (λ run. edges_of run.plan) (ap (λ (v : GraphView). v.run) c.self.view_is ∙ c.requires.run)
 
 pub next-requires-clause-keys : goal.next-requires-clause-keys
 next-requires-clause-keys g c κs within = c.self.invariant.keys_are ∙ ap (λ run. map (λ (table : PlainTable). keys table.rows) (sources run c.self.inside.step)) (ap (λ (v : GraphView). v.run) c.self.view_is ∙ c.requires.run)

@@ -1,0 +1,251 @@
+-- The edges of a lawful plan.
+use Rattle.std.proofs.Common.{◌≡◌, ◌≢◌, refl, ap, ap₂, sym, ◌∙◌, subst, ℕ, zero, suc, ◌+◌, ◌*◌, ◌^◌, ◌<◌, ◌≤◌, ◌==◌, ◌&&◌, arith, Bool, true, false, true≢false, cond, not, List, [], ◌∷◌, ◌++◌, append-nil, append_assoc, length, length-append, take, get_or, eq-eqb, ne_eqb}
+use Rattle.std.specs.Prelude.{nat_le}
+use Rattle.std.specs.List.{AllByRecursion, list_all}
+use Rattle.std.proofs.lemmas.Bool.{and_parts, leb-true}
+use Rattle.std.proofs.lemmas.List.{length-take-le, take_more}
+use mathlib.Core.Option.{some, some-injective, some-ne-none}
+use lib.ListN.{get_elem?}
+use Rattle.graph_words.specs.declared.graph.Edge.{Edge}
+use Rattle.graph_words.specs.Marks.{inputs, when}
+use Rattle.graph_words.proofs.Marks.{some_input}
+use Rattle.key_lists.proofs.Every.{every_weaker, every-append}
+use Rattle.tick_laws.proofs.EvalNodes.{is_source_op}
+use Rattle.tick_laws.proofs.LawfulPlans.{lawful_plan}
+use Rattle.tick_model.specs.declared.feed.Run.{Run}
+use Rattle.tick_model.specs.declared.plan.ColumnSpec.{ColumnSpec}
+use Rattle.tick_model.specs.declared.plan.Node.{Node}
+use Rattle.tick_model.specs.declared.plan.Op.{Op}
+use Rattle.tick_model.specs.declared.plan.Op.TheVariants.{Source, Keep, View, Join, Agg, Merge, Sort, Head, Tail, AsOf}
+use Rattle.tick_model.specs.Evaluation.{inputs_of}
+use Rattle.tick_model.specs.LawfulRuns.{IsLawfulRun}
+use Rattle.tick_model.specs.Plans.{columns_at, columns_fit, same_columns}
+use Rattle.update_graph.specs.Edges.{edges_from, edges_of, froms_to, input_edges}
+use Rattle.update_graph.specs.Tags.{is_operator, no_node, node_at, op_at}
+use Rattle.update_graph.proofs.PlanLimits.{few_nodes}
+
+pub every_at : {X : Type 0} (P : X → Type 0) (xs : List X) → AllByRecursion P xs → (k : ℕ) (x : X) → get_elem? xs k ≡ some x → P x
+every_at P [] h k x at = absurd (some-ne-none x (sym at))
+every_at P (y ∷ ys) h zero x at = subst P (some-injective y x at) h.0
+every_at P (y ∷ ys) h (suc k) x at = every_at P ys h.1 k x at
+
+-- what holds of each edge
+into_each : (P : Edge → Type 0) (node port : ℕ) (from : List ℕ) → AllByRecursion (λ input. (port : ℕ) → P (record { from = input; to = node; port = port })) from → AllByRecursion P (input_edges node port from)
+into_each P node port [] h = tt
+into_each P node port (input ∷ from) h = (h.0 port, into_each P node (port + 1) from h.1)
+
+from_each : (P : Edge → Type 0) (start : ℕ) (nodes : List Node)
+    → ((k : ℕ) → k < length nodes → AllByRecursion (λ input. (port : ℕ) → P (record { from = input; to = start + k; port = port })) (inputs_of (get_or nodes k no_node).op))
+    → AllByRecursion P (edges_from start nodes)
+from_each P start [] h = tt
+from_each P start (own ∷ others) h =
+    let here : start + 0 ≡ start = omega arith in
+    every-append P (input_edges start 0 (inputs_of own.op)) (edges_from (start + 1) others)
+    (into_each P start 0 (inputs_of own.op) (subst (λ to. AllByRecursion (λ input. (port : ℕ) → P (record { from = input; to = to; port = port })) (inputs_of own.op)) here (h 0 (omega arith))))
+    (from_each P (start + 1) others (λ k less.
+    let next : start + suc k ≡ start + 1 + k = omega arith in
+    subst (λ to. AllByRecursion (λ input. (port : ℕ) → P (record { from = input; to = to; port = port })) (inputs_of (get_or others k no_node).op)) next (h (suc k) (omega arith))))
+
+-- how many there are
+length-into : (node port : ℕ) (from : List ℕ) → length (input_edges node port from) ≡ length from
+length-into node port [] = refl
+length-into node port (input ∷ from) = ap suc (length-into node (port + 1) from)
+
+few_from : (start : ℕ) (nodes : List Node) → ((k : ℕ) → k < length nodes → length (inputs_of (get_or nodes k no_node).op) ≤ 16) → length (edges_from start nodes) ≤ 16 * length nodes
+few_from start [] h = omega arith
+few_from start (own ∷ others) h =
+    let a = length-append (input_edges start 0 (inputs_of own.op)) (edges_from (start + 1) others) in
+    let b = length-into start 0 (inputs_of own.op) in
+    let c = h 0 (omega arith) in
+    let d = few_from (start + 1) others (λ k less. h (suc k) (omega arith)) in
+    omega arith
+
+-- one more input, and one more node
+into-append : (node port : ℕ) (xs ys : List ℕ) → input_edges node port (xs ++ ys) ≡ input_edges node port xs ++ input_edges node (port + length xs) ys
+into-append node port [] ys = let same : port ≡ port + 0 = omega arith in ap (λ p. input_edges node p ys) same
+into-append node port (x ∷ xs) ys =
+    let same : port + 1 + length xs ≡ port + suc (length xs) = omega arith in
+    ap (λ l. record { from = x; to = node; port = port } ∷ l) (into-append node (port + 1) xs ys ∙ ap (λ p. input_edges node (port + 1) xs ++ input_edges node p ys) same)
+
+pub more_into : (node k d : ℕ) (xs : List ℕ) → k < length xs → input_edges node 0 (take (k + 1) xs) ≡ input_edges node 0 (take k xs) ++ record { from = get_or xs k d; to = node; port = k } ∷ []
+more_into node k d xs less =
+    let long = length-take-le k xs (omega arith) in
+    let same : 0 + length (take k xs) ≡ k = omega arith in
+    ap (input_edges node 0) (take_more xs k d less)
+    ∙ into-append node 0 (take k xs) (get_or xs k d ∷ [])
+    ∙ ap (λ (p : ℕ). input_edges node 0 (take k xs) ++ record { from = get_or xs k d; to = node; port = p } ∷ []) same
+
+from-append : (start : ℕ) (xs ys : List Node) → edges_from start (xs ++ ys) ≡ edges_from start xs ++ edges_from (start + length xs) ys
+from-append start [] ys = let same : start ≡ start + 0 = omega arith in ap (λ p. edges_from p ys) same
+from-append start (x ∷ xs) ys =
+    let same : start + 1 + length xs ≡ start + suc (length xs) = omega arith in
+    ap (λ l. input_edges start 0 (inputs_of x.op) ++ l) (from-append (start + 1) xs ys ∙ ap (λ p. edges_from (start + 1) xs ++ edges_from p ys) same)
+    ∙ sym (append_assoc (input_edges start 0 (inputs_of x.op)) (edges_from (start + 1) xs) (edges_from (start + suc (length xs)) ys))
+
+pub more_from : (k : ℕ) (d : Node) (nodes : List Node) → k < length nodes → edges_from 0 (take (k + 1) nodes) ≡ edges_from 0 (take k nodes) ++ input_edges k 0 (inputs_of (get_or nodes k d).op)
+more_from k d nodes less =
+    let long = length-take-le k nodes (omega arith) in
+    let same : 0 + length (take k nodes) ≡ k = omega arith in
+    ap (edges_from 0) (take_more nodes k d less)
+    ∙ from-append 0 (take k nodes) (get_or nodes k d ∷ [])
+    ∙ ap (λ p. edges_from 0 (take k nodes) ++ (input_edges p 0 (inputs_of (get_or nodes k d).op) ++ [])) same
+    ∙ ap (λ l. edges_from 0 (take k nodes) ++ l) (append-nil (input_edges k 0 (inputs_of (get_or nodes k d).op)))
+
+-- the nodes from which edges go to a node
+pub froms-append : (n : ℕ) (xs ys : List Edge) → froms_to n (xs ++ ys) ≡ froms_to n xs ++ froms_to n ys
+froms-append n [] ys = refl
+froms-append n (x ∷ xs) ys = go (x.to == n) (froms-append n xs ys)
+  where
+    go : (b : Bool) → froms_to n (xs ++ ys) ≡ froms_to n xs ++ froms_to n ys → cond b (x.from ∷ froms_to n (xs ++ ys)) (froms_to n (xs ++ ys)) ≡ cond b (x.from ∷ froms_to n xs) (froms_to n xs) ++ froms_to n ys
+    go true r = ap (λ l. x.from ∷ l) r
+    go false r = r
+
+froms_into : (n port : ℕ) (from : List ℕ) → froms_to n (input_edges n port from) ≡ from
+froms_into n port [] = refl
+froms_into n port (input ∷ from) =
+    ap (λ b. cond b (input ∷ froms_to n (input_edges n (port + 1) from)) (froms_to n (input_edges n (port + 1) from))) (eq-eqb n n refl)
+    ∙ ap (λ l. input ∷ l) (froms_into n (port + 1) from)
+
+froms_other : (n m port : ℕ) (from : List ℕ) → m ≢ n → froms_to n (input_edges m port from) ≡ []
+froms_other n m port [] ne = refl
+froms_other n m port (input ∷ from) ne =
+    ap (λ b. cond b (input ∷ froms_to n (input_edges m (port + 1) from)) (froms_to n (input_edges m (port + 1) from))) (ne_eqb m n ne)
+    ∙ froms_other n m (port + 1) from ne
+
+froms_before : (n start : ℕ) (nodes : List Node) → n < start → froms_to n (edges_from start nodes) ≡ []
+froms_before n start [] less = refl
+froms_before n start (own ∷ others) less =
+    froms-append n (input_edges start 0 (inputs_of own.op)) (edges_from (start + 1) others)
+    ∙ ap₂ (λ a b. a ++ b) (froms_other n start 0 (inputs_of own.op) (λ e. omega arith)) (froms_before n (start + 1) others (omega arith))
+
+froms_at : (n start : ℕ) (nodes : List Node) (k : ℕ) → k < length nodes → n ≡ start + k → froms_to n (edges_from start nodes) ≡ inputs_of (get_or nodes k no_node).op
+froms_at n start [] k less is = absurd (omega arith)
+froms_at n start (own ∷ others) zero less is =
+    let same : start ≡ n = omega arith in
+    froms-append n (input_edges start 0 (inputs_of own.op)) (edges_from (start + 1) others)
+    ∙ ap₂ (λ a b. a ++ b) (ap (λ m. froms_to n (input_edges m 0 (inputs_of own.op))) same ∙ froms_into n 0 (inputs_of own.op)) (froms_before n (start + 1) others (omega arith))
+    ∙ append-nil (inputs_of own.op)
+froms_at n start (own ∷ others) (suc k) less is =
+    froms-append n (input_edges start 0 (inputs_of own.op)) (edges_from (start + 1) others)
+    ∙ ap₂ (λ a b. a ++ b) (froms_other n start 0 (inputs_of own.op) (λ e. omega arith)) (froms_at n (start + 1) others k (omega arith) (omega arith))
+
+pub edge_there : (edges : List Edge) (k : ℕ) (d : Edge) → k < length edges → get_elem? edges k ≡ some (get_or edges k d)
+edge_there [] k d less = absurd (omega arith)
+edge_there (x ∷ xs) zero d less = refl
+edge_there (x ∷ xs) (suc k) d less = edge_there xs k d (omega arith)
+
+-- one more edge goes to the node, or does not
+pub froms_more : (n k : ℕ) (edges : List Edge) (d : Edge) → k < length edges → (get_or edges k d).to ≡ n → froms_to n (take (k + 1) edges) ≡ froms_to n (take k edges) ++ (get_or edges k d).from ∷ []
+froms_more n k edges d less is =
+    ap (froms_to n) (take_more edges k d less) ∙ froms-append n (take k edges) (get_or edges k d ∷ [])
+    ∙ ap (λ b. froms_to n (take k edges) ++ cond b ((get_or edges k d).from ∷ []) []) (eq-eqb (get_or edges k d).to n is)
+
+pub froms_same : (n k : ℕ) (edges : List Edge) (d : Edge) → k < length edges → (get_or edges k d).to ≢ n → froms_to n (take (k + 1) edges) ≡ froms_to n (take k edges)
+froms_same n k edges d less other =
+    ap (froms_to n) (take_more edges k d less) ∙ froms-append n (take k edges) (get_or edges k d ∷ [])
+    ∙ ap (λ b. froms_to n (take k edges) ++ cond b ((get_or edges k d).from ∷ []) []) (ne_eqb (get_or edges k d).to n other)
+    ∙ append-nil (froms_to n (take k edges))
+
+-- as many as the claims count
+inputs_are : (n : ℕ) (edges : List Edge) → inputs n edges ≡ length (froms_to n edges)
+inputs_are n [] = refl
+inputs_are n (x ∷ xs) = go (x.to == n) (inputs_are n xs)
+  where
+    go : (b : Bool) → inputs n xs ≡ length (froms_to n xs) → when b 1 + inputs n xs ≡ length (cond b (x.from ∷ froms_to n xs) (froms_to n xs))
+    go true r = omega arith
+    go false r = omega arith
+
+-- an operator has from 1 to 16 inputs
+pub record HasInputs (op : Op) : Type 0 where
+  pub many : 1 ≤ length (inputs_of op)
+  pub few : length (inputs_of op) ≤ 16
+
+has_inputs : (op : Op) (input : ℕ → List ColumnSpec) (columns : List ColumnSpec) → columns_fit op input columns ≡ true → is_source_op op ≡ false → HasInputs op
+has_inputs Source input columns fit is = absurd (true≢false is)
+has_inputs (Keep from test) input columns fit is = record { many = omega arith; few = omega arith }
+has_inputs (View from exprs) input columns fit is = record { many = omega arith; few = omega arith }
+has_inputs (Join left right on taken choice) input columns fit is = record { many = omega arith; few = omega arith }
+has_inputs (Agg from by aggs) input columns fit is = record { many = omega arith; few = omega arith }
+has_inputs (Merge []) input columns fit is = absurd (true≢false (sym (and_parts (nat_le 2 0 && nat_le 0 16) true fit).0))
+has_inputs (Merge (from ∷ others)) input columns fit is =
+    let alike = list_all (λ from. same_columns columns (input from)) (from ∷ others) in
+    let parts = and_parts (nat_le 2 (length (from ∷ others)) && nat_le (length (from ∷ others)) 16) alike fit in
+    let count = and_parts (nat_le 2 (length (from ∷ others))) (nat_le (length (from ∷ others)) 16) parts.0 in
+    record { many = omega arith; few = leb-true (length (from ∷ others)) 16 count.1 }
+has_inputs (Sort from by) input columns fit is = record { many = omega arith; few = omega arith }
+has_inputs (Head from rows) input columns fit is = record { many = omega arith; few = omega arith }
+has_inputs (Tail from rows) input columns fit is = record { many = omega arith; few = omega arith }
+has_inputs (AsOf left right on at taken) input columns fit is = record { many = omega arith; few = omega arith }
+
+source_few : (op : Op) → is_source_op op ≡ true → inputs_of op ≡ []
+source_few Source is = refl
+source_few (Keep from test) is = absurd (true≢false (sym is))
+source_few (View from exprs) is = absurd (true≢false (sym is))
+source_few (Join left right on taken choice) is = absurd (true≢false (sym is))
+source_few (Agg from by aggs) is = absurd (true≢false (sym is))
+source_few (Merge others) is = absurd (true≢false (sym is))
+source_few (Sort from by) is = absurd (true≢false (sym is))
+source_few (Head from rows) is = absurd (true≢false (sym is))
+source_few (Tail from rows) is = absurd (true≢false (sym is))
+source_few (AsOf left right on at taken) is = absurd (true≢false (sym is))
+
+not_true : (b : Bool) → not b ≡ true → b ≡ false
+not_true true h = absurd (true≢false (sym h))
+not_true false h = refl
+
+not_false : (b : Bool) → not b ≡ false → b ≡ true
+not_false true h = refl
+not_false false h = absurd (true≢false h)
+
+module _ (run : Run) (h : IsLawfulRun run) where
+  pub operator_inputs : (n : ℕ) → n < length run.plan.nodes → is_operator run n ≡ true → HasInputs (op_at run n)
+  operator_inputs n within is = has_inputs (op_at run n) (columns_at run.plan.nodes) (node_at run n).columns ((lawful_plan run.plan no_node h.plan).nodes n within).columns (not_true (is_source_op (op_at run n)) is)
+
+  pub node_few : (n : ℕ) → n < length run.plan.nodes → length (inputs_of (op_at run n)) ≤ 16
+  node_few n within = go (is_operator run n) refl
+    where
+      go : (b : Bool) → is_operator run n ≡ b → length (inputs_of (op_at run n)) ≤ 16
+      go true is = (operator_inputs n within is).few
+      go false is = let none = ap length (source_few (op_at run n) (not_false (is_source_op (op_at run n)) is)) in omega arith
+
+  pub few_edges : length (edges_of run.plan) < 2 ^ 32
+  few_edges = let a = few_from 0 run.plan.nodes node_few in let b = few_nodes run h in omega arith
+
+  pub edge_ends : (e : ℕ) (x : Edge) → get_elem? (edges_of run.plan) e ≡ some x → (x.from < x.to) × (x.to < length run.plan.nodes)
+  edge_ends e x there =
+      every_at (λ (x : Edge). (x.from < x.to) × (x.to < length run.plan.nodes)) (edges_of run.plan)
+      (from_each (λ (x : Edge). (x.from < x.to) × (x.to < length run.plan.nodes)) 0 run.plan.nodes (λ k less.
+      every_weaker (λ input. input < k) (λ input. (port : ℕ) → (input < 0 + k) × (0 + k < length run.plan.nodes)) (inputs_of (op_at run k)) (λ input below port. (omega arith, omega arith))
+      ((lawful_plan run.plan no_node h.plan).nodes k less).lesser))
+      e x there
+
+  pub input_froms : (n : ℕ) → n < length run.plan.nodes → froms_to n (edges_of run.plan) ≡ inputs_of (op_at run n)
+  input_froms n within = froms_at n 0 run.plan.nodes n within (omega arith)
+
+  inputs_count : (n : ℕ) → n < length run.plan.nodes → inputs n (edges_of run.plan) ≡ length (inputs_of (op_at run n))
+  inputs_count n within = inputs_are n (edges_of run.plan) ∙ ap length (input_froms n within)
+
+  -- an edge goes to an operator
+  pub goes_to_operator : (e : ℕ) (x : Edge) → get_elem? (edges_of run.plan) e ≡ some x → is_operator run x.to ≡ true
+  goes_to_operator e x there = go (is_operator run x.to) refl
+    where
+      go : (b : Bool) → is_operator run x.to ≡ b → is_operator run x.to ≡ true
+      go true is = is
+      go false is =
+          let count = inputs_count x.to (edge_ends e x there).1 in
+          let none = ap length (source_few (op_at run x.to) (not_false (is_source_op (op_at run x.to)) is)) in
+          let some_one = some_input x.to e (edges_of run.plan) x there refl in
+          absurd (omega arith)
+
+  pub source_inputs : (n : ℕ) → n < length run.plan.nodes → is_operator run n ≡ false → inputs n (edges_of run.plan) ≡ 0
+  source_inputs n within is = inputs_count n within ∙ ap length (source_few (op_at run n) (not_false (is_source_op (op_at run n)) is))
+
+  pub no_inputs : (n : ℕ) → n < length run.plan.nodes → inputs n (edges_of run.plan) ≡ 0 → is_operator run n ≡ false
+  no_inputs n within none = go (is_operator run n) refl
+    where
+      go : (b : Bool) → is_operator run n ≡ b → is_operator run n ≡ false
+      go false is = is
+      go true is =
+          let count = inputs_count n within in
+          let many = (operator_inputs n within is).many in
+          absurd (omega arith)

@@ -1,0 +1,59 @@
+-- What a node keeps may go to another thread: its operator, and its table, which others may hold too; and a worker's seat may.
+use Rattle.std.proofs.Common.{[], ◌∷◌}
+use denote.Param.Send.{IsSend, IsSync, recorded_send, sendable, struct_send}
+use denote.RattleType.{RattleType}
+use denote.Struct.Declared.{shape}
+use denote.Struct.Tuple.{TupleAt, type_at}
+use mir.Syntax.{Sym}
+use Rattle.operators.below.agg_by.proofs.agg_op.AggOp.TheSendSync as agg
+use Rattle.operators.below.as_of_join.proofs.as_of_op.AsOfOp.TheSendSync as as_of
+use Rattle.operators.below.head_tail.proofs.head_op.HeadOp.TheSendSync as head
+use Rattle.operators.below.head_tail.proofs.tail_op.TailOp.TheSendSync as tail
+use Rattle.operators.below.merge_op.proofs.merging.MergeOp.TheSendSync as merge
+use Rattle.operators.below.natural_join.proofs.join_op.JoinOp.TheSendSync as join
+use Rattle.operators.below.row_set.proofs.rows.RowSet.TheSendSync as row_set
+use Rattle.operators.below.sort_op.proofs.operator.SortOp.TheSendSync as sort
+use Rattle.operators.specs.contracts.operator.Operator as operator
+use Rattle.std.proofs.Crossing as crossing
+use Rattle.std.proofs.MapsCrossing as maps
+use Rattle.tick_model.proofs.plan.Comparison.TheSendSync as comparison
+use Rattle.tick_model.proofs.plan.Expr.TheLaws.TheKnot as expr
+use Rattle.tick_model.proofs.plan.Pred.TheLaws.TheKnot as pred
+use Rattle.tick_table.specs.contracts.table.TickTable as table
+use Rattle.graph_words.proofs.claims.ClaimSeat.TheSendSync as seat
+use Rattle.graph_words.specs.contracts.claims.ClaimSeat as seat_type
+use Rattle.update_graph.specs.contracts.shares.Share as share
+use Rattle.update_graph.specs.contracts.work.Work as work
+
+pub operator_send : IsSend operator.the_row
+operator_send = search (
+  agg.the_send,
+  as_of.the_send,
+  head.the_send,
+  tail.the_send,
+  merge.the_send,
+  join.the_send,
+  row_set.the_send,
+  sort.the_send,
+  comparison.the_field_send,
+  maps.crosses,
+  crossing.crosses,
+  expr.crosses,
+  pred.crosses,
+  sendable,
+) depth 60 fits 20000
+
+pub table_send : IsSend table.the_row
+table_send = search (sendable, crossing.crosses, maps.crosses) depth 60 fits 20000
+
+pub table_sync : IsSync table.the_row
+table_sync = search (sendable, crossing.crosses, maps.crosses) depth 60 fits 20000
+
+pub ruleset sent = (operator_send, table_send, table_sync, crossing.crosses, sendable)
+
+pub seat_send : IsSend (seat_type.the_row work.the_row share.the_row)
+seat_send = seat.the_send work.the_row share.the_row (search sent depth 60 fits 20000) (search sent depth 60 fits 20000)
+
+-- what a closure holds may go to another thread, where each of its three parts may
+pub three_send : (name : Sym) (A B C : RattleType) → IsSend A → IsSend B → IsSend C → IsSend (TupleAt name (A ∷ B ∷ C ∷ []))
+three_send name A B C a b c = recorded_send _ _ _ (type_at name (A ∷ B ∷ C ∷ [])).to_one (struct_send (shape (type_at name (A ∷ B ∷ C ∷ []))) (a, (b, (c, tt))))

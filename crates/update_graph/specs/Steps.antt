@@ -1,0 +1,49 @@
+-- How the view of a seat goes on while it works a node.
+--     IsTaking old new count      of the first so many edges those that go to the node have their shares taken
+--     IsHandedOver plan old new edge to kept found      an edge is delivered; a node that this made ready is kept if no other was
+--     IsHanding plan old new node count kept      of the first so many edges those from the node are delivered
+use Rattle.std.specs.Prelude.{◌≡◌, ◌≢◌, ℕ, ◌<◌, ◌≤◌, Option, Some}
+use mathlib.Core.Option.{some}
+use lib.ListN.{get_elem?}
+use Rattle.graph_words.specs.declared.graph.Edge.{Edge}
+use Rattle.graph_words.specs.declared.graph.Plan.{Plan}
+use Rattle.graph_words.specs.declared.table.Mark.TheVariants.{Unmarked, Untaken, Delivered}
+use Rattle.graph_words.specs.declared.table.View.{View}
+use Rattle.graph_words.specs.Marks.{at, put}
+use Rattle.graph_words.specs.Seats.{Has}
+use Rattle.graph_words.specs.Views.{IsUntouched}
+use Rattle.update_graph.specs.Holdings.{IsNew, IsWhole}
+use Rattle.update_graph.specs.Tags.{Tag}
+
+pub record IsTaking (old new : View Tag) (count : ℕ) : Type 0 where
+  pub nodes : new.nodes ≡ old.nodes
+  pub outs : new.outs ≡ old.outs
+  pub parts : new.parts ≡ old.parts
+  pub later : (e : ℕ) → count ≤ e → at new.ins e ≡ at old.ins e
+
+-- a node that was kept before, or that the delivery made ready
+pub data IsFound (plan : Plan Tag) (old new : View Tag) (to : ℕ) (kept : Option ℕ) (node : ℕ) : Type 0 where
+  before : kept ≡ Some node → IsFound plan old new to kept node
+  ready : node ≡ to → at old.nodes node ≡ Unmarked → at new.nodes node ≡ Untaken → IsUntouched plan old node → IsFound plan old new to kept node
+
+pub record IsHandedOver (plan : Plan Tag) (old new : View Tag) (edge to : ℕ) (kept found : Option ℕ) : Type 0 where
+  pub outs : new.outs ≡ put old.outs edge Delivered
+  pub ins : new.ins ≡ old.ins
+  pub parts : new.parts ≡ old.parts
+  pub stays : (m : ℕ) → Has old m → at new.nodes m ≡ at old.nodes m
+  pub came : (m : ℕ) → Has new m → found ≢ Some m → at new.nodes m ≡ at old.nodes m
+  pub keeps : (m : ℕ) → kept ≡ Some m → found ≡ Some m
+  pub finds : (m : ℕ) → found ≡ Some m → IsFound plan old new to kept m
+
+pub record IsHanding (plan : Plan Tag) (old new : View Tag) (node count : ℕ) (kept : Option ℕ) : Type 0 where
+  pub ins : new.ins ≡ old.ins
+  pub parts : new.parts ≡ old.parts
+  pub delivered : (e : ℕ) (x : Edge) → get_elem? plan.edges.items e ≡ some x → e < count → x.from ≡ node → at new.outs e ≡ Delivered
+  pub later : (e : ℕ) → count ≤ e → at new.outs e ≡ at old.outs e
+  pub others : (e : ℕ) (x : Edge) → get_elem? plan.edges.items e ≡ some x → x.from ≢ node → at new.outs e ≡ at old.outs e
+  pub whole : (e : ℕ) → IsWhole (at old.outs e) → IsWhole (at new.outs e)
+  pub stays : (m : ℕ) → Has old m → at new.nodes m ≡ at old.nodes m
+  pub came : (m : ℕ) → Has new m → kept ≢ Some m → at new.nodes m ≡ at old.nodes m
+  pub within : (m : ℕ) → kept ≡ Some m → (node < m) × (m < plan.nodes)
+  pub new_is : (m : ℕ) → kept ≡ Some m → IsNew plan new m
+  pub input : (m : ℕ) → kept ≡ Some m → (e : ℕ) × (x : Edge) × (get_elem? plan.edges.items e ≡ some x) × (x.to ≡ m)

@@ -1,0 +1,178 @@
+//! One node of a step: from its work and what its inputs hand to it, to what it hands on.
+
+ghost use Rattle.std.specs.Prelude.{◌≡◌, ◌+◌, ◌<◌, ◌^◌, ℕ, IfOk, OnOk, Option, None, Some, length, map, true};
+ghost use mathlib.Core.Option.{some};
+ghost use lib.ListN.{get_elem?};
+ghost use Rattle.graph_words.specs.declared.graph.Edge.{Edge};
+ghost use Rattle.graph_words.specs.declared.table.Mark.TheVariants.{Unmarked, Untaken, PutBack};
+ghost use Rattle.graph_words.specs.Marks.{at};
+ghost use Rattle.graph_words.specs.Seats.{AtEdge, Has, IsSeatOf};
+ghost use Rattle.update_graph.specs.Edges.{froms_to};
+ghost use Rattle.update_graph.specs.Holdings.{IsClaimed, IsGoneOn, IsHeld};
+ghost use Rattle.update_graph.specs.Steps.{IsHanding, IsHandedOver, IsTaking};
+ghost use Rattle.update_graph.specs.Tags.{tag};
+
+use crate::shares::Share;
+use crate::work::Work;
+use graph_words::{ClaimSeat, Claims, Edge};
+use std::alloc::{AllocError, Global};
+use std::sync::ledger::Ledger;
+use tick_io::Gate;
+use tick_model::feed::Run;
+use tick_model::items::Items;
+use tick_table::Steps;
+
+/// The claims on the nodes of a step.
+pub(crate) type StepClaims = Claims<Work, Share>;
+
+/// The seat of a worker of a step.
+pub(crate) type StepSeat = ClaimSeat<Work, Share>;
+
+/// Takes what the inputs of a node hand to it, in order.
+fn take_shares(
+    alloc: Global,
+    claims: &StepClaims,
+    seat: &mut StepSeat,
+    edges: &[Edge],
+    node: u32,
+) -> Result<Items<Share>, AllocError>
+    requires of { IsSeatOf claims.now seat.old }
+    requires edges { edges.now ≡ claims.now.plan.edges.items }
+    requires few { length edges.now < 2 ^ 32 }
+    requires has { Has seat.old.view node }
+    requires untouched { (e : ℕ) (x : Edge) → get_elem? edges.now e ≡ some x → x.to ≡ node → at seat.old.view.ins e ≡ Unmarked }
+    ensures of { OnOk result (IsSeatOf claims.now seat.new) }
+    ensures taken { OnOk result (IsTaking seat.old.view seat.new.view (length edges.now)) }
+    ensures shares { IfOk result (λ shares. shares ≡ map (tag claims.now.plan.first.value.run (claims.now.plan.first.value.step + 1)) (froms_to node edges.now)) }
+{
+    let mut shares = Items::new(alloc);
+    for (number, edge) in edges.iter().enumerate() {
+        if edge.to == node {
+            let share = claims.take_share(seat, number as u32);
+            shares.push(share)?;
+        }
+    }
+    Ok(shares)
+}
+
+/// Delivers a share along an edge. A node that this makes ready is kept where no other is, and else put on offer.
+fn hand_over(
+    claims: &StepClaims,
+    seat: &mut StepSeat,
+    edge: u32,
+    to: u32,
+    share: Share,
+    kept: Option<u32>,
+) -> Option<u32>
+    requires of { IsSeatOf claims.now seat.old }
+    requires edge { edge < length claims.now.plan.edges.items }
+    requires to { AtEdge claims.now.plan edge (λ x. (x.to ≡ to) × (x.from < x.to) × (x.to < claims.now.plan.nodes)) }
+    requires from { AtEdge claims.now.plan edge (λ x. Has seat.old.view x.from) }
+    requires fresh { at seat.old.view.outs edge ≡ Unmarked }
+    requires share { AtEdge claims.now.plan edge (λ x. share ≡ tag claims.now.plan.first.value.run (claims.now.plan.first.value.step + 1) x.from) }
+    ensures of { IsSeatOf claims.now seat.new }
+    ensures over { IsHandedOver claims.now.plan seat.old.view seat.new.view edge to kept result }
+{
+    if claims.deliver(seat, edge, share) {
+        match kept {
+            Some(least) => {
+                claims.offer(seat, to);
+                Some(least)
+            }
+            None => Some(to),
+        }
+    } else {
+        kept
+    }
+}
+
+/// Delivers what a node hands on along each of its edges. Of the nodes that this makes ready the least is kept, and the
+/// others are put on offer.
+pub(crate) fn hand_on(
+    claims: &StepClaims,
+    seat: &mut StepSeat,
+    run: &Run,
+    edges: &[Edge],
+    node: u32,
+    share: &Share,
+) -> Result<Option<u32>, AllocError>
+    requires of { IsSeatOf claims.now seat.old }
+    requires edges { edges.now ≡ claims.now.plan.edges.items }
+    requires few { length edges.now < 2 ^ 32 }
+    requires ends { (e : ℕ) (x : Edge) → get_elem? edges.now e ≡ some x → (x.from < x.to) × (x.to < claims.now.plan.nodes) }
+    requires has { Has seat.old.view node }
+    requires untouched { (e : ℕ) (x : Edge) → get_elem? edges.now e ≡ some x → x.from ≡ node → at seat.old.view.outs e ≡ Unmarked }
+    requires run { run.now ≡ claims.now.plan.first.value.run }
+    requires share { share.now ≡ tag run.now (claims.now.plan.first.value.step + 1) node }
+    ensures of { OnOk result (IsSeatOf claims.now seat.new) }
+    ensures handed { IfOk result (IsHanding claims.now.plan seat.old.view seat.new.view node (length edges.now)) }
+{
+    let mut kept = None;
+    for (number, edge) in edges.iter().enumerate() {
+        if edge.from == node {
+            let copy = share.copy(run)?;
+            kept = hand_over(claims, seat, number as u32, edge.to, copy, kept);
+        }
+    }
+    Ok(kept)
+}
+
+/// Works a node that the seat has, with the gate round it. Of the nodes that this makes ready the least is kept, and the others
+/// are put on offer.
+pub(crate) fn work_node<G: Gate, L: Ledger>(
+    alloc: Global,
+    run: &Run,
+    claims: &StepClaims,
+    seat: &mut StepSeat,
+    edges: &[Edge],
+    node: u32,
+    gate: &G,
+    reads: &mut Steps<L>,
+) -> Result<Option<u32>, AllocError>
+    requires claimed { IsClaimed run.now claims.now.plan }
+    requires of { IsSeatOf claims.now seat.old }
+    requires edges { edges.now ≡ claims.now.plan.edges.items }
+    requires held { IsHeld run.now claims.now.plan seat.old.view (Some node) }
+    ensures of { OnOk result (IsSeatOf claims.now seat.new) }
+    ensures held { IfOk result (IsHeld run.now claims.now.plan seat.new.view) }
+    ensures later { IfOk result (λ kept. (m : ℕ) → kept ≡ Some m → node < m) }
+    ensures on { OnOk result (IsGoneOn seat.old.view seat.new.view) }
+    ensures back { OnOk result (at seat.new.view.nodes node ≡ PutBack) }
+{
+    let shares = take_shares(alloc, claims, seat, edges, node)?;
+    let work = claims.take_work(seat, node);
+    gate.enter(node);
+    let worked = work.advance(alloc, run, shares, reads);
+    gate.leave(node);
+    let (work, share) = worked?;
+    claims.put_back(seat, node, work);
+    let kept = hand_on(claims, seat, run, edges, node, &share)?;
+    Ok(kept)
+}
+
+/// Works a node, then the one that this leaves kept, and so on.
+pub(crate) fn work_from<G: Gate, L: Ledger>(
+    alloc: Global,
+    run: &Run,
+    claims: &StepClaims,
+    seat: &mut StepSeat,
+    edges: &[Edge],
+    node: u32,
+    gate: &G,
+    reads: &mut Steps<L>,
+) -> Result<(), AllocError>
+    requires claimed { IsClaimed run.now claims.now.plan }
+    requires of { IsSeatOf claims.now seat.old }
+    requires edges { edges.now ≡ claims.now.plan.edges.items }
+    requires held { IsHeld run.now claims.now.plan seat.old.view (Some node) }
+    ensures of { OnOk result (IsSeatOf claims.now seat.new) }
+    ensures held { OnOk result (IsHeld run.now claims.now.plan seat.new.view None) }
+    ensures on { OnOk result (IsGoneOn seat.old.view seat.new.view) }
+    ensures back { OnOk result (at seat.new.view.nodes node ≡ PutBack) }
+{
+    let mut kept = work_node(alloc, run, claims, seat, edges, node, gate, reads)?;
+    while let Some(next) = kept {
+        kept = work_node(alloc, run, claims, seat, edges, next, gate, reads)?;
+    }
+    Ok(())
+}
