@@ -1,5 +1,6 @@
 //! Calls of the program over files and a sink in memory: words and files against the status and the bytes.
 
+mod at_once;
 mod cut;
 mod day;
 mod gate;
