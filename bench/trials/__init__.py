@@ -1,0 +1,1 @@
+"""The parts of `bench/hostile`: trials of the program, each with what it must answer."""

@@ -1,0 +1,89 @@
+"""How the program is run, and how its answers are judged."""
+import dataclasses
+import os
+import pathlib
+import shutil
+import subprocess
+import tempfile
+
+from expected.answers import Answer, answer
+
+SECONDS = 300
+SHOWN_BYTES = 400
+
+
+def lines(text):
+    """The bytes of a text in which ` / ` stands for a line end. The last line has one too, where there is any."""
+    return (text.replace(" / ", "\n") + "\n").encode() if text else b""
+
+
+@dataclasses.dataclass
+class Trial:
+    """Words and files, and what is to be answered. Where that is not given, the rules of the pages say it."""
+
+    name: str
+    words: list
+    content: dict
+    wanted: Answer = None
+
+    def answer(self):
+        return self.wanted or answer(self.words, self.content)
+
+
+def trial(name, script, feed="", *, words=("run", "s", "f"), status=None, wrote=None, **tables):
+    """A trial of a script and a feed, which are texts of lines or bytes, with table files by the names before `.csv`."""
+    content = {b"s": script, b"f": feed} | {f"{it}.csv".encode(): text for it, text in tables.items()}
+    content = {it: text if isinstance(text, bytes) else lines(text) for it, text in content.items() if text is not None}
+    wanted = Answer(status, lines(wrote)) if wrote is not None else None
+    return Trial(name, [it if isinstance(it, bytes) else it.encode() for it in words], content, wanted)
+
+
+def short(data):
+    """Some bytes as they are shown."""
+    return repr(data if len(data) <= SHOWN_BYTES else data[:SHOWN_BYTES] + b"..")[1:]
+
+
+class Judge:
+    """Runs a program in a scratch folder, and keeps what it answered wrongly."""
+
+    def __init__(self, program):
+        self.program, self.runs, self.wrong = str(program), 0, []
+        self.folder = pathlib.Path(tempfile.mkdtemp(prefix="hostile"))
+
+    def close(self):
+        shutil.rmtree(self.folder)
+
+    def write(self, content):
+        """Puts these files, and no others, into the folder."""
+        for path in self.folder.iterdir():
+            path.unlink()
+        for name, data in content.items():
+            (self.folder / os.fsdecode(name)).write_bytes(data)
+
+    def ran(self, words, **more):
+        """The status and the bytes of a run in the folder. The status is negative where a signal ended it, and `None` where it took too long."""
+        self.runs += 1
+        settings = {"cwd": self.folder, "stdin": subprocess.DEVNULL, "stdout": subprocess.PIPE, "stderr": subprocess.DEVNULL} | more
+        try:
+            ran = subprocess.run([self.program, *words], timeout=SECONDS, **settings)
+        except subprocess.TimeoutExpired as late:
+            return None, late.stdout or b""
+        return ran.returncode, ran.stdout or b""
+
+    def note(self, name, wanted, got):
+        """Keeps a wrong answer."""
+        self.wrong.append(name)
+        print(f"WRONG {name}\n  wanted {wanted}\n  got    {got}", flush=True)
+
+    def hold(self, tried):
+        """Tries a trial."""
+        self.write(tried.content)
+        status, wrote = self.ran(tried.words)
+        wanted = tried.answer()
+        if not wanted.is_given_by(status, wrote):
+            inputs = ", ".join(f"{os.fsdecode(name)} {short(data)}" for name, data in tried.content.items())
+            self.note(f"{tried.name}: {b' '.join(tried.words)!r} {inputs}", f"status {wanted.status}, {short(wanted.shown())}", f"status {status}, {short(wrote)}")
+
+    def hold_all(self, trials):
+        for tried in trials:
+            self.hold(tried)
