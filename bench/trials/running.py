@@ -2,6 +2,7 @@
 import dataclasses
 import os
 import pathlib
+import resource
 import shutil
 import subprocess
 import tempfile
@@ -46,12 +47,16 @@ def short(data):
 class Judge:
     """Runs a program in a scratch folder, and keeps what it answered wrongly."""
 
-    def __init__(self, program):
-        self.program, self.runs, self.wrong = str(program), 0, []
+    def __init__(self, program, gibibytes):
+        self.program, self.runs, self.wrong, self.bytes = str(program), 0, [], gibibytes * 2**30
         self.folder = pathlib.Path(tempfile.mkdtemp(prefix="hostile"))
 
     def close(self):
         shutil.rmtree(self.folder)
+
+    def limited(self):
+        """Lets this process take so much memory alone."""
+        resource.setrlimit(resource.RLIMIT_AS, (self.bytes, self.bytes))
 
     def write(self, content):
         """Puts these files, and no others, into the folder."""
@@ -63,11 +68,13 @@ class Judge:
     def ran(self, words, **more):
         """The status and the bytes of a run in the folder. The status is negative where a signal ended it, and `None` where it took too long."""
         self.runs += 1
-        settings = {"cwd": self.folder, "stdin": subprocess.DEVNULL, "stdout": subprocess.PIPE, "stderr": subprocess.DEVNULL} | more
+        settings = {"cwd": self.folder, "stdin": subprocess.DEVNULL, "stdout": subprocess.PIPE, "stderr": subprocess.PIPE} | more
         try:
             ran = subprocess.run([self.program, *words], timeout=SECONDS, **settings)
         except subprocess.TimeoutExpired as late:
             return None, late.stdout or b""
+        if ran.stderr:
+            self.note(f"{words}", "nothing on standard error", short(ran.stderr))
         return ran.returncode, ran.stdout or b""
 
     def note(self, name, wanted, got):
