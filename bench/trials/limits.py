@@ -176,6 +176,10 @@ def of_feeds():
     yield Limit("bytes of a feed", f"{blocks:,} empty blocks in a step", {"s": T, "f": [filled(b"t,t\n", blocks), ".\n"]}, 0, "done,1\n")
     pairs = 2_000_000
     yield Limit("bytes of a feed", f"{2 * pairs:,} blocks that add a row and remove it", {"s": shown, "f": [each(pairs, lambda i: f"t,t\na,{i},1\nt,t\nr,{i},{i}\n"), ".\n"]}, 0, "done,1\n")
+    for blocks in (10_000, 20_000, 40_000):
+        apart = [each(blocks, lambda i: f"t,t\na,{2 * i},1\n"), ".\n"]
+        wrote = ["step,1,t\n", each(blocks, lambda i: f"a,{2 * i},1\n"), "done,1\n"]
+        yield Limit("bytes of a feed", f"{blocks:,} blocks in a step that add a row each, with gaps between", {"s": shown, "f": apart}, 0, wrote)
     yield from both("steps of a feed", {"s": T, "f": filled(b".\n", 100_000)}, {"s": T, "f": filled(b".\n", 100_001)}, refused(6, "feed", 100_001, "too-long"), wrote="done,100000\n")
     steps = each(100_000, lambda i: f"t,t\na,{i},1\n.\n")
     wrote = [each(100_000, lambda i: f"step,{i + 1},t\na,{i},1\n"), "done,100000\n"]
@@ -274,6 +278,10 @@ def of_words():
     rows = ["t,t\n", each(5_461, lambda i: f"a,{i},{i},{-i}\n"), ".\n"]
     yield Limit("words that callers keep", "16,777,216, all rows there", {"s": most, "f": rows}, 0, None, RUN + ["--callers", "16", "--snaps", "63"])
     yield Limit("words that callers keep", "16,780,288", {"s": most.replace("5461", "5462"), "f": rows}, 2, refused(2, "kept", 16_780_288), RUN + ["--callers", "16", "--snaps", "63"])
+    widest = ["x\n", each(262_143, lambda i: f"{i}\n")]
+    for steps in (100, 1_000):
+        changes = each(steps, lambda i: f"t,t\nm,{i},-1\n.\n")
+        yield Limit("words of all published tables", f"all of them there, {steps:,} steps that modify one row each", {"s": OF_FILE + "publish t 262143\n", "t.csv": widest, "f": changes}, 0, f"done,{steps}\n")
     changes = each(2_000, lambda i: f"t,t\nm,{i},{-i},{i}\n.\n")
     yield Limit("words that callers keep", "the same, beside 2,000 steps", {"s": most, "f": rows + [changes]}, 0, None, RUN + ["--callers", "16", "--snaps", "63", "--workers", "2"])
 

@@ -88,6 +88,8 @@ def of_words():
     for words, wrote in COMMANDS:
         yield trial("words", SB, ROW, words=words.split(" "), status=0, wrote=wrote)
     yield trial("words", "table t x:long / publish t 2", ROW, words=["run", "s", "f", "--callers", "1"], status=0, wrote=f"{SNAPS} / done,1")
+    for words in (["demo", "--", "2"], ["demo", "3", "--workers", "4"], ["demo", "--callers=2", "0"], ["demo", "000000007", "--snaps=1", "--callers", "16"]):
+        yield trial("words", None, None, words=words)
     for words, name in ((["run", "-", "f"], "-"), (["run", "s", "-"], "-"), (["run", "", "f"], ""), (["run", "s", ""], ""), (["run", "--", "--s", "f"], "--s")):
         yield trial("words", SB, ROW, words=words, status=3, wrote=f"fault,3,read,{name}")
     for name, told in (("a,b", '"a,b"'), ('"', '""""'), ("a\rb", '"a\rb"'), ("é", "é"), ("a b", "a b"), ("..", ".."), ("x" * 5000, "x" * 5000)):
