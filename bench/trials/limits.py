@@ -174,7 +174,7 @@ def of_feeds():
     ):
         yield Limit("bytes of a feed", given, {"s": T, "f": feed}, fault[0] if fault else 0, refused(*fault) if fault else DONE)
     yield Limit("bytes of a feed", f"{blocks:,} empty blocks in a step", {"s": T, "f": [filled(b"t,t\n", blocks), ".\n"]}, 0, "done,1\n")
-    pairs = 2_000_000
+    pairs = 1_700_000
     yield Limit("bytes of a feed", f"{2 * pairs:,} blocks that add a row and remove it", {"s": shown, "f": [each(pairs, lambda i: f"t,t\na,{i},1\nt,t\nr,{i},{i}\n"), ".\n"]}, 0, "done,1\n")
     for blocks in (10_000, 20_000, 40_000):
         apart = [each(blocks, lambda i: f"t,t\na,{2 * i},1\n"), ".\n"]
@@ -251,7 +251,7 @@ def of_cells():
     shown = T + "print t\n"
     for sign in ("", "-"):
         yield from both("cells", {"s": shown, "f": f"t,t\na,0,{sign}9223372036854775807\n.\n"}, {"s": shown, "f": f"t,t\na,0,{sign}9223372036854775808\n.\n"}, refused(6, "feed", 2, "bad-number"), at=f"{sign}(2^63 - 1)", beyond=f"{sign}2^63", wrote=f"step,1,t\na,0,{sign}9223372036854775807\ndone,1\n")
-    wraps = T + "v = view t up = x + 1, down = -x - 1, last = -x - 2, square = x * x\ng = agg t do s = sum x\nprint v\nprint g\n"
+    wraps = T + "v = view t up = x + 1, down = -x - 1, low = -x - 2, square = x * x\ng = agg t do s = sum x\nprint v\nprint g\n"
     yield Limit("cells", "sums that wrap, and to null", {"s": wraps, "f": "t,t\na,0,9223372036854775807\na,1,9223372036854775807\n.\n"}, 0, "step,1,v\n" + "".join(f"a,{i},9223372036854775807,,,9223372036854775807,1\n" for i in (0, 1)) + "step,1,g\na,0,-2\ndone,1\n")
 
 
