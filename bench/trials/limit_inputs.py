@@ -300,13 +300,13 @@ def of_operators():
         ("join", f"o = join t t on k take other = x\n{count}"),
         ("join, one of half a million matches each", f"o = join t t on g take other = k last\n{count}"),
         ("asof", f"o = asof t t on g at k take other = x\n{count}"),
-        ("sort", f"o = sort t -x, g\n{count}"),
         ("head", f"o = head 4194304 t\n{count}"),
         ("tail", f"o = tail 4194304 t\n{count}"),
         ("agg, a group for each row", "o = agg t by k do n = count, s = sum x, lo = min x, hi = max x, a = first g\nc = agg o do n = sum n, s = sum s\nprint c\n"),
         ("agg, one group", "c = agg t do n = count, s = sum x\nhi = agg t do hi = max x, lo = min k\nprint c\n"),
     ):
         yield ran(what, given, wrote, source + script, step, table)
+    yield ran(what, "sort", wrote.replace("c,s\nm,0", "r,0,0\na,0"), f"{source}o = sort t -x, g\n{count}", step, table)
     yield ran(what, "sort, printed", ["step,0,s\n", each(rows, lambda i: f"a,{i},{rows - 1 - i}\n"), "done,0\n"], f"{OF_FILE}s = sort t -x\nprint s\n", table=numbers(rows))
     yield ran(what, "watched", ["step,0,t\n", each(rows, lambda i: f"a,{i},{i}\n"), "done,0\n"], OF_FILE, table=numbers(rows), words=["watch", "s", "f", "t", "0", "4194304"])
     yield ran(what, "the last row watched", "step,0,t\na,4194303,4194303\ndone,0\n", OF_FILE, table=numbers(rows), words=["watch", "s", "f", "t", "4194303", "4194304"])
