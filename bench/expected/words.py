@@ -1,5 +1,6 @@
 """The words of the command."""
 import dataclasses
+import os
 import re
 
 OPTIONS = {"workers": (1, 64), "callers": (0, 16), "snaps": (0, 64), "attempts": (0, 16), "every": (1, 100_000)}
@@ -11,6 +12,13 @@ COMMANDS = {
     "demo": (BESIDE, ((0, 10_000),)),
     "watch": (("workers", "every"), (None, None, None, (0, 4_194_303), (1, 4_194_304))),
 }
+# What the rules have and the program does not have yet: runs of these words are left out.
+MISSING = ("watch",)
+
+
+def is_built(words):
+    """Whether the program has the command with which words begin."""
+    return not words or os.fsdecode(words[0]) not in MISSING
 
 
 class NoCommand(Exception):

@@ -8,6 +8,7 @@ import subprocess
 import tempfile
 
 from expected.answers import Answer, answer
+from expected.words import is_built
 
 SECONDS = 300
 SHOWN_BYTES = 400
@@ -83,7 +84,9 @@ class Judge:
         print(f"WRONG {name}\n  wanted {wanted}\n  got    {got}", flush=True)
 
     def hold(self, tried):
-        """Tries a trial."""
+        """Tries a trial, where the program has its command."""
+        if not is_built(tried.words):
+            return
         self.write(tried.content)
         status, wrote = self.ran(tried.words)
         wanted = tried.answer()
