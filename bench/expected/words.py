@@ -12,13 +12,6 @@ COMMANDS = {
     "demo": (BESIDE, ((0, 10_000),)),
     "watch": (("workers", "every"), (None, None, None, (0, 4_194_303), (1, 4_194_304))),
 }
-# What the rules have and the program does not have yet: runs of these words are left out.
-MISSING = ("watch",)
-
-
-def is_built(words):
-    """Whether the program has the command with which words begin."""
-    return not words or os.fsdecode(words[0]) not in MISSING
 
 
 class NoCommand(Exception):

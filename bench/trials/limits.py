@@ -4,7 +4,6 @@ import signal
 import subprocess
 
 from expected.answers import answer
-from expected.words import is_built
 from trials.limit_inputs import MadeRun, limits, pieces
 from trials.running import SHOWN_BYTES, short
 
@@ -65,5 +64,5 @@ def hold(judge, words=("",)):
     """Tries all of them whose name has one of some words, and prints a table."""
     print("| limit | input | status | seconds | of processors | MiB |\n|---|---|---:|---:|---:|---:|")
     for limit in limits():
-        if is_built(limit.words) and any(word in f"{limit.what}: {limit.given}" for word in words):
+        if any(word in f"{limit.what}: {limit.given}" for word in words):
             hold_one(judge, limit)

@@ -9,15 +9,16 @@ use Rattle.command_words.specs.Found.{command_in}
 use Rattle.command_words.specs.Program.{found_in}
 use Rattle.command_words.specs.Words.{Parts, parts_of}
 use Rattle.command_words.proofs.DemoRules.{demo_leaf, demo_places}
-use Rattle.command_words.proofs.EndLemmas.{demo_ends, no_task, run_ends}
-use Rattle.command_words.proofs.LeafRules.{demo_rules, run_rules}
+use Rattle.command_words.proofs.EndLemmas.{demo_ends, no_task, run_ends, watch_ends}
+use Rattle.command_words.proofs.LeafRules.{demo_rules, run_rules, watch_rules}
 use Rattle.command_words.proofs.LeafSteps.{outcome_whole}
 use Rattle.command_words.proofs.LeafWalk.{Texts, leaf_agrees}
 use Rattle.command_words.proofs.PartLemmas.{command_from-finish, finish_all, no_parts, prepend}
 use Rattle.command_words.proofs.PlaceLemmas.{told}
 use Rattle.command_words.proofs.RunRules.{run_leaf, run_places}
-use Rattle.command_words.proofs.TopLemmas.{demo_told, met_none, no_words, other_none, run_told}
+use Rattle.command_words.proofs.TopLemmas.{demo_told, met_none, no_words, other_none, run_told, watch_told}
 use Rattle.command_words.proofs.UseLemmas.{bytes_apart, bytes_same, bytes_self}
+use Rattle.command_words.proofs.WatchRules.{watch_leaf, watch_places}
 
 prepend_to_none : (parts : Option Parts) → prepend no_parts parts ≡ parts
 prepend_to_none None = refl
@@ -36,25 +37,32 @@ demo_agrees words texts =
     demo_told words ∙ ap (told (codes "demo")) (outcome_whole (codes "demo") demo_rules words) ∙ leaf_agrees (codes "demo") demo_rules demo_places demo_leaf demo_ends words texts
     ∙ finished (codes "demo") words
 
--- a first word of neither task makes no command
-no_command : (first : Text) (parts : Option Parts) → bytes_eq first (codes "run") ≡ false → bytes_eq first (codes "demo") ≡ false → command_from first parts ≡ None
-no_command first None run demo = refl
-no_command first (Some parts) run demo =
-    let task : task_of first parts.positional ≡ None = rw (run, demo) refl in
-    ap (λ (t : Option Task). with_settings t parts.options) task ∙ no_task parts.options
+watch_agrees : (words : List Text) → Texts words → command_in (found_in (codes "watch" ∷ words)) ≡ command (codes "watch" ∷ words)
+watch_agrees words texts =
+    watch_told words ∙ ap (told (codes "watch")) (outcome_whole (codes "watch") watch_rules words) ∙ leaf_agrees (codes "watch") watch_rules watch_places watch_leaf watch_ends words texts
+    ∙ finished (codes "watch") words
+
+-- a first word of no task makes no command
+no_command : (first : Text) (parts : Option Parts) → bytes_eq first (codes "run") ≡ false → bytes_eq first (codes "demo") ≡ false → bytes_eq first (codes "watch") ≡ false → command_from first parts ≡ None
+no_command first None run demo watch = refl
+no_command first (Some parts) run demo watch =
+    let task : task_of first parts.positional ≡ None = rw (run, demo, watch) refl in
+    ap (λ (t : Option Task). with_settings first t parts.options) task ∙ no_task first parts.options
 
 swapped : (a b : Text) → bytes_eq a b ≡ false → bytes_eq b a ≡ false
 swapped a b apart = bytes_apart b a (λ same. true≢false (sym (bytes_self a) ∙ ap (bytes_eq a) (sym same) ∙ apart))
 
 pub agrees : (words : List Text) → Texts words → command_in (found_in words) ≡ command words
 agrees [] texts = no_words
-agrees (first ∷ words) texts = go (bytes_eq first (codes "run")) (bytes_eq first (codes "demo")) refl refl
+agrees (first ∷ words) texts = go (bytes_eq first (codes "run")) (bytes_eq first (codes "demo")) (bytes_eq first (codes "watch")) refl refl refl
   where
-    go : (r d : Bool) → bytes_eq first (codes "run") ≡ r → bytes_eq first (codes "demo") ≡ d → command_in (found_in (first ∷ words)) ≡ command (first ∷ words)
-    go true d run demo = rw (bytes_same first (codes "run") run) (run_agrees words texts.1)
-    go false true run demo = rw (bytes_same first (codes "demo") demo) (demo_agrees words texts.1)
-    go false false run demo =
-        other_none first words texts.0 (met_none first (swapped first (codes "run") run) (swapped first (codes "demo") demo)) ∙ sym (no_command first (parts_of words) run demo)
+    go : (r d w : Bool) → bytes_eq first (codes "run") ≡ r → bytes_eq first (codes "demo") ≡ d → bytes_eq first (codes "watch") ≡ w → command_in (found_in (first ∷ words)) ≡ command (first ∷ words)
+    go true d w run demo watch = rw (bytes_same first (codes "run") run) (run_agrees words texts.1)
+    go false true w run demo watch = rw (bytes_same first (codes "demo") demo) (demo_agrees words texts.1)
+    go false false true run demo watch = rw (bytes_same first (codes "watch") watch) (watch_agrees words texts.1)
+    go false false false run demo watch =
+        other_none first words texts.0 (met_none first (swapped first (codes "run") run) (swapped first (codes "demo") demo) (swapped first (codes "watch") watch))
+        ∙ sym (no_command first (parts_of words) run demo watch)
 
 pub strings_are_texts : {Z : Type 0} (words : List (String Z)) → Texts (map string_bytes words)
 strings_are_texts [] = tt

@@ -1,27 +1,41 @@
 -- The arguments of `demo`.
-use Rattle.std.proofs.Common.{◌≡◌, ◌+◌, ℕ, zero, suc, false, refl, ap, subst, arith, List, [], ◌∷◌, Some, None, codes, slice_get}
+use Rattle.std.proofs.Common.{◌≡◌, ◌+◌, ℕ, zero, suc, true, false, refl, ap, subst, arith, List, [], ◌∷◌, Some, None, codes, slice_get}
 use Rattle.clap.specs.Walk.{Text, arg_by_id, arg_by_index, arg_by_long}
 use Rattle.command_words.specs.Commands.{is_known}
-use Rattle.command_words.proofs.PartLemmas.{Known, workers, callers, snaps, attempts}
+use Rattle.command_words.proofs.PartLemmas.{IsOption, Known, is_name, workers, callers, snaps, attempts, every}
 use Rattle.command_words.proofs.LeafRules.{IsLeaf, differs, option_taker, demo_rules, word_taker}
 
 abbrev pub demo_places : List Text
 demo_places = codes "steps" ∷ []
 
-by_long : (name : Text) → Known name → arg_by_long demo_rules name ≡ Some (option_taker name)
-by_long name workers = refl
-by_long name callers = refl
-by_long name snaps = refl
-by_long name attempts = refl
+long_of : (name : Text) → Known name → is_known (codes "demo") name ≡ true → arg_by_long demo_rules name ≡ Some (option_taker name)
+long_of name workers is = refl
+long_of name callers is = refl
+long_of name snaps is = refl
+long_of name attempts is = refl
+long_of name every is = cc
 
-no_long : (name : Text) → is_known name ≡ false → arg_by_long demo_rules name ≡ None
-no_long name none = rw (differs name _ workers none, differs name _ callers none, differs name _ snaps none, differs name _ attempts none) refl
+by_long : (name : Text) → IsOption (codes "demo") name → arg_by_long demo_rules name ≡ Some (option_taker name)
+by_long name is = long_of name is.named is.taken
 
-by_name : (name : Text) → Known name → arg_by_id demo_rules name ≡ Some (option_taker name)
-by_name name workers = refl
-by_name name callers = refl
-by_name name snaps = refl
-by_name name attempts = refl
+no_long : (name : Text) → is_known (codes "demo") name ≡ false → arg_by_long demo_rules name ≡ None
+no_long name none =
+    rw (
+      differs (codes "demo") name (codes "workers") refl none,
+      differs (codes "demo") name (codes "callers") refl none,
+      differs (codes "demo") name (codes "snaps") refl none,
+      differs (codes "demo") name (codes "attempts") refl none,
+    ) refl
+
+name_of : (name : Text) → Known name → is_known (codes "demo") name ≡ true → arg_by_id demo_rules name ≡ Some (option_taker name)
+name_of name workers is = refl
+name_of name callers is = refl
+name_of name snaps is = refl
+name_of name attempts is = refl
+name_of name every is = cc
+
+by_name : (name : Text) → IsOption (codes "demo") name → arg_by_id demo_rules name ≡ Some (option_taker name)
+by_name name is = name_of name is.named is.taken
 
 the_name : (a b : Text) → Some a ≡ Some b → a ≡ b
 the_name a b e = cc
@@ -34,8 +48,8 @@ by_place : (i : ℕ) (name : Text) → slice_get demo_places i ≡ Some name →
 by_place zero name e = ap (λ (n : Text). Some (word_taker 1 n)) (the_name (codes "steps") name e)
 by_place (suc i) name e = cc
 
-unknown : (i : ℕ) (name : Text) → slice_get demo_places i ≡ Some name → is_known name ≡ false
-unknown zero name e = subst (λ (n : Text). is_known n ≡ false) (the_name (codes "steps") name e) refl
+unknown : (i : ℕ) (name : Text) → slice_get demo_places i ≡ Some name → is_name name ≡ false
+unknown zero name e = subst (λ (n : Text). is_name n ≡ false) (the_name (codes "steps") name e) refl
 unknown (suc i) name e = cc
 
 apart : (i j : ℕ) (name : Text) → slice_get demo_places i ≡ Some name → slice_get demo_places j ≡ Some name → i ≡ j
@@ -43,7 +57,7 @@ apart zero zero name e f = refl
 apart zero (suc j) name e f = cc
 apart (suc i) j name e f = cc
 
-pub demo_leaf : IsLeaf demo_rules demo_places
+pub demo_leaf : IsLeaf (codes "demo") demo_rules demo_places
 demo_leaf = record {
   by_long = by_long;
   no_long = no_long;

@@ -8,17 +8,17 @@ use Rattle.clap.specs.Walk.{Rule, Text}
 use Rattle.command_words.specs.Commands.{is_known, values_of}
 use Rattle.command_words.specs.Words.{Given, Parts}
 use Rattle.command_words.proofs.LeafRules.{IsLeaf}
-use Rattle.command_words.proofs.PartLemmas.{Known, add_option, add_word, given, known_is, no_parts, values_of-append}
+use Rattle.command_words.proofs.PartLemmas.{IsOption, Known, add_option, add_word, given, is_name, name_is, no_parts, values_of-append}
 use Rattle.command_words.proofs.UseLemmas.{Use, bytes_apart, bytes_same, bytes_self, value_in, value_in-push, value_in-push_other}
 
-pub record Holds (places : List Text) (parts : Parts) (uses : List Use) : Type 0 where
+pub record Holds (first : Text) (places : List Text) (parts : Parts) (uses : List Use) : Type 0 where
   pub options : (name : Text) → Known name → values_of name parts.options ≡ option_to_list (value_in name uses)
   pub words : (i : ℕ) (name : Text) → slice_get places i ≡ Some name → value_in name uses ≡ slice_get parts.positional i
-  pub known : list_all (λ option. is_known option.name) parts.options ≡ true
+  pub known : list_all (λ option. is_known first option.name) parts.options ≡ true
   pub fits : length parts.positional ≤ length places
 
-pub holds_none : (places : List Text) → Holds places no_parts []
-holds_none places = record {
+pub holds_none : (first : Text) (places : List Text) → Holds first places no_parts []
+holds_none first places = record {
   options = λ name is. refl;
   words = λ i name at. refl;
   known = refl;
@@ -41,7 +41,7 @@ slice_get-push_other [] x (suc i) apart = refl
 slice_get-push_other (y ∷ xs) x zero apart = refl
 slice_get-push_other (y ∷ xs) x (suc i) apart = slice_get-push_other xs x i (λ same. apart (ap suc same))
 
-module _ (rules : List Rule) (places : List Text) (leaf : IsLeaf rules places) (parts : Parts) (uses : List Use) (held : Holds places parts uses) where
+module _ (first : Text) (rules : List Rule) (places : List Text) (leaf : IsLeaf first rules places) (parts : Parts) (uses : List Use) (held : Holds first places parts uses) where
   -- an option is given that was not given yet
   option_values : (name value other : Text) → value_in name uses ≡ None → Known other
       → values_of other (parts.options ++ given name value ∷ []) ≡ option_to_list (value_in other (uses ++ (name, value) ∷ []))
@@ -60,13 +60,13 @@ module _ (rules : List Rule) (places : List Text) (leaf : IsLeaf rules places) (
           ∙ ap option_to_list (sym (value_in-push_other name other value uses e))
 
   option_apart : (i : ℕ) (name other : Text) → Known name → slice_get places i ≡ Some other → bytes_eq name other ≡ false
-  option_apart i name other is at = bytes_apart name other (λ same. true≢false (sym (known_is name is) ∙ ap is_known same ∙ leaf.unknown i other at))
+  option_apart i name other is at = bytes_apart name other (λ same. true≢false (sym (name_is name is) ∙ ap is_name same ∙ leaf.unknown i other at))
 
-  pub holds_option : (name value : Text) → Known name → value_in name uses ≡ None → Holds places (add_option parts name value) (uses ++ (name, value) ∷ [])
+  pub holds_option : (name value : Text) → IsOption first name → value_in name uses ≡ None → Holds first places (add_option parts name value) (uses ++ (name, value) ∷ [])
   holds_option name value is new = record {
     options = λ other of. option_values name value other new of;
-    words = λ i other at. value_in-push_other name other value uses (option_apart i name other is at) ∙ held.words i other at;
-    known = list_all-push (λ option. is_known option.name) parts.options (given name value) held.known (known_is name is);
+    words = λ i other at. value_in-push_other name other value uses (option_apart i name other is.named at) ∙ held.words i other at;
+    known = list_all-push (λ option. is_known first option.name) parts.options (given name value) held.known is.taken;
     fits = held.fits;
   }
 
@@ -92,9 +92,9 @@ module _ (rules : List Rule) (places : List Text) (leaf : IsLeaf rules places) (
 
   place_apart : (name other : Text) → slice_get places (length parts.positional) ≡ Some name → Known other → bytes_eq name other ≡ false
   place_apart name other at is = bytes_apart name other (λ same.
-      true≢false (sym (known_is other is) ∙ ap is_known (sym same) ∙ leaf.unknown (length parts.positional) name at))
+      true≢false (sym (name_is other is) ∙ ap is_name (sym same) ∙ leaf.unknown (length parts.positional) name at))
 
-  pub holds_word : (name word : Text) → slice_get places (length parts.positional) ≡ Some name → Holds places (add_word parts word) (uses ++ (name, word) ∷ [])
+  pub holds_word : (name word : Text) → slice_get places (length parts.positional) ≡ Some name → Holds first places (add_word parts word) (uses ++ (name, word) ∷ [])
   holds_word name word at = record {
     options = λ other of. held.options other of ∙ ap option_to_list (sym (value_in-push_other name other word uses (place_apart name other at of)));
     words = λ i other there. word_at name word other i at there;

@@ -1,11 +1,11 @@
--- The arguments of a subcommand as `clap` builds them: positional words in their places, and the four options.
+-- The arguments of a subcommand as `clap` builds them: positional words in their places, and its options.
 use Rattle.std.proofs.Common.{◌≡◌, ◌∙◌, ◌+◌, ◌≤◌, ◌&&◌, ℕ, Bool, true, false, not, refl, sym, ap, List, [], ◌∷◌, length, Some, None, codes, bytes_eq, fold, slice_get, true≢false}
 use Rattle.std.specs.List.{list_any}
 use Rattle.clap.specs.Walk.{Row, Rule, Text, arg_by_id, arg_by_index, arg_by_long, arg_by_short, has_row, with_default}
 use Rattle.clap.specs.Takes.{is_given}
 use Rattle.clap.specs.Faults.{default_fault, defaults_fault}
 use Rattle.command_words.specs.Commands.{is_known}
-use Rattle.command_words.proofs.PartLemmas.{Known, known_is}
+use Rattle.command_words.proofs.PartLemmas.{IsOption, is_name}
 use Rattle.command_words.proofs.UseLemmas.{bytes_apart, taker}
 
 abbrev pub option_taker : Text → Rule
@@ -22,6 +22,11 @@ run_rules = word_taker 1 (codes "script") ∷ word_taker 2 (codes "feed") ∷ op
 
 abbrev pub demo_rules : List Rule
 demo_rules = word_taker 1 (codes "steps") ∷ option_takers
+
+abbrev pub watch_rules : List Rule
+watch_rules =
+    word_taker 1 (codes "script") ∷ word_taker 2 (codes "feed") ∷ word_taker 3 (codes "name") ∷ word_taker 4 (codes "first") ∷ word_taker 5 (codes "count")
+    ∷ option_taker (codes "workers") ∷ option_taker (codes "every") ∷ []
 
 -- no rule has a default
 abbrev pub HasNoDefaults : List Rule → Type 0
@@ -52,20 +57,20 @@ defaults_pass rows [] h = refl
 defaults_pass rows (a ∷ rest) h = rw (default_passes rows a h.0, default_kept rows a h.0) (defaults_pass rows rest h.1)
 
 -- what the walk asks of the rules, where the positional words have these names
-pub record IsLeaf (rules : List Rule) (places : List Text) : Type 0 where
-  pub by_long : (name : Text) → Known name → arg_by_long rules name ≡ Some (option_taker name)
-  pub no_long : (name : Text) → is_known name ≡ false → arg_by_long rules name ≡ None
+pub record IsLeaf (first : Text) (rules : List Rule) (places : List Text) : Type 0 where
+  pub by_long : (name : Text) → IsOption first name → arg_by_long rules name ≡ Some (option_taker name)
+  pub no_long : (name : Text) → is_known first name ≡ false → arg_by_long rules name ≡ None
   pub no_short : (char : ℕ) → arg_by_short rules char ≡ None
-  pub by_name : (name : Text) → Known name → arg_by_id rules name ≡ Some (option_taker name)
+  pub by_name : (name : Text) → IsOption first name → arg_by_id rules name ≡ Some (option_taker name)
   pub by_word : (i : ℕ) (name : Text) → slice_get places i ≡ Some name → arg_by_id rules name ≡ Some (word_taker (i + 1) name)
   pub by_place : (i : ℕ) (name : Text) → slice_get places i ≡ Some name → arg_by_index rules (i + 1) ≡ Some (word_taker (i + 1) name)
   pub past : arg_by_index rules (length places + 1) ≡ None
   pub defaults : HasNoDefaults rules
   pub required : (rows : List Row) → list_any (λ a. a.required && not (is_given a.id rows)) rules ≡ list_any (λ name. not (is_given name rows)) places
-  pub unknown : (i : ℕ) (name : Text) → slice_get places i ≡ Some name → is_known name ≡ false
+  pub unknown : (i : ℕ) (name : Text) → slice_get places i ≡ Some name → is_name name ≡ false
   pub apart : (i j : ℕ) (name : Text) → slice_get places i ≡ Some name → slice_get places j ≡ Some name → i ≡ j
-  pub few : length places ≤ 2
+  pub few : length places ≤ 5
 
--- a name that is none of the four options differs from each
-pub differs : (name other : Text) → Known other → is_known name ≡ false → bytes_eq other name ≡ false
-differs name other is none = bytes_apart other name (λ same. true≢false (sym (known_is other is) ∙ ap is_known same ∙ none))
+-- a name that is none of the options differs from each
+pub differs : (first name other : Text) → is_known first other ≡ true → is_known first name ≡ false → bytes_eq other name ≡ false
+differs first name other is none = bytes_apart other name (λ same. true≢false (sym is ∙ ap (is_known first) same ∙ none))

@@ -11,7 +11,7 @@ use Rattle.clap.specs.declared.error.kind.ErrorKind.{ErrorKind}
 use Rattle.clap.specs.declared.error.kind.ErrorKind.TheVariants as kind
 use Rattle.command_words.specs.Commands.{is_known}
 use Rattle.command_words.proofs.LeafRules.{IsLeaf, defaults_kept, defaults_pass, option_taker}
-use Rattle.command_words.proofs.PartLemmas.{Known}
+use Rattle.command_words.proofs.PartLemmas.{IsOption}
 use Rattle.command_words.proofs.UseLemmas.{bytes_self}
 use Rattle.command_words.proofs.WordLooks.{IsBundle, IsEnd, IsLong, IsPlain}
 
@@ -86,7 +86,7 @@ no_subcommand idle word = refl
 no_subcommand (option name) word = refl
 no_subcommand positional word = refl
 
-module _ (name : Text) (rules : List Rule) (places : List Text) (leaf : IsLeaf rules places) (rows : List Row) (pending : Pending) (position : ℕ) where
+module _ (name : Text) (rules : List Rule) (places : List Text) (leaf : IsLeaf name rules places) (rows : List Row) (pending : Pending) (position : ℕ) where
   -- ---- two minus signs
 
   pub end_passes : (waiting : Waiting) (word : Text) → IsEnd word → turn_fault (leaf_shape name rules) [] (at rows pending waiting position false) word ≡ []
@@ -120,24 +120,24 @@ module _ (name : Text) (rules : List Rule) (places : List Text) (leaf : IsLeaf r
   unfolding flags_fault
   bundle_fails waiting word l = rw (no_subcommand waiting word, l.differs, l.long, l.short, l.first, leaf.no_short l.char) refl
 
-  pub unknown_fails : (waiting : Waiting) (word : Text) (l : IsLong word) → is_known l.name ≡ false
+  pub unknown_fails : (waiting : Waiting) (word : Text) (l : IsLong word) → is_known name l.name ≡ false
       → turn_fault (leaf_shape name rules) [] (at rows pending waiting position false) word ≡ kind.UnknownArgument ∷ []
   unknown_fails waiting word l none = rw (no_subcommand waiting word, l.differs, l.long, leaf.no_long l.name none) refl
 
-  pub value_turn : (waiting : Waiting) (word value : Text) (l : IsLong word) → Known l.name → l.value ≡ Some value
+  pub value_turn : (waiting : Waiting) (word value : Text) (l : IsLong word) → IsOption name l.name → l.value ≡ Some value
       → turn_fault (leaf_shape name rules) [] (at rows pending waiting position false) word ≡ or_else (react_fault rules false (option_taker l.name) (value ∷ []) (held_at rows pending)) []
   value_turn waiting word value l is some = rw (no_subcommand waiting word, l.differs, l.long, some, leaf.by_long l.name is) refl
 
-  pub value_next : (word value : Text) (l : IsLong word) → Known l.name → l.value ≡ Some value
+  pub value_next : (word value : Text) (l : IsLong word) → IsOption name l.name → l.value ≡ Some value
       → walked rules [] (at rows pending idle position false) word ≡ at (used (option_taker l.name) (value ∷ []) (settled_rows rules pending rows)) None idle position false
   unfolding walked
   value_next word value l is some = rw (l.differs, l.long, some, leaf.by_long l.name is) refl
 
-  pub name_turn : (waiting : Waiting) (word : Text) (l : IsLong word) → Known l.name → l.value ≡ None
+  pub name_turn : (waiting : Waiting) (word : Text) (l : IsLong word) → IsOption name l.name → l.value ≡ None
       → turn_fault (leaf_shape name rules) [] (at rows pending waiting position false) word ≡ or_else (settle_fault rules false (held_at rows pending)) []
   name_turn waiting word l is none = rw (no_subcommand waiting word, l.differs, l.long, none, leaf.by_long l.name is) refl
 
-  pub name_next : (word : Text) (l : IsLong word) → Known l.name → l.value ≡ None
+  pub name_next : (word : Text) (l : IsLong word) → IsOption name l.name → l.value ≡ None
       → walked rules [] (at rows pending idle position false) word ≡ at (settled_rows rules pending rows) (Some (l.name, [])) (option l.name) position false
   unfolding walked
   name_next word l is none = rw (l.differs, l.long, none, leaf.by_long l.name is) refl
@@ -161,13 +161,13 @@ module _ (name : Text) (rules : List Rule) (places : List Text) (leaf : IsLeaf r
       ∙ ap (λ (rs : List Row). passed (check_fault (leaf_shape name rules) rs false) rs) (defaults_kept (settled rules h).rows rules leaf.defaults ∙ f)
       ∙ ap (λ (b : Bool). passed (check_kinds false false b) found) (leaf.required found)
 
-module _ (name : Text) (rules : List Rule) (places : List Text) (leaf : IsLeaf rules places) (rows : List Row) (position : ℕ) where
+module _ (name : Text) (rules : List Rule) (places : List Text) (leaf : IsLeaf name rules places) (rows : List Row) (position : ℕ) where
   -- ---- the word after an option
 
   pub taken_passes : (option_name word : Text) → IsPlain word → turn_fault (leaf_shape name rules) [] (at rows (Some (option_name, [])) (option option_name) position false) word ≡ []
   taken_passes option_name word l = rw (l.differs, l.long, l.short) refl
 
-  pub taken_next : (option_name word : Text) → Known option_name → IsPlain word
+  pub taken_next : (option_name word : Text) → IsOption name option_name → IsPlain word
       → walked rules [] (at rows (Some (option_name, [])) (option option_name) position false) word ≡ at rows (Some (option_name, word ∷ [])) idle position false
   unfolding walked
   taken_next option_name word is l = rw (l.differs, l.long, l.short, leaf.by_name option_name is, bytes_self option_name) refl

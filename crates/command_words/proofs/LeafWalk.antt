@@ -9,7 +9,7 @@ use Rattle.command_words.specs.Words.{Parts, after_option, is_positional, parts_
 use Rattle.command_words.proofs.HoldLemmas.{Holds, holds_none}
 use Rattle.command_words.proofs.LeafRules.{IsLeaf, option_taker}
 use Rattle.command_words.proofs.LeafSteps.{at, bundle_fails, end_fails, end_next, end_passes, fails, goes, held_at, leaf_shape, name_next, name_turn, outcome, place_fault, plain_next, plain_turn, taken_next, taken_passes, trailing_next, trailing_turn, unknown_fails, value_next, value_turn}
-use Rattle.command_words.proofs.PartLemmas.{Known, add_option, finish_all, known, no_parts, prepend, prepend-option, refuses_unknown}
+use Rattle.command_words.proofs.PartLemmas.{IsOption, add_option, finish_all, no_parts, option_is, prepend, prepend-option, refuses_unknown}
 use Rattle.command_words.proofs.PlaceLemmas.{Ends, Goes, ended, past_places, place, place_settles, standing, told}
 use Rattle.command_words.proofs.SettleLemmas.{Fits, Last, nothing, pending_of, rows_at, settle, settle_at, taken, total, uses_after}
 use Rattle.command_words.proofs.UseLemmas.{Use, rows_of_uses}
@@ -41,7 +41,7 @@ taken_parts name word words e = rw e refl
 refused_parts : (name word : Text) (words : List Text) → is_positional word ≡ false → parts_after (Some name) (word ∷ words) ≡ None
 refused_parts name word words e = rw e refl
 
-unknown_waits : (first name : Text) (parts : Parts) (words : List Text) → is_known name ≡ false → finish_all first (prepend parts (parts_after (Some name) words)) ≡ None
+unknown_waits : (first name : Text) (parts : Parts) (words : List Text) → is_known first name ≡ false → finish_all first (prepend parts (parts_after (Some name) words)) ≡ None
 unknown_waits first name parts [] none = refl
 unknown_waits first name parts (word ∷ words) none = go (is_positional word) refl
   where
@@ -54,31 +54,31 @@ abbrev pub Texts : List Text → Type 0
 Texts [] = Unit {0}
 Texts (word ∷ words) = IsUtf8 word × Texts words
 
-module _ (first : Text) (rules : List Rule) (places : List Text) (leaf : IsLeaf rules places) (ends : Ends first places) where
+module _ (first : Text) (rules : List Rule) (places : List Text) (leaf : IsLeaf first rules places) (ends : Ends first places) where
   -- ---- an option whose value is to come
 
   abbrev pub waiting_at : List Use → Text → ℕ → Bool → Walk
   waiting_at uses name n t = at (rows_of_uses uses) (Some (name, [])) (option name) (n + 1) t
 
   abbrev pub Waits : List Text → Type 0
-  Waits words = (parts : Parts) (uses : List Use) (name : Text) → Holds places parts uses → Known name
+  Waits words = (parts : Parts) (uses : List Use) (name : Text) → Holds first places parts uses → IsOption first name
       → told first (outcome first rules (waiting_at uses name (length parts.positional) false) words) ≡ finish_all first (prepend parts (parts_after (Some name) words))
 
-  no_value : (uses : List Use) (name : Text) → Known name → settle_fault rules false (held_at (rows_of_uses uses) (Some (name, []))) ≡ kind.InvalidValue ∷ []
+  no_value : (uses : List Use) (name : Text) → IsOption first name → settle_fault rules false (held_at (rows_of_uses uses) (Some (name, []))) ≡ kind.InvalidValue ∷ []
   no_value uses name is = settle_at rules name [] (rows_of_uses uses) (option_taker name) (leaf.by_name name is)
 
-  waits_ended : (parts : Parts) (uses : List Use) (name : Text) (t : Bool) → Known name → outcome first rules (waiting_at uses name (length parts.positional) t) [] ≡ None
+  waits_ended : (parts : Parts) (uses : List Use) (name : Text) (t : Bool) → IsOption first name → outcome first rules (waiting_at uses name (length parts.positional) t) [] ≡ None
   waits_ended parts uses name t is =
       end_fails first rules places leaf (rows_of_uses uses) (Some (name, [])) (length parts.positional + 1) (option name) t kind.InvalidValue [] (no_value uses name is)
 
-  trailing_fails : (parts : Parts) (uses : List Use) (name : Text) (words : List Text) → Holds places parts uses → Known name
+  trailing_fails : (parts : Parts) (uses : List Use) (name : Text) (words : List Text) → Holds first places parts uses → IsOption first name
       → outcome first rules (waiting_at uses name (length parts.positional) true) words ≡ None
   trailing_fails parts uses name [] held is = waits_ended parts uses name true is
   trailing_fails parts uses name (word ∷ words) held is = go (slice_get places (length parts.positional)) refl
     where
       go : (o : Option Text) → slice_get places (length parts.positional) ≡ o → outcome first rules (waiting_at uses name (length parts.positional) true) (word ∷ words) ≡ None
       go None e =
-          let none = past_places rules places leaf (length parts.positional) e held.fits in
+          let none = past_places first rules places leaf (length parts.positional) e held.fits in
           fails first rules (waiting_at uses name (length parts.positional) true) word words kind.UnknownArgument []
           (trailing_turn first rules places leaf (rows_of_uses uses) (Some (name, [])) (length parts.positional + 1) (option name) word
           ∙ ap (place_fault rules (rows_of_uses uses) (Some (name, []))) none)
@@ -105,8 +105,8 @@ module _ (first : Text) (rules : List Rule) (places : List Text) (leaf : IsLeaf 
   abbrev Steps : Parts → List Use → Last → Text → List Text → Option Parts → Type 0
   Steps parts uses last word words rest = told first (outcome first rules (standing first rules places leaf ends parts uses last false) (word ∷ words)) ≡ finish_all first (prepend (total parts last) rest)
 
-  opens_value : (word value : Text) (words : List Text) (l : IsLong word) → Opens words → Known l.name → l.value ≡ Some value
-      → (parts : Parts) (uses : List Use) (last : Last) → Holds places parts uses → Fits places parts last → Steps parts uses last word words (with_option l.name value (parts_after None words))
+  opens_value : (word value : Text) (words : List Text) (l : IsLong word) → Opens words → IsOption first l.name → l.value ≡ Some value
+      → (parts : Parts) (uses : List Use) (last : Last) → Holds first places parts uses → Fits first places parts last → Steps parts uses last word words (with_option l.name value (parts_after None words))
   opens_value word value words l later is some parts uses last held fits =
       let rows = rows_of_uses uses in
       let pending = pending_of last in
@@ -140,8 +140,8 @@ module _ (first : Text) (rules : List Rule) (places : List Text) (leaf : IsLeaf 
             ]
       ]
 
-  opens_name : (word : Text) (words : List Text) (l : IsLong word) → Waits words → Known l.name → l.value ≡ None
-      → (parts : Parts) (uses : List Use) (last : Last) → Holds places parts uses → Fits places parts last → Steps parts uses last word words (parts_after (Some l.name) words)
+  opens_name : (word : Text) (words : List Text) (l : IsLong word) → Waits words → IsOption first l.name → l.value ≡ None
+      → (parts : Parts) (uses : List Use) (last : Last) → Holds first places parts uses → Fits first places parts last → Steps parts uses last word words (parts_after (Some l.name) words)
   opens_name word words l later is none parts uses last held fits =
       let rows = rows_of_uses uses in
       let pending = pending_of last in
@@ -156,7 +156,7 @@ module _ (first : Text) (rules : List Rule) (places : List Text) (leaf : IsLeaf 
             ∙ later (total parts last) (uses_after uses last) l.name fine.2 is
       ]
 
-  opens_unknown : (word : Text) (words : List Text) (l : IsLong word) → is_known l.name ≡ false → (parts : Parts) (uses : List Use) (last : Last)
+  opens_unknown : (word : Text) (words : List Text) (l : IsLong word) → is_known first l.name ≡ false → (parts : Parts) (uses : List Use) (last : Last)
       → Steps parts uses last word words (parts_after None (word ∷ words))
   opens_unknown word words l none parts uses last =
       let n = length (total parts last).positional in
@@ -169,8 +169,8 @@ module _ (first : Text) (rules : List Rule) (places : List Text) (leaf : IsLeaf 
           ap (λ (p : Option Parts). finish_all first (prepend (total parts last) p)) (value_parts word value words l e)
           ∙ refuses_unknown first l.name value (total parts last) (parts_after None words) none
 
-  opens_known : (word : Text) (words : List Text) (l : IsLong word) → Opens words → Waits words → Known l.name
-      → (parts : Parts) (uses : List Use) (last : Last) → Holds places parts uses → Fits places parts last → Steps parts uses last word words (parts_after None (word ∷ words))
+  opens_known : (word : Text) (words : List Text) (l : IsLong word) → Opens words → Waits words → IsOption first l.name
+      → (parts : Parts) (uses : List Use) (last : Last) → Holds first places parts uses → Fits first places parts last → Steps parts uses last word words (parts_after None (word ∷ words))
   opens_known word words l opens waits is parts uses last held fits = go l.value refl
     where
       go : (v : Option Text) → l.value ≡ v → Steps parts uses last word words (parts_after None (word ∷ words))
@@ -179,11 +179,11 @@ module _ (first : Text) (rules : List Rule) (places : List Text) (leaf : IsLeaf 
           opens_value word value words l opens is e parts uses last held fits ∙ sym (ap (λ (p : Option Parts). finish_all first (prepend (total parts last) p)) (value_parts word value words l e))
 
   opens_long : (word : Text) (words : List Text) (l : IsLong word) → Opens words → Waits words
-      → (parts : Parts) (uses : List Use) (last : Last) → Holds places parts uses → Fits places parts last → Steps parts uses last word words (parts_after None (word ∷ words))
-  opens_long word words l opens waits parts uses last held fits = go (is_known l.name) refl
+      → (parts : Parts) (uses : List Use) (last : Last) → Holds first places parts uses → Fits first places parts last → Steps parts uses last word words (parts_after None (word ∷ words))
+  opens_long word words l opens waits parts uses last held fits = go (is_known first l.name) refl
     where
-      go : (b : Bool) → is_known l.name ≡ b → Steps parts uses last word words (parts_after None (word ∷ words))
-      go true e = opens_known word words l opens waits (known l.name e) parts uses last held fits
+      go : (b : Bool) → is_known first l.name ≡ b → Steps parts uses last word words (parts_after None (word ∷ words))
+      go true e = opens_known word words l opens waits (option_is first l.name e) parts uses last held fits
       go false e = opens_unknown word words l e parts uses last
 
   opens : (word : Text) (words : List Text) → Look word → Opens words → Waits words → Opens (word ∷ words)
@@ -214,10 +214,10 @@ module _ (first : Text) (rules : List Rule) (places : List Text) (leaf : IsLeaf 
       → outcome first rules (waiting_at uses name (length parts.positional) false) (word ∷ words) ≡ None → Takes parts uses name word words
   takes_none parts uses name word words e fault = ap (told first) fault ∙ sym (ap (λ (p : Option Parts). finish_all first (prepend parts p)) (refused_parts name word words e))
 
-  takes_long : (parts : Parts) (uses : List Use) (name word : Text) (words : List Text) (l : IsLong word) → Known name → Takes parts uses name word words
-  takes_long parts uses name word words l is = takes_none parts uses name word words l.positional (go (is_known l.name) refl)
+  takes_long : (parts : Parts) (uses : List Use) (name word : Text) (words : List Text) (l : IsLong word) → IsOption first name → Takes parts uses name word words
+  takes_long parts uses name word words l is = takes_none parts uses name word words l.positional (go (is_known first l.name) refl)
     where
-      fault_at : (value : Option Text) → l.value ≡ value → Known l.name
+      fault_at : (value : Option Text) → l.value ≡ value → IsOption first l.name
           → turn_fault (leaf_shape first rules) [] (waiting_at uses name (length parts.positional) false) word ≡ kind.InvalidValue ∷ []
       fault_at None e of =
           name_turn first rules places leaf (rows_of_uses uses) (Some (name, [])) (length parts.positional + 1) (option name) word l of e ∙ ap (λ (f : Kinds). or_else f []) (no_value uses name is)
@@ -225,8 +225,8 @@ module _ (first : Text) (rules : List Rule) (places : List Text) (leaf : IsLeaf 
           value_turn first rules places leaf (rows_of_uses uses) (Some (name, [])) (length parts.positional + 1) (option name) word value l of e
           ∙ ap (λ (f : Kinds). or_else (or_else f (use_fault false (option_taker l.name) (value ∷ []) (settled rules (held_at (rows_of_uses uses) (Some (name, [])))).rows)) []) (no_value uses name is)
 
-      go : (b : Bool) → is_known l.name ≡ b → outcome first rules (waiting_at uses name (length parts.positional) false) (word ∷ words) ≡ None
-      go true e = fails first rules (waiting_at uses name (length parts.positional) false) word words kind.InvalidValue [] (fault_at l.value refl (known l.name e))
+      go : (b : Bool) → is_known first l.name ≡ b → outcome first rules (waiting_at uses name (length parts.positional) false) (word ∷ words) ≡ None
+      go true e = fails first rules (waiting_at uses name (length parts.positional) false) word words kind.InvalidValue [] (fault_at l.value refl (option_is first l.name e))
       go false e = fails first rules (waiting_at uses name (length parts.positional) false) word words kind.UnknownArgument []
           (unknown_fails first rules places leaf (rows_of_uses uses) (Some (name, [])) (length parts.positional + 1) (option name) word l e)
 
@@ -258,4 +258,4 @@ module _ (first : Text) (rules : List Rule) (places : List Text) (leaf : IsLeaf 
       (opens word words (look word texts.0) later.0 later.1, takes word words (look word texts.0) later.0)
 
   pub leaf_agrees : (words : List Text) → Texts words → told first (outcome first rules (at [] None idle 1 false) words) ≡ finish_all first (prepend no_parts (parts_after None words))
-  leaf_agrees words texts = (agree words texts).0 no_parts [] nothing (holds_none places) tt
+  leaf_agrees words texts = (agree words texts).0 no_parts [] nothing (holds_none first places) tt

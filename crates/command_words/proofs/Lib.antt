@@ -5,6 +5,7 @@ pub mod PartLemmas
 pub mod LeafRules
 pub mod RunRules
 pub mod DemoRules
+pub mod WatchRules
 pub mod HoldLemmas
 pub mod LeafSteps
 pub mod SettleLemmas
@@ -13,3 +14,5 @@ pub mod LeafWalk
 pub mod EndLemmas
 pub mod TopLemmas
 pub mod Agreement
+pub mod Finding
+pub mod Local

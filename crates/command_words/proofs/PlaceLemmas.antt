@@ -23,7 +23,7 @@ told first = option_and_then (command_found first)
 
 -- at the end of the words, a subcommand with these places makes what the parts make; and it makes nothing of one word more than it has places
 pub record Ends (first : Text) (places : List Text) : Type 0 where
-  pub whole : (parts : Parts) (uses : List Use) → Holds places parts uses → told first (complete places (rows_of_uses uses)) ≡ finish first parts
+  pub whole : (parts : Parts) (uses : List Use) → Holds first places parts uses → told first (complete places (rows_of_uses uses)) ≡ finish first parts
   pub long : (parts : Parts) (word : Text) (rest : Option Parts) → slice_get places (length parts.positional) ≡ None → finish_all first (prepend parts (with_positional word rest)) ≡ None
 
 never_past : (places : List Text) (n : ℕ) → slice_get places n ≡ None → length places ≤ n
@@ -33,8 +33,8 @@ never_past (p ∷ places) n e = elim (cases_lt n (length (p ∷ places))) [
   | inr past ↦ past
 ]
 
-pub past_places : (rules : List Rule) (places : List Text) (leaf : IsLeaf rules places) (n : ℕ) → slice_get places n ≡ None → n ≤ length places → arg_by_index rules (n + 1) ≡ None
-past_places rules places leaf n e fits =
+pub past_places : (first : Text) (rules : List Rule) (places : List Text) (leaf : IsLeaf first rules places) (n : ℕ) → slice_get places n ≡ None → n ≤ length places → arg_by_index rules (n + 1) ≡ None
+past_places first rules places leaf n e fits =
     let all : length places ≡ n = omega (arith, never_past places n e) in
     ap (λ (k : ℕ). arg_by_index rules (k + 1)) (sym all) ∙ leaf.past
 
@@ -58,13 +58,13 @@ placed_next rules rows settled_to pending name word n next t found is position =
     λ i. record { held = pushed name word (cond (not_same i) h (settled rules h)); waiting = idle; position = position i; is_trailing = or_false t i; stopped = None } in
     ap (λ (o : Option Rule). to_positional rules o word (at rows pending idle (n + 1) t) h) found ∙ landed ∙ ap (λ (rs : List Row). at rs (Some (name, word ∷ [])) idle next t) is
 
-module _ (first : Text) (rules : List Rule) (places : List Text) (leaf : IsLeaf rules places) (ends : Ends first places) where
+module _ (first : Text) (rules : List Rule) (places : List Text) (leaf : IsLeaf first rules places) (ends : Ends first places) where
   -- where the walk stands when it is open to any word
   abbrev pub standing : Parts → List Use → Last → Bool → Walk
   standing parts uses last t = at (rows_of_uses uses) (pending_of last) idle (length (total parts last).positional + 1) t
 
   abbrev pub Goes : Bool → List Text → Option Parts → Type 0
-  Goes t words rest = (parts : Parts) (uses : List Use) (last : Last) → Holds places parts uses → Fits places parts last
+  Goes t words rest = (parts : Parts) (uses : List Use) (last : Last) → Holds first places parts uses → Fits first places parts last
       → told first (outcome first rules (standing parts uses last t) words) ≡ finish_all first (prepend (total parts last) rest)
 
   -- the end
@@ -81,7 +81,7 @@ module _ (first : Text) (rules : List Rule) (places : List Text) (leaf : IsLeaf 
 
   -- one more word, at a place
   pub place : (t : Bool) (word : Text) (words : List Text) (rest : Option Parts) → Goes t words rest
-      → (parts : Parts) (uses : List Use) (last : Last) → Holds places parts uses → Fits places parts last
+      → (parts : Parts) (uses : List Use) (last : Last) → Holds first places parts uses → Fits first places parts last
       → turn_fault (leaf_shape first rules) [] (standing parts uses last t) word ≡ place_fault rules (rows_of_uses uses) (pending_of last) (arg_by_index rules (length (total parts last).positional + 1))
       → walked rules [] (standing parts uses last t) word
       ≡ to_positional rules (arg_by_index rules (length (total parts last).positional + 1)) word (standing parts uses last t) (held_at (rows_of_uses uses) (pending_of last))
@@ -91,7 +91,7 @@ module _ (first : Text) (rules : List Rule) (places : List Text) (leaf : IsLeaf 
       go : (o : Option Text) → slice_get places (length (total parts last).positional) ≡ o
           → told first (outcome first rules (standing parts uses last t) (word ∷ words)) ≡ finish_all first (prepend (total parts last) (with_positional word rest))
       go None e =
-          let none = past_places rules places leaf (length (total parts last).positional) e (total_fits first rules places leaf parts uses last held fits) in
+          let none = past_places first rules places leaf (length (total parts last).positional) e (total_fits first rules places leaf parts uses last held fits) in
           ap (told first) (fails first rules (standing parts uses last t) word words kind.UnknownArgument [] (turn ∙ ap (place_fault rules (rows_of_uses uses) (pending_of last)) none))
           ∙ sym (ends.long (total parts last) word rest e)
       go (Some name) e =

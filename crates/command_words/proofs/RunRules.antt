@@ -1,27 +1,41 @@
 -- The arguments of `run`.
-use Rattle.std.proofs.Common.{◌≡◌, ◌+◌, ℕ, zero, suc, false, refl, sym, ap, subst, arith, List, [], ◌∷◌, Some, None, codes, bytes_eq, slice_get}
+use Rattle.std.proofs.Common.{◌≡◌, ◌+◌, ℕ, zero, suc, true, false, refl, sym, ap, subst, arith, List, [], ◌∷◌, Some, None, codes, bytes_eq, slice_get}
 use Rattle.clap.specs.Walk.{Text, arg_by_id, arg_by_index, arg_by_long}
 use Rattle.command_words.specs.Commands.{is_known}
-use Rattle.command_words.proofs.PartLemmas.{Known, workers, callers, snaps, attempts}
+use Rattle.command_words.proofs.PartLemmas.{IsOption, Known, is_name, workers, callers, snaps, attempts, every}
 use Rattle.command_words.proofs.LeafRules.{IsLeaf, differs, option_taker, run_rules, word_taker}
 
 abbrev pub run_places : List Text
 run_places = codes "script" ∷ codes "feed" ∷ []
 
-by_long : (name : Text) → Known name → arg_by_long run_rules name ≡ Some (option_taker name)
-by_long name workers = refl
-by_long name callers = refl
-by_long name snaps = refl
-by_long name attempts = refl
+long_of : (name : Text) → Known name → is_known (codes "run") name ≡ true → arg_by_long run_rules name ≡ Some (option_taker name)
+long_of name workers is = refl
+long_of name callers is = refl
+long_of name snaps is = refl
+long_of name attempts is = refl
+long_of name every is = cc
 
-no_long : (name : Text) → is_known name ≡ false → arg_by_long run_rules name ≡ None
-no_long name none = rw (differs name _ workers none, differs name _ callers none, differs name _ snaps none, differs name _ attempts none) refl
+by_long : (name : Text) → IsOption (codes "run") name → arg_by_long run_rules name ≡ Some (option_taker name)
+by_long name is = long_of name is.named is.taken
 
-by_name : (name : Text) → Known name → arg_by_id run_rules name ≡ Some (option_taker name)
-by_name name workers = refl
-by_name name callers = refl
-by_name name snaps = refl
-by_name name attempts = refl
+no_long : (name : Text) → is_known (codes "run") name ≡ false → arg_by_long run_rules name ≡ None
+no_long name none =
+    rw (
+      differs (codes "run") name (codes "workers") refl none,
+      differs (codes "run") name (codes "callers") refl none,
+      differs (codes "run") name (codes "snaps") refl none,
+      differs (codes "run") name (codes "attempts") refl none,
+    ) refl
+
+name_of : (name : Text) → Known name → is_known (codes "run") name ≡ true → arg_by_id run_rules name ≡ Some (option_taker name)
+name_of name workers is = refl
+name_of name callers is = refl
+name_of name snaps is = refl
+name_of name attempts is = refl
+name_of name every is = cc
+
+by_name : (name : Text) → IsOption (codes "run") name → arg_by_id run_rules name ≡ Some (option_taker name)
+by_name name is = name_of name is.named is.taken
 
 the_name : (a b : Text) → Some a ≡ Some b → a ≡ b
 the_name a b e = cc
@@ -36,9 +50,9 @@ by_place zero name e = ap (λ (n : Text). Some (word_taker 1 n)) (the_name (code
 by_place (suc zero) name e = ap (λ (n : Text). Some (word_taker 2 n)) (the_name (codes "feed") name e)
 by_place (suc (suc i)) name e = cc
 
-unknown : (i : ℕ) (name : Text) → slice_get run_places i ≡ Some name → is_known name ≡ false
-unknown zero name e = subst (λ (n : Text). is_known n ≡ false) (the_name (codes "script") name e) refl
-unknown (suc zero) name e = subst (λ (n : Text). is_known n ≡ false) (the_name (codes "feed") name e) refl
+unknown : (i : ℕ) (name : Text) → slice_get run_places i ≡ Some name → is_name name ≡ false
+unknown zero name e = subst (λ (n : Text). is_name n ≡ false) (the_name (codes "script") name e) refl
+unknown (suc zero) name e = subst (λ (n : Text). is_name n ≡ false) (the_name (codes "feed") name e) refl
 unknown (suc (suc i)) name e = cc
 
 script_apart : codes "script" ≡ codes "feed" → ⊥
@@ -53,7 +67,7 @@ apart (suc zero) (suc zero) name e f = refl
 apart (suc zero) (suc (suc j)) name e f = cc
 apart (suc (suc i)) j name e f = cc
 
-pub run_leaf : IsLeaf run_rules run_places
+pub run_leaf : IsLeaf (codes "run") run_rules run_places
 run_leaf = record {
   by_long = by_long;
   no_long = no_long;

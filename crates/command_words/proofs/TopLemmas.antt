@@ -12,7 +12,7 @@ use Rattle.clap.proofs.WalkLemmas.{walk_stopped}
 use Rattle.command_words.specs.declared.command.Command.{Command}
 use Rattle.command_words.specs.Found.{command_in}
 use Rattle.command_words.specs.Program.{found_in, set_up}
-use Rattle.command_words.proofs.LeafRules.{demo_rules, run_rules}
+use Rattle.command_words.proofs.LeafRules.{demo_rules, run_rules, watch_rules}
 use Rattle.command_words.proofs.LeafSteps.{leaf_shape, passed}
 use Rattle.command_words.proofs.PlaceLemmas.{told}
 use Rattle.command_words.proofs.WordLooks.{IsBundle, IsEnd, IsLong, IsPlain, Look, look}
@@ -22,10 +22,10 @@ abbrev top_shape : Shape
 top_shape = record (set_up (new_shape (codes "tick"))) { is_leaf = false; is_built = true }
 
 abbrev names : Names
-names = (codes "run", []) ∷ (codes "demo", []) ∷ []
+names = (codes "run", []) ∷ (codes "demo", []) ∷ (codes "watch", []) ∷ []
 
 abbrev whole_app : App
-whole_app = record { top = top_shape; subs = leaf_shape (codes "run") run_rules ∷ leaf_shape (codes "demo") demo_rules ∷ [] }
+whole_app = record { top = top_shape; subs = leaf_shape (codes "run") run_rules ∷ leaf_shape (codes "demo") demo_rules ∷ leaf_shape (codes "watch") watch_rules ∷ [] }
 
 -- what the words make, by what is found of a fault
 abbrev made_by : Kinds → Option (Text × List Row) → Option Command
@@ -171,5 +171,8 @@ run_told words = subcommand_told (codes "run") run_rules refl refl words
 pub demo_told : (words : List Text) → command_in (found_in (codes "demo" ∷ words)) ≡ told (codes "demo") (passed (level_fault (leaf_shape (codes "demo") demo_rules) [] nothing_held words false []) (rows_after demo_rules [] words))
 demo_told words = subcommand_told (codes "demo") demo_rules refl refl words
 
-pub met_none : (word : Text) → bytes_eq (codes "run") word ≡ false → bytes_eq (codes "demo") word ≡ false → subcommand_met names idle word ≡ None
-met_none word run demo = rw (run, demo) refl
+pub watch_told : (words : List Text) → command_in (found_in (codes "watch" ∷ words)) ≡ told (codes "watch") (passed (level_fault (leaf_shape (codes "watch") watch_rules) [] nothing_held words false []) (rows_after watch_rules [] words))
+watch_told words = subcommand_told (codes "watch") watch_rules refl refl words
+
+pub met_none : (word : Text) → bytes_eq (codes "run") word ≡ false → bytes_eq (codes "demo") word ≡ false → bytes_eq (codes "watch") word ≡ false → subcommand_met names idle word ≡ None
+met_none word run demo watch = rw (run, demo, watch) refl

@@ -15,9 +15,22 @@ use tick_model::name::Name;
 #[derive(Debug, Drop)]
 pub enum Task {
     /// A run of a script over a feed, by the names of their files.
-    Run { script: Name, feed: Name },
+    Run {
+        script: Name,
+        feed: Name,
+    },
     /// The made run of so many steps.
-    Demo { steps: u32 },
+    Demo {
+        steps: u32,
+    },
+    /// Messages about the rows of a node of a run, by the names of its files and of the node: `count` rows, at the positions from `first` on.
+    Watch {
+        script: Name,
+        feed: Name,
+        node: Name,
+        first: u32,
+        count: u32,
+    },
 }
 
 /// What is to be done, and the numbers that go with it.
@@ -32,6 +45,8 @@ pub struct Command {
     pub snaps: u32,
     /// How often a snapshot is tried before it waits for its turn: at most 16.
     pub attempts: u32,
+    /// How many steps lie between two messages about watched rows: 1 to 100,000.
+    pub every: u32,
 }
 
 /// A task with the numbers that options give.
@@ -45,6 +60,7 @@ fn with_numbers(task: Task, matches: &ArgMatches<'_>) -> Option<Command>
         callers: setting(matches, "callers", 0, 16, 0)?,
         snaps: setting(matches, "snaps", 0, 64, 0)?,
         attempts: setting(matches, "attempts", 0, 16, 2)?,
+        every: setting(matches, "every", 1, 100_000, 1)?,
     })
 }
 

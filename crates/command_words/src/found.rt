@@ -2,7 +2,7 @@
 
 ghost use Rattle.std.specs.Prelude.{◌≡◌, ◌≤◌, IfOk, IfSome, option_map};
 ghost use Rattle.clap.specs.Words.{first_of, found_of, rows_of};
-ghost use Rattle.command_words.specs.Found.{found_demo, found_run, found_setting, found_task};
+ghost use Rattle.command_words.specs.Found.{found_demo, found_number, found_run, found_setting, found_task, found_watch};
 
 use crate::command::Task;
 use crate::numbers::number_within;
@@ -27,6 +27,13 @@ fn name_in(alloc: Global, matches: &ArgMatches<'_>, name: &str) -> Result<Option
     }
 }
 
+/// The number that was found for a name, where it is in a range.
+fn number_in(matches: &ArgMatches<'_>, name: &str, least: u32, most: u32) -> Option<u32>
+    ensures { result ≡ found_number least most (first_of name.now (rows_of (found_of matches.now))) }
+{
+    number_within(word_in(matches, name)?, least, most)
+}
+
 /// `run SCRIPT FEED`.
 fn run_task(alloc: Global, matches: &ArgMatches<'_>) -> Result<Option<Task>, AllocError>
     ensures { IfOk result (λ task. task ≡ found_run (rows_of (found_of matches.now))) }
@@ -44,8 +51,36 @@ fn run_task(alloc: Global, matches: &ArgMatches<'_>) -> Result<Option<Task>, All
 fn demo_task(matches: &ArgMatches<'_>) -> Option<Task>
     ensures { result ≡ found_demo (rows_of (found_of matches.now)) }
 {
-    let steps = number_within(word_in(matches, "steps")?, 0, 10_000)?;
+    let steps = number_in(matches, "steps", 0, 10_000)?;
     Some(Task::Demo { steps })
+}
+
+/// `watch SCRIPT FEED NAME FIRST COUNT`.
+fn watch_task(alloc: Global, matches: &ArgMatches<'_>) -> Result<Option<Task>, AllocError>
+    ensures { IfOk result (λ task. task ≡ found_watch (rows_of (found_of matches.now))) }
+{
+    let Some(script) = name_in(alloc, matches, "script")? else {
+        return Ok(None);
+    };
+    let Some(feed) = name_in(alloc, matches, "feed")? else {
+        return Ok(None);
+    };
+    let Some(node) = name_in(alloc, matches, "name")? else {
+        return Ok(None);
+    };
+    let Some(first) = number_in(matches, "first", 0, 4_194_303) else {
+        return Ok(None);
+    };
+    let Some(count) = number_in(matches, "count", 1, 4_194_304) else {
+        return Ok(None);
+    };
+    Ok(Some(Task::Watch {
+        script,
+        feed,
+        node,
+        first,
+        count,
+    }))
 }
 
 /// The task of a subcommand of this name.
@@ -59,6 +94,7 @@ pub(crate) fn task_in(
     match name {
         "run" => run_task(alloc, matches),
         "demo" => Ok(demo_task(matches)),
+        "watch" => watch_task(alloc, matches),
         _ => Ok(None),
     }
 }

@@ -82,7 +82,7 @@ module _ (run : Run) (knobs : Knobs) where
       (λ choice. refl) (λ choice may. may)
 
 -- each run has a verdict
-find_passes : {X : Type 0} (p : X → Bool) (xs : List X) (x : X) → find p xs ≡ Some x → p x ≡ true
+pub find_passes : {X : Type 0} (p : X → Bool) (xs : List X) (x : X) → find p xs ≡ Some x → p x ≡ true
 find_passes p [] x e = cc
 find_passes p (y ∷ ys) x e =
     (elim (p y) as (λ b. p y ≡ b → cond b (Some y) (find p ys) ≡ Some x → p x ≡ true) [
@@ -90,7 +90,7 @@ find_passes p (y ∷ ys) x e =
       | false ↦ λ passes same. find_passes p ys x same
     ]) refl e
 
-there : {X : Type 0} (o : Option X) → is_some o ≡ true → (x : X) × (o ≡ Some x)
+pub there : {X : Type 0} (o : Option X) → is_some o ≡ true → (x : X) × (o ≡ Some x)
 there None e = cc
 there (Some x) e = (x, refl)
 

@@ -1,6 +1,7 @@
 pub mod OkLemmas
 pub mod PlainRuns
 pub mod PlainTexts
+pub mod PlainWatches
 pub mod PlainReadings
 pub mod PlainVerdicts
 pub mod StopLemmas
@@ -10,6 +11,9 @@ pub mod RunLemmas
 pub mod FieldLemmas
 pub mod EndLemmas
 pub mod OutcomeLemmas
+pub mod WatchEnds
+pub mod WatchLemmas
+pub mod Statuses
 pub mod ProgramLemmas
 pub mod CommandLemmas
 pub mod CommandEnds

@@ -196,7 +196,7 @@ ticks_plain run (suc step) =
     ∙ ap (λ outcomes. ticks_between (plain_plan run.plan) (source_ticks run (suc step)) (table_at (state run step)) (table_at outcomes)) (state_plain run (suc step))
     ∙ ticks_on run.plan.nodes (source_ticks run (suc step)) (table_at (state run step)) (table_at (state run (suc step))) run.plan.nodes []
 
-tick_plain : (run : Run) (step node : ℕ) → tick (plain_run run) step node ≡ tick run step node
+pub tick_plain : (run : Run) (step node : ℕ) → tick (plain_run run) step node ≡ tick run step node
 tick_plain run step node = ap (λ all. tick_at all node) (ticks_plain run step)
 
 -- spoiled steps

@@ -2,19 +2,18 @@
 use Rattle.std.proofs.Common.{◌≡◌, ℕ, List, [], Bool, Option, Some, None, Ok, Err, refl, sym, ap, ◌∙◌, subst, inl, inr, arith, ◌≤◌}
 use Rattle.std.specs.Prelude.{IsTrue, option_map}
 use Rattle.tick_model.specs.declared.feed.Run.{Run}
-use Rattle.tick_model.specs.Spoiled.{ByBatch, ByNode, ByPublication}
 use Rattle.feed_reader.specs.Assembled.{plain_run}
 use Rattle.replay.specs.declared.outcome.Knobs.{Knobs}
-use Rattle.feed_run.specs.declared.refusal.Refusal.TheVariants.{Usage, Script, Table, Feed}
 use Rattle.feed_run.specs.declared.refusal.Stop.{Stop}
 use Rattle.feed_run.specs.declared.refusal.Stop.TheVariants.{Memory, Unread, Refused as Stopped}
 use Rattle.feed_run.specs.Answers.{Ends, EndsByStop, EndsByRun, Answers}
 use Rattle.feed_run.specs.Found.{Found}
-use Rattle.feed_run.specs.Headline.{NoneFailed, IsComplete, IsStatus, TellsVerdict, TellsLoadFault, OfVerdict, OfLoad, WritesPrefix, WritesPrefixOrNothing}
+use Rattle.feed_run.specs.Headline.{NoneFailed, IsComplete, TellsVerdict, TellsLoadFault, OfVerdict, OfLoad, WritesPrefix, WritesPrefixOrNothing}
 use Rattle.feed_run.specs.Stops.{Reads}
-use Rattle.feed_run.specs.Verdicts.{Verdict, Refused, Summary, Kept, Spoiled, Done, found_verdict, status_of}
+use Rattle.feed_run.specs.Verdicts.{Verdict, Refused, found_verdict, status_of}
 use Rattle.feed_run.specs.Wholes.{whole}
 use Rattle.feed_run.proofs.PlainVerdicts.{plainly, verdict_plain, whole_plain, lawful_plain, status_plain}
+use Rattle.feed_run.proofs.Statuses.{verdict_status}
 
 module _ (told : Bool) (unread read : List ℕ → Type 0) (failed : Type 0) (old new : Option (List ℕ)) (answer : ℕ) where
   -- a run that was read and run to its end
@@ -35,25 +34,6 @@ module _ (told : Bool) (unread read : List ℕ → Type 0) (failed : Type 0) (ol
   stop_ends knobs found Memory reads ends = inr (inr ends)
   stop_ends knobs found (Unread name) reads ends = inr (inl (name, reads.0, reads.1, ends))
   stop_ends knobs found (Stopped refusal) reads ends = inl (Refused refusal, (λ t. ap (found_verdict knobs) (reads t)), ([], refl, ends))
-
--- the statuses of verdicts: none is that of a fault
-pub record IsVerdictStatus (status : ℕ) : Type 0 where
-  pub most : status ≤ 10
-  pub not_one : status ≡ 1 → ⊥
-  pub not_three : status ≡ 3 → ⊥
-  pub not_ten : status ≡ 10 → ⊥
-
-verdict_status : (told : Verdict) → IsVerdictStatus (status_of told)
-verdict_status (Refused Usage) = record { most = omega arith; not_one = λ e. cc; not_three = λ e. cc; not_ten = λ e. cc }
-verdict_status (Refused (Script line kind)) = record { most = omega arith; not_one = λ e. cc; not_three = λ e. cc; not_ten = λ e. cc }
-verdict_status (Refused (Table source number kind)) = record { most = omega arith; not_one = λ e. cc; not_three = λ e. cc; not_ten = λ e. cc }
-verdict_status (Refused (Feed number kind)) = record { most = omega arith; not_one = λ e. cc; not_three = λ e. cc; not_ten = λ e. cc }
-verdict_status (Summary steps) = record { most = omega arith; not_one = λ e. cc; not_three = λ e. cc; not_ten = λ e. cc }
-verdict_status (Kept words) = record { most = omega arith; not_one = λ e. cc; not_three = λ e. cc; not_ten = λ e. cc }
-verdict_status (Spoiled run knobs step (ByBatch number rule)) = record { most = omega arith; not_one = λ e. cc; not_three = λ e. cc; not_ten = λ e. cc }
-verdict_status (Spoiled run knobs step (ByNode node fault)) = record { most = omega arith; not_one = λ e. cc; not_three = λ e. cc; not_ten = λ e. cc }
-verdict_status (Spoiled run knobs step (ByPublication number rows)) = record { most = omega arith; not_one = λ e. cc; not_three = λ e. cc; not_ten = λ e. cc }
-verdict_status (Done run knobs step) = record { most = omega arith; not_one = λ e. cc; not_three = λ e. cc; not_ten = λ e. cc }
 
 module _ (told : Bool) (verdict : Option Verdict) (unread read : List ℕ → Type 0) (failed : Type 0) (old new : Option (List ℕ)) (answer : ℕ) (t : IsTrue told) where
   pub tells_verdict : Answers told verdict unread read failed old new answer → TellsVerdict verdict answer old new
@@ -108,15 +88,6 @@ module _ (told : Bool) (verdict : Option Verdict) (unread read : List ℕ → Ty
   tells_failed (inr (inl (name, faulty, of, inr (inl (one, prefix))))) ten = cc
   tells_failed (inr (inl (name, faulty, of, inr (inr (also, fails, prefix))))) ten = fails
   tells_failed (inr (inr (one, same))) ten = cc
-
-  pub is_status : Answers told verdict unread read failed old new answer → IsStatus answer
-  is_status (inl (of, is, (choice, lawful, inl (status, written)))) = subst IsStatus (sym status) (verdict_status of).most
-  is_status (inl (of, is, (choice, lawful, inr (inl (one, prefix))))) = omega (arith, one)
-  is_status (inl (of, is, (choice, lawful, inr (inr (ten, fails, prefix))))) = omega (arith, ten)
-  is_status (inr (inl (name, faulty, of, inl (three, written)))) = omega (arith, three)
-  is_status (inr (inl (name, faulty, of, inr (inl (one, prefix))))) = omega (arith, one)
-  is_status (inr (inl (name, faulty, of, inr (inr (ten, fails, prefix))))) = omega (arith, ten)
-  is_status (inr (inr (one, same))) = omega (arith, one)
 
   pub is_complete : IsTrue told → NoneFailed unread read → (failed → ⊥) → Answers told verdict unread read failed old new answer → IsComplete verdict answer
   is_complete t none steady (inl (of, is, (choice, lawful, inl (status, written)))) = inr (of, is t, status)

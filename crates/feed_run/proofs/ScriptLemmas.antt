@@ -12,6 +12,7 @@ use Rattle.tick_model.specs.LawfulRuns.{IsLawfulRun, sources_of}
 use Rattle.script_lines.specs.Lines.{lines_of}
 use Rattle.script_lines.specs.declared.fault.ScriptKind.TheVariants.{TooLong}
 use Rattle.script_reader.specs.declared.script.Script.{Script}
+use Rattle.script_reader.specs.Binding.{bound_node, ranks_of}
 use Rattle.script_reader.specs.Plain.{plain_node, plain_plan, plain_script}
 use Rattle.script_reader.specs.Scripts.{Refusal as Refused, nothing, after_lines, script_of}
 use Rattle.script_laws.proofs.Lawful.{bound_lawful, script_lawful}
@@ -19,6 +20,7 @@ use Rattle.script_laws.proofs.Written.{script_written}
 use Rattle.feed_reader.specs.declared.raw.RawFeed.{RawFeed}
 use Rattle.feed_reader.specs.declared.raw.RawTable.{RawTable}
 use Rattle.feed_reader.specs.Assembled.{AreTablesOf, plain_run, run_of}
+use Rattle.feed_reader.specs.Coding.{texts_of}
 use Rattle.feed_reader.specs.Feeds.{feed_of}
 use Rattle.feed_reader.proofs.AssembledLemmas.{run_is_lawful}
 use Rattle.feed_reader.proofs.PlainFeeds.{feed_plain}
@@ -58,6 +60,12 @@ feed_in_plain plan = fun_ext (λ (bytes : List ℕ). ap feed_read (feed_plain pl
 
 pub feed_found_plain : (plan : Plan) (content : Option (List ℕ)) → option_map (feed_in (plain_plan plan)) content ≡ option_map (feed_in plan) content
 feed_found_plain plan content = ap (λ (of : List ℕ → Result RawFeed Refusal). option_map of content) (feed_in_plain plan)
+
+-- the run has the nodes of the script
+pub nodes_kept : (script : Script) (tables : List RawTable) (feed : RawFeed) (run : Run) → plain_run run ≡ run_of script tables feed → length run.plan.nodes ≡ length script.plan.nodes
+nodes_kept script tables feed run made =
+    sym (length-map run.plan.nodes plain_node) ∙ ap (λ (own : Run). length own.plan.nodes) made
+    ∙ length-map script.plan.nodes (bound_node (ranks_of (texts_of script.literals tables feed) script.literals))
 
 -- the run of it
 module _ (script : Script) (tables : List RawTable) (feed : RawFeed) (run : Run) (made : plain_run run ≡ run_of script tables feed) where

@@ -1,23 +1,26 @@
 -- What the parts of the program say of what they wrote and of their status.
-use Rattle.std.specs.Prelude.{◌≡◌, ◌≤◌, ◌⊎◌, ℕ, Bool, IsTrue, List, [], Option, Some, Result, Ok, Err}
+use Rattle.std.specs.Prelude.{◌≡◌, ◌<◌, ◌≤◌, ◌⊎◌, ℕ, Bool, IsTrue, List, [], Option, Some, Result, Ok, Err}
 use Rattle.std.specs.Io.KnownBytes.{append_known}
 use Rattle.tick_io.specs.Written.{AppendsPrefix}
 use Rattle.tick_model.specs.declared.feed.Run.{Run}
 use Rattle.tick_model.specs.Texts.{record_text}
 use Rattle.command_words.specs.declared.command.Task.{Task}
-use Rattle.command_words.specs.declared.command.Task.TheVariants.{Run as RunTask, Demo}
+use Rattle.command_words.specs.declared.command.Task.TheVariants.{Run as RunTask, Demo, Watch as WatchTask}
 use Rattle.replay.specs.declared.outcome.Knobs.{Knobs}
 use Rattle.update_text.specs.declared.fault.WriteFault.{WriteFault}
 use Rattle.update_text.specs.declared.fault.WriteFault.TheVariants.{Memory, Failed}
 use Rattle.feed_run.specs.declared.refusal.Stop.{Stop}
 use Rattle.feed_run.specs.declared.refusal.Stop.TheVariants.{Memory as OutOfMemory, Unread, Refused}
-use Rattle.feed_run.specs.Verdicts.{Verdict, refusal_status, run_verdict, status_of}
+use Rattle.tick_model.specs.Spoiled.{first_spoiled}
+use Rattle.watched_run.specs.declared.watch.Watch.{Watch}
+use Rattle.feed_run.specs.Verdicts.{Verdict, refusal_status, run_verdict, status_of, watched_steps_verdict}
 use Rattle.feed_run.specs.Wholes.{refusal_record, unread_record, whole, IsLawful}
 
--- a made run has at most so many steps
-abbrev pub HasFewSteps : Task → Type 0
-HasFewSteps (RunTask script feed) = Unit {0}
-HasFewSteps (Demo steps) = steps ≤ 10000
+-- a made run has at most so many steps, and watched rows have positions in their range
+abbrev pub IsInRange : Task → Type 0
+IsInRange (RunTask script feed) = Unit {0}
+IsInRange (Demo steps) = steps ≤ 10000
+IsInRange (WatchTask script feed name first count) = (first < 4194304) × (1 ≤ count) × (count ≤ 4194304)
 
 -- a text was written whole, and its status is answered; or a prefix of it, since memory ran out or the sink failed
 abbrev pub status_of_write : ℕ → Result (Unit {0}) WriteFault → ℕ
@@ -43,6 +46,10 @@ EndsByStop (Refused refusal) failed old new answer = Ends (refusal_status refusa
 -- a run was run to its end, and reported
 abbrev pub EndsByRun : Run → Knobs → Type 0 → Option (List ℕ) → Option (List ℕ) → ℕ → Type 0
 EndsByRun run knobs failed old new answer = (of : Verdict) × (run_verdict run knobs ≡ Some of) × EndsBy of failed old new answer
+
+-- a watched run was run to its end, and reported
+abbrev pub EndsByWatch : Run → Watch → Type 0 → Option (List ℕ) → Option (List ℕ) → ℕ → Type 0
+EndsByWatch run watch failed old new answer = (of : Verdict) × (watched_steps_verdict run watch (first_spoiled run) ≡ Some of) × EndsBy of failed old new answer
 
 -- the program ended with a verdict, or with a load that failed, or out of memory before it wrote anything
 abbrev pub EndsByVerdict : Bool → Option Verdict → Type 0 → Option (List ℕ) → Option (List ℕ) → ℕ → Type 0

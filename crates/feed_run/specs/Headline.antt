@@ -3,13 +3,17 @@
 --     TellsLoadFault failed reached old new      a load of a file failed that has to be read, and the record that says so was written
 --     WritesPrefix verdict failed reached old new      a prefix of an allowed text was written
 --     IsComplete verdict status      memory ran out, or the status is that of the verdict
-use Rattle.std.specs.Prelude.{◌≡◌, ◌≤◌, ◌⊎◌, ℕ, true, List, Option, Some}
+use Rattle.std.specs.Prelude.{◌≡◌, ◌≤◌, ◌⊎◌, ℕ, true, List, Option, Some, None}
 use Rattle.std.specs.Io.KnownBytes.{append_known}
 use Rattle.std.specs.List.{list_any}
 use Rattle.std.specs.Str.{bytes_eq}
 use Rattle.tick_io.specs.Counts.{Rose}
 use Rattle.tick_io.specs.Written.{AppendsPrefix}
 use Rattle.tick_model.specs.Texts.{record_text}
+use Rattle.command_words.specs.declared.command.Command.{Command}
+use Rattle.command_words.specs.declared.command.Task.{Task}
+use Rattle.command_words.specs.declared.command.Task.TheVariants.{Run as RunTask, Demo, Watch as WatchTask}
+use Rattle.command_words.specs.Commands.{command}
 use Rattle.feed_run.specs.Readings.{Content}
 use Rattle.feed_run.specs.Verdicts.{Verdict, files, status_of}
 use Rattle.feed_run.specs.Wholes.{whole, unread_record, IsLawful}
@@ -62,6 +66,18 @@ WritesPrefixOrNothing verdict failed read old new = WritesPrefix verdict failed 
 abbrev pub IsComplete : Option Verdict → ℕ → Type 0
 IsComplete verdict status = (status ≡ 1) ⊎ ((told : Verdict) × (verdict ≡ Some told) × (status ≡ status_of told))
 
--- the statuses that there are
-abbrev pub IsStatus : ℕ → Type 0
-IsStatus status = status ≤ 10
+-- the statuses that there are: the last one where a watched run is asked for alone
+abbrev pub AsksForWatch : Task → Type 0
+AsksForWatch (RunTask script feed) = ⊥
+AsksForWatch (Demo steps) = ⊥
+AsksForWatch (WatchTask script feed name first count) = Unit {0}
+
+abbrev pub IsTaskStatus : Task → ℕ → Type 0
+IsTaskStatus task status = (status ≤ 10) ⊎ ((status ≡ 12) × AsksForWatch task)
+
+abbrev pub IsWatch : Option Command → Type 0
+IsWatch None = ⊥
+IsWatch (Some asked) = AsksForWatch asked.task
+
+abbrev pub IsStatus : List (List ℕ) → ℕ → Type 0
+IsStatus words status = (status ≤ 10) ⊎ ((status ≡ 12) × IsWatch (command words))

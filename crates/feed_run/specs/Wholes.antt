@@ -12,7 +12,9 @@ use Rattle.replay.specs.Outcomes.{IsLawfulChoice, limit_at, text_until}
 use Rattle.feed_run.specs.declared.refusal.Refusal.{Refusal}
 use Rattle.feed_run.specs.declared.refusal.Refusal.TheVariants.{Usage, Script, Table, Feed}
 use Rattle.feed_run.specs.FaultWords.{script_word, text_word, rule_fields, node_fields}
-use Rattle.feed_run.specs.Verdicts.{Verdict, Refused, Summary, Kept, Spoiled, Done}
+use Rattle.watched_run.specs.Messages.{watch_text}
+use Rattle.watched_run.specs.ToCome.{watch_until}
+use Rattle.feed_run.specs.Verdicts.{Verdict, Refused, Summary, Kept, Spoiled, Done, Unnamed, WatchSpoiled, WatchDone}
 
 -- the record of a fault: its status, what has it, and what it is
 abbrev pub unread_record : List ℕ → List (List ℕ)
@@ -27,6 +29,9 @@ refusal_record (Feed number kind) = codes "fault" ∷ codes "6" ∷ codes "feed"
 abbrev pub kept_record : ℕ → List (List ℕ)
 kept_record words = codes "fault" ∷ codes "2" ∷ codes "kept" ∷ decimal words ∷ []
 
+abbrev pub unnamed_record : List ℕ → List (List ℕ)
+unnamed_record name = codes "fault" ∷ codes "12" ∷ codes "watch" ∷ name ∷ []
+
 -- a published table, and the most rows that it may have
 abbrev pub publication_record : Run → ℕ → ℕ → ℕ → ℕ → List (List ℕ)
 publication_record run step number rows limit =
@@ -37,13 +42,17 @@ cause_record run step (ByBatch number rule) = codes "fault" ∷ codes "7" ∷ co
 cause_record run step (ByNode node fault) = codes "fault" ∷ codes "8" ∷ codes "node" ∷ decimal step ∷ name_at run node ∷ node_fields fault
 cause_record run step (ByPublication number rows) = publication_record run step number rows (limit_at run number)
 
--- the updates and the snapshots up to the last good step, where there is one, and then the end or the fault; or the one text alone
+-- the updates and the snapshots, or the messages, up to the last good step, where there is one, and then the end or the fault; or the one text
+-- alone
 abbrev pub whole : Verdict → List (List ℕ) → List ℕ
 whole (Refused refusal) choice = record_text (refusal_record refusal)
 whole (Summary steps) choice = summary_text (made steps) steps
 whole (Kept words) choice = record_text (kept_record words)
 whole (Spoiled run knobs step cause) choice = text_until run (good run) choice ++ record_text (cause_record run step cause)
 whole (Done run knobs step) choice = updates_text run step ++ snapshots_text run choice ++ record_text (done_record step)
+whole (Unnamed name) choice = record_text (unnamed_record name)
+whole (WatchSpoiled run watch step cause) choice = watch_until run watch (good run) ++ record_text (cause_record run step cause)
+whole (WatchDone run watch step) choice = watch_text run watch step ++ record_text (done_record step)
 
 -- where a verdict has a last good step, callers choose up to it
 abbrev pub IsLawful : Verdict → List (List ℕ) → Type 0
@@ -52,3 +61,6 @@ IsLawful (Summary steps) choice = choice ≡ []
 IsLawful (Kept words) choice = choice ≡ []
 IsLawful (Spoiled run knobs step cause) choice = IsLawfulChoice knobs (good run) choice
 IsLawful (Done run knobs step) choice = IsChoice knobs.callers knobs.snaps step choice
+IsLawful (Unnamed name) choice = choice ≡ []
+IsLawful (WatchSpoiled run watch step cause) choice = choice ≡ []
+IsLawful (WatchDone run watch step) choice = choice ≡ []

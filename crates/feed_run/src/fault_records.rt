@@ -4,7 +4,7 @@ ghost use Rattle.std.specs.Prelude.{◌≡◌, IfOk};
 ghost use Rattle.tick_model.specs.Spoiled.{ByBatch, ByNode};
 ghost use Rattle.tick_model.specs.Texts.{done_record as done_record_of, name_at, published_node as published_node_of};
 ghost use Rattle.feed_run.specs.Verdicts.{refusal_status as status_of_refusal};
-ghost use Rattle.feed_run.specs.Wholes.{cause_record, kept_record as kept_record_of, publication_record as publication_record_of, refusal_record as refusal_record_of, unread_record as unread_record_of};
+ghost use Rattle.feed_run.specs.Wholes.{cause_record, kept_record as kept_record_of, publication_record as publication_record_of, refusal_record as refusal_record_of, unnamed_record as unnamed_record_of, unread_record as unread_record_of};
 
 use crate::fault_words::{script_word, text_word, with_node_fault, with_rule};
 use crate::fields::Fields;
@@ -42,6 +42,13 @@ pub(crate) fn refusal_record(alloc: Global, refusal: &Refusal) -> Result<Fields,
             .number(*number)?
             .text(text_word(*kind)),
     }
+}
+
+/// That the script has no node of the name that is to be watched.
+pub(crate) fn unnamed_record(alloc: Global, name: &str) -> Result<Fields, AllocError>
+    ensures { IfOk result (λ fields. fields ≡ unnamed_record_of name.now) }
+{
+    Fields::of_fault(alloc, "12", "watch")?.text(name)
 }
 
 /// The status where words or a file are refused.

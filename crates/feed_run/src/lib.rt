@@ -15,6 +15,7 @@ mod reports;
 mod run;
 mod summary;
 mod tables;
+mod watching;
 
 pub use program::tick_main;
 pub use refusal::Refusal;

@@ -2,14 +2,15 @@
 
 ghost use Rattle.std.specs.Prelude.{◌≡◌, ◌≤◌, IsTrue, map, string_bytes};
 ghost use Rattle.tick_io.specs.Counts.{Rose};
-ghost use Rattle.feed_run.specs.Answers.{Answers, HasFewSteps};
-ghost use Rattle.feed_run.specs.Headline.{IsComplete, IsOneOf, IsRead, IsStatus, LoadFailed, NoneFailed, SomeName, TellsLoadFault, TellsVerdict, WritesPrefix, WritesPrefixOrNothing};
+ghost use Rattle.feed_run.specs.Answers.{Answers, IsInRange};
+ghost use Rattle.feed_run.specs.Headline.{IsComplete, IsOneOf, IsRead, IsStatus, IsTaskStatus, LoadFailed, NoneFailed, SomeName, TellsLoadFault, TellsVerdict, WritesPrefix, WritesPrefixOrNothing};
 ghost use Rattle.feed_run.specs.Verdicts.{knobs_of as knobs_of_command, task_files, task_verdict, verdict};
 
 use crate::demo::demo;
 use crate::refusal::{Refusal, Stop};
 use crate::reports::report_stop;
 use crate::run::{read_run, run_to_end};
+use crate::watching::{Asked, watch};
 use command_words::{Command, Task, read_words};
 use replay::Knobs;
 use std::alloc::{AllocError, Global};
@@ -35,22 +36,43 @@ fn run_task<R: Threads + Wait + Sync, I: Inputs, S: Sink, G: Gate>(
     alloc: Global,
     task: &Task,
     knobs: &Knobs,
+    every: u32,
     inputs: &mut I,
     out: &mut S,
     gate: &G,
 ) -> u8
-    requires few_steps { HasFewSteps task.now }
+    requires numbers { IsInRange task.now }
     requires some_workers { 1 ≤ knobs.now.workers }
     requires few_workers { knobs.now.workers ≤ 64 }
     requires few_callers { knobs.now.callers ≤ 16 }
     requires few_snaps { knobs.now.snaps ≤ 64 }
-    ensures { Answers I.told (task_verdict (I.content inputs.old) knobs.now task.now)
+    requires some_between { 1 ≤ every }
+    requires few_between { every ≤ 100000 }
+    ensures answers { Answers I.told (task_verdict (I.content inputs.old) knobs.now every task.now)
         (LoadFailed I.failures inputs.old inputs.new) (IsOneOf (task_files (I.content inputs.old) task.now))
         (Rose (S.failures out.old) (S.failures out.new)) (S.bytes out.old) (S.bytes out.new) result }
+    ensures status { IsTaskStatus task.now result }
 {
     let (script, feed) = match task {
         Task::Run { script, feed } => (script.as_str(), feed.as_str()),
         Task::Demo { steps } => return demo(rt, alloc, *steps, knobs, out, gate),
+        Task::Watch {
+            script,
+            feed,
+            node,
+            first,
+            count,
+        } => {
+            let asked = Asked {
+                script: script.as_str(),
+                feed: feed.as_str(),
+                name: node.as_str(),
+                first: *first,
+                count: *count,
+                every,
+            };
+            return watch(rt, alloc, asked, knobs.workers, inputs, out, gate);
+        }
     };
     let own = match read_run(alloc, inputs, script, feed) {
         Ok(own) => own,
@@ -68,9 +90,10 @@ fn answer<R: Threads + Wait + Sync, I: Inputs, S: Sink, G: Gate>(
     out: &mut S,
     gate: &G,
 ) -> u8
-    ensures { Answers I.told (verdict (map string_bytes words.now) (I.content inputs.old))
+    ensures answers { Answers I.told (verdict (map string_bytes words.now) (I.content inputs.old))
         (LoadFailed I.failures inputs.old inputs.new) (IsRead (map string_bytes words.now) (I.content inputs.old))
         (Rose (S.failures out.old) (S.failures out.new)) (S.bytes out.old) (S.bytes out.new) result }
+    ensures status { IsStatus (map string_bytes words.now) result }
 {
     let command = match read_words(alloc, words) {
         Ok(Some(command)) => command,
@@ -78,7 +101,16 @@ fn answer<R: Threads + Wait + Sync, I: Inputs, S: Sink, G: Gate>(
         Err(AllocError) => return 1,
     };
     let knobs = knobs_of(&command);
-    run_task(rt, alloc, &command.task, &knobs, inputs, out, gate)
+    run_task(
+        rt,
+        alloc,
+        &command.task,
+        &knobs,
+        command.every,
+        inputs,
+        out,
+        gate,
+    )
 }
 
 /// All that the program does, from the words after its name to the status with which it ends.
@@ -122,7 +154,7 @@ pub fn tick_main<R: Threads + Wait + Sync, I: Inputs, S: Sink, G: Gate>(
         (S.bytes out.old) (S.bytes out.new) }
 
     // There is no other status, and none but that of the verdict where nothing failed and memory sufficed.
-    ensures statuses { IsStatus result }
+    ensures statuses { IsStatus (map string_bytes words.now) result }
     ensures complete { IsTrue I.told
         → NoneFailed (LoadFailed I.failures inputs.old inputs.new)
         (IsRead (map string_bytes words.now) (I.content inputs.old))

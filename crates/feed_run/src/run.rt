@@ -48,6 +48,7 @@ fn read_feed_run<I: Inputs>(
     ensures reads { Reads I.told (LoadFailed I.failures inputs.old inputs.new) (IsOneOf (feed_name.now ∷ []))
         (feed_found (I.content inputs.old) (plain_script script) tables feed_name.now) plain_run result }
     ensures lawful { IfOk result IsLawfulRun }
+    ensures nodes { IfOk result (λ run. length run.plan.nodes ≡ length script.plan.nodes) }
     ensures never_falls { (other : List ℕ) → I.failures inputs.old other ≤ I.failures inputs.new other }
     ensures kept { I.content inputs.new ≡ I.content inputs.old }
 {
@@ -58,7 +59,7 @@ fn read_feed_run<I: Inputs>(
 }
 
 /// The run of a script, of the table files that it names, and of the feed of a file.
-fn read_plan_run<I: Inputs>(
+pub(crate) fn read_plan_run<I: Inputs>(
     alloc: Global,
     inputs: &mut I,
     script: Script,
@@ -69,6 +70,7 @@ fn read_plan_run<I: Inputs>(
         (IsOneOf (plan_read (I.content inputs.old) (plain_script script) feed_name.now))
         (plan_found (I.content inputs.old) (plain_script script) feed_name.now) plain_run result }
     ensures lawful { IfOk result IsLawfulRun }
+    ensures nodes { IfOk result (λ run. length run.plan.nodes ≡ length script.plan.nodes) }
     ensures never_falls { (other : List ℕ) → I.failures inputs.old other ≤ I.failures inputs.new other }
     ensures kept { I.content inputs.new ≡ I.content inputs.old }
 {

@@ -7,6 +7,7 @@ mod gate;
 mod made;
 mod refused;
 mod snapshots;
+mod watched;
 mod worked;
 
 use crate::tick_main;

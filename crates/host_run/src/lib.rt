@@ -3,8 +3,8 @@
 //! Each program of the repository is a `main` that calls `run`.
 #![tactic(auto)]
 
+ghost use Rattle.std.specs.Prelude.{◌≡◌, ◌≤◌, ◌⊎◌};
 ghost use Rattle.std.specs.Process.{exit_status};
-ghost use Rattle.feed_run.specs.Headline.{IsStatus};
 
 use feed_run::tick_main;
 use std::alloc::AllocError;
@@ -38,7 +38,7 @@ fn words<R: AllocGlobal + Env>(rt: &R) -> Result<Vec<String>, AllocError> {
 ///
 /// What is written is that of `tick_main`; no contract says what the words and files of a process are.
 pub fn run<R: AllocGlobal + Env + Files + Print + Threads + Wait + Sync>(rt: &R) -> ExitCode
-    ensures status { IsStatus (exit_status result) }
+    ensures status { (exit_status result ≤ 10) ⊎ (exit_status result ≡ 12) }
 {
     let Ok(words) = words(rt) else {
         return ExitCode::from(OUT_OF_MEMORY);

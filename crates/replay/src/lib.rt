@@ -24,5 +24,7 @@ mod steps;
 mod tests;
 mod writing;
 
+pub use limits::check_limits;
 pub use outcome::{Knobs, Outcome};
+pub use printed::{PrintedNode, printed_node};
 pub use run::run_feed;

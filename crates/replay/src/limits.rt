@@ -28,7 +28,7 @@ fn past_limit(graph: &Graph, table: &Published) -> Option<(u64, u64)>
 }
 
 /// Refuses a step at which a published table has more rows than its limit, and names the least one.
-pub(crate) fn check_limits(graph: &Graph, published: &[Published]) -> Result<(), Outcome>
+pub fn check_limits(graph: &Graph, published: &[Published]) -> Result<(), Outcome>
     requires { published.now ≡ graph.now.run.plan.published }
     ensures within { OnOk result (IsWithin graph.now.run graph.now.step) }
     ensures past { IfErr result (IsPast graph.now.run graph.now.step) }

@@ -12,9 +12,9 @@ use update_text::Shown;
 
 /// A node that is printed: its number, and its name and its columns.
 #[derive(Debug, Drop)]
-pub(crate) struct PrintedNode {
-    pub(crate) node: u32,
-    pub(crate) shown: Shown,
+pub struct PrintedNode {
+    pub node: u32,
+    pub shown: Shown,
 }
 
 /// A name with the same text.
@@ -39,7 +39,7 @@ fn columns_copied(alloc: Global, columns: &[ColumnSpec]) -> Result<Items<ColumnS
 }
 
 /// A node as it is printed.
-fn printed_node(alloc: Global, run: &Run, number: u32) -> Result<PrintedNode, AllocError>
+pub fn printed_node(alloc: Global, run: &Run, number: u32) -> Result<PrintedNode, AllocError>
     requires { number < length run.now.plan.nodes }
     ensures { IfOk result (λ printed. printed ≡ printed_of run.now number) }
 {

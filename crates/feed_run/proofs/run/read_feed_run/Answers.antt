@@ -10,7 +10,7 @@ use Rattle.feed_run.specs.Headline.{IsOneOf, LoadFailed}
 use Rattle.feed_run.specs.Readings.{feed_in}
 use Rattle.feed_run.specs.Stops.{Reads}
 use Rattle.feed_run.proofs.StopLemmas.{reads_stopped}
-use Rattle.feed_run.proofs.ScriptLemmas.{few_nodes, few_columns, feed_found_plain, run_is_plain, run_lawful}
+use Rattle.feed_run.proofs.ScriptLemmas.{few_nodes, few_columns, feed_found_plain, nodes_kept, run_is_plain, run_lawful}
 use Rattle.feed_run.proofs.run.read_feed_run.Goals as goal
 
 pub load_feed-requires : goal.load_feed-requires
@@ -41,3 +41,6 @@ returns-clause-reads g c = λ t.
 pub returns-clause-lawful : goal.returns-clause-lawful
 returns-clause-lawful g c =
     run_lawful c.args.script c.args.tables c.in_ok-feed.feed c.in_ok-assembled.assembled (c.in_ok-assembled.ensures) c.requires.script.0 (c.in_ok-feed.ensures.feed).0 c.requires.script.1 c.requires.tables (c.in_ok-feed.ensures.feed).1 c.texts_are_few.ensures
+
+pub returns-clause-nodes : goal.returns-clause-nodes
+returns-clause-nodes g c = nodes_kept c.args.script c.args.tables c.in_ok-feed.feed c.in_ok-assembled.assembled c.in_ok-assembled.ensures

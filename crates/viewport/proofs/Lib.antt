@@ -1,0 +1,7 @@
+pub mod ExampleTicks
+pub mod KeptRows
+pub mod Messages
+pub mod Mirroring
+pub mod SliceCells
+pub mod SliceTables
+pub mod Subscriptions

@@ -1,0 +1,31 @@
+use Rattle.std.proofs.Common.{refl}
+use Rattle.std.proofs.lemmas.Result.{err_from_is_err_and}
+use Rattle.replay.proofs.Reaching.{good_first}
+use Rattle.replay.proofs.Spoils.{past_is_cause, past_no_write, past_there, stop_is_cause, stop_no_write, within_there}
+use Rattle.watched_run.proofs.steps.opened.Goals as goal
+
+pub returns-in_err-graph-clause-cause : goal.returns-in_err-graph-clause-cause
+returns-in_err-graph-clause-cause c =
+    let p = err_from_is_err_and c.from_residual.result c.from_residual.ensures.1 in
+    rw (p.1, p.2) (stop_is_cause c.args.run.now 0 c.in_err-graph.field-0.0 c.in_err-graph.ensures.cause)
+
+pub returns-in_err-graph-clause-no_write : goal.returns-in_err-graph-clause-no_write
+returns-in_err-graph-clause-no_write c is =
+    let p = err_from_is_err_and c.from_residual.result c.from_residual.ensures.1 in
+    stop_no_write c.in_err-graph.field-0.0 (cc)
+
+pub returns-in_err-check_limits-clause-cause : goal.returns-in_err-check_limits-clause-cause
+returns-in_err-check_limits-clause-cause c =
+    let p = err_from_is_err_and c.from_residual-in_err-check_limits.result c.from_residual-in_err-check_limits.ensures.1 in
+    let made = c.in_ok-graph.ensures in
+    rw (p.1, p.2) (λ told. past_is_cause c.args.run.now 0 c.in_err-check_limits.field-0.0 refl made.nodes (past_there c.args.run.now 0 _ _ c.in_err-check_limits.field-0.0 made.run made.step c.in_err-check_limits.ensures.past))
+
+pub returns-in_err-check_limits-clause-no_write : goal.returns-in_err-check_limits-clause-no_write
+returns-in_err-check_limits-clause-no_write c is =
+    let p = err_from_is_err_and c.from_residual-in_err-check_limits.result c.from_residual-in_err-check_limits.ensures.1 in
+    past_no_write c.in_ok-graph.graph.run c.in_ok-graph.graph.step c.in_err-check_limits.field-0.0 c.in_err-check_limits.ensures.past (cc)
+
+pub returns-clause-good : goal.returns-clause-good
+returns-clause-good c =
+    let made = c.in_ok-graph.ensures in
+    good_first c.args.run.now made.nodes (within_there c.args.run.now 0 _ _ made.run made.step c.in_ok-check_limits.ensures.within)
