@@ -7,6 +7,7 @@
 #![tactic(auto)]
 
 mod beside;
+mod hands;
 mod kept;
 mod last_calls;
 mod limits;
@@ -24,6 +25,7 @@ mod steps;
 mod tests;
 mod writing;
 
+pub use hands::Hands;
 pub use limits::check_limits;
 pub use outcome::{Knobs, Outcome};
 pub use printed::{PrintedNode, printed_node};

@@ -12,6 +12,7 @@ ghost use Rattle.replay.specs.Standing.{IsAt, IsWriterAt};
 ghost use Rattle.replay.specs.ToCome.{text_from};
 
 use crate::Outcome;
+use crate::hands::Hands;
 use crate::limits::check_limits;
 use crate::printed::{PrintedNode, printed_nodes};
 use crate::publishing::next_published;
@@ -64,7 +65,7 @@ impl Progress {
         rt: &R,
         alloc: Global,
         run: &Run,
-        workers: u32,
+        hands: &mut Hands,
         gate: &G,
         store: &Store,
         writer: &mut Writer,
@@ -73,8 +74,6 @@ impl Progress {
         requires lawful { IsLawfulRun run.now }
         requires stands { IsAt run.now self.graph.step self }
         requires next { self.graph.step < length run.now.batches }
-        requires some_workers { 1 ≤ workers }
-        requires few_workers { workers ≤ 64 }
         requires store { store.now.run ≡ run.now }
         requires writer { IsWriterAt store.now self.graph.step writer.old }
         ensures stands { IfOk result (IsAt run.now (self.graph.step + 1)) }
@@ -93,7 +92,7 @@ impl Progress {
             printed,
             records,
         } = self;
-        let graph = next_published(rt, alloc, run, workers, graph, gate, store, writer)?;
+        let graph = next_published(rt, alloc, run, hands, graph, gate, store, writer)?;
         let more = write_step(alloc, out, &graph, &run.texts, printed.as_slice())?;
         Ok(Progress {
             graph,

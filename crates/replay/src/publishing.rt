@@ -10,6 +10,7 @@ ghost use Rattle.replay.specs.Outcomes.{IsTold};
 ghost use Rattle.replay.specs.Standing.{IsGood, IsWriterAt};
 
 use crate::Outcome;
+use crate::hands::Hands;
 use crate::limits::put_tables;
 use snapshot_store::{Phase, Store, Writer};
 use std::alloc::Global;
@@ -24,7 +25,7 @@ fn next_put<R: Threads + Sync, G: Gate>(
     rt: &R,
     alloc: Global,
     run: &Run,
-    workers: u32,
+    hands: &mut Hands,
     graph: Graph,
     gate: &G,
     store: &Store,
@@ -32,8 +33,6 @@ fn next_put<R: Threads + Sync, G: Gate>(
 ) -> Result<Graph, Outcome>
     requires run { graph.run ≡ run.now }
     requires next { graph.step < length run.now.batches }
-    requires some_workers { 1 ≤ workers }
-    requires few_workers { workers ≤ 64 }
     requires good { IsGood run.now graph.step }
     requires store { store.now.run ≡ run.now }
     requires own { IsOf store.now writer.old.table writer.old.run }
@@ -49,7 +48,7 @@ fn next_put<R: Threads + Sync, G: Gate>(
     ensures cause { IfErr result (λ outcome. IsTold outcome → IsCause run.now (graph.step + 1) outcome) }
     ensures no_write { IsErrOf result Outcome.Write → ⊥ }
 {
-    let graph = graph.cycle(rt, alloc, run, workers, gate)?;
+    let graph = hands.cycle(rt, alloc, run, graph, gate)?;
     put_tables(store, &graph, run.plan.published.as_slice(), writer)?;
     Ok(graph)
 }
@@ -59,7 +58,7 @@ pub(crate) fn next_published<R: Threads + Wait + Sync, G: Gate>(
     rt: &R,
     alloc: Global,
     run: &Run,
-    workers: u32,
+    hands: &mut Hands,
     graph: Graph,
     gate: &G,
     store: &Store,
@@ -68,8 +67,6 @@ pub(crate) fn next_published<R: Threads + Wait + Sync, G: Gate>(
     requires run { graph.run ≡ run.now }
     requires next { graph.step < length run.now.batches }
     requires few { length run.now.batches ≤ 100000 }
-    requires some_workers { 1 ≤ workers }
-    requires few_workers { workers ≤ 64 }
     requires good { IsGood run.now graph.step }
     requires store { store.now.run ≡ run.now }
     requires writer { IsWriterAt store.now graph.step writer.old }
@@ -83,7 +80,7 @@ pub(crate) fn next_published<R: Threads + Wait + Sync, G: Gate>(
     ensures no_write { IsErrOf result Outcome.Write → ⊥ }
 {
     store.begin(rt, writer);
-    match next_put(rt, alloc, run, workers, graph, gate, store, writer) {
+    match next_put(rt, alloc, run, hands, graph, gate, store, writer) {
         Ok(next) => {
             store.finish(writer);
             Ok(next)

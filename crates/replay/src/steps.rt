@@ -11,6 +11,7 @@ ghost use Rattle.replay.specs.Steps.{HasRun};
 ghost use Rattle.replay.specs.ToCome.{text_from};
 
 use crate::Outcome;
+use crate::hands::Hands;
 use crate::progress::Progress;
 use snapshot_store::{Store, Writer};
 use std::alloc::{AllocError, Global};
@@ -24,7 +25,7 @@ fn bring_to_end<R: Threads + Wait + Sync, S: Sink, G: Gate>(
     rt: &R,
     alloc: Global,
     run: &Run,
-    workers: u32,
+    hands: &mut Hands,
     gate: &G,
     store: &Store,
     progress: Progress,
@@ -32,8 +33,6 @@ fn bring_to_end<R: Threads + Wait + Sync, S: Sink, G: Gate>(
     out: &mut S,
 ) -> Result<Progress, Outcome>
     requires lawful { IsLawfulRun run.now }
-    requires some_workers { 1 ≤ workers }
-    requires few_workers { workers ≤ 64 }
     requires store { store.now.run ≡ run.now }
     requires stands { IsAt run.now 0 progress }
     requires writer { IsWriterAt store.now 0 writer.old }
@@ -50,7 +49,7 @@ fn bring_to_end<R: Threads + Wait + Sync, S: Sink, G: Gate>(
 {
     let mut progress = progress;
     for _step in 0..run.batches.len() {
-        progress = progress.advance(rt, alloc, run, workers, gate, store, writer, out)?;
+        progress = progress.advance(rt, alloc, run, hands, gate, store, writer, out)?;
     }
     Ok(progress)
 }
@@ -76,7 +75,13 @@ pub(crate) fn run_steps<R: Threads + Wait + Sync, S: Sink, G: Gate>(
     ensures own { IsOf store.now writer.new.table writer.new.run }
     ensures ran { HasRun run.now result writer.new.step (S.bytes out.old) (S.bytes out.new) (S.failures out.old) (S.failures out.new) }
 {
-    let progress = match bring_to_end(rt, alloc, run, workers, gate, store, progress, writer, out) {
+    let mut hands = match Hands::new(alloc, workers) {
+        Ok(hands) => hands,
+        Err(AllocError) => return Outcome::Memory,
+    };
+    let progress = match bring_to_end(
+        rt, alloc, run, &mut hands, gate, store, progress, writer, out,
+    ) {
         Ok(progress) => progress,
         Err(outcome) => return outcome,
     };

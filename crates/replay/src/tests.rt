@@ -10,6 +10,7 @@ ghost use Rattle.replay.specs.Standing.{IsAt, IsWriterAt};
 mod gate;
 mod runs;
 
+use crate::hands::Hands;
 use crate::opening::{Opened, Publication, open_run};
 use crate::progress::Progress;
 use crate::readers::Reader;
@@ -59,18 +60,10 @@ fn first_step<R: Threads + Wait + Sync>(
     requires writer { IsWriterAt store.now 0 writer.old }
     requires own { IsOf store.now caller.table caller.run }
 {
+    let mut hands = Hands::new(alloc, KNOBS.workers)?;
     let gate = ProbeGate::new(store, caller);
     let mut out = VoidSink;
-    progress.advance(
-        rt,
-        alloc,
-        run,
-        KNOBS.workers,
-        &gate,
-        store,
-        writer,
-        &mut out,
-    )?;
+    progress.advance(rt, alloc, run, &mut hands, &gate, store, writer, &mut out)?;
     Ok(gate.answers())
 }
 

@@ -1,63 +1,131 @@
 -- What is known of claims for a step of a run.
-use Rattle.std.proofs.Common.{◌≡◌, ap, sym, ◌∙◌, subst, ℕ, ◌+◌, ◌^◌, ◌<◌, zero, suc, arith, Bool, true, not, List, [], ◌∷◌, map, length, get_or, refl}
+use Rattle.std.proofs.Common.{◌≡◌, ap, sym, ◌∙◌, subst, ℕ, ◌+◌, ◌^◌, ◌<◌, zero, suc, arith, Bool, true, false, true≢false, not, List, [], ◌∷◌, map, length, get_or, refl}
+use Rattle.std.specs.Prelude.{IfOk, Result, Ok, Err}
 use mathlib.Core.Option.{some}
 use lib.ListN.{get_elem?}
 use Rattle.graph_words.specs.declared.graph.Edge.{Edge}
 use Rattle.graph_words.specs.declared.graph.Plan.{Plan}
+use Rattle.graph_words.specs.Marks.{inputs}
 use Rattle.tick_model.specs.declared.feed.Run.{Run}
 use Rattle.tick_model.specs.declared.plan.Node.{Node}
 use Rattle.tick_model.specs.Evaluation.{inputs_of, is_source}
+use Rattle.update_graph.specs.Crews.{IsStepWork, StepView}
 use Rattle.update_graph.specs.Edges.{froms_to}
 use Rattle.update_graph.specs.Entered.{IsEntered}
-use Rattle.update_graph.specs.Holdings.{IsClaimed}
+use Rattle.update_graph.specs.Holdings.{IsClaimed, IsForStep}
 use Rattle.update_graph.specs.Tags.{Tag, is_operator, no_node, op_at, tag}
-use Rattle.update_graph.proofs.PlanEdges.{edge_ends, few_edges, goes_to_operator, input_froms}
+use Rattle.update_graph.proofs.ClaimedWorks.{as_tag}
+use Rattle.update_graph.proofs.PlanEdges.{edge_ends, edge_into, few_edges, goes_to_operator, input_froms, no_inputs}
+use Rattle.update_graph.proofs.PlanLimits.{few_nodes}
+
+-- claims for a step of a run
+module _ (run : Run) (plan : Plan Tag) (s : IsForStep run plan) where
+  pub few_of_step : length plan.edges.items < 2 ^ 32
+  few_of_step = subst (λ l. length l < 2 ^ 32) (sym s.edges) (few_edges run s.entered.lawful)
+
+  pub ends_of_step : (e : ℕ) (x : Edge) → get_elem? plan.edges.items e ≡ some x → (x.from < x.to) × (x.to < length run.plan.nodes)
+  ends_of_step e x there = edge_ends run s.entered.lawful e x (ap (λ l. get_elem? l e) (sym s.edges) ∙ there)
+
+  pub small_of_step : (e : ℕ) (x : Edge) → get_elem? plan.edges.items e ≡ some x → x.to < 256
+  small_of_step e x there =
+      let below = (ends_of_step e x there).1 in
+      let most = few_nodes run s.entered.lawful in
+      omega (arith, below, most)
+
+  pub goes_of_step : (e : ℕ) (x : Edge) → get_elem? plan.edges.items e ≡ some x → is_operator run x.to ≡ true
+  goes_of_step e x there = goes_to_operator run s.entered.lawful e x (ap (λ l. get_elem? l e) (sym s.edges) ∙ there)
+
+  -- a node with input edges
+  pub within_of_step : (n : ℕ) → 0 < inputs n plan.edges.items → n < length run.plan.nodes
+  within_of_step n some_in =
+      let into = edge_into n plan.edges.items some_in in
+      subst (λ k. k < length run.plan.nodes) into.3 (ends_of_step into.0 into.1 into.2).1
+
+  pub operator_of_step : (n : ℕ) → 0 < inputs n plan.edges.items → is_operator run n ≡ true
+  operator_of_step n some_in =
+      let into = edge_into n plan.edges.items some_in in
+      subst (λ k. is_operator run k ≡ true) into.3 (goes_of_step into.0 into.1 into.2)
+
+  froms_of_step : (n : ℕ) → n < length run.plan.nodes → froms_to n plan.edges.items ≡ inputs_of (op_at run n)
+  froms_of_step n within = ap (froms_to n) s.edges ∙ input_froms run s.entered.lawful n within
+
+  -- what is taken
+  pub work_taken : (work : Tag) (n : ℕ) → work.run ≡ plan.first.value.run → work.node ≡ n → work.step ≡ plan.first.value.step → work ≡ tag run plan.first.value.step n
+  work_taken work n of_run of_node of_step = as_tag work run plan.first.value.step n (of_run ∙ s.of_run) of_node of_step
+
+  pub shares_taken : (shares : List Tag) (n : ℕ) → n < length run.plan.nodes → shares ≡ map (tag plan.first.value.run (plan.first.value.step + 1)) (froms_to n plan.edges.items) → shares ≡ map (tag run (plan.first.value.step + 1)) (inputs_of (op_at run n))
+  shares_taken shares n within same =
+      same
+      ∙ ap (λ (l : List ℕ). map (tag plan.first.value.run (plan.first.value.step + 1)) l) (froms_of_step n within)
+      ∙ ap (λ r. map (tag r (plan.first.value.step + 1)) (inputs_of (op_at run n))) s.of_run
+
+  -- a work that was taken
+  module _ (work : Tag) (n : ℕ) (same : work ≡ tag run plan.first.value.step n) where
+    pub work_run : work.run ≡ run
+    work_run = ap (λ (t : Tag). t.run) same
+
+    pub work_entered : IsEntered run (work.step + 1)
+    work_entered = subst (λ (t : Tag). IsEntered run (t.step + 1)) (sym same) s.entered
+
+    pub work_within : n < length run.plan.nodes → work.node < length run.plan.nodes
+    work_within within = subst (λ (t : Tag). t.node < length run.plan.nodes) (sym same) within
+
+    pub work_operator : is_operator run n ≡ true → is_operator run work.node ≡ true
+    work_operator is = subst (λ (t : Tag). is_operator run t.node ≡ true) (sym same) is
+
+    pub work_shares : (shares : List Tag) → shares ≡ map (tag run (plan.first.value.step + 1)) (inputs_of (op_at run n)) → shares ≡ map (tag run (work.step + 1)) (inputs_of (op_at run work.node))
+    work_shares shares is = subst (λ (t : Tag). shares ≡ map (tag run (t.step + 1)) (inputs_of (op_at run t.node))) (sym same) is
+
+    -- what it is at the next step, and what the node hands on
+    pub work_next : {E : Type 0} (pick : Tag × Tag → Tag) (worked : Result (Tag × Tag) E) → IfOk worked (λ out. pick out ≡ tag run (work.step + 1) work.node) → IfOk worked (λ out. pick out ≡ tag run (plan.first.value.step + 1) n)
+    work_next pick (Ok out) is = subst (λ (t : Tag). pick out ≡ tag run (t.step + 1) t.node) same is
+    work_next pick (Err e) is = tt
+
+  -- what is put back
+  pub next_tagged : (next : Tag) (n : ℕ) → next ≡ tag run (plan.first.value.step + 1) n → (next.run ≡ plan.first.value.run) × (next.node ≡ n) × (next.step ≡ plan.first.value.step + 1)
+  next_tagged next n same = (ap (λ (t : Tag). t.run) same ∙ sym s.of_run, ap (λ (t : Tag). t.node) same, ap (λ (t : Tag). t.step) same)
+
+-- what the hands of a crew work by is for the step of the claims
+pub step_of_view : (plan : Plan Tag) (run own : Run) (step : ℕ) (edges : List Edge) (view : StepView) → run ≡ own → record { run = own; step = step; edges = edges } ≡ view → IsStepWork own step edges
+    → plan.first.value.run ≡ view.run → plan.first.value.step + 1 ≡ view.step → plan.edges.items ≡ view.edges → IsForStep run plan
+step_of_view plan run own step edges view same seen work run_is step_is edges_is =
+    subst (λ r. IsForStep r plan) (sym same) record {
+      entered = subst (IsEntered own) (sym (step_is ∙ sym (ap (λ (v : StepView). v.step) seen))) work.entered;
+      of_run = run_is ∙ sym (ap (λ (v : StepView). v.run) seen);
+      edges = edges_is ∙ sym (ap (λ (v : StepView). v.edges) seen) ∙ work.edges_are;
+    }
 
 module _ (run : Run) (plan : Plan Tag) (c : IsClaimed run plan) where
   pub run_is : plan.first.value.run ≡ run
   run_is = ap (λ (t : Tag). t.run) c.first
 
+  pub step_of_claims : IsForStep run plan
+  step_of_claims = record { entered = c.entered; of_run = run_is; edges = c.edges }
+
   pub few_claimed : length plan.edges.items < 2 ^ 32
-  few_claimed = subst (λ l. length l < 2 ^ 32) (sym c.edges) (few_edges run c.entered.lawful)
+  few_claimed = few_of_step run plan step_of_claims
 
   pub node_within : (n : ℕ) → n < plan.nodes → n < length run.plan.nodes
   node_within n within = subst (λ k. n < k) c.nodes within
 
   pub ends_claimed : (e : ℕ) (x : Edge) → get_elem? plan.edges.items e ≡ some x → (x.from < x.to) × (x.to < plan.nodes)
   ends_claimed e x there =
-      let ends = edge_ends run c.entered.lawful e x (ap (λ l. get_elem? l e) (sym c.edges) ∙ there) in
+      let ends = ends_of_step run plan step_of_claims e x there in
       (ends.0, subst (λ k. x.to < k) (sym c.nodes) ends.1)
 
   pub goes_claimed : (e : ℕ) (x : Edge) → get_elem? plan.edges.items e ≡ some x → is_operator run x.to ≡ true
-  goes_claimed e x there = goes_to_operator run c.entered.lawful e x (ap (λ l. get_elem? l e) (sym c.edges) ∙ there)
+  goes_claimed = goes_of_step run plan step_of_claims
 
-  pub froms_claimed : (n : ℕ) → n < plan.nodes → froms_to n plan.edges.items ≡ inputs_of (op_at run n)
-  froms_claimed n within = ap (froms_to n) c.edges ∙ input_froms run c.entered.lawful n (node_within n within)
+  -- a node with an operator has input edges
+  pub input_claimed : (n : ℕ) → n < plan.nodes → is_operator run n ≡ true → 0 < inputs n plan.edges.items
+  input_claimed n within is = go (inputs n plan.edges.items) refl
+    where
+      go : (k : ℕ) → inputs n plan.edges.items ≡ k → 0 < inputs n plan.edges.items
+      go zero none = absurd (true≢false (sym is ∙ no_inputs run c.entered.lawful n (node_within n within) (sym (ap (inputs n) c.edges) ∙ none)))
+      go (suc k) some_in = omega (arith, some_in)
 
-  -- a work that was taken
-  module _ (work : Tag) (n : ℕ) (of_run : work.run ≡ plan.first.value.run) (of_node : work.node ≡ n) (of_step : work.step ≡ plan.first.value.step) where
-    pub work_run : work.run ≡ run
-    work_run = of_run ∙ run_is
-
-    pub work_entered : IsEntered run (work.step + 1)
-    work_entered = subst (λ k. IsEntered run (k + 1)) (sym of_step) c.entered
-
-    pub work_within : n < plan.nodes → work.node < length run.plan.nodes
-    work_within within = subst (λ k. k < length run.plan.nodes) (sym of_node) (node_within n within)
-
-    pub work_operator : is_operator run n ≡ true → is_operator run work.node ≡ true
-    work_operator is = subst (λ k. is_operator run k ≡ true) (sym of_node) is
-
-    pub work_shares : (shares : List Tag) → n < plan.nodes → shares ≡ map (tag plan.first.value.run (plan.first.value.step + 1)) (froms_to n plan.edges.items) → shares ≡ map (tag run (work.step + 1)) (inputs_of (op_at run work.node))
-    work_shares shares within same =
-        same
-        ∙ ap (λ (l : List ℕ). map (tag plan.first.value.run (plan.first.value.step + 1)) l) (froms_claimed n within ∙ ap (λ k. inputs_of (op_at run k)) (sym of_node))
-        ∙ ap (λ r. map (tag r (plan.first.value.step + 1)) (inputs_of (op_at run work.node))) run_is
-        ∙ ap (λ k. map (tag run (k + 1)) (inputs_of (op_at run work.node))) (sym of_step)
-
-    -- what the work and the share of the next step are
-    pub next_tag : (next : Tag) → next ≡ tag run (work.step + 1) work.node → next ≡ tag plan.first.value.run (plan.first.value.step + 1) n
-    next_tag next is = is ∙ ap (λ k. tag run (k + 1) work.node) of_step ∙ ap (tag run (plan.first.value.step + 1)) of_node ∙ ap (λ r. tag r (plan.first.value.step + 1) n) (sym run_is)
+  pub source_claimed : (n : ℕ) → n < plan.nodes → inputs n plan.edges.items ≡ 0 → is_operator run n ≡ false
+  source_claimed n within none = no_inputs run c.entered.lawful n (node_within n within) (sym (ap (inputs n) c.edges) ∙ none)
 
 -- whether a node has an operator
 pub any_default : {X : Type 0} (xs : List X) (k : ℕ) (d e : X) → k < length xs → get_or xs k d ≡ get_or xs k e

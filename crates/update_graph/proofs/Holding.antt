@@ -16,7 +16,7 @@ use Rattle.graph_words.specs.Views.{InputsDelivered, IsUntouched, both_views, ge
 use Rattle.graph_words.proofs.Marks.{at_merge, at_put, at_put_else}
 use Rattle.tick_model.specs.declared.feed.Run.{Run}
 use Rattle.update_graph.specs.Holdings.{IsGoneOn, IsHeld, IsNext, IsSettled, IsWhole, SourcesBack, StaysBack}
-use Rattle.update_graph.specs.Steps.{IsHanding, IsTaking}
+use Rattle.update_graph.specs.Steps.{IsHanding, IsWorked}
 use Rattle.update_graph.specs.Tags.{Tag, is_operator}
 
 pub has_mark : (m n : Mark) → m ≡ n → IsHadMark n → IsHadMark m
@@ -33,33 +33,24 @@ inside [] k x at = absurd (some-ne-none x (sym at))
 inside (y ∷ ys) zero x at = omega arith
 inside (y ∷ ys) (suc k) x at = let r = inside ys k x at in omega arith
 
--- a node that was worked: its shares are taken, then its work, which is put back, and then its edges are delivered
-module _ (run : Run) (plan : Plan Tag) (node : ℕ) (u a b c d : View Tag) (count : ℕ) (kept : Option ℕ) (held : IsHeld run plan u (Some node)) (t : IsTaking u a count) (taken : b ≡ mark_node a node Taken)
-    (put_back : c ≡ mark_node b node PutBack) (h : IsHanding plan c d node (length plan.edges.items) kept) (goes_to : (e : ℕ) (x : Edge) → get_elem? plan.edges.items e ≡ some x → is_operator run x.to ≡ true) where
+-- a node that was worked: its work is put back, and then its edges are delivered
+module _ (run : Run) (plan : Plan Tag) (node : ℕ) (u c d : View Tag) (kept : Option ℕ) (held : IsHeld run plan u (Some node)) (w : IsWorked plan u c node)
+    (h : IsHanding plan c d node (length plan.edges.items) kept) (goes_to : (e : ℕ) (x : Edge) → get_elem? plan.edges.items e ≡ some x → is_operator run x.to ≡ true) where
   outs_same : (e : ℕ) → at c.outs e ≡ at u.outs e
-  outs_same e = ap (λ (z : View Tag). at z.outs e) put_back ∙ ap (λ (z : View Tag). at z.outs e) taken ∙ ap (λ l. at l e) t.outs
-
-  nodes_same : (m : ℕ) → m ≢ node → at c.nodes m ≡ at u.nodes m
-  nodes_same m other =
-      ap (λ (z : View Tag). at z.nodes m) put_back ∙ at_put_else b.nodes node m PutBack other
-      ∙ ap (λ (z : View Tag). at z.nodes m) taken ∙ at_put_else a.nodes node m Taken other
-      ∙ ap (λ l. at l m) t.nodes
-
-  back_here : at c.nodes node ≡ PutBack
-  back_here = ap (λ (z : View Tag). at z.nodes node) put_back ∙ at_put b.nodes node PutBack
+  outs_same e = ap (λ l. at l e) w.outs
 
   pub worked_back : at d.nodes node ≡ PutBack
-  worked_back = h.stays node (has_mark (at c.nodes node) PutBack back_here tt) ∙ back_here
+  worked_back = h.stays node (has_mark (at c.nodes node) PutBack w.back tt) ∙ w.back
 
   untaken_here : at u.nodes node ≡ Untaken
   untaken_here = (held.next node refl).new.untaken
 
   pub worked_on : IsGoneOn u d
   worked_on = record {
-    parts = h.parts ∙ ap (λ (z : View Tag). z.parts) put_back ∙ ap (λ (z : View Tag). z.parts) taken ∙ t.parts;
+    parts = h.parts ∙ w.parts;
     back = λ m is.
         let other : m ≢ node = λ e. apart (sym untaken_here ∙ ap (λ k. at u.nodes k) (sym e) ∙ is) in
-        let same = nodes_same m other ∙ is in
+        let same = w.nodes m other ∙ is in
         h.stays m (has_mark (at c.nodes m) PutBack same tt) ∙ same;
   }
     where
@@ -71,7 +62,7 @@ module _ (run : Run) (plan : Plan Tag) (node : ℕ) (u a b c d : View Tag) (coun
     settled = λ m within has other. dite (ℕ_discrete m node)
         (λ e. subst (IsSettled plan d) (sym e) (record { back = worked_back; delivered = λ k x there from. h.delivered k x there (inside plan.edges.items k x there) from }))
         (λ ne.
-        let same = h.came m has other ∙ nodes_same m ne in
+        let same = h.came m has other ∙ w.nodes m ne in
         let own = held.settled m within (has_mark (at u.nodes m) (at d.nodes m) (sym same) has) (λ e. ne (sym (some_same node m e))) in
         record { back = same ∙ own.back; delivered = λ k x there from. h.others k x there (λ e. ne (sym from ∙ e)) ∙ outs_same k ∙ own.delivered k x there from });
     next = λ m is.

@@ -3,6 +3,7 @@ mod Changing
 mod Claimed
 mod ClaimedWorks
 mod Counting
+mod CrewNodes
 mod EnteredTicks
 mod ExampleRuns
 mod FirstSeat

@@ -2,7 +2,7 @@
 use Rattle.std.proofs.Common.{◌≡◌, ◌≢◌, refl, ap, ap₂, sym, ◌∙◌, subst, ℕ, zero, suc, ◌+◌, ◌*◌, ◌^◌, ◌<◌, ◌≤◌, ◌==◌, ◌&&◌, arith, Bool, true, false, true≢false, cond, not, List, [], ◌∷◌, ◌++◌, append-nil, append_assoc, length, length-append, take, get_or, eq-eqb, ne_eqb}
 use Rattle.std.specs.Prelude.{nat_le}
 use Rattle.std.specs.List.{AllByRecursion, list_all}
-use Rattle.std.proofs.lemmas.Bool.{and_parts, leb-true}
+use Rattle.std.proofs.lemmas.Bool.{and_parts, eqb-true, leb-true}
 use Rattle.std.proofs.lemmas.List.{length-take-le, take_more}
 use mathlib.Core.Option.{some, some-injective, some-ne-none}
 use lib.ListN.{get_elem?}
@@ -23,6 +23,18 @@ use Rattle.tick_model.specs.Plans.{columns_at, columns_fit, same_columns}
 use Rattle.update_graph.specs.Edges.{edges_from, edges_of, froms_to, input_edges}
 use Rattle.update_graph.specs.Tags.{is_operator, no_node, node_at, op_at}
 use Rattle.update_graph.proofs.PlanLimits.{few_nodes}
+
+-- a node with input edges has one
+abbrev pub IsInto : ℕ → List Edge → Type 0
+IsInto n edges = (e : ℕ) × (x : Edge) × (get_elem? edges e ≡ some x) × (x.to ≡ n)
+
+into_first : (n : ℕ) (x : Edge) (xs : List Edge) (b : Bool) → (x.to == n) ≡ b → 0 < when b 1 + inputs n xs → (0 < inputs n xs → IsInto n xs) → IsInto n (x ∷ xs)
+into_first n x xs true is some_in rest = (0, x, refl, eqb-true x.to n is)
+into_first n x xs false is some_in rest = let next = rest (omega (arith, some_in)) in (suc next.0, next.1, next.2, next.3)
+
+pub edge_into : (n : ℕ) (edges : List Edge) → 0 < inputs n edges → IsInto n edges
+edge_into n [] some_in = absurd (omega (arith, some_in))
+edge_into n (x ∷ xs) some_in = into_first n x xs (x.to == n) refl some_in (edge_into n xs)
 
 pub every_at : {X : Type 0} (P : X → Type 0) (xs : List X) → AllByRecursion P xs → (k : ℕ) (x : X) → get_elem? xs k ≡ some x → P x
 every_at P [] h k x at = absurd (some-ne-none x (sym at))

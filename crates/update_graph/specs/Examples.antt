@@ -1,5 +1,6 @@
 -- Small runs for worked examples. Each has tables of numbers that begin with no rows, and one step that adds rows.
 --     filters      a source, its rows above 0 and those above 1, and of the former those above 2
+--     beside      a source, and its rows above 0, those above 1 and those above 2
 --     joins      two sources, and two joins of the first with the second, each of which finds two rows where one is wanted
 use Rattle.std.specs.Prelude.{ℕ, List, [], ◌∷◌, pos}
 use Rattle.tick_model.specs.declared.feed.Block.{Block}
@@ -48,6 +49,14 @@ adding table number rows = record { table = table; number = number; removed = []
 abbrev pub filters : Run
 filters = record {
   plan = plan_of (source_of 116 ∷ filter_of 112 0 0 ∷ filter_of 113 0 1 ∷ filter_of 114 1 2 ∷ []);
+  opening = empty_table ∷ [];
+  batches = (record { blocks = adding 0 1 (number_row 0 5 ∷ []) ∷ [] }) ∷ [];
+  texts = [];
+}
+
+abbrev pub beside : Run
+beside = record {
+  plan = plan_of (source_of 116 ∷ filter_of 112 0 0 ∷ filter_of 113 0 1 ∷ filter_of 114 0 2 ∷ []);
   opening = empty_table ∷ [];
   batches = (record { blocks = adding 0 1 (number_row 0 5 ∷ []) ∷ [] }) ∷ [];
   texts = [];

@@ -1,5 +1,6 @@
 -- What the seat of a worker has of the claims of a step.
---     IsClaimed run plan      the claims are for a step that the run enters
+--     IsForStep run plan      the claims are for a step that the run enters, and have its edges
+--     IsClaimed run plan      and they have all its nodes
 --     IsNew plan view node      the seat has the node, and has touched nothing of it
 --     IsSettled plan view node      its work is put back, and its edges are delivered
 --     IsHeld run plan view kept      each node that the seat has is settled, but for one that is kept, which is new
@@ -21,6 +22,11 @@ use Rattle.tick_model.specs.declared.feed.Run.{Run}
 use Rattle.update_graph.specs.Edges.{edges_of}
 use Rattle.update_graph.specs.Entered.{IsEntered}
 use Rattle.update_graph.specs.Tags.{Tag, is_operator, tag}
+
+pub record IsForStep (run : Run) (plan : Plan Tag) : Type 0 where
+  pub entered : IsEntered run (plan.first.value.step + 1)
+  pub of_run : plan.first.value.run ≡ run
+  pub edges : plan.edges.items ≡ edges_of run.plan
 
 pub record IsClaimed (run : Run) (plan : Plan Tag) : Type 0 where
   pub entered : IsEntered run (plan.first.value.step + 1)

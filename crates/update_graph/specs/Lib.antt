@@ -1,3 +1,4 @@
+pub mod Crews
 pub mod Edges
 pub mod Entered
 pub mod Examples

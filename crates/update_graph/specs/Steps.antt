@@ -1,25 +1,45 @@
 -- How the view of a seat goes on while it works a node.
---     IsTaking old new count      of the first so many edges those that go to the node have their shares taken
+--     IsTaking edges old new node count      of the first so many edges those that go to the node have their shares taken
+--     IsBegun plan old new node      the node's shares are taken, and its work
+--     IsWorked plan old new node      and its work is put back
 --     IsHandedOver plan old new edge to kept found      an edge is delivered; a node that this made ready is kept if no other was
 --     IsHanding plan old new node count kept      of the first so many edges those from the node are delivered
-use Rattle.std.specs.Prelude.{◌≡◌, ◌≢◌, ℕ, ◌<◌, ◌≤◌, Option, Some}
+--     IsHandedInto plan old new edge to xs ys      an edge is delivered; a node that this made ready is added to the list
+--     IsListing plan old new node count found      of the first so many edges those from the node are delivered, and the nodes that this made ready are listed
+use Rattle.std.specs.Prelude.{◌≡◌, ◌≢◌, ◌⊎◌, ℕ, ◌<◌, ◌≤◌, List, ◌++◌, Option, None, Some, option_to_list}
 use mathlib.Core.Option.{some}
 use lib.ListN.{get_elem?}
 use Rattle.graph_words.specs.declared.graph.Edge.{Edge}
 use Rattle.graph_words.specs.declared.graph.Plan.{Plan}
-use Rattle.graph_words.specs.declared.table.Mark.TheVariants.{Unmarked, Untaken, Delivered}
+use Rattle.graph_words.specs.declared.table.Mark.TheVariants.{Unmarked, Untaken, Taken, PutBack, Delivered}
 use Rattle.graph_words.specs.declared.table.View.{View}
 use Rattle.graph_words.specs.Marks.{at, put}
 use Rattle.graph_words.specs.Seats.{Has}
 use Rattle.graph_words.specs.Views.{IsUntouched}
+use Rattle.steal_workers.specs.Holdings.{IsReady}
+use Rattle.steal_workers.specs.Lists.{IsListed}
 use Rattle.update_graph.specs.Holdings.{IsNew, IsWhole}
 use Rattle.update_graph.specs.Tags.{Tag}
 
-pub record IsTaking (old new : View Tag) (count : ℕ) : Type 0 where
+pub record IsTaking (edges : List Edge) (old new : View Tag) (node count : ℕ) : Type 0 where
   pub nodes : new.nodes ≡ old.nodes
   pub outs : new.outs ≡ old.outs
   pub parts : new.parts ≡ old.parts
   pub later : (e : ℕ) → count ≤ e → at new.ins e ≡ at old.ins e
+  pub others : (e : ℕ) (x : Edge) → get_elem? edges e ≡ some x → x.to ≢ node → at new.ins e ≡ at old.ins e
+
+pub record IsBegun (plan : Plan Tag) (old new : View Tag) (node : ℕ) : Type 0 where
+  pub parts : new.parts ≡ old.parts
+  pub nodes : new.nodes ≡ put old.nodes node Taken
+  pub outs : new.outs ≡ old.outs
+  pub ins : (e : ℕ) (x : Edge) → get_elem? plan.edges.items e ≡ some x → x.to ≢ node → at new.ins e ≡ at old.ins e
+
+pub record IsWorked (plan : Plan Tag) (old new : View Tag) (node : ℕ) : Type 0 where
+  pub parts : new.parts ≡ old.parts
+  pub back : at new.nodes node ≡ PutBack
+  pub nodes : (m : ℕ) → m ≢ node → at new.nodes m ≡ at old.nodes m
+  pub outs : new.outs ≡ old.outs
+  pub ins : (e : ℕ) (x : Edge) → get_elem? plan.edges.items e ≡ some x → x.to ≢ node → at new.ins e ≡ at old.ins e
 
 -- a node that was kept before, or that the delivery made ready
 pub data IsFound (plan : Plan Tag) (old new : View Tag) (to : ℕ) (kept : Option ℕ) (node : ℕ) : Type 0 where
@@ -31,7 +51,7 @@ pub record IsHandedOver (plan : Plan Tag) (old new : View Tag) (edge to : ℕ) (
   pub ins : new.ins ≡ old.ins
   pub parts : new.parts ≡ old.parts
   pub stays : (m : ℕ) → Has old m → at new.nodes m ≡ at old.nodes m
-  pub came : (m : ℕ) → Has new m → found ≢ Some m → at new.nodes m ≡ at old.nodes m
+  pub came : (m : ℕ) → found ≢ Some m → at new.nodes m ≡ at old.nodes m
   pub keeps : (m : ℕ) → kept ≡ Some m → found ≡ Some m
   pub finds : (m : ℕ) → found ≡ Some m → IsFound plan old new to kept m
 
@@ -47,3 +67,20 @@ pub record IsHanding (plan : Plan Tag) (old new : View Tag) (node count : ℕ) (
   pub within : (m : ℕ) → kept ≡ Some m → (node < m) × (m < plan.nodes)
   pub new_is : (m : ℕ) → kept ≡ Some m → IsNew plan new m
   pub input : (m : ℕ) → kept ≡ Some m → (e : ℕ) × (x : Edge) × (get_elem? plan.edges.items e ≡ some x) × (x.to ≡ m)
+
+pub record IsHandedInto (plan : Plan Tag) (old new : View Tag) (edge to : ℕ) (xs ys : List ℕ) : Type 0 where
+  pub found : Option ℕ
+  pub over : IsHandedOver plan old new edge to None found
+  pub listed : ys ≡ xs ++ option_to_list found
+
+pub record IsListing (plan : Plan Tag) (old new : View Tag) (node count : ℕ) (found : List ℕ) : Type 0 where
+  pub ins : new.ins ≡ old.ins
+  pub parts : new.parts ≡ old.parts
+  pub delivered : (e : ℕ) (x : Edge) → get_elem? plan.edges.items e ≡ some x → e < count → x.from ≡ node → at new.outs e ≡ Delivered
+  pub later : (e : ℕ) → count ≤ e → at new.outs e ≡ at old.outs e
+  pub others : (e : ℕ) (x : Edge) → get_elem? plan.edges.items e ≡ some x → x.from ≢ node → at new.outs e ≡ at old.outs e
+  pub stays : (m : ℕ) → Has old m → at new.nodes m ≡ at old.nodes m
+  pub came : (m : ℕ) → (at new.nodes m ≡ at old.nodes m) ⊎ IsListed found m
+  pub above : (m : ℕ) → IsListed found m → node < m
+  pub fresh : (m : ℕ) → IsListed found m → at old.nodes m ≡ Unmarked
+  pub ready : (m : ℕ) → IsListed found m → IsReady plan new m

@@ -20,6 +20,7 @@ ghost use Rattle.update_graph.specs.Stops.{IsStop};
 ghost use Rattle.update_graph.specs.Sweeps.{IsSwept};
 ghost use Rattle.update_graph.specs.Tags.{tags};
 
+use crate::crew_step::crew_step;
 use crate::edges::all_edges;
 use crate::opening::open_all;
 use crate::shares::tables_of;
@@ -35,6 +36,7 @@ use std::marker::{Brand, Model};
 use std::snapshot::Snapshot;
 use std::sync::ledger::Blank;
 use std::thread::Threads;
+use steal_workers::Crew;
 use tick_io::Gate;
 use tick_model::feed::Run;
 use tick_model::items::Items;
@@ -189,6 +191,34 @@ fn finished(
     }
 }
 
+/// The graph at the next step, from what its nodes keep there.
+fn reached(
+    alloc: Global,
+    run: &Run,
+    step: u64,
+    edges: Vec<Edge>,
+    keys: SourceKeys,
+    sources: Vec<Shared>,
+    works: Vec<Work>,
+) -> Result<Graph, Stop>
+    requires entered { IsEntered run.now (step + 1) }
+    requires edges { edges.items ≡ edges_of run.now.plan }
+    requires keys { keys ≡ map (λ table. keys_of table.rows) (sources_at run.now (step + 1)) }
+    requires sources { tables sources.items ≡ sources_shown run.now (step + 1) }
+    requires works { works.items ≡ tags run.now (step + 1) (length run.now.plan.nodes) }
+    requires next { step < length run.now.batches }
+    ensures run { IfOk result (λ graph. graph.run ≡ run.now) }
+    ensures step { IfOk result (λ graph. graph.step ≡ step + 1) }
+    ensures batch { OnOk result (batch_fault run.now (step + 1) ≡ None) }
+    ensures nodes { OnOk result (node_fault 0 (state run.now (step + 1)) ≡ None) }
+    ensures ran { IfOk result (λ graph. RanOnce run.now.plan graph.ran) }
+    ensures cause { IfErr result (IsStop run.now (step + 1)) }
+{
+    let sweep = swept(alloc, run, step + 1, works, &sources)?;
+    let graph = finished(alloc, run, step + 1, edges, keys, sources, sweep)?;
+    Ok(graph)
+}
+
 /// The graph at the next step, by the batch of that step.
 fn next<R: Threads + Sync, G: Gate>(
     rt: &R,
@@ -231,9 +261,52 @@ fn next<R: Threads + Sync, G: Gate>(
         workers,
         gate,
     )?;
-    let sweep = swept(alloc, run, step + 1, works, &sources)?;
-    let graph = finished(alloc, run, step + 1, edges, keys, sources, sweep)?;
-    Ok(graph)
+    reached(alloc, run, step, edges, keys, sources, works)
+}
+
+/// The same, with the nodes worked by a crew.
+fn next_by<R: Threads + Sync, G: Gate>(
+    rt: &R,
+    alloc: Global,
+    run: &Run,
+    step: u64,
+    edges: Vec<Edge>,
+    keys: SourceKeys,
+    sources: Vec<Shared>,
+    works: Vec<Work>,
+    crew: &mut Crew,
+    gate: &G,
+) -> Result<Graph, Stop>
+    requires lawful { IsLawfulRun run.now }
+    requires reached { IsReached run.now step }
+    requires next { step < length run.now.batches }
+    requires edges { edges.items ≡ edges_of run.now.plan }
+    requires keys { keys ≡ map (λ table. keys_of table.rows) (sources_at run.now step) }
+    requires sources { tables sources.items ≡ sources_shown run.now step }
+    requires works { works.items ≡ tags run.now step (length run.now.plan.nodes) }
+    ensures run { IfOk result (λ graph. graph.run ≡ run.now) }
+    ensures step { IfOk result (λ graph. graph.step ≡ step + 1) }
+    ensures batch { OnOk result (batch_fault run.now (step + 1) ≡ None) }
+    ensures nodes { OnOk result (node_fault 0 (state run.now (step + 1)) ≡ None) }
+    ensures ran { IfOk result (λ graph. RanOnce run.now.plan graph.ran) }
+    ensures cause { IfErr result (IsStop run.now (step + 1)) }
+    ensures size { crew.new.size ≡ crew.old.size }
+{
+    let mut keys = keys;
+    let changes = changes_of(alloc, run, step, &mut keys, &sources)?;
+    let sources = changed_sources(alloc, run, step + 1, sources, changes)?;
+    let works = crew_step(
+        rt,
+        alloc,
+        run,
+        works,
+        step + 1,
+        &edges,
+        &sources,
+        crew,
+        gate,
+    )?;
+    reached(alloc, run, step, edges, keys, sources, works)
 }
 
 impl Graph {
@@ -287,6 +360,41 @@ impl Graph {
         drop(tables);
         next(
             rt, alloc, run, step, edges, keys, sources, works, workers, gate,
+        )
+    }
+
+    /// The same, worked by a crew, which is kept from step to step. No more threads are started than the crew has hands.
+    pub fn cycle_by<R: Threads + Sync, G: Gate>(
+        self,
+        rt: &R,
+        alloc: Global,
+        run: &Run,
+        crew: &mut Crew,
+        gate: &G,
+    ) -> Result<Graph, Stop>
+        requires run { self.run ≡ run.now }
+        requires next { self.step < length run.now.batches }
+        ensures run { IfOk result (λ graph. graph.run ≡ run.now) }
+        ensures step { IfOk result (λ graph. graph.step ≡ self.step + 1) }
+        ensures batch { OnOk result (batch_fault run.now (self.step + 1) ≡ None) }
+        ensures nodes { OnOk result (node_fault 0 (state run.now (self.step + 1)) ≡ None) }
+        ensures ran { IfOk result (λ graph. RanOnce run.now.plan graph.ran) }
+        ensures cause { IfErr result (IsStop run.now (self.step + 1)) }
+        ensures size { crew.new.size ≡ crew.old.size }
+    {
+        let Graph {
+            run: _,
+            step,
+            edges,
+            keys,
+            sources,
+            works,
+            tables,
+            ran: _,
+        } = self;
+        drop(tables);
+        next_by(
+            rt, alloc, run, step, edges, keys, sources, works, crew, gate,
         )
     }
 

@@ -7,6 +7,7 @@
 //! still worked, and the least node that failed is named.
 #![tactic(auto)]
 
+mod crew_step;
 mod edges;
 mod first_seat;
 mod graph;
@@ -14,6 +15,7 @@ mod opening;
 mod shares;
 mod sources;
 mod step;
+mod step_work;
 mod stop;
 mod sweep;
 mod team;

@@ -1,6 +1,6 @@
 //! A step of all nodes: claims are made on them, the first seat hands on the sources' tables, and the workers work the rest.
 
-ghost use Rattle.std.specs.Prelude.{◌≡◌, ◌+◌, ◌-◌, ◌≤◌, IfOk, None, length};
+ghost use Rattle.std.specs.Prelude.{◌≡◌, ◌+◌, ◌-◌, ◌<◌, ◌≤◌, IfOk, None, length};
 ghost use Rattle.graph_words.specs.Seats.{IsSeatOf};
 ghost use Rattle.graph_words.specs.Views.{first_view};
 ghost use Rattle.update_graph.specs.Edges.{edges_of};
@@ -121,6 +121,49 @@ fn work_claimed<R: Threads + Sync, G: Gate>(
     work_alone(alloc, run, claims, seat, edges, None, gate)
 }
 
+/// The claims on all nodes for a step, and the first seat.
+pub(crate) fn begin_step(
+    alloc: Global,
+    run: &Run,
+    works: Vec<Work>,
+    step: u64,
+    edges: &[Edge],
+) -> Result<(StepClaims, StepSeat), AllocError>
+    requires entered { IsEntered run.now step }
+    requires later { 1 ≤ step }
+    requires works { works.items ≡ tags run.now (step - 1) (length run.now.plan.nodes) }
+    requires some { 0 < length works.items }
+    requires edges { edges.now ≡ edges_of run.now.plan }
+    ensures claimed { IfOk result (λ begun. IsClaimed run.now begun.0.plan) }
+    ensures step { IfOk result (λ begun. step ≡ begun.0.plan.first.value.step + 1) }
+    ensures edges { IfOk result (λ begun. edges.now ≡ begun.0.plan.edges.items) }
+    ensures of { IfOk result (λ begun. IsSeatOf begun.0 begun.1) }
+    ensures first { IfOk result (λ begun. begun.1.view ≡ first_view begun.0.plan) }
+{
+    let _ = run;
+    let _ = step;
+    let nodes = works.len() as u32;
+    let own = copied_edges(alloc, edges)?;
+    let (claims, seat) = StepClaims::start(alloc, nodes, own, works)?;
+    Ok((claims, seat))
+}
+
+/// What all nodes keep at the step of their claims. The seat has put all of it back.
+pub(crate) fn end_step(
+    run: &Run,
+    claims: StepClaims,
+    seat: StepSeat,
+) -> Result<Vec<Work>, AllocError>
+    requires claimed { IsClaimed run.now claims.plan }
+    requires of { IsSeatOf claims seat }
+    requires all { AllBack claims.plan seat.view }
+    ensures { IfOk result (λ works. works.items ≡ tags run.now (claims.plan.first.value.step + 1) (length run.now.plan.nodes)) }
+{
+    let _ = run;
+    let works = claims.finish(seat)?;
+    Ok(works)
+}
+
 /// What all nodes keep at the next step, from what they keep at this one. The tables are those of the sources at the next step.
 pub(crate) fn work_step<R: Threads + Sync, G: Gate>(
     rt: &R,
@@ -144,12 +187,10 @@ pub(crate) fn work_step<R: Threads + Sync, G: Gate>(
     if works.is_empty() {
         return Ok(works);
     }
-    let nodes = works.len() as u32;
-    let own = copied_edges(alloc, edges)?;
-    let (claims, seat) = StepClaims::start(alloc, nodes, own, works)?;
+    let (claims, seat) = begin_step(alloc, run, works, step, edges)?;
     let seat = work_claimed(
         rt, alloc, run, &claims, seat, step, edges, sources, workers, gate,
     )?;
-    let works = claims.finish(seat)?;
+    let works = end_step(run, claims, seat)?;
     Ok(works)
 }

@@ -1,4 +1,4 @@
-//! Cycles with several workers, over small runs.
+//! Cycles with several workers and with crews, over small runs.
 
 ghost use Rattle.std.specs.Prelude.{◌≡◌, ◌+◌, ◌<◌, ◌≤◌, IfOk, length};
 ghost use Rattle.tick_model.specs.LawfulRuns.{IsLawfulRun};
@@ -7,10 +7,11 @@ mod gates;
 mod runs;
 
 use crate::{Graph, Stop};
-use gates::{HoldingGate, MeetingGate};
+use gates::{CrowdGate, HoldingGate, MeetingGate};
 use std::alloc::Global;
 use std::test::Fail;
 use std::thread::Threads;
+use steal_workers::Crew;
 use tick_io::{Gate, OpenGate};
 use tick_model::feed::Run;
 use tick_model::table::NodeFault;
@@ -37,6 +38,22 @@ fn cycled<T: Threads + Sync, G: Gate>(
 {
     let graph = Graph::start(alloc, run)?;
     graph.cycle(rt, alloc, run, workers, gate)
+}
+
+/// The same, worked by a crew.
+fn cycled_by<T: Threads + Sync, G: Gate>(
+    rt: &T,
+    alloc: Global,
+    run: &Run,
+    crew: &mut Crew,
+    gate: &G,
+) -> Result<Graph, Stop>
+    requires lawful { IsLawfulRun run.now }
+    requires step { 0 < length run.now.batches }
+    ensures run { IfOk result (λ graph. graph.run ≡ run.now) }
+{
+    let graph = Graph::start(alloc, run)?;
+    graph.cycle_by(rt, alloc, run, crew, gate)
 }
 
 /// How often a node was worked.
@@ -102,5 +119,40 @@ fn the_least_failed_node_is_named_whatever_the_workers(rt: HostRuntime) -> Resul
             ),
         }
     }
+    Ok(())
+}
+
+#[test]
+fn each_node_is_worked_once_whatever_the_crew(rt: HostRuntime) -> Result<(), Fail> {
+    for workers in [1, 2, 8] {
+        let run = runs::filters(rt.alloc())?;
+        let mut crew = Crew::new(rt.alloc(), workers)?;
+        match cycled_by(&rt, rt.alloc(), &run, &mut crew, &OpenGate) {
+            Ok(graph) => assert!(rt; is_each_once(&graph)),
+            Err(_) => assert!(rt; false),
+        }
+    }
+    Ok(())
+}
+
+#[test]
+fn a_node_of_a_crew_waits_for_its_inputs_alone(rt: HostRuntime) -> Result<(), Fail> {
+    let run = runs::filters(rt.alloc())?;
+    let mut crew = Crew::new(rt.alloc(), 2)?;
+    let gate = HoldingGate::new(Q, R);
+    let worked = cycled_by(&rt, rt.alloc(), &run, &mut crew, &gate);
+    assert!(rt; worked.is_ok());
+    assert!(rt; gate.is_met());
+    Ok(())
+}
+
+#[test]
+fn a_crew_of_three_works_three_nodes_at_once(rt: HostRuntime) -> Result<(), Fail> {
+    let run = runs::beside(rt.alloc())?;
+    let mut crew = Crew::new(rt.alloc(), 3)?;
+    let gate = CrowdGate::new(3);
+    let worked = cycled_by(&rt, rt.alloc(), &run, &mut crew, &gate);
+    assert!(rt; worked.is_ok());
+    assert!(rt; gate.is_met());
     Ok(())
 }

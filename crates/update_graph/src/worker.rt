@@ -4,13 +4,15 @@ ghost use Rattle.std.specs.Prelude.{◌≡◌, ◌+◌, ◌<◌, ◌^◌, ℕ, I
 ghost use mathlib.Core.Option.{some};
 ghost use lib.ListN.{get_elem?};
 ghost use Rattle.graph_words.specs.declared.graph.Edge.{Edge};
-ghost use Rattle.graph_words.specs.declared.table.Mark.TheVariants.{Unmarked, Untaken, PutBack};
+ghost use Rattle.graph_words.specs.declared.table.Mark.TheVariants.{Unmarked, Untaken, Taken, PutBack};
 ghost use Rattle.graph_words.specs.Marks.{at};
 ghost use Rattle.graph_words.specs.Seats.{AtEdge, Has, IsSeatOf};
+ghost use Rattle.graph_words.specs.Views.{mark_node};
+ghost use Rattle.tick_model.specs.Evaluation.{inputs_of};
 ghost use Rattle.update_graph.specs.Edges.{froms_to};
-ghost use Rattle.update_graph.specs.Holdings.{IsClaimed, IsGoneOn, IsHeld};
-ghost use Rattle.update_graph.specs.Steps.{IsHanding, IsHandedOver, IsTaking};
-ghost use Rattle.update_graph.specs.Tags.{tag};
+ghost use Rattle.update_graph.specs.Holdings.{IsClaimed, IsForStep, IsGoneOn, IsHeld, IsNew};
+ghost use Rattle.update_graph.specs.Steps.{IsBegun, IsHanding, IsHandedOver, IsTaking};
+ghost use Rattle.update_graph.specs.Tags.{op_at, tag};
 
 use crate::shares::Share;
 use crate::work::Work;
@@ -42,7 +44,8 @@ fn take_shares(
     requires has { Has seat.old.view node }
     requires untouched { (e : ℕ) (x : Edge) → get_elem? edges.now e ≡ some x → x.to ≡ node → at seat.old.view.ins e ≡ Unmarked }
     ensures of { OnOk result (IsSeatOf claims.now seat.new) }
-    ensures taken { OnOk result (IsTaking seat.old.view seat.new.view (length edges.now)) }
+    ensures parts { seat.new.view.parts ≡ seat.old.view.parts }
+    ensures taken { OnOk result (IsTaking edges.now seat.old.view seat.new.view node (length edges.now)) }
     ensures shares { IfOk result (λ shares. shares ≡ map (tag claims.now.plan.first.value.run (claims.now.plan.first.value.step + 1)) (froms_to node edges.now)) }
 {
     let mut shares = Items::new(alloc);
@@ -56,7 +59,7 @@ fn take_shares(
 }
 
 /// Delivers a share along an edge. A node that this makes ready is kept where no other is, and else put on offer.
-fn hand_over(
+pub(crate) fn hand_over(
     claims: &StepClaims,
     seat: &mut StepSeat,
     edge: u32,
@@ -117,6 +120,57 @@ pub(crate) fn hand_on(
     Ok(kept)
 }
 
+/// Takes the work of a node that the seat has, and what its inputs hand to it.
+pub(crate) fn begin_node(
+    alloc: Global,
+    run: &Run,
+    claims: &StepClaims,
+    seat: &mut StepSeat,
+    edges: &[Edge],
+    node: u32,
+) -> Result<(Work, Items<Share>), AllocError>
+    requires claims { IsForStep run.now claims.now.plan }
+    requires of { IsSeatOf claims.now seat.old }
+    requires edges { edges.now ≡ claims.now.plan.edges.items }
+    requires node { (node < claims.now.plan.nodes) × (node < length run.now.plan.nodes) }
+    requires new { IsNew claims.now.plan seat.old.view node }
+    ensures parts { seat.new.view.parts ≡ seat.old.view.parts }
+    ensures of { OnOk result (IsSeatOf claims.now seat.new) }
+    ensures begun { OnOk result (IsBegun claims.now.plan seat.old.view seat.new.view node) }
+    ensures work { IfOk result (λ begun. begun.0 ≡ tag run.now claims.now.plan.first.value.step node) }
+    ensures shares { IfOk result (λ begun. begun.1 ≡ map (tag run.now (claims.now.plan.first.value.step + 1)) (inputs_of (op_at run.now node))) }
+{
+    let _ = run;
+    let shares = take_shares(alloc, claims, seat, edges, node)?;
+    let work = claims.take_work(seat, node);
+    Ok((work, shares))
+}
+
+/// Puts the work of a node back, as it is at the next step. What the node hands on.
+pub(crate) fn settle_node(
+    run: &Run,
+    claims: &StepClaims,
+    seat: &mut StepSeat,
+    node: u32,
+    worked: Result<(Work, Share), AllocError>,
+) -> Result<Share, AllocError>
+    requires claims { IsForStep run.now claims.now.plan }
+    requires of { IsSeatOf claims.now seat.old }
+    requires node { node < claims.now.plan.nodes }
+    requires taken { at seat.old.view.nodes node ≡ Taken }
+    requires work { IfOk worked (λ out. out.0 ≡ tag run.now (claims.now.plan.first.value.step + 1) node) }
+    requires share { IfOk worked (λ out. out.1 ≡ tag run.now (claims.now.plan.first.value.step + 1) node) }
+    ensures parts { seat.new.view.parts ≡ seat.old.view.parts }
+    ensures of { OnOk result (IsSeatOf claims.now seat.new) }
+    ensures view { OnOk result (seat.new.view ≡ mark_node seat.old.view node PutBack) }
+    ensures share { IfOk result (λ share. share ≡ tag run.now (claims.now.plan.first.value.step + 1) node) }
+{
+    let _ = run;
+    let (work, share) = worked?;
+    claims.put_back(seat, node, work);
+    Ok(share)
+}
+
 /// Works a node that the seat has, with the gate round it. Of the nodes that this makes ready the least is kept, and the others
 /// are put on offer.
 pub(crate) fn work_node<G: Gate, L: Ledger>(
@@ -139,13 +193,11 @@ pub(crate) fn work_node<G: Gate, L: Ledger>(
     ensures on { OnOk result (IsGoneOn seat.old.view seat.new.view) }
     ensures back { OnOk result (at seat.new.view.nodes node ≡ PutBack) }
 {
-    let shares = take_shares(alloc, claims, seat, edges, node)?;
-    let work = claims.take_work(seat, node);
+    let (work, shares) = begin_node(alloc, run, claims, seat, edges, node)?;
     gate.enter(node);
     let worked = work.advance(alloc, run, shares, reads);
     gate.leave(node);
-    let (work, share) = worked?;
-    claims.put_back(seat, node, work);
+    let share = settle_node(run, claims, seat, node, worked)?;
     let kept = hand_on(claims, seat, run, edges, node, &share)?;
     Ok(kept)
 }

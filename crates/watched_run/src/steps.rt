@@ -20,7 +20,7 @@ ghost use Rattle.watched_run.specs.ToCome.{rest_text, text_from, watch_until};
 
 use crate::teller::Teller;
 use crate::watch::Watch;
-use replay::{Outcome, check_limits};
+use replay::{Hands, Outcome, check_limits};
 use std::alloc::{AllocError, Global};
 use std::thread::Threads;
 use tick_io::{Gate, Sink};
@@ -54,14 +54,12 @@ fn cycled<R: Threads + Sync, G: Gate>(
     rt: &R,
     alloc: Global,
     run: &Run,
-    workers: u32,
+    hands: &mut Hands,
     gate: &G,
     graph: Graph,
 ) -> Result<Graph, Outcome>
     requires run { graph.run ≡ run.now }
     requires next { graph.step < length run.now.batches }
-    requires some_workers { 1 ≤ workers }
-    requires few_workers { workers ≤ 64 }
     requires good { IsGood run.now graph.step }
     ensures run { IfOk result (λ next. next.run ≡ run.now) }
     ensures step { IfOk result (λ next. next.step ≡ graph.step + 1) }
@@ -69,7 +67,7 @@ fn cycled<R: Threads + Sync, G: Gate>(
     ensures cause { IfErr result (λ outcome. IsTold outcome → IsCause run.now (graph.step + 1) outcome) }
     ensures no_write { IsErrOf result Outcome.Write → ⊥ }
 {
-    let graph = graph.cycle(rt, alloc, run, workers, gate)?;
+    let graph = hands.cycle(rt, alloc, run, graph, gate)?;
     check_limits(&graph, run.plan.published.as_slice())?;
     Ok(graph)
 }
@@ -180,7 +178,7 @@ impl Watching {
         alloc: Global,
         run: &Run,
         watch: &Watch,
-        workers: u32,
+        hands: &mut Hands,
         gate: &G,
         out: &mut S,
     ) -> Result<Watching, Outcome>
@@ -188,8 +186,6 @@ impl Watching {
         requires watch { IsWatch run.now watch.now }
         requires stands { IsWatchedAt run.now watch.now self.graph.step self }
         requires next { self.graph.step < length run.now.batches }
-        requires some_workers { 1 ≤ workers }
-        requires few_workers { workers ≤ 64 }
         ensures stands { IfOk result (IsWatchedAt run.now watch.now (self.graph.step + 1)) }
         ensures told { IfOk result (GoesOn run.now watch.now (text_from run.now watch.now self.teller.last self.teller.since) (S.bytes out.old) (S.bytes out.new)) }
         ensures cause { IfErr result (λ outcome. IsTold outcome → IsCause run.now (self.graph.step + 1) outcome) }
@@ -200,7 +196,7 @@ impl Watching {
     {
         let Watching { graph, teller } = self;
         let held = held_table(&graph, watch.node, teller.since)?;
-        let outcome = match cycled(rt, alloc, run, workers, gate, graph) {
+        let outcome = match cycled(rt, alloc, run, hands, gate, graph) {
             Ok(graph) => return next_told(alloc, out, run, watch, graph, teller),
             Err(outcome) => outcome,
         };
@@ -277,10 +273,11 @@ pub fn watch_feed<R: Threads + Sync, S: Sink, G: Gate>(
     ensures failed { IsErrOf result Outcome.Write → Rose (S.failures out.old) (S.failures out.new) }
     ensures never_falls { S.failures out.old ≤ S.failures out.new }
 {
+    let mut hands = Hands::new(alloc, workers)?;
     let opening = Watching::open(alloc, run, watch, out)?;
     let mut watching = opening;
     for _step in 0..run.batches.len() {
-        watching = watching.advance(rt, alloc, run, watch, workers, gate, out)?;
+        watching = watching.advance(rt, alloc, run, watch, &mut hands, gate, out)?;
     }
     let Watching { graph, teller } = watching;
     rest_told(alloc, out, run, watch, teller, graph.table(watch.node))?;

@@ -88,3 +88,41 @@ impl Gate for HoldingGate {
 
     fn leave(&self, _node: u32) {}
 }
+
+/// Holds each node until so many have entered.
+#[derive(Drop)]
+pub(super) struct CrowdGate {
+    all: u64,
+    entered: AtomicU64,
+    met: AtomicU64,
+}
+
+impl CrowdGate {
+    /// So many nodes are to enter, and none has.
+    pub(super) fn new(all: u64) -> CrowdGate {
+        CrowdGate {
+            all,
+            entered: AtomicU64::new(0),
+            met: AtomicU64::new(0),
+        }
+    }
+
+    /// Whether all of them had entered when the waits of so many nodes ended.
+    pub(super) fn is_met(&self) -> bool {
+        self.met.load(Ordering::SeqCst) >= self.all
+    }
+}
+
+impl Gate for CrowdGate {
+    fn enter(&self, _node: u32) {
+        self.entered.fetch_add(1, Ordering::SeqCst);
+        for _ in 0..TURNS {
+            if self.entered.load(Ordering::SeqCst) >= self.all {
+                self.met.fetch_add(1, Ordering::SeqCst);
+                return;
+            }
+        }
+    }
+
+    fn leave(&self, _node: u32) {}
+}

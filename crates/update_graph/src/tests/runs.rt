@@ -6,7 +6,7 @@ ghost use Rattle.tick_model.specs.declared.plan.Comparison.TheVariants.{Gt};
 ghost use Rattle.tick_model.specs.declared.plan.Expr.{Cell, Number};
 ghost use Rattle.tick_model.specs.declared.plan.Op.TheVariants.{Keep, Join};
 ghost use Rattle.tick_model.specs.declared.plan.Pred.{Compare};
-ghost use Rattle.update_graph.specs.Examples.{adding, empty_table, filters as filters_of, join_of, joins as joins_of, number_column, number_row};
+ghost use Rattle.update_graph.specs.Examples.{adding, beside as beside_of, empty_table, filter_of, filters as filters_of, join_of, joins as joins_of, number_column, number_row, source_of};
 
 use std::alloc::{AllocError, Global};
 use tick_model::feed::{Batch, Block, Run};
@@ -119,14 +119,14 @@ fn block(alloc: Global, table: u32, number: u64, added: Items<PlainRow>) -> Bloc
     }
 }
 
-/// The nodes of the filters.
-fn filter_nodes(alloc: Global) -> Result<Items<Node>, AllocError>
-    ensures { IfOk result (λ nodes. nodes ≡ filters_of.plan.nodes) }
+/// A source, two filters over it, and one over this node.
+fn filter_nodes(alloc: Global, last: u32) -> Result<Items<Node>, AllocError>
+    ensures { IfOk result (λ nodes. nodes ≡ source_of 116 ∷ filter_of 112 0 0 ∷ filter_of 113 0 1 ∷ filter_of 114 last 2 ∷ []) }
 {
     let mut nodes = one(alloc, node(alloc, "t", Op::Source)?)?;
     nodes.push(filter(alloc, "p", 0, 0)?)?;
     nodes.push(filter(alloc, "q", 0, 1)?)?;
-    nodes.push(filter(alloc, "r", 1, 2)?)?;
+    nodes.push(filter(alloc, "r", last, 2)?)?;
     Ok(nodes)
 }
 
@@ -136,7 +136,24 @@ pub(super) fn filters(alloc: Global) -> Result<Run, AllocError>
     ensures lawful { IfOk result IsLawfulRun }
     ensures step { IfOk result (λ run. 0 < length run.batches) }
 {
-    let nodes = filter_nodes(alloc)?;
+    let nodes = filter_nodes(alloc, 1)?;
+    let added = one(alloc, row(alloc, 0, 5)?)?;
+    let blocks = one(alloc, block(alloc, 0, 1, added))?;
+    Ok(Run {
+        plan: plan(alloc, nodes),
+        opening: one(alloc, empty(alloc))?,
+        batches: one(alloc, Batch { blocks })?,
+        texts: Items::new(alloc),
+    })
+}
+
+/// A source, and three filters over it.
+pub(super) fn beside(alloc: Global) -> Result<Run, AllocError>
+    ensures run { IfOk result (λ run. run ≡ beside_of) }
+    ensures lawful { IfOk result IsLawfulRun }
+    ensures step { IfOk result (λ run. 0 < length run.batches) }
+{
+    let nodes = filter_nodes(alloc, 0)?;
     let added = one(alloc, row(alloc, 0, 5)?)?;
     let blocks = one(alloc, block(alloc, 0, 1, added))?;
     Ok(Run {

@@ -1,14 +1,26 @@
-use Rattle.std.proofs.Common.{◌≡◌, ◌∙◌, ap, sym, subst, length, Some}
+use Rattle.std.proofs.Common.{◌≡◌, ◌≤◌, ◌∙◌, ap, sym, subst, arith, length, Some}
 use Rattle.tick_laws.specs.Reached.{IsReached}
 use Rattle.replay.specs.Outcomes.{IsEnd}
-use Rattle.replay.proofs.Exits.{all_written}
+use Rattle.replay.specs.ToCome.{text_from}
+use Rattle.replay.proofs.Exits.{all_written, none_written}
 use Rattle.replay.proofs.Spoils.{good_before_next, last_at_end}
 use Rattle.replay.proofs.steps.run_steps.Goals as goal
+
+-- the hands could not be made
+pub returns-in-Err-clause-ran : goal.returns-in-Err-clause-ran
+returns-in-Err-clause-ran g c = record {
+  end = λ told. absurd told;
+  last_is = λ told. absurd told;
+  whole = λ told. absurd told;
+  prefix = none_written (g.S.Sink.bytes c.args.out.now) (text_from c.args.run.now 1);
+  failed = λ is. absurd (cc);
+  never_falls = omega arith;
+}
 
 pub returns-in-Ok-done-clause-ran : goal.returns-in-Ok-done-clause-ran
 returns-in-Ok-done-clause-ran g c =
     let run = c.args.run.now in
-    let made = c.in-Ok.ensures in
+    let made = c.in-Ok-bring_to_end.ensures in
     record {
       end = λ told. c.in-Ok-done.ensures;
       last_is = λ told. record {
@@ -21,9 +33,9 @@ returns-in-Ok-done-clause-ran g c =
       never_falls = made.never_falls;
     }
 
-pub returns-in-Err-done-clause-ran : goal.returns-in-Err-done-clause-ran
-returns-in-Err-done-clause-ran g c =
-    let made = c.in-Ok.ensures in
+pub returns-clause-ran : goal.returns-clause-ran
+returns-clause-ran g c =
+    let made = c.in-Ok-bring_to_end.ensures in
     record {
       end = λ told. absurd told;
       last_is = λ told. absurd told;

@@ -1,79 +1,8 @@
-use Rattle.std.proofs.Common.{rules, ◌≡◌, ◌-◌, ◌^◌, ◌<◌, ◌≤◌, ◌∙◌, sym, ap, subst, arith, length}
-use lib.ListN.{get_elem?}
-use Rattle.update_graph.proofs.Claimed.{run_is}
-use Rattle.update_graph.proofs.ClaimedWorks.{claimed, count_works, whole_works, works_back, works_tagged}
-use Rattle.update_graph.proofs.PlanEdges.{edge_ends, few_edges}
-use Rattle.update_graph.proofs.PlanLimits.{few_nodes}
-use Rattle.update_graph.proofs.WorkSent.{sent}
+use Rattle.std.proofs.Common.{◌≡◌, sym, subst, length}
+use Rattle.update_graph.specs.Tags.{tags}
 use Rattle.update_graph.proofs.step.work_step.Goals as goal
-
-pub overflow_cast-nodes : goal.overflow_cast-nodes
-overflow_cast-nodes g c =
-    let run = c.args.run.now in
-    let many : c.len-nodes.result ≡ length c.args.works.items = c.len-nodes.ensures ∙ c.args.works.ok.0 in
-    let all = count_works run (c.args.step - 1) (length run.plan.nodes) c.args.works.items c.requires.works in
-    let most = few_nodes run c.requires.entered.lawful in
-    let small : c.len-nodes.result ≤ 256 = omega (arith, many, all, most) in
-    search rules
-
-pub start-requires-clause-nodes : goal.start-requires-clause-nodes
-start-requires-clause-nodes g c κs =
-    let run = c.args.run.now in
-    let many : c.len-nodes.result ≡ length c.args.works.items = c.len-nodes.ensures ∙ c.args.works.ok.0 in
-    let all = count_works run (c.args.step - 1) (length run.plan.nodes) c.args.works.items c.requires.works in
-    let most = few_nodes run c.requires.entered.lawful in
-    let some_node : 0 < c.len-nodes.result = search rules in
-    let small : c.len-nodes.result ≤ 256 = omega (arith, many, all, most) in
-    (some_node, small, sym many)
-
-pub start-requires-clause-tagged : goal.start-requires-clause-tagged
-start-requires-clause-tagged g c κs =
-    let run = c.args.run.now in
-    works_tagged run (c.args.step - 1) c.args.works.items (whole_works run (c.args.step - 1) (length run.plan.nodes) c.args.works.items c.requires.works)
-
-pub start-requires-clause-edges : goal.start-requires-clause-edges
-start-requires-clause-edges g c κs =
-    let run = c.args.run.now in
-    let lawful = c.requires.entered.lawful in
-    let same = c.in_ok-own.ensures ∙ c.requires.edges in
-    let count : c.len-nodes.result ≡ length run.plan.nodes = c.len-nodes.ensures ∙ c.args.works.ok.0 ∙ count_works run (c.args.step - 1) (length run.plan.nodes) c.args.works.items c.requires.works in (
-      subst (λ l. length l < 2 ^ 32) (sym same) (few_edges run lawful),
-      λ e x there.
-          let ends = edge_ends run lawful e x (ap (λ l. get_elem? l e) (sym same) ∙ there) in
-          (ends.0, subst (λ k. x.to < k) (sym count) ends.1),
-    )
-
-pub work_claimed-requires-clause-claimed : goal.work_claimed-requires-clause-claimed
-work_claimed-requires-clause-claimed g c κs within =
-    let run = c.args.run.now in
-    let plan = c.in_ok-claims.claims.plan in
-    let works = c.args.works.items in
-    let told = c.in_ok-claims.ensures.plan in
-    let count : c.len-nodes.result ≡ length run.plan.nodes = c.len-nodes.ensures ∙ c.args.works.ok.0 ∙ count_works run (c.args.step - 1) (length run.plan.nodes) works c.requires.works in
-    (claimed run c.args.step works plan c.requires.entered c.requires.later (whole_works run (c.args.step - 1) (length run.plan.nodes) works c.requires.works) told.2 (told.0 ∙ count) (told.1 ∙ c.in_ok-own.ensures ∙ c.requires.edges)).0
-
-pub work_claimed-requires-clause-step : goal.work_claimed-requires-clause-step
-work_claimed-requires-clause-step g c κs within =
-    let run = c.args.run.now in
-    let plan = c.in_ok-claims.claims.plan in
-    let works = c.args.works.items in
-    let told = c.in_ok-claims.ensures.plan in
-    let count : c.len-nodes.result ≡ length run.plan.nodes = c.len-nodes.ensures ∙ c.args.works.ok.0 ∙ count_works run (c.args.step - 1) (length run.plan.nodes) works c.requires.works in
-    (claimed run c.args.step works plan c.requires.entered c.requires.later (whole_works run (c.args.step - 1) (length run.plan.nodes) works c.requires.works) told.2 (told.0 ∙ count) (told.1 ∙ c.in_ok-own.ensures ∙ c.requires.edges)).1
 
 pub returns : goal.returns
 returns g c =
     let run = c.args.run.now in
-    let plan = c.in_ok-claims.claims.plan in
-    let works = c.args.works.items in
-    let told = c.in_ok-claims.ensures.plan in
-    let count : c.len-nodes.result ≡ length run.plan.nodes = c.len-nodes.ensures ∙ c.args.works.ok.0 ∙ count_works run (c.args.step - 1) (length run.plan.nodes) works c.requires.works in
-    let is = claimed run c.args.step works plan c.requires.entered c.requires.later (whole_works run (c.args.step - 1) (length run.plan.nodes) works c.requires.works) told.2 (told.0 ∙ count) (told.1 ∙ c.in_ok-own.ensures ∙ c.requires.edges) in
-    works_back run c.args.step (length run.plan.nodes) c.in_ok-works.works.items (sym c.in_ok-works.works.ok.0 ∙ c.in_ok-works.ensures.len ∙ told.0 ∙ count)
-    (λ n w there. let t = c.in_ok-works.ensures.tags n w there in (t.0 ∙ run_is run plan is.0, t.1, t.2 ∙ sym is.1))
-
-pub start-requires-send-W : goal.start-requires-send-W
-start-requires-send-W g c κs = search sent depth 60 fits 20000
-
-pub finish-requires-send-W : goal.finish-requires-send-W
-finish-requires-send-W g c κs = search sent depth 60 fits 20000
+    subst (λ k. c.in_ok-works.works.items ≡ tags run k (length run.plan.nodes)) (sym c.in_ok-claims.ensures.step) c.in_ok-works.ensures

@@ -43,7 +43,9 @@ loop-number-preserved c =
           let t = w.take_share-share.ensures.tag edge here' in
           record {
             of = subst (λ s. IsSeatOf c.args.claims.now s) (sym w.seat-is) w.take_share-share.ensures.of;
-            taking = taking_more c.args.seat.now.view c.loop-number.seat.view c.if-edge-node.seat.view k c.loop-number.invariant.taking (ap (λ s. s.view) w.seat-is ∙ w.take_share-share.ensures.view);
+            taking =
+                taking_more c.args.edges.now c.args.seat.now.view c.args.node c.loop-number.seat.view c.if-edge-node.seat.view k edge c.loop-number.invariant.taking here w.if-edge-node.true
+                (ap (λ s. s.view) w.seat-is ∙ w.take_share-share.ensures.view);
             handed =
                 w.shares-is ∙ w.in_ok-push.ensures.ok
                 ∙ ap₂ (λ these (t : Tag). these ++ t ∷ []) c.loop-number.invariant.handed (as_tag w.take_share-share.result first.run (first.step + 1) edge.from t.0 t.1 t.2)
@@ -51,7 +53,7 @@ loop-number-preserved c =
           }
       | else-edge-node w ↦ record {
         of = subst (λ s. IsSeatOf c.args.claims.now s) (sym w.seat-is) c.loop-number.invariant.of;
-        taking = taking_skip c.args.seat.now.view c.if-edge-node.seat.view k (subst (λ s. IsTaking c.args.seat.now.view s.view k) (sym w.seat-is) c.loop-number.invariant.taking);
+        taking = taking_skip c.args.edges.now c.args.seat.now.view c.args.node c.if-edge-node.seat.view k (subst (λ s. IsTaking c.args.edges.now c.args.seat.now.view s.view c.args.node k) (sym w.seat-is) c.loop-number.invariant.taking);
         handed = w.shares-is ∙ c.loop-number.invariant.handed ∙ sym (ap (map (tag first.run (first.step + 1))) (froms_same c.args.node k c.args.edges.now none_edge c.loop-number-test.true w.if-edge-node.false));
       }
     ]

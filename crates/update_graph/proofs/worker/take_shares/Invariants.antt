@@ -8,6 +8,6 @@ use Rattle.update_graph.proofs.worker.take_shares.Given as goal
 abbrev pub invariant-loop-number : goal.invariant-loop-number
 invariant-loop-number l = record {
   of : IsSeatOf l.claims l.seat;
-  taking : IsTaking l.initial.seat.view l.seat.view l.number;
+  taking : IsTaking l.edges l.initial.seat.view l.seat.view l.node l.number;
   handed : l.shares ≡ map (tag l.claims.plan.first.value.run (l.claims.plan.first.value.step + 1)) (froms_to l.node (take l.number l.edges));
 }

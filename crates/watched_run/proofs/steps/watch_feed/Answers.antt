@@ -5,6 +5,7 @@ use Rattle.tick_laws.specs.Reached.{IsReached}
 use Rattle.tick_model.specs.Spoiled.{good}
 use Rattle.replay.specs.Causes.{IsCause}
 use Rattle.replay.specs.Standing.{IsGood}
+use Rattle.replay.proofs.Exits.{none_written}
 use Rattle.replay.proofs.Prints.{on_err}
 use Rattle.replay.proofs.Spoils.{cause_ends, good_before_next, none_is}
 use Rattle.watched_run.specs.Standing.{IsWatchedAt}
@@ -13,20 +14,24 @@ use Rattle.watched_run.proofs.Stood.{few_steps, node_of, table_of}
 use Rattle.watched_run.proofs.TextsTold.{all_told, goes_further, none_told, rests_at_end, some_told, stopped}
 use Rattle.watched_run.proofs.steps.watch_feed.Goals as goal
 
+pub returns-in_err-hands-clause-prefix : goal.returns-in_err-hands-clause-prefix
+returns-in_err-hands-clause-prefix g c =
+    on_err c.from_residual.result (none_written (g.S.Sink.bytes c.args.out.now) (watch_until c.args.run.now c.args.watch.now (good c.args.run.now)))
+
 pub returns-in_err-opening-clause-end : goal.returns-in_err-opening-clause-end
 returns-in_err-opening-clause-end g c =
-    let p = err_from_is_err_and c.from_residual.result c.from_residual.ensures.1 in
+    let p = err_from_is_err_and c.from_residual-in_err-opening.result c.from_residual-in_err-opening.ensures.1 in
     let run = c.args.run.now in
     let outcome = c.in_err-opening.field-0.0 in
     rw (p.1, p.2) (λ told. stopped run 0 outcome (c.in_err-opening.ensures.cause told) (cause_ends run 0 outcome (omega arith) (λ k below. absurd (omega (arith, below))) (c.in_err-opening.ensures.cause told)))
 
 pub returns-in_err-opening-clause-told : goal.returns-in_err-opening-clause-told
 returns-in_err-opening-clause-told g c =
-    let p = err_from_is_err_and c.from_residual.result c.from_residual.ensures.1 in
+    let p = err_from_is_err_and c.from_residual-in_err-opening.result c.from_residual-in_err-opening.ensures.1 in
     rw (p.1, p.2) (λ told. none_told c.args.run.now c.args.watch.now c.in_err-opening.field-0.0 (g.S.Sink.bytes c.args.out.now) (g.S.Sink.bytes c.open.new.out) (c.in_err-opening.ensures.cause told) (c.in_err-opening.ensures.ended told))
 
 pub returns-in_err-opening-clause-prefix : goal.returns-in_err-opening-clause-prefix
-returns-in_err-opening-clause-prefix g c = on_err c.from_residual.result c.in_err-opening.ensures.prefix
+returns-in_err-opening-clause-prefix g c = on_err c.from_residual-in_err-opening.result c.in_err-opening.ensures.prefix
 
 pub loop-step-init : goal.loop-step-init
 loop-step-init g c = record { stands = c.in_ok-opening.ensures.stands; told = c.in_ok-opening.ensures.told; never_falls = c.in_ok-opening.ensures.never_falls }

@@ -1,0 +1,269 @@
+-- What a seat has while a crew's hand works a node, and before the crew begins.
+use Rattle.std.proofs.Common.{◌≡◌, ◌≢◌, ℕ, ◌+◌, ◌<◌, Bool, true, sym, refl, ap, ◌∙◌, subst, arith, inl, inr, Option, Some, None, List, [], ◌∷◌, ◌++◌, length, append-nil, eqb, false}
+use Rattle.std.specs.Prelude.{◌⊎◌, option_to_list}
+use Rattle.std.specs.List.{list_any}
+use mathlib.Core.Logic.{dite}
+use mathlib.Core.Option.{some, some-injective}
+use native.Mathlib.Decide.{ℕ_discrete}
+use lib.ListN.{get_elem?}
+use Rattle.graph_words.specs.declared.graph.Edge.{Edge}
+use Rattle.graph_words.specs.declared.graph.Plan.{Plan}
+use Rattle.graph_words.specs.declared.table.Mark.TheVariants.{Unmarked, Untaken, PutBack, Delivered}
+use Rattle.graph_words.specs.declared.table.View.{View}
+use Rattle.graph_words.specs.Marks.{IsHadMark, at, inputs, put}
+use Rattle.graph_words.specs.Seats.{Has}
+use Rattle.graph_words.specs.Views.{IsUntouched, gets, mark_node}
+use Rattle.graph_words.proofs.Marks.{at_put, at_put_else, some_input}
+use Rattle.steal_workers.specs.Holdings.{IsHeld as IsHeldBy, IsReady, IsSettled as IsDone, KeepsOthers, SourcesBack as InputlessBack}
+use Rattle.steal_workers.specs.Lists.{IsListed}
+use Rattle.steal_workers.proofs.Listing.{listed_cases, listed_first, listed_last, true_false, unlisted}
+use Rattle.tick_model.specs.declared.feed.Run.{Run}
+use Rattle.update_graph.specs.Holdings.{IsClaimed, IsGoneOn, IsHeld, SourcesBack}
+use Rattle.update_graph.specs.Steps.{IsFound, IsHandedInto, IsHandedOver, IsListing, IsWorked, before, ready}
+use Rattle.update_graph.specs.Tags.{Tag}
+use Rattle.update_graph.proofs.Claimed.{source_claimed}
+use Rattle.update_graph.proofs.Handing.{apart, had_marked, out_at, still_untaken, untouched_still}
+use Rattle.update_graph.proofs.Holding.{has_mark, inside, none_some, some_same}
+
+-- a list that may have grown by one
+module _ (xs : List ℕ) where
+  pub grown_cases : (found : Option ℕ) (m : ℕ) → IsListed (xs ++ option_to_list found) m → IsListed xs m ⊎ (found ≡ Some m)
+  grown_cases None m is = inl (subst (λ l. IsListed l m) (append-nil xs) is)
+  grown_cases (Some n) m is = go (listed_cases xs n m is)
+    where
+      go : IsListed xs m ⊎ (m ≡ n) → IsListed xs m ⊎ (Some n ≡ Some m)
+      go (inl there) = inl there
+      go (inr e) = inr (ap Some (sym e))
+
+  pub grown_first : (found : Option ℕ) (m : ℕ) → IsListed xs m → IsListed (xs ++ option_to_list found) m
+  grown_first found m is = listed_first xs (option_to_list found) m is
+
+  pub grown_last : (found : Option ℕ) (m : ℕ) → found ≡ Some m → IsListed (xs ++ option_to_list found) m
+  grown_last found m is = subst (λ o. IsListed (xs ++ option_to_list o) m) (sym is) (listed_last xs m)
+
+-- a node that a delivery made ready, where none was kept
+module _ (plan : Plan Tag) (v w : View Tag) (edge to : ℕ) (found : Option ℕ) (o : IsHandedOver plan v w edge to None found) (m : ℕ) (is : found ≡ Some m) where
+  pub found_to : m ≡ to
+  found_to = go (o.finds m is)
+    where
+      go : IsFound plan v w to None m → m ≡ to
+      go (before none) = absurd (none_some m none)
+      go (ready same none made clean) = same
+
+  pub found_fresh : at v.nodes m ≡ Unmarked
+  found_fresh = go (o.finds m is)
+    where
+      go : IsFound plan v w to None m → at v.nodes m ≡ Unmarked
+      go (before none) = absurd (none_some m none)
+      go (ready same none made clean) = none
+
+  pub found_untaken : at w.nodes m ≡ Untaken
+  found_untaken = go (o.finds m is)
+    where
+      go : IsFound plan v w to None m → at w.nodes m ≡ Untaken
+      go (before none) = absurd (none_some m none)
+      go (ready same none made clean) = made
+
+  pub found_untouched : IsUntouched plan v m
+  found_untouched = go (o.finds m is)
+    where
+      go : IsFound plan v w to None m → IsUntouched plan v m
+      go (before none) = absurd (none_some m none)
+      go (ready same none made clean) = clean
+
+  -- it is not listed yet
+  pub found_unlisted : (xs : List ℕ) → ((n : ℕ) → IsListed xs n → Has v n) → list_any (eqb m) xs ≡ false
+  found_unlisted xs had = unlisted xs m (λ there. had_marked (at v.nodes m) (had m there) found_fresh)
+
+-- the edges of a node are delivered
+module _ (plan : Plan Tag) (u : View Tag) (node : ℕ) where
+  pub listing_none : IsListing plan u u node 0 []
+  listing_none = record {
+    ins = refl;
+    parts = refl;
+    delivered = λ e x there less from. absurd (omega arith);
+    later = λ e more. refl;
+    others = λ e x there other. refl;
+    stays = λ m has. refl;
+    came = λ m. inl refl;
+    above = λ m is. absurd (true_false (sym is));
+    fresh = λ m is. absurd (true_false (sym is));
+    ready = λ m is. absurd (true_false (sym is));
+  }
+
+  pub listing_skip : (v : View Tag) (count : ℕ) (x : Edge) (xs : List ℕ) → IsListing plan u v node count xs → get_elem? plan.edges.items count ≡ some x → x.from ≢ node → IsListing plan u v node (count + 1) xs
+  listing_skip v count x xs h there other_from = record {
+    ins = h.ins;
+    parts = h.parts;
+    delivered = λ e y at_y less from.
+        let other : e ≢ count = λ c. other_from (ap (λ (z : Edge). z.from) (some-injective x y (sym there ∙ ap (λ k. get_elem? plan.edges.items k) (sym c) ∙ at_y)) ∙ from) in
+        h.delivered e y at_y (omega arith) from;
+    later = λ e more. h.later e (omega arith);
+    others = h.others;
+    stays = h.stays;
+    came = h.came;
+    above = h.above;
+    fresh = h.fresh;
+    ready = h.ready;
+  }
+
+  -- one more edge is delivered
+  module _ (v w : View Tag) (count to : ℕ) (x : Edge) (xs : List ℕ) (found : Option ℕ) (h : IsListing plan u v node count xs) (o : IsHandedOver plan v w count to None found)
+      (there : get_elem? plan.edges.items count ≡ some x) (from_is : x.from ≡ node) (to_is : x.to ≡ to) (up : x.from < x.to) (below : x.to < plan.nodes) where
+    abbrev ys : List ℕ
+    ys = xs ++ option_to_list found
+
+    outs_are : (e : ℕ) → at w.outs e ≡ at (put v.outs count Delivered) e
+    outs_are = out_at plan node v w count to x None found o there from_is
+
+    other_outs : (m : ℕ) → m ≢ node → (e : ℕ) (y : Edge) → get_elem? plan.edges.items e ≡ some y → y.from ≡ m → at w.outs e ≡ at v.outs e
+    other_outs = apart plan node v w count to x None found o there from_is
+
+    above_more : (m : ℕ) → IsListed xs m ⊎ (found ≡ Some m) → node < m
+    above_more m (inl is) = h.above m is
+    above_more m (inr is) = let same = found_to plan v w count to found o m is in omega (arith, same, from_is, to_is, up)
+
+    fresh_more : (m : ℕ) → IsListed xs m ⊎ (found ≡ Some m) → at u.nodes m ≡ Unmarked
+    fresh_more m (inl is) = h.fresh m is
+    fresh_more m (inr is) = go (h.came m)
+      where
+        none : at v.nodes m ≡ Unmarked
+        none = found_fresh plan v w count to found o m is
+
+        go : (at v.nodes m ≡ at u.nodes m) ⊎ IsListed xs m → at u.nodes m ≡ Unmarked
+        go (inl same) = sym same ∙ none
+        go (inr there) = absurd (had_marked (at v.nodes m) (has_mark (at v.nodes m) Untaken (h.ready m there).untaken tt) none)
+
+    ready_more : (m : ℕ) → IsListed xs m ⊎ (found ≡ Some m) → IsReady plan w m
+    ready_more m (inl is) =
+        let own = h.ready m is in
+        let less = h.above m is in
+        record {
+          within = own.within;
+          input = own.input;
+          untaken = still_untaken plan node v w count to x None found o there from_is m own.untaken;
+          untouched = untouched_still plan node v w count to x None found o there from_is m (λ c. omega (arith, c, less)) own.untouched;
+        }
+    ready_more m (inr is) =
+        let same = found_to plan v w count to found o m is in
+        record {
+          within = omega (arith, same, to_is, below);
+          input = some_input m count plan.edges.items x there (to_is ∙ sym same);
+          untaken = found_untaken plan v w count to found o m is;
+          untouched = untouched_still plan node v w count to x None found o there from_is m (λ c. omega (arith, c, same, from_is, to_is, up)) (found_untouched plan v w count to found o m is);
+        }
+
+    came_through : (m : ℕ) → at w.nodes m ≡ at v.nodes m → (at w.nodes m ≡ at u.nodes m) ⊎ IsListed ys m
+    came_through m same = go (h.came m)
+      where
+        go : (at v.nodes m ≡ at u.nodes m) ⊎ IsListed xs m → (at w.nodes m ≡ at u.nodes m) ⊎ IsListed ys m
+        go (inl e) = inl (same ∙ e)
+        go (inr is) = inr (grown_first xs found m is)
+
+    came_more : (m : ℕ) (b : Option ℕ) → found ≡ b → (at w.nodes m ≡ at u.nodes m) ⊎ IsListed ys m
+    came_more m None none = came_through m (o.came m (λ is. none_some m (sym none ∙ is)))
+    came_more m (Some n) some_is = dite (ℕ_discrete m n)
+        (λ e. inr (grown_last xs found m (some_is ∙ ap Some (sym e))))
+        (λ ne. came_through m (o.came m (λ is. ne (sym (some_same n m (sym some_is ∙ is))))))
+
+    pub listing_over : IsListing plan u w node (count + 1) ys
+    listing_over = record {
+      ins = o.ins ∙ h.ins;
+      parts = o.parts ∙ h.parts;
+      delivered = λ e y at_y less from. outs_are e ∙ dite (ℕ_discrete e count)
+          (λ c. ap (λ k. at (put v.outs count Delivered) k) c ∙ at_put v.outs count Delivered)
+          (λ ne. at_put_else v.outs count e Delivered ne ∙ h.delivered e y at_y (omega arith) from);
+      later = λ e more. outs_are e ∙ at_put_else v.outs count e Delivered (λ c. omega arith) ∙ h.later e (omega arith);
+      others = λ e y at_y other. other_outs y.from other e y at_y refl ∙ h.others e y at_y other;
+      stays = λ m has. o.stays m (subst IsHadMark (sym (h.stays m has)) has) ∙ h.stays m has;
+      came = λ m. came_more m found refl;
+      above = λ m is. above_more m (grown_cases xs found m is);
+      fresh = λ m is. fresh_more m (grown_cases xs found m is);
+      ready = λ m is. ready_more m (grown_cases xs found m is);
+    }
+
+  pub listing_more : (v w : View Tag) (count to : ℕ) (x : Edge) (xs more : List ℕ) → IsListing plan u v node count xs → IsHandedInto plan v w count to xs more
+      → get_elem? plan.edges.items count ≡ some x → x.from ≡ node → x.to ≡ to → x.from < x.to → x.to < plan.nodes → IsListing plan u w node (count + 1) more
+  listing_more v w count to x xs more h into there from_is to_is up below =
+      subst (IsListing plan u w node (count + 1)) (sym into.listed) (listing_over v w count to x xs into.found h into.over there from_is to_is up below)
+
+  -- what is listed is had
+  pub listing_had : (v : View Tag) (count : ℕ) (xs : List ℕ) → IsListing plan u v node count xs → (m : ℕ) → IsListed xs m → Has v m
+  listing_had v count xs h m is = has_mark (at v.nodes m) Untaken (h.ready m is).untaken tt
+
+-- a node whose work is put back and whose edges are delivered
+module _ (plan : Plan Tag) (node : ℕ) (u c d : View Tag) (found : List ℕ) (own : IsReady plan u node) (w : IsWorked plan u c node) (l : IsListing plan c d node (length plan.edges.items) found) where
+  pub listed_parts : d.parts ≡ u.parts
+  listed_parts = l.parts ∙ w.parts
+
+  pub listed_settled : IsDone plan d node
+  listed_settled = record {
+    back = l.stays node (has_mark (at c.nodes node) PutBack w.back tt) ∙ w.back;
+    delivered = λ e x there from. l.delivered e x there (inside plan.edges.items e x there) from;
+  }
+
+  pub listed_came : (m : ℕ) → IsListed found m → at u.nodes m ≡ Unmarked
+  listed_came m is = let less = l.above m is in sym (w.nodes m (λ e. omega (arith, e, less))) ∙ l.fresh m is
+
+  had_before : (m : ℕ) → Has c m → Has u m
+  had_before m has = dite (ℕ_discrete m node)
+      (λ e. has_mark (at u.nodes m) Untaken (ap (λ k. at u.nodes k) e ∙ own.untaken) tt)
+      (λ ne. has_mark (at u.nodes m) (at c.nodes m) (sym (w.nodes m ne)) has)
+
+  pub listed_others : KeepsOthers plan u d node found
+  listed_others = record {
+    nodes = λ m ne had. l.stays m (has_mark (at c.nodes m) (at u.nodes m) (w.nodes m ne) had) ∙ w.nodes m ne;
+    outs = λ m e ne had x there from. l.others e x there (λ f. ne (sym from ∙ f)) ∙ ap (λ k. at k e) w.outs;
+    ins = λ m e ne had x there goes. ap (λ k. at k e) l.ins ∙ w.ins e x there (λ g. ne (sym goes ∙ g));
+    only = λ m has. known m has (l.came m);
+  }
+    where
+      known : (m : ℕ) → Has d m → (at d.nodes m ≡ at c.nodes m) ⊎ IsListed found m → Has u m ⊎ IsListed found m
+      known m has (inl same) = inl (had_before m (subst IsHadMark same has))
+      known m has (inr is) = inr is
+
+-- the first seat before the crew begins
+module _ (run : Run) (plan : Plan Tag) where
+  pub none_listed : (u : View Tag) → IsHeld run plan u None → IsHeldBy plan u (IsListed [])
+  none_listed u held = record {
+    settled = λ m below has. let own = held.settled m below has (none_some m) in inr (record { back = own.back; delivered = own.delivered });
+    ready = λ m is. absurd (true_false (sym is));
+  }
+
+  pub inputless_back : (u v : View Tag) → IsClaimed run plan → SourcesBack run plan u → IsGoneOn u v → InputlessBack plan v
+  inputless_back u v claimed sources on m below none = on.back m (sources m below (source_claimed run plan claimed m below none))
+
+-- a node on offer is listed
+module _ (plan : Plan Tag) (u v : View Tag) (n : ℕ) (xs ys : List ℕ) (found : Bool) (held : IsHeldBy plan u (IsListed xs)) (eq : v ≡ gets found n u) (taken_is : found ≡ true) (fresh : at u.nodes n ≡ Unmarked) where
+  pub accepted_unlisted : list_any (eqb n) xs ≡ false
+  accepted_unlisted = unlisted xs n (λ is. had_marked (at u.nodes n) (has_mark (at u.nodes n) Untaken (held.ready n is).untaken tt) fresh)
+
+  abbrev now_had : View Tag
+  now_had = mark_node u n Untaken
+
+  pub accepted_listed : IsUntouched plan u n → n < plan.nodes → 0 < inputs n plan.edges.items → ys ≡ xs ++ n ∷ [] → IsHeldBy plan v (IsListed ys)
+  accepted_listed clean within input same =
+      subst (λ l. IsHeldBy plan v (IsListed l)) (sym same) (subst (λ z. IsHeldBy plan z (IsListed (xs ++ n ∷ []))) (sym (eq ∙ ap (λ b. gets b n u) taken_is)) record {
+        settled = λ m below has. dite (ℕ_discrete m n)
+            (λ e. inl (subst (IsListed (xs ++ n ∷ [])) (sym e) (listed_last xs n)))
+            (λ ne. let stays = at_put_else u.nodes n m Untaken ne in settle m stays (held.settled m below (subst IsHadMark stays has)));
+        ready = λ m is. ready_in m (listed_cases xs n m is);
+      })
+    where
+      settle : (m : ℕ) → at (put u.nodes n Untaken) m ≡ at u.nodes m → IsListed xs m ⊎ IsDone plan u m → IsListed (xs ++ n ∷ []) m ⊎ IsDone plan now_had m
+      settle m stays (inl is) = inl (listed_first xs (n ∷ []) m is)
+      settle m stays (inr own) = inr (record { back = stays ∙ own.back; delivered = own.delivered })
+
+      ready_in : (m : ℕ) → IsListed xs m ⊎ (m ≡ n) → IsReady plan now_had m
+      ready_in m (inl is) =
+          let own = held.ready m is in
+          let ne : m ≢ n = λ e. had_marked (at u.nodes m) (has_mark (at u.nodes m) Untaken own.untaken tt) (ap (λ k. at u.nodes k) e ∙ fresh) in
+          record { within = own.within; input = own.input; untaken = at_put_else u.nodes n m Untaken ne ∙ own.untaken; untouched = own.untouched }
+      ready_in m (inr e) = subst (IsReady plan now_had) (sym e) (record { within = within; input = input; untaken = at_put u.nodes n Untaken; untouched = clean })
+
+  pub accepted_goes_on : IsGoneOn u v
+  accepted_goes_on =
+      subst (IsGoneOn u) (sym (eq ∙ ap (λ b. gets b n u) taken_is)) record {
+        parts = refl;
+        back = λ m is. at_put_else u.nodes n m Untaken (λ e. had_marked (at u.nodes m) (has_mark (at u.nodes m) PutBack is tt) (ap (λ k. at u.nodes k) e ∙ fresh)) ∙ is;
+      }

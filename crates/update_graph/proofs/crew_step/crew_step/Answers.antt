@@ -1,0 +1,8 @@
+use Rattle.std.proofs.Common.{◌≡◌, sym, subst, length}
+use Rattle.update_graph.specs.Tags.{tags}
+use Rattle.update_graph.proofs.crew_step.crew_step.Goals as goal
+
+pub returns-clause-works : goal.returns-clause-works
+returns-clause-works g c =
+    let run = c.args.run.now in
+    subst (λ k. c.in_ok-works.works.items ≡ tags run k (length run.plan.nodes)) (sym c.in_ok-claims.ensures.step) c.in_ok-works.ensures

@@ -1,0 +1,13 @@
+use Rattle.std.proofs.Common.{◌≡◌, ap, sym, ◌∙◌, ◌+◌, ◌-◌, arith, length}
+use Rattle.merge_op.specs.Merged.{news}
+use Rattle.update_graph.specs.Tags.{tags}
+use Rattle.update_graph.proofs.Batches.{sources_new, sources_old}
+use Rattle.update_graph.proofs.graph.next_by.Goals as goal
+
+pub changed_sources-requires-clause-sources : goal.changed_sources-requires-clause-sources
+changed_sources-requires-clause-sources g c = ap news c.requires.sources ∙ sources_new c.args.run.now c.args.step ∙ sym (sources_old c.args.run.now c.args.step c.in_ok-changes.ensures.entered)
+
+pub crew_step-requires-clause-works : goal.crew_step-requires-clause-works
+crew_step-requires-clause-works g c κs within =
+    let same : c.args.step ≡ c.args.step + 1 - 1 = omega arith in
+    c.requires.works ∙ ap (λ k. tags c.args.run.now k (length c.args.run.now.plan.nodes)) same

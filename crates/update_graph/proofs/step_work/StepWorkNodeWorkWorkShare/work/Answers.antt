@@ -1,0 +1,93 @@
+use Rattle.std.proofs.Common.{◌<◌, ◌∙◌, sym, ap, subst, length}
+use lib.ListN.{get_elem?}
+use Rattle.graph_words.specs.declared.table.Mark.TheVariants.{PutBack}
+use Rattle.graph_words.specs.Marks.{at}
+use Rattle.graph_words.specs.Models.{SeatModel}
+use Rattle.update_graph.specs.Crews.{StepView}
+use Rattle.update_graph.specs.Steps.{IsListing, IsWorked}
+use Rattle.update_graph.specs.Tags.{Tag}
+use Rattle.update_graph.proofs.Claimed.{few_of_step, operator_of_step, small_of_step, step_of_view, within_of_step, work_operator, work_within}
+use Rattle.update_graph.proofs.CrewNodes.{listed_came, listed_others, listed_settled}
+use Rattle.update_graph.proofs.Handing.{begun_taken, worked_is}
+use Rattle.update_graph.proofs.Holding.{has_mark}
+use Rattle.update_graph.proofs.WorkSent.{sent}
+use Rattle.update_graph.proofs.step_work.StepWorkNodeWorkWorkShare.work.Goals as goal
+
+pub begin_node-requires-clause-node : goal.begin_node-requires-clause-node
+begin_node-requires-clause-node g c =
+    let plan = c.args.claims.now.plan in
+    let step =
+    step_of_view plan c.run-run.result.now (g.U.HasRun.own_run c.self.inside.run.now) c.self.inside.step c.self.inside.edges.now c.args.self.now c.run-run.ensures c.self.view_is c.self.invariant
+    c.requires.meant.run c.requires.meant.step c.requires.meant.edges in
+    (c.requires.node.within, within_of_step c.run-run.result.now plan step c.args.node c.requires.node.input)
+
+pub advanced-worked-requires-clause-node : goal.advanced-worked-requires-clause-node
+advanced-worked-requires-clause-node g c =
+    let plan = c.args.claims.now.plan in
+    let step =
+    step_of_view plan c.run-run.result.now (g.U.HasRun.own_run c.self.inside.run.now) c.self.inside.step c.self.inside.edges.now c.args.self.now c.run-run.ensures c.self.view_is c.self.invariant
+    c.requires.meant.run c.requires.meant.step c.requires.meant.edges in
+    work_within c.run-run.result.now plan step c.in_ok-work.work c.args.node c.in_ok-work.ensures.work (within_of_step c.run-run.result.now plan step c.args.node c.requires.node.input)
+
+pub advanced-worked-requires-clause-operator : goal.advanced-worked-requires-clause-operator
+advanced-worked-requires-clause-operator g c =
+    let plan = c.args.claims.now.plan in
+    let step =
+    step_of_view plan c.run-run.result.now (g.U.HasRun.own_run c.self.inside.run.now) c.self.inside.step c.self.inside.edges.now c.args.self.now c.run-run.ensures c.self.view_is c.self.invariant
+    c.requires.meant.run c.requires.meant.step c.requires.meant.edges in
+    work_operator c.run-run.result.now plan step c.in_ok-work.work c.args.node c.in_ok-work.ensures.work (operator_of_step c.run-run.result.now plan step c.args.node c.requires.node.input)
+
+pub settle_node-requires-clause-taken : goal.settle_node-requires-clause-taken
+settle_node-requires-clause-taken g c =
+    begun_taken c.args.claims.now.plan c.look.new.seat.view c.begin_node.new.seat.view c.args.node c.in_ok-work.ensures.begun
+
+pub hand_all-requires-clause-few : goal.hand_all-requires-clause-few
+hand_all-requires-clause-few g c =
+    let plan = c.args.claims.now.plan in
+    let step =
+    step_of_view plan c.run-run.result.now (g.U.HasRun.own_run c.self.inside.run.now) c.self.inside.step c.self.inside.edges.now c.args.self.now c.run-run.ensures c.self.view_is c.self.invariant
+    c.requires.meant.run c.requires.meant.step c.requires.meant.edges in
+    let edges = c.requires.meant.edges ∙ sym (ap (λ (v : StepView). v.edges) c.self.view_is) in
+    subst (λ l. length l < 4294967296) edges (few_of_step c.run-run.result.now plan step)
+
+pub hand_all-requires-clause-below : goal.hand_all-requires-clause-below
+hand_all-requires-clause-below g c e x there =
+    let plan = c.args.claims.now.plan in
+    let step =
+    step_of_view plan c.run-run.result.now (g.U.HasRun.own_run c.self.inside.run.now) c.self.inside.step c.self.inside.edges.now c.args.self.now c.run-run.ensures c.self.view_is c.self.invariant
+    c.requires.meant.run c.requires.meant.step c.requires.meant.edges in
+    let edges = c.requires.meant.edges ∙ sym (ap (λ (v : StepView). v.edges) c.self.view_is) in
+    small_of_step c.run-run.result.now plan step e x (ap (λ l. get_elem? l e) edges ∙ there)
+
+pub hand_all-requires-clause-has : goal.hand_all-requires-clause-has
+hand_all-requires-clause-has g c =
+    let plan = c.args.claims.now.plan in
+    let worked = worked_is plan c.look.new.seat.view c.begin_node.new.seat.view c.settle_node.new.seat.view c.args.node c.in_ok-work.ensures.begun c.in_ok-share.ensures.view in
+    has_mark (at c.settle_node.new.seat.view.nodes c.args.node) PutBack worked.back tt
+
+pub returns-clause-settled : goal.returns-clause-settled
+returns-clause-settled g c =
+    let plan = c.args.claims.now.plan in
+    let edges = c.requires.meant.edges ∙ sym (ap (λ (v : StepView). v.edges) c.self.view_is) in
+    let worked = subst (λ (s : SeatModel Tag). IsWorked plan s.view c.settle_node.new.seat.view c.args.node) c.look.ensures.same (worked_is plan c.look.new.seat.view c.begin_node.new.seat.view c.settle_node.new.seat.view c.args.node c.in_ok-work.ensures.begun c.in_ok-share.ensures.view) in
+    let listing = subst (λ l. IsListing plan c.settle_node.new.seat.view c.hand_all.new.seat.view c.args.node (length l) c.hand_all.new.ready.nodes.items) (sym edges) c.in_ok-hand_all.ensures.handed in
+    listed_settled plan c.args.node c.args.seat.now.view c.settle_node.new.seat.view c.hand_all.new.seat.view c.hand_all.new.ready.nodes.items c.requires.node worked listing
+
+pub returns-clause-came : goal.returns-clause-came
+returns-clause-came g c =
+    let plan = c.args.claims.now.plan in
+    let edges = c.requires.meant.edges ∙ sym (ap (λ (v : StepView). v.edges) c.self.view_is) in
+    let worked = subst (λ (s : SeatModel Tag). IsWorked plan s.view c.settle_node.new.seat.view c.args.node) c.look.ensures.same (worked_is plan c.look.new.seat.view c.begin_node.new.seat.view c.settle_node.new.seat.view c.args.node c.in_ok-work.ensures.begun c.in_ok-share.ensures.view) in
+    let listing = subst (λ l. IsListing plan c.settle_node.new.seat.view c.hand_all.new.seat.view c.args.node (length l) c.hand_all.new.ready.nodes.items) (sym edges) c.in_ok-hand_all.ensures.handed in
+    listed_came plan c.args.node c.args.seat.now.view c.settle_node.new.seat.view c.hand_all.new.seat.view c.hand_all.new.ready.nodes.items c.requires.node worked listing
+
+pub returns-clause-others : goal.returns-clause-others
+returns-clause-others g c =
+    let plan = c.args.claims.now.plan in
+    let edges = c.requires.meant.edges ∙ sym (ap (λ (v : StepView). v.edges) c.self.view_is) in
+    let worked = subst (λ (s : SeatModel Tag). IsWorked plan s.view c.settle_node.new.seat.view c.args.node) c.look.ensures.same (worked_is plan c.look.new.seat.view c.begin_node.new.seat.view c.settle_node.new.seat.view c.args.node c.in_ok-work.ensures.begun c.in_ok-share.ensures.view) in
+    let listing = subst (λ l. IsListing plan c.settle_node.new.seat.view c.hand_all.new.seat.view c.args.node (length l) c.hand_all.new.ready.nodes.items) (sym edges) c.in_ok-hand_all.ensures.handed in
+    listed_others plan c.args.node c.args.seat.now.view c.settle_node.new.seat.view c.hand_all.new.seat.view c.hand_all.new.ready.nodes.items c.requires.node worked listing
+
+pub look-requires-send-W : goal.look-requires-send-W
+look-requires-send-W g c κs = search sent depth 60 fits 20000

@@ -1,0 +1,152 @@
+//! A step of all nodes, worked by a crew: claims are made on them, the first seat hands on the sources' tables, and the hands of
+//! the crew work the rest.
+
+ghost use Rattle.std.specs.Prelude.{◌≡◌, ◌+◌, ◌-◌, ◌<◌, ◌≤◌, IfOk, None, length};
+ghost use Rattle.graph_words.specs.Seats.{IsSeatOf};
+ghost use Rattle.graph_words.specs.Views.{first_view};
+ghost use Rattle.steal_workers.specs.Holdings.{IsHeld as IsHeldBy, SourcesBack};
+ghost use Rattle.steal_workers.specs.Lists.{IsListed};
+ghost use Rattle.update_graph.specs.Edges.{edges_of};
+ghost use Rattle.update_graph.specs.Entered.{IsEntered};
+ghost use Rattle.update_graph.specs.Graphs.{AreSources};
+ghost use Rattle.update_graph.specs.Holdings.{AllBack, IsClaimed, IsGoneOn, IsHeld};
+ghost use Rattle.update_graph.specs.Tags.{tags};
+
+use crate::first_seat::open_sources;
+use crate::step::{begin_step, end_step};
+use crate::step_work::StepWork;
+use crate::team::{HasRun, run_is_shared};
+use crate::work::Work;
+use crate::worker::{StepClaims, StepSeat};
+use graph_words::Edge;
+use std::alloc::{AllocError, Global};
+use std::thread::Threads;
+use steal_workers::{Crew, Ready};
+use tick_io::Gate;
+use tick_model::feed::Run;
+use tick_model::sources::is_source;
+use tick_table::Shared;
+
+/// Adds a node with an operator to the list where it is on offer. The seat has it then.
+fn accept_into(run: &Run, claims: &StepClaims, seat: &mut StepSeat, node: u32, ready: &mut Ready)
+    requires claimed { IsClaimed run.now claims.now.plan }
+    requires of { IsSeatOf claims.now seat.old }
+    requires node { node < claims.now.plan.nodes }
+    requires held { IsHeldBy claims.now.plan seat.old.view (IsListed ready.old.nodes.items) }
+    ensures of { IsSeatOf claims.now seat.new }
+    ensures held { IsHeldBy claims.now.plan seat.new.view (IsListed ready.new.nodes.items) }
+    ensures on { IsGoneOn seat.old.view seat.new.view }
+{
+    let nodes = run.plan.nodes.as_slice();
+    if is_source(&nodes[node as usize]) {
+        return;
+    }
+    if claims.accept(seat, node) {
+        ready.add(node);
+    }
+}
+
+/// The nodes on offer, all of which the seat then has.
+fn accept_all(run: &Run, claims: &StepClaims, seat: &mut StepSeat) -> Ready
+    requires claimed { IsClaimed run.now claims.now.plan }
+    requires of { IsSeatOf claims.now seat.old }
+    requires held { IsHeld run.now claims.now.plan seat.old.view None }
+    ensures of { IsSeatOf claims.now seat.new }
+    ensures held { IsHeldBy claims.now.plan seat.new.view (IsListed result.nodes.items) }
+    ensures on { IsGoneOn seat.old.view seat.new.view }
+{
+    let mut ready = Ready::new();
+    for node in 0..claims.nodes() {
+        accept_into(run, claims, seat, node, &mut ready);
+    }
+    ready
+}
+
+/// Works the nodes with operators by the hands of a crew, from those on the list.
+fn work_by<R: Threads + Sync, U: HasRun, G: Gate>(
+    rt: &R,
+    alloc: Global,
+    run: &U,
+    step: u64,
+    claims: &StepClaims,
+    seat: StepSeat,
+    ready: Ready,
+    edges: &[Edge],
+    crew: &mut Crew,
+    gate: &G,
+) -> Result<StepSeat, AllocError>
+    requires claimed { IsClaimed (U.own_run run.now) claims.now.plan }
+    requires step { step ≡ claims.now.plan.first.value.step + 1 }
+    requires of { IsSeatOf claims.now seat }
+    requires edges { edges.now ≡ claims.now.plan.edges.items }
+    requires alone { seat.view.parts ≡ 1024 }
+    requires held { IsHeldBy claims.now.plan seat.view (IsListed ready.nodes.items) }
+    requires sources { SourcesBack claims.now.plan seat.view }
+    ensures size { crew.new.size ≡ crew.old.size }
+    ensures of { IfOk result (λ worked. IsSeatOf claims.now worked) }
+    ensures all { IfOk result (λ worked. AllBack claims.now.plan worked.view) }
+{
+    let work = StepWork::new(alloc, run, step, edges, gate);
+    crew.run(rt, claims, seat, ready, &work)
+}
+
+/// Works all nodes that are claimed.
+fn work_claimed<R: Threads + Sync, G: Gate>(
+    rt: &R,
+    alloc: Global,
+    run: &Run,
+    claims: &StepClaims,
+    seat: StepSeat,
+    step: u64,
+    edges: &[Edge],
+    sources: &[Shared],
+    crew: &mut Crew,
+    gate: &G,
+) -> Result<StepSeat, AllocError>
+    requires claimed { IsClaimed run.now claims.now.plan }
+    requires step { step ≡ claims.now.plan.first.value.step + 1 }
+    requires of { IsSeatOf claims.now seat }
+    requires edges { edges.now ≡ claims.now.plan.edges.items }
+    requires sources { AreSources run.now step sources.now }
+    requires first { seat.view ≡ first_view claims.now.plan }
+    ensures size { crew.new.size ≡ crew.old.size }
+    ensures of { IfOk result (λ worked. IsSeatOf claims.now worked) }
+    ensures all { IfOk result (λ worked. AllBack claims.now.plan worked.view) }
+{
+    let mut seat = seat;
+    open_sources(run, step, claims, &mut seat, edges, sources)?;
+    let ready = accept_all(run, claims, &mut seat);
+    run_is_shared();
+    work_by(rt, alloc, run, step, claims, seat, ready, edges, crew, gate)
+}
+
+/// What all nodes keep at the next step, from what they keep at this one. The tables are those of the sources at the next step.
+pub(crate) fn crew_step<R: Threads + Sync, G: Gate>(
+    rt: &R,
+    alloc: Global,
+    run: &Run,
+    works: Vec<Work>,
+    step: u64,
+    edges: &[Edge],
+    sources: &[Shared],
+    crew: &mut Crew,
+    gate: &G,
+) -> Result<Vec<Work>, AllocError>
+    requires entered { IsEntered run.now step }
+    requires later { 1 ≤ step }
+    requires works { works.items ≡ tags run.now (step - 1) (length run.now.plan.nodes) }
+    requires edges { edges.now ≡ edges_of run.now.plan }
+    requires sources { AreSources run.now step sources.now }
+    ensures size { crew.new.size ≡ crew.old.size }
+    ensures works { IfOk result (λ works. works.items ≡ tags run.now step (length run.now.plan.nodes)) }
+{
+    if works.is_empty() {
+        return Ok(works);
+    }
+    let (claims, seat) = begin_step(alloc, run, works, step, edges)?;
+    let seat = work_claimed(
+        rt, alloc, run, &claims, seat, step, edges, sources, crew, gate,
+    )?;
+    let works = end_step(run, claims, seat)?;
+    Ok(works)
+}

@@ -1,0 +1,204 @@
+//! What a crew's hand does to a node of a step.
+
+ghost use Rattle.std.specs.Prelude.{◌≡◌, ◌+◌, ◌<◌, ◌≤◌, ◌^◌, [], ℕ, IfOk, OnOk, length, map, true};
+ghost use mathlib.Core.Option.{some};
+ghost use lib.ListN.{get_elem?};
+ghost use Rattle.graph_words.specs.declared.graph.Edge.{Edge};
+ghost use Rattle.graph_words.specs.declared.table.Mark.TheVariants.{Unmarked};
+ghost use Rattle.graph_words.specs.Marks.{at};
+ghost use Rattle.graph_words.specs.Seats.{AtEdge, Has, IsSeatOf};
+ghost use Rattle.steal_workers.specs.Lists.{IsListed};
+ghost use Rattle.tick_model.specs.Evaluation.{inputs_of};
+ghost use Rattle.update_graph.specs.Edges.{edges_of};
+ghost use Rattle.update_graph.specs.Entered.{IsEntered};
+ghost use Rattle.update_graph.specs.Steps.{IsHandedInto, IsListing};
+ghost use Rattle.update_graph.specs.Tags.{is_operator, op_at, tag};
+
+use crate::shares::Share;
+use crate::team::HasRun;
+use crate::work::Work;
+use crate::worker::{StepClaims, StepSeat, begin_node, hand_over, settle_node};
+use graph_words::Edge;
+use std::alloc::{AllocError, Global};
+use std::marker::{Brand, Model};
+use std::sync::ledger::{Blank, Ledger};
+use steal_workers::{NodeWork, Ready};
+use tick_io::Gate;
+use tick_model::feed::Run;
+use tick_model::items::Items;
+use tick_table::Steps;
+
+/// Delivers a share along an edge. A node that this makes ready is added to the list.
+fn hand_into(
+    claims: &StepClaims,
+    seat: &mut StepSeat,
+    edge: u32,
+    to: u32,
+    share: Share,
+    ready: &mut Ready,
+)
+    requires of { IsSeatOf claims.now seat.old }
+    requires edge { edge < length claims.now.plan.edges.items }
+    requires to { AtEdge claims.now.plan edge (λ x. (x.to ≡ to) × (x.from < x.to) × (x.to < claims.now.plan.nodes)) }
+    requires from { AtEdge claims.now.plan edge (λ x. Has seat.old.view x.from) }
+    requires fresh { at seat.old.view.outs edge ≡ Unmarked }
+    requires share { AtEdge claims.now.plan edge (λ x. share ≡ tag claims.now.plan.first.value.run (claims.now.plan.first.value.step + 1) x.from) }
+    requires below { to < 256 }
+    requires listed { (m : ℕ) → IsListed ready.old.nodes.items m → Has seat.old.view m }
+    ensures of { IsSeatOf claims.now seat.new }
+    ensures into { IsHandedInto claims.now.plan seat.old.view seat.new.view edge to ready.old.nodes.items ready.new.nodes.items }
+{
+    match hand_over(claims, seat, edge, to, share, None) {
+        Some(found) => ready.add(found),
+        None => {}
+    }
+}
+
+/// Delivers what a node hands on along each of its edges. All nodes that this makes ready are added to the list.
+fn hand_all(
+    claims: &StepClaims,
+    seat: &mut StepSeat,
+    run: &Run,
+    edges: &[Edge],
+    node: u32,
+    share: &Share,
+    ready: &mut Ready,
+) -> Result<(), AllocError>
+    requires of { IsSeatOf claims.now seat.old }
+    requires edges { edges.now ≡ claims.now.plan.edges.items }
+    requires few { length edges.now < 2 ^ 32 }
+    requires ends { (e : ℕ) (x : Edge) → get_elem? edges.now e ≡ some x → (x.from < x.to) × (x.to < claims.now.plan.nodes) }
+    requires below { (e : ℕ) (x : Edge) → get_elem? edges.now e ≡ some x → x.to < 256 }
+    requires has { Has seat.old.view node }
+    requires untouched { (e : ℕ) (x : Edge) → get_elem? edges.now e ≡ some x → x.from ≡ node → at seat.old.view.outs e ≡ Unmarked }
+    requires run { run.now ≡ claims.now.plan.first.value.run }
+    requires share { share.now ≡ tag run.now (claims.now.plan.first.value.step + 1) node }
+    requires empty { ready.old.nodes.items ≡ [] }
+    ensures parts { seat.new.view.parts ≡ seat.old.view.parts }
+    ensures of { OnOk result (IsSeatOf claims.now seat.new) }
+    ensures handed { OnOk result (IsListing claims.now.plan seat.old.view seat.new.view node (length edges.now) ready.new.nodes.items) }
+{
+    for (number, edge) in edges.iter().enumerate() {
+        if edge.from == node {
+            let copy = share.copy(run)?;
+            hand_into(claims, seat, number as u32, edge.to, copy, ready);
+        }
+    }
+    Ok(())
+}
+
+/// What is kept of a node at the next step, and what it hands on, with this counter of the cells that are read.
+fn advanced_by<L: Ledger>(
+    alloc: Global,
+    run: &Run,
+    work: Work,
+    shares: Items<Share>,
+    blank: Blank,
+) -> Result<(Work, Share), AllocError>
+    requires name { blank.name ≡ L.name }
+    requires parts { blank.parts ≡ L.parts }
+    requires some { 0 < blank.parts }
+    requires run { work.run ≡ run.now }
+    requires entered { IsEntered run.now (work.step + 1) }
+    requires node { work.node < length run.now.plan.nodes }
+    requires operator { is_operator run.now work.node ≡ true }
+    requires shares { shares ≡ map (tag run.now (work.step + 1)) (inputs_of (op_at run.now work.node)) }
+    ensures work { IfOk result (λ out. out.0 ≡ tag run.now (work.step + 1) work.node) }
+    ensures share { IfOk result (λ out. out.1 ≡ tag run.now (work.step + 1) work.node) }
+{
+    let mut reads = Steps::<L>::new(blank);
+    work.advance(alloc, run, shares, &mut reads)
+}
+
+/// The same, with a counter of its own.
+fn advanced(
+    alloc: Global,
+    run: &Run,
+    work: Work,
+    shares: Items<Share>,
+) -> Result<(Work, Share), AllocError>
+    requires run { work.run ≡ run.now }
+    requires entered { IsEntered run.now (work.step + 1) }
+    requires node { work.node < length run.now.plan.nodes }
+    requires operator { is_operator run.now work.node ≡ true }
+    requires shares { shares ≡ map (tag run.now (work.step + 1)) (inputs_of (op_at run.now work.node)) }
+    ensures work { IfOk result (λ out. out.0 ≡ tag run.now (work.step + 1) work.node) }
+    ensures share { IfOk result (λ out. out.1 ≡ tag run.now (work.step + 1) work.node) }
+{
+    let blank = Blank::new(1);
+    advanced_by::<Brand>(alloc, run, work, shares, blank)
+}
+
+/// What the hands of a crew work the nodes of a step by. A contract sees the run, the step and the edges.
+#[derive(Drop)]
+pub(crate) struct StepWork<'s, U: HasRun, G: Gate> {
+    alloc: Global,
+    run: &'s U,
+    step: u64,
+    edges: &'s [Edge],
+    gate: &'s G,
+}
+
+impl<'s, U: HasRun, G: Gate> Model for StepWork<'s, U, G> {
+    ghost use Rattle.std.specs.Coded.{codes};
+    ghost use Rattle.tick_model.specs.contracts.plan.Expr as expr_type;
+    ghost use Rattle.tick_model.specs.contracts.plan.Pred as pred_type;
+    ghost use Rattle.update_graph.specs.Crews.{IsStepWork, StepView};
+
+    ghost Value = { StepView };
+
+    ghost coded = { Prim.hlevel (codes, expr_type.the_row.coded, pred_type.the_row.coded) };
+
+    ghost view = { λ work. record { run = U.own_run work.run.now; step = work.step; edges = work.edges.now } };
+
+    ghost invariant = { λ work. IsStepWork (U.own_run work.run.now) work.step work.edges.now };
+}
+
+impl<'s, U: HasRun, G: Gate> StepWork<'s, U, G> {
+    /// The work of the nodes for a step that the run enters.
+    pub(crate) fn new(
+        alloc: Global,
+        run: &'s U,
+        step: u64,
+        edges: &'s [Edge],
+        gate: &'s G,
+    ) -> StepWork<'s, U, G>
+        requires entered { IsEntered (U.own_run run.now) step }
+        requires edges { edges.now ≡ edges_of (U.own_run run.now).plan }
+        ensures { result ≡ record { run = U.own_run run.now; step = step; edges = edges.now } }
+    {
+        StepWork {
+            alloc,
+            run,
+            step,
+            edges,
+            gate,
+        }
+    }
+}
+
+impl<'s, U: HasRun, G: Gate> NodeWork<Work, Share> for StepWork<'s, U, G> {
+    ghost run = { λ work. work.run };
+
+    ghost step = { λ work. work.step };
+
+    ghost edges = { λ work. work.edges };
+
+    fn work(
+        &self,
+        claims: &StepClaims,
+        seat: &mut StepSeat,
+        node: u32,
+        ready: &mut Ready,
+    ) -> Result<(), AllocError> {
+        let run = self.run.run();
+        claims.look(seat);
+        let (work, shares) = begin_node(self.alloc, run, claims, seat, self.edges, node)?;
+        self.gate.enter(node);
+        let worked = advanced(self.alloc, run, work, shares);
+        self.gate.leave(node);
+        let share = settle_node(run, claims, seat, node, worked)?;
+        hand_all(claims, seat, run, self.edges, node, &share, ready)?;
+        Ok(())
+    }
+}
