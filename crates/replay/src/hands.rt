@@ -6,7 +6,6 @@ ghost use Rattle.tick_model.specs.Spoiled.{node_fault};
 ghost use Rattle.tick_model.specs.States.{state};
 ghost use Rattle.update_graph.specs.Stops.{IsStop};
 
-use crate::light::seems_light;
 use std::alloc::{AllocError, Global};
 use std::thread::Threads;
 use steal_workers::Crew;
@@ -14,8 +13,7 @@ use tick_io::Gate;
 use tick_model::feed::Run;
 use update_graph::{Graph, Stop};
 
-/// Who works the nodes of a run's steps: this thread alone, or a crew that is kept through the steps, which is left out of light
-/// ones.
+/// Who works the nodes of a run's steps: this thread alone, or a crew that is kept through the steps.
 #[derive(Drop)]
 pub enum Hands {
     /// This thread alone.
@@ -56,13 +54,7 @@ impl Hands {
     {
         match self {
             Hands::One => graph.cycle(rt, alloc, run, 1, gate),
-            Hands::Crew(crew) => {
-                if seems_light(run, &graph) {
-                    graph.cycle(rt, alloc, run, 1, gate)
-                } else {
-                    graph.cycle_by(rt, alloc, run, crew, gate)
-                }
-            }
+            Hands::Crew(crew) => graph.cycle_by(rt, alloc, run, crew, gate),
         }
     }
 }

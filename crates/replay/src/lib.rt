@@ -10,7 +10,6 @@ mod beside;
 mod hands;
 mod kept;
 mod last_calls;
-mod light;
 mod limits;
 mod opening;
 mod outcome;
