@@ -6,6 +6,7 @@ ghost use Rattle.tick_model.specs.Spoiled.{node_fault};
 ghost use Rattle.tick_model.specs.States.{state};
 ghost use Rattle.update_graph.specs.Stops.{IsStop};
 
+use crate::light::seems_light;
 use std::alloc::{AllocError, Global};
 use std::thread::Threads;
 use steal_workers::Crew;
@@ -13,7 +14,8 @@ use tick_io::Gate;
 use tick_model::feed::Run;
 use update_graph::{Graph, Stop};
 
-/// Who works the nodes of a run's steps: this thread alone, or a crew that is kept through the steps.
+/// Who works the nodes of a run's steps: this thread alone, or a crew that is kept through the steps, which is left out of light
+/// ones.
 #[derive(Drop)]
 pub enum Hands {
     /// This thread alone.
@@ -54,7 +56,13 @@ impl Hands {
     {
         match self {
             Hands::One => graph.cycle(rt, alloc, run, 1, gate),
-            Hands::Crew(crew) => graph.cycle_by(rt, alloc, run, crew, gate),
+            Hands::Crew(crew) => {
+                if seems_light(run, &graph) {
+                    graph.cycle(rt, alloc, run, 1, gate)
+                } else {
+                    graph.cycle_by(rt, alloc, run, crew, gate)
+                }
+            }
         }
     }
 }

@@ -10,6 +10,7 @@ mod beside;
 mod hands;
 mod kept;
 mod last_calls;
+mod light;
 mod limits;
 mod opening;
 mod outcome;

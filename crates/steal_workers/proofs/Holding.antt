@@ -60,6 +60,10 @@ module _ {W : Type 0} where
   pub gone_on : (u v w : View W) → IsGoneOn u v → IsGoneOn v w → IsGoneOn u w
   gone_on u v w one two = record { parts = two.parts ∙ one.parts; back = λ m is. two.back m (one.back m is) }
 
+  pub ok_gone_on : {E : Type 0} → (u v : View W) (result : Result (SeatModel W) E) → IsGoneOn u v → IfOk result (λ (s : SeatModel W). IsGoneOn v s.view) → IfOk result (λ (s : SeatModel W). IsGoneOn u s.view)
+  ok_gone_on u v (Ok s) first rest = gone_on u v s.view first rest
+  ok_gone_on u v (Err e) first rest = tt
+
 module _ {W : Type 0} (plan : Plan W) where
   -- the same nodes under another name
   pub held_as : (u : View W) (P Q : ℕ → Type 0) → ((m : ℕ) → P m → Q m) → ((m : ℕ) → Q m → P m) → IsHeld plan u P → IsHeld plan u Q

@@ -1,6 +1,6 @@
 //! A crew, which is kept through the steps of a run.
 
-ghost use Rattle.std.specs.Prelude.{◌≡◌, ◌≤◌, ◌<◌, ℕ, IfOk, OnOk, vec_len};
+ghost use Rattle.std.specs.Prelude.{◌≡◌, ◌≤◌, IfOk, vec_capacity, vec_len};
 ghost use Rattle.graph_words.specs.Rule.{tags};
 ghost use Rattle.graph_words.specs.Seats.{IsSeatOf};
 ghost use Rattle.steal_workers.specs.Lists.{IsListed};
@@ -82,15 +82,10 @@ impl Crew {
         ensures of { IfOk result (λ worked. IsSeatOf claims.now worked) }
         ensures all { IfOk result (λ worked. AllBack claims.now.plan worked.view) }
     {
-        let mut seat = seat;
-        let mut ready = ready;
         let mut hands = mem::replace(&mut self.hands, Vec::new(self.alloc));
         arm(&mut hands);
-        let kept = begin(claims, &mut seat, &mut hands, &mut ready);
-        let nodes = waiting(claims);
-        let progress = Progress::new(nodes);
-        let others = nodes.saturating_sub(1);
-        let (hands, worked) = work_together(rt, claims, work, &progress, hands, others, seat, kept);
+        let progress = Progress::new(nodes_to_work(claims));
+        let (hands, worked) = work_all(rt, claims, work, &progress, hands, seat, ready);
         let mut hands = hands;
         rest(&mut hands);
         self.hands = hands;
@@ -100,30 +95,47 @@ impl Crew {
     }
 }
 
-/// The first hand passes on what is ready, before the other hands start. What it keeps of that.
-fn begin<W: Tagged, H: Tagged>(
+/// All hands at work, of which the last is the first to begin: it passes on what is ready, before the others start. A crew
+/// without hands puts the nodes on offer.
+fn work_all<R: Threads + Sync, W: Tagged, H: Tagged, N: NodeWork<W, H>>(
+    rt: &R,
     claims: &Claims<W, H>,
-    seat: &mut ClaimSeat<W, H>,
-    hands: &mut Vec<Hand>,
-    ready: &mut Ready,
-) -> Ready
-    requires of { IsSeatOf claims.now seat.old }
-    requires held { IsHeld claims.now.plan seat.old.view (IsListed ready.old.nodes.items) }
-    ensures hands { (vec_len hands.new ≡ vec_len hands.old) × (hand_marks hands.new.items ≡ hand_marks hands.old.items) }
-    ensures of { IsSeatOf claims.now seat.new }
-    ensures held { IsHeld claims.now.plan seat.new.view (IsListed result.nodes.items) }
-    ensures on { IsGoneOn seat.old.view seat.new.view }
+    work: &N,
+    progress: &Progress,
+    hands: Vec<Hand>,
+    seat: ClaimSeat<W, H>,
+    ready: Ready,
+) -> (Vec<Hand>, Result<ClaimSeat<W, H>, AllocError>)
+    requires meant { IsFor (tags W.run W.node W.step) (N.run work.now) (N.step work.now) (N.edges work.now) claims.now.plan }
+    requires of { IsSeatOf claims.now seat }
+    requires held { IsHeld claims.now.plan seat.view (IsListed ready.nodes.items) }
+    requires parts { vec_len hands ≤ seat.view.parts }
+    ensures hands { (vec_len result.0 ≡ vec_len hands) × (vec_capacity result.0 ≡ vec_capacity hands) }
+    ensures marks { hand_marks result.0.items ≡ hand_marks hands.items }
+    ensures of { IfOk result.1 (λ worked. IsSeatOf claims.now worked) }
+    ensures held { IfOk result.1 (λ worked. IsHeld claims.now.plan worked.view NoNode) }
+    ensures on { IfOk result.1 (λ worked. IsGoneOn seat.view worked.view) }
 {
+    let mut hands = hands;
+    let mut seat = seat;
+    let mut ready = ready;
+    let Some(first) = hands.pop() else {
+        offer_all(claims, &mut seat, &mut ready);
+        return (hands, Ok(seat));
+    };
+    let mut first = first;
     let mut kept = Ready::new();
-    match hands.get_mut(0) {
-        Some(first) => pass_on(claims, seat, &mut first.own, ready, &mut kept),
-        None => offer_all(claims, seat, ready),
-    }
-    kept
+    let offered = pass_on(claims, &mut seat, &mut first.own, &mut ready, &mut kept);
+    let (first, hands, worked) = work_together(
+        rt, claims, work, progress, first, hands, offered, seat, kept,
+    );
+    let mut hands = hands;
+    hands.push_reserved(first);
+    (hands, worked)
 }
 
 /// The number of nodes with input edges.
-fn waiting<W: Tagged, H: Tagged>(claims: &Claims<W, H>) -> u64 {
+fn nodes_to_work<W: Tagged, H: Tagged>(claims: &Claims<W, H>) -> u64 {
     let mut count = 0u64;
     for node in 0..claims.nodes() {
         if claims.has_inputs(node) {

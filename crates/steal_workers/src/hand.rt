@@ -1,6 +1,6 @@
 //! One hand of a crew: what it passes on, and where it looks for a node.
 
-ghost use Rattle.std.specs.Prelude.{◌≡◌, ◌⊎◌, ◌<◌, ◌++◌, [], ◌∷◌, ℕ, eqb, false, map, vec_len, IfSome, MatchOption, OnOk};
+ghost use Rattle.std.specs.Prelude.{◌≡◌, ◌⊎◌, None, ◌<◌, ◌++◌, [], ◌∷◌, ℕ, eqb, false, map, vec_len, IfSome, MatchOption, OnOk};
 ghost use Rattle.std.specs.List.{list_any};
 ghost use Rattle.crossbeam_deque.specs.Handles.{worker_view};
 ghost use Rattle.graph_words.specs.declared.table.Mark.TheVariants.{Unmarked, PutBack};
@@ -56,7 +56,7 @@ fn offer_node<W: Tagged, H: Tagged>(
     claims.accept(seat, node)
 }
 
-/// Keeps a node that became ready, where the hand has no other, and else puts it on offer.
+/// Keeps a node that became ready, where the hand has no other, and else puts it on offer. Whether it is on offer then.
 fn pass_node<W: Tagged, H: Tagged>(
     claims: &Claims<W, H>,
     seat: &mut ClaimSeat<W, H>,
@@ -64,7 +64,7 @@ fn pass_node<W: Tagged, H: Tagged>(
     node: u32,
     found: &Ready,
     kept: &mut Ready,
-)
+) -> bool
     requires of { IsSeatOf claims.now seat.old }
     requires held { IsHeld claims.now.plan seat.old.view (λ m. (m ≡ node) ⊎ (IsListed kept.old.nodes.items m ⊎ IsListed found.now.nodes.items m)) }
     requires apart { (list_any (eqb node) kept.old.nodes.items ≡ false) × (list_any (eqb node) found.now.nodes.items ≡ false) }
@@ -78,23 +78,24 @@ fn pass_node<W: Tagged, H: Tagged>(
     let _ = found;
     if kept.nodes().is_empty() {
         kept.add(node);
-        return;
+        return false;
     }
     if !offer_node(claims, seat, own, node) {
-        return;
+        return true;
     }
     kept.add(node);
+    false
 }
 
 /// Of the nodes that became ready the hand keeps one, where it has no other, and puts the others on offer. It also keeps those
-/// whose numbers could not be pushed.
+/// whose numbers could not be pushed. How many it put on offer.
 pub(crate) fn pass_on<W: Tagged, H: Tagged>(
     claims: &Claims<W, H>,
     seat: &mut ClaimSeat<W, H>,
     own: &mut Own,
     found: &mut Ready,
     kept: &mut Ready,
-)
+) -> u64
     requires of { IsSeatOf claims.now seat.old }
     requires held { IsHeld claims.now.plan seat.old.view (λ m. IsListed kept.old.nodes.items m ⊎ IsListed found.old.nodes.items m) }
     requires apart { (m : ℕ) → IsListed kept.old.nodes.items m → IsListed found.old.nodes.items m → ⊥ }
@@ -104,9 +105,13 @@ pub(crate) fn pass_on<W: Tagged, H: Tagged>(
     ensures on { IsGoneOn seat.old.view seat.new.view }
     ensures own { IsSameDeque own.old.deque own.new.deque }
 {
+    let mut offered = 0u64;
     while let Some(node) = found.pop() {
-        pass_node(claims, seat, own, node, found, kept);
+        if pass_node(claims, seat, own, node, found, kept) {
+            offered = offered.saturating_add(1);
+        }
     }
+    offered
 }
 
 /// Puts a node on offer, beside others that the hand keeps.
@@ -301,25 +306,25 @@ fn look_for_node<W: Tagged, H: Tagged>(
     None
 }
 
-/// The next node of a hand: one that it has kept, or else one that it finds.
+/// The next node of a hand: one that it has kept, or else one of its own deque.
 fn next_node<W: Tagged, H: Tagged>(
     claims: &Claims<W, H>,
     seat: &mut ClaimSeat<W, H>,
-    hand: &mut Hand,
+    own: &mut Own,
     kept: &mut Ready,
-    progress: &Progress,
 ) -> Option<u32>
     requires of { IsSeatOf claims.now seat.old }
     requires held { IsHeld claims.now.plan seat.old.view (IsListed kept.old.nodes.items) }
     ensures of { IsSeatOf claims.now seat.new }
     ensures held { MatchOption result (IsHeld claims.now.plan seat.new.view NoNode) (λ node. IsHeld claims.now.plan seat.new.view (λ m. (m ≡ node) ⊎ IsListed kept.new.nodes.items m)) }
     ensures fresh { IfSome result (λ node. list_any (eqb node) kept.new.nodes.items ≡ false) }
+    ensures none { result ≡ None → kept.new.nodes.items ≡ [] }
     ensures on { IsGoneOn seat.old.view seat.new.view }
-    ensures hand { hand_mark hand.new ≡ hand_mark hand.old }
+    ensures own { IsSameDeque own.old.deque own.new.deque }
 {
     match kept.pop() {
         Some(node) => Some(node),
-        None => look_for_node(claims, seat, hand, progress),
+        None => take_own(claims, seat, own),
     }
 }
 
@@ -348,8 +353,93 @@ pub(crate) fn work_node<W: Tagged, H: Tagged, N: NodeWork<W, H>>(
     Ok(())
 }
 
-/// Works nodes until the hand has none and finds none.
+/// Works a node that the hand has, and passes on what that makes ready. How many nodes it put on offer.
+fn work_one<W: Tagged, H: Tagged, N: NodeWork<W, H>>(
+    claims: &Claims<W, H>,
+    seat: &mut ClaimSeat<W, H>,
+    work: &N,
+    node: u32,
+    hand: &mut Hand,
+    kept: &mut Ready,
+    progress: &Progress,
+) -> Result<u64, AllocError>
+    requires meant { IsFor (tags W.run W.node W.step) (N.run work.now) (N.step work.now) (N.edges work.now) claims.now.plan }
+    requires of { IsSeatOf claims.now seat.old }
+    requires held { IsHeld claims.now.plan seat.old.view (λ m. (m ≡ node) ⊎ IsListed kept.old.nodes.items m) }
+    requires fresh { list_any (eqb node) kept.old.nodes.items ≡ false }
+    ensures of { OnOk result (IsSeatOf claims.now seat.new) }
+    ensures held { OnOk result (IsHeld claims.now.plan seat.new.view (IsListed kept.new.nodes.items)) }
+    ensures on { OnOk result (IsGoneOn seat.old.view seat.new.view) }
+    ensures hand { hand_mark hand.new ≡ hand_mark hand.old }
+{
+    let mut found = Ready::new();
+    work_node(claims, seat, work, node, kept, &mut found)?;
+    progress.count();
+    Ok(pass_on(claims, seat, &mut hand.own, &mut found, kept))
+}
+
+/// Looks for a node with the other hands, and works it. How many nodes there are for another hand: those that it put on offer, or
+/// one, since the others have more than they work. None where it finds no node.
+fn work_found<W: Tagged, H: Tagged, N: NodeWork<W, H>>(
+    claims: &Claims<W, H>,
+    seat: &mut ClaimSeat<W, H>,
+    work: &N,
+    hand: &mut Hand,
+    kept: &mut Ready,
+    progress: &Progress,
+) -> Result<u64, AllocError>
+    requires meant { IsFor (tags W.run W.node W.step) (N.run work.now) (N.step work.now) (N.edges work.now) claims.now.plan }
+    requires of { IsSeatOf claims.now seat.old }
+    requires held { IsHeld claims.now.plan seat.old.view NoNode }
+    requires empty { kept.old.nodes.items ≡ [] }
+    ensures of { OnOk result (IsSeatOf claims.now seat.new) }
+    ensures held { OnOk result (IsHeld claims.now.plan seat.new.view (IsListed kept.new.nodes.items)) }
+    ensures on { OnOk result (IsGoneOn seat.old.view seat.new.view) }
+    ensures hand { hand_mark hand.new ≡ hand_mark hand.old }
+{
+    match look_for_node(claims, seat, hand, progress) {
+        Some(node) => {
+            let offered = work_one(claims, seat, work, node, hand, kept, progress)?;
+            Ok(offered.max(1))
+        }
+        None => Ok(0),
+    }
+}
+
+/// Works nodes until there are some for another hand, or until the hand has no node and finds none. How many there are for another
+/// hand.
 pub(crate) fn work_seat<W: Tagged, H: Tagged, N: NodeWork<W, H>>(
+    claims: &Claims<W, H>,
+    seat: &mut ClaimSeat<W, H>,
+    work: &N,
+    hand: &mut Hand,
+    kept: &mut Ready,
+    progress: &Progress,
+) -> Result<u64, AllocError>
+    requires meant { IsFor (tags W.run W.node W.step) (N.run work.now) (N.step work.now) (N.edges work.now) claims.now.plan }
+    requires of { IsSeatOf claims.now seat.old }
+    requires held { IsHeld claims.now.plan seat.old.view (IsListed kept.old.nodes.items) }
+    ensures of { OnOk result (IsSeatOf claims.now seat.new) }
+    ensures held { OnOk result (IsHeld claims.now.plan seat.new.view (IsListed kept.new.nodes.items)) }
+    ensures on { OnOk result (IsGoneOn seat.old.view seat.new.view) }
+    ensures hand { hand_mark hand.new ≡ hand_mark hand.old }
+{
+    for _ in 0..claims.nodes() {
+        match next_node(claims, seat, &mut hand.own, kept) {
+            Some(node) => {
+                let offered = work_one(claims, seat, work, node, hand, kept, progress)?;
+                if offered > 0 {
+                    return Ok(offered);
+                }
+            }
+            None => return work_found(claims, seat, work, hand, kept, progress),
+        }
+    }
+    Ok(0)
+}
+
+/// Works nodes until the hand has none and finds none.
+pub(crate) fn work_out<W: Tagged, H: Tagged, N: NodeWork<W, H>>(
     claims: &Claims<W, H>,
     seat: &mut ClaimSeat<W, H>,
     work: &N,
@@ -365,15 +455,9 @@ pub(crate) fn work_seat<W: Tagged, H: Tagged, N: NodeWork<W, H>>(
     ensures on { OnOk result (IsGoneOn seat.old.view seat.new.view) }
     ensures hand { hand_mark hand.new ≡ hand_mark hand.old }
 {
-    let mut found = Ready::new();
     for _ in 0..claims.nodes() {
-        match next_node(claims, seat, hand, kept, progress) {
-            Some(node) => {
-                work_node(claims, seat, work, node, kept, &mut found)?;
-                progress.count();
-                pass_on(claims, seat, &mut hand.own, &mut found, kept);
-            }
-            None => return Ok(()),
+        if work_seat(claims, seat, work, hand, kept, progress)? == 0 {
+            break;
         }
     }
     offer_all(claims, seat, kept);

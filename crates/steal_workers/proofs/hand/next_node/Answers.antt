@@ -7,4 +7,4 @@ returns-in-Some-clause-held g c = popped_held c.args.claims.now.plan c.args.seat
 
 pub returns-in-None-clause-held : goal.returns-in-None-clause-held
 returns-in-None-clause-held g c =
-    found_cases c.args.claims.now.plan c.look_for_node.new.seat.view c.look_for_node.result c.pop.new.self.nodes.items (search rules) c.look_for_node.ensures.held
+    found_cases c.args.claims.now.plan c.take_own.new.seat.view c.take_own.result c.pop.new.self.nodes.items (search rules) c.take_own.ensures.held

@@ -1,4 +1,4 @@
-use Rattle.std.proofs.Common.{◌≡◌, []}
+use Rattle.std.proofs.Common.{◌≡◌}
 use Rattle.graph_words.specs.Seats.{IsSeatOf}
 use Rattle.steal_workers.specs.Lists.{IsListed}
 use Rattle.steal_workers.specs.Holdings.{IsGoneOn, IsHeld}
@@ -9,7 +9,6 @@ abbrev pub invariant-loop : goal.invariant-loop
 invariant-loop g l = record {
   of : IsSeatOf l.claims l.seat;
   held : IsHeld l.claims.plan l.seat.view (IsListed l.kept.nodes.items);
-  empty : l.found.nodes.items ≡ [];
   on : IsGoneOn l.initial.seat.view l.seat.view;
   hand : hand_mark l.hand ≡ hand_mark l.initial.hand;
 }

@@ -3,7 +3,7 @@ use Rattle.steal_workers.proofs.team.+fn-work_together-join+arg3+work_together.G
 
 -- a hand less for each closure, and the closure before the call in it
 abbrev pub decreases-join+arg3 : goal.decreases-join+arg3
-decreases-join+arg3 g l = 2 * vec_len l.hands + 1
+decreases-join+arg3 g l = 2 * vec_len l.others + 1
 
 abbrev pub decreases-work_together : goal.decreases-work_together
-decreases-work_together g l = 2 * vec_len l.hands
+decreases-work_together g l = 2 * vec_len l.others
