@@ -301,10 +301,10 @@ module _ (old : List ℕ) (first next : Update) (f : update_fault (2 ^ 62) old f
     abbrev is_new : ℕ → Bool
     is_new key = is_among key first.added
 
-    is_apart : (key : ℕ) → is_new key ≡ true → is_among key places ≡ false
+    pub is_apart : (key : ℕ) → is_new key ≡ true → is_among key places ≡ false
     is_apart key here = of_among (λ key. is_among key places ≡ false) key first.added (none_pass (λ key. is_among key places) first.added rules.added) here
 
-    in_between : (key : ℕ) → is_among key middle ≡ (is_new key || is_among key places)
+    pub in_between : (key : ℕ) → is_among key middle ≡ (is_new key || is_among key places)
     in_between key = among-put_keys key first.added places
 
     middle_rises : IsRising middle

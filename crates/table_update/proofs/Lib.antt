@@ -4,3 +4,5 @@ pub mod ColumnLists
 pub mod KeysAfter
 pub mod LawfulParts
 pub mod Occupied
+pub mod Parts
+pub mod StillKeys

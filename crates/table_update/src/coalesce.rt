@@ -1,11 +1,13 @@
 //! Two updates of a table, one after the other, as one.
 
-ghost use Rattle.std.specs.Prelude.{◌≡◌, IfOk};
+ghost use Rattle.std.specs.Prelude.{◌≡◌, [], if◌then◌else◌, IfOk};
 ghost use Rattle.key_lists.specs.Keys.{IsRising, without};
+ghost use Rattle.row_set.specs.Sets.{united};
 ghost use Rattle.shift_data.specs.Moves.{IsLawful};
+ghost use Rattle.tick_model.specs.Changes.{is_none};
 ghost use Rattle.tick_model.specs.Rules.{landed};
 ghost use Rattle.tick_model.specs.Shifts.{shifted};
-ghost use Rattle.table_update.specs.Coalesced.{Follow, coalesced, columns_of_both, kept_by_both, modified_after, removed_by_both};
+ghost use Rattle.table_update.specs.Coalesced.{Follow, coalesced, kept_by_both, modified_after, removed_by_both};
 
 use crate::columns::ColumnSet;
 use crate::update::Update;
@@ -20,7 +22,11 @@ impl Update {
         requires { Follow old.now self next.now }
         ensures { IfOk result (λ update. update ≡ coalesced old.now self next.now) }
     {
-        self.followed_by(next, old)
+        if self.is_still() && next.is_still() {
+            self.followed_in_place(next, old)
+        } else {
+            self.followed_by(next, old)
+        }
     }
 
     /// The update that this one and then the next one make.
@@ -33,7 +39,7 @@ impl Update {
         let removed = self.removed_with(next, old)?;
         let shifted = self.shifted_with(next, old, &removed)?;
         let modified = next.modified_after(self.modified(), &carried)?;
-        let columns = self.columns_with(next, &modified);
+        let columns = columns_with(self.columns(), next.columns(), &modified);
         let added = carried.union(next.added())?;
         Ok(Update {
             removed,
@@ -95,15 +101,15 @@ impl Update {
         let kept = keys.minus(self.removed())?;
         self.shifted().apply(&kept)
     }
+}
 
-    /// The columns of both updates, and none where these modified rows are none.
-    fn columns_with(&self, next: &Update, modified: &RowSet) -> ColumnSet
-        ensures { result ≡ columns_of_both modified.now self.now next.now }
-    {
-        if modified.is_empty() {
-            ColumnSet::none()
-        } else {
-            self.columns().union(next.columns())
-        }
+/// The columns of both sets, and none where these modified rows are none.
+pub(crate) fn columns_with(first: &ColumnSet, next: &ColumnSet, modified: &RowSet) -> ColumnSet
+    ensures { result ≡ (if is_none modified.now then [] else united first.now next.now) }
+{
+    if modified.is_empty() {
+        ColumnSet::none()
+    } else {
+        first.union(next)
     }
 }

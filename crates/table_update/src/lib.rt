@@ -6,6 +6,7 @@
 
 mod coalesce;
 mod columns;
+mod in_place;
 mod search;
 #[cfg(test)]
 mod tests;

@@ -193,3 +193,41 @@ fn two_updates_are_one(rt: HostRuntime) -> Result<(), Fail> {
     assert!(rt; both.modified().is_empty() && both.columns().is_empty());
     Ok(())
 }
+
+/// The row 1 goes, the rows 5 and 7 come, and the row 2 is modified.
+fn first_still(alloc: Global) -> Result<Update, Fail> {
+    let mut first = update(alloc, &[1], still(alloc), &[5, 7], &[2])?;
+    first.columns = ColumnSet::none().with(4);
+    Ok(first)
+}
+
+/// The rows 2 and 5 go, the row 9 comes, and the rows 3 and 7 are modified.
+fn next_still(alloc: Global) -> Result<Update, Fail> {
+    let mut next = update(alloc, &[2, 5], still(alloc), &[9], &[3, 7])?;
+    next.columns = ColumnSet::none().with(2);
+    Ok(next)
+}
+
+fn both_still(alloc: Global) -> Result<Update, Fail> {
+    let old = set(alloc, &[1, 2, 3])?;
+    let first = first_still(alloc)?;
+    first.check(&old, LIMIT)?;
+    let middle = first.after(&old)?;
+    let next = next_still(alloc)?;
+    next.check(&middle, LIMIT)?;
+    Ok(first.coalesce(&next, &old)?)
+}
+
+#[test]
+fn two_updates_that_move_no_rows_are_one(rt: HostRuntime) -> Result<(), Fail> {
+    let both = both_still(rt.alloc())?;
+    assert_eq!(rt; both.removed().ranges(), [range(1, 2)].as_slice());
+    assert_eq!(rt;
+        both.added().ranges(),
+        [range(7, 7), range(9, 9)].as_slice()
+    );
+    assert_eq!(rt; both.modified().ranges(), [range(3, 3)].as_slice());
+    assert!(rt; both.shifted().ranges().is_empty());
+    assert!(rt; both.columns().has(2) && both.columns().has(4));
+    Ok(())
+}

@@ -1,12 +1,11 @@
-use Rattle.std.proofs.Common.{◌≡◌, ap, ap₂, sym, ◌∙◌, subst, List, ℕ}
+use Rattle.std.proofs.Common.{◌≡◌, ap, ap₂, sym, ◌∙◌, subst}
 use Rattle.key_lists.specs.Keys.{without}
 use Rattle.row_set.specs.Sets.{united}
-use Rattle.tick_model.specs.declared.update.ShiftRange.{ShiftRange}
 use Rattle.tick_model.specs.Rules.{landed}
-use Rattle.tick_model.specs.Updates.{Update}
 use Rattle.shift_data.specs.Moves.{IsLawful}
-use Rattle.table_update.specs.Coalesced.{added_by_both, coalesced, columns_of_both, modified_after, modified_by_both, removed_by_both}
+use Rattle.table_update.specs.Coalesced.{added_by_both, modified_after, modified_by_both, removed_by_both}
 use Rattle.table_update.proofs.CoalescedKeys.{modified_lawful, new_lawful, united_added, united_modified}
+use Rattle.table_update.proofs.Parts.{columns_where, made}
 use Rattle.table_update.proofs.update.Update.followed_by.Goals as goal
 
 pub places_of-requires : goal.places_of-requires
@@ -20,9 +19,6 @@ modified_after-requires c =
     let next = c.args.next.now in
     subst (λ keys. IsLawful next.shifted (without next.removed keys)) (sym c.modified.ensures.keys)
     (modified_lawful c.args.old.now c.args.self.now next c.requires.applies c.requires.follows c.added.ensures.set.rising c.modified.ensures.set.rising)
-
-abbrev made : List ℕ → List ℕ → List ℕ → List ShiftRange → List ℕ → Update
-made removed added modified shifted columns = record { removed = removed; added = added; modified = modified; shifted = shifted; columns = columns }
 
 pub returns : goal.returns
 returns c =
@@ -41,4 +37,4 @@ returns c =
     ap (λ keys. made keys c.in_ok-added.added c.in_ok-modified.modified c.in_ok-shifted.shifted c.columns_with-columns.result) c.in_ok-removed.ensures
     ∙ ap₂ (λ keys others. made (removed_by_both old first next) keys others c.in_ok-shifted.shifted c.columns_with-columns.result) added modified
     ∙ ap₂ (λ shift columns. made (removed_by_both old first next) (added_by_both old first next) (modified_by_both old first next) shift columns) c.in_ok-shifted.ensures
-    (c.columns_with-columns.ensures ∙ ap (λ keys. columns_of_both keys first next) modified)
+    (c.columns_with-columns.ensures ∙ ap (λ keys. columns_where keys c.columns.result.now c.columns-2.result.now) modified ∙ ap₂ (columns_where (modified_by_both old first next)) c.columns.ensures c.columns-2.ensures)
