@@ -1,5 +1,5 @@
 -- The keys of several ranges, added and removed one range after another.
-use Rattle.std.proofs.Common.{◌≡◌, refl, ap, sym, ◌∙◌, Bool, true, false, not, ◌&&◌, ◌||◌, ℕ, ◌+◌, ◌<◌, min, arith, List, [], ◌∷◌, ◌++◌, length, take, drop, get_or, take-take, take-append-drop, append-nil}
+use Rattle.std.proofs.Common.{◌≡◌, refl, ap, sym, ◌∙◌, Bool, true, false, not, ◌&&◌, ◌||◌, ◌==◌, ℕ, ◌+◌, ◌<◌, min, arith, List, [], ◌∷◌, ◌++◌, length, take, drop, get_or, take-take, take-append-drop, append-nil, eqb-true}
 use Rattle.std.proofs.lemmas.List.{take_more}
 use Rattle.key_lists.specs.Keys.{is_among, IsRising, without}
 use Rattle.key_lists.proofs.Every.{filter_filter, filter_same, every, filter_all}
@@ -70,3 +70,12 @@ same_before n m xs ys zs e f =
     ∙ sym (take-take (min m n) m ys (omega arith))
     ∙ ap (take (min m n)) f
     ∙ take-take (min m n) m zs (omega arith)
+
+-- no other keys
+pub empty_united : (others keys : List ℕ) → (length others == 0) ≡ true → keys ≡ united others keys
+empty_united [] keys e = refl
+empty_united (other ∷ others) keys e = absurd (omega (arith, eqb-true (length (other ∷ others)) 0 e))
+
+pub empty_without : (others keys : List ℕ) → (length others == 0) ≡ true → keys ≡ without others keys
+empty_without [] keys e = without_none keys
+empty_without (other ∷ others) keys e = absurd (omega (arith, eqb-true (length (other ∷ others)) 0 e))

@@ -1,5 +1,6 @@
 pub mod Apart
 pub mod Batches
+pub mod Behind
 pub mod Counts
 pub mod Edges
 pub mod Held

@@ -97,6 +97,14 @@ later_begin key i d ranges h lt below =
     subst (λ those. AllByRecursion (λ range. key < range.first) those) (sym parts)
     (below, every_weaker (λ other. range.last + 2 ≤ other.first) (λ other. key < other.first) (drop (i + 1) ranges) (λ other above. omega (arith, above, below, apart.0.ascends)) (each_above (range.last + 2) (drop (i + 1) ranges) apart.1))
 
+pub later_end : (key i : ℕ) (d : Range) (ranges : List Range) → AreApart 0 ranges → i < length ranges → key ≤ (get_or ranges i d).last → AllByRecursion (λ range. key ≤ range.last) (drop i ranges)
+later_end key i d ranges h lt end =
+    let range = get_or ranges i d in
+    let parts : drop i ranges ≡ range ∷ drop (i + 1) ranges = drop_more ranges i d lt in
+    let apart : AreApart 0 (range ∷ drop (i + 1) ranges) = subst (λ those. AreApart 0 those) parts (apart-drop 0 i ranges h) in
+    subst (λ those. AllByRecursion (λ range. key ≤ range.last) those) (sym parts)
+    (end, every_weaker (IsRangeFrom (range.last + 2)) (λ other. key ≤ other.last) (drop (i + 1) ranges) (λ other is. omega (arith, is.above, is.ascends, end)) (each_range (range.last + 2) (drop (i + 1) ranges) apart.1))
+
 every_front : (P : Range → Type 0) (d : Range) (ranges : List Range) → ((k : ℕ) → k < length ranges → P (get_or ranges k d)) → AllByRecursion P (take (length ranges) ranges)
 every_front P d [] h = tt
 every_front P d (range ∷ ranges) h = (h 0 (omega arith), every_front P d ranges (λ k lt. h (suc k) (omega arith)))

@@ -1,8 +1,9 @@
 //! Edits of a set's ranges in place, where there is room for them.
 ghost use Rattle.std.specs.Prelude.{◌≡◌, ◌+◌, ◌-◌, ◌^◌, ◌<◌, ◌≤◌, ◌∷◌, [], ◌++◌, length, take, drop, OnOk, vec_len, vec_capacity};
+ghost use Rattle.std.specs.List.{AllByRecursion};
 ghost use Rattle.key_lists.specs.Keys.{without};
 ghost use Rattle.row_set.specs.Gaps.{listed};
-ghost use Rattle.row_set.specs.Ranges.{AreApart, keys_of, keys_from, left_edge, right_edge, starts_of, stretched};
+ghost use Rattle.row_set.specs.Ranges.{AreApart, IsStored, keys_of, keys_from, left_edge, right_edge, starts_of, stretched};
 ghost use Rattle.row_set.specs.Sets.{united};
 
 use crate::ranges::Range;
@@ -128,6 +129,39 @@ pub(crate) fn right_edge(range: Range, last: u64) -> Option<Range>
     } else {
         None
     }
+}
+
+/// Puts a range behind the others. There is room for it and its start.
+fn push_range(ranges: &mut Vec<Range>, starts: &mut Vec<u64>, range: Range)
+    requires stored { IsStored ranges.old.items starts.old.items }
+    requires ranges_room { vec_len ranges.old < vec_capacity ranges.old }
+    requires starts_room { vec_len starts.old < vec_capacity starts.old }
+    ensures ranges { ranges.new.items ≡ ranges.old.items ++ range ∷ [] }
+    ensures starts { starts.new.items ≡ starts_of 0 (ranges.old.items ++ range ∷ []) }
+{
+    let start = count_keys(ranges, starts);
+    let _ = ranges.push(range);
+    let _ = starts.push(start);
+}
+
+/// Adds every key from `first` to `last`, where all ranges end before them: the last one is stretched over them where it
+/// touches them, or else a range of their own is put behind it. There is room for that.
+pub(crate) fn append_keys(ranges: &mut Vec<Range>, starts: &mut Vec<u64>, first: u64, last: u64)
+    requires stored { IsStored ranges.old.items starts.old.items }
+    requires behind { AllByRecursion (λ range. range.last < first) ranges.old.items }
+    requires order { first ≤ last }
+    requires small { last < 2 ^ 62 }
+    requires ranges_room { vec_len ranges.old < vec_capacity ranges.old }
+    requires starts_room { vec_len starts.old < vec_capacity starts.old }
+    ensures stored { IsStored ranges.new.items starts.new.items }
+    ensures keys { keys_of ranges.new.items ≡ united (keys_from first last) (keys_of ranges.old.items) }
+{
+    let count = ranges.len();
+    if count > 0 && ranges[count - 1].last + 1 == first {
+        ranges[count - 1].last = last;
+        return;
+    }
+    push_range(ranges, starts, Range { first, last });
 }
 
 /// Adds every key from `first` to `last`. The ranges before the index that it gives stay.

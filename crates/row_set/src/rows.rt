@@ -8,9 +8,9 @@ ghost use Rattle.row_set.specs.Moves.{IsKey, moved_key, moved_keys};
 ghost use Rattle.row_set.specs.Sets.{IsKeySet, count_below, common, found, last_key, united};
 
 use crate::algebra::{Choice, KEYS_END, rest_from, stretch_from};
-use crate::edits::{insert_keys, make_room, recount, remove_keys};
+use crate::edits::{append_keys, insert_keys, make_room, recount, remove_keys};
 use crate::ranges::Range;
-use crate::search;
+use crate::search::{self, all_end_before};
 use crate::shifts::shift_keys;
 use crate::sweeps::{insert_ranges, remove_ranges};
 use std::alloc::{AllocError, Global};
@@ -157,6 +157,10 @@ impl RowSet {
         ensures err { OnErr result (self.new ≡ self.old) }
     {
         make_room(&mut self.ranges, &mut self.starts, 1)?;
+        if all_end_before(&self.ranges, first) {
+            append_keys(&mut self.ranges, &mut self.starts, first, last);
+            return Ok(());
+        }
         let from = insert_keys(&mut self.ranges, first, last);
         recount(&mut self.starts, &self.ranges, from);
         Ok(())
@@ -180,6 +184,9 @@ impl RowSet {
         ensures ok { OnOk result (self.new ≡ united keys.now self.old) }
         ensures err { OnErr result (self.new ≡ self.old) }
     {
+        if keys.is_empty() {
+            return Ok(());
+        }
         let others = keys.ranges();
         make_room(&mut self.ranges, &mut self.starts, others.len())?;
         let from = insert_ranges(&mut self.ranges, others);
@@ -192,6 +199,9 @@ impl RowSet {
         ensures ok { OnOk result (self.new ≡ without keys.now self.old) }
         ensures err { OnErr result (self.new ≡ self.old) }
     {
+        if keys.is_empty() {
+            return Ok(());
+        }
         let others = keys.ranges();
         make_room(&mut self.ranges, &mut self.starts, others.len())?;
         let from = remove_ranges(&mut self.ranges, others);

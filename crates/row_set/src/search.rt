@@ -1,5 +1,6 @@
 //! Searches in lists of ranges that ascend with a gap between any two, and in the positions at which they begin.
 ghost use Rattle.std.specs.Prelude.{◌≡◌, ◌<◌, ◌≤◌, length, take, drop, find, nat_le, slice_get};
+ghost use Rattle.std.specs.Bool.{OnTrue};
 ghost use Rattle.std.specs.List.{AllByRecursion};
 ghost use Rattle.std.specs.List.Sorted.{IsNonDecreasing, IsPartitionPoint};
 ghost use Rattle.row_set.specs.Ranges.{AreApart, IsStored, Meets, holds, keys_of};
@@ -19,6 +20,28 @@ pub(crate) fn ended_before(ranges: &[Range], key: u64) -> usize
         return count;
     }
     ranges.partition_point(|range| range.last < key)
+}
+
+/// How many of the ranges end before the key. Where that is none or one, this is seen at once.
+fn few_ended_before(ranges: &[Range], key: u64) -> usize
+    requires { AreApart 0 ranges.now }
+    ensures within { result ≤ length ranges.now }
+    ensures ended { AllByRecursion (λ range. range.last < key) (take result ranges.now) }
+    ensures others { AllByRecursion (λ range. key ≤ range.last) (drop result ranges.now) }
+{
+    match ranges {
+        [range, ..] if key <= range.last => 0,
+        [_, range, ..] if key <= range.last => 1,
+        _ => ended_before(ranges, key),
+    }
+}
+
+/// Whether all ranges end before the key.
+pub(crate) fn all_end_before(ranges: &[Range], key: u64) -> bool
+    requires { AreApart 0 ranges.now }
+    ensures { OnTrue result (AllByRecursion (λ range. range.last < key) ranges.now) }
+{
+    ranges.is_empty() || ranges[ranges.len() - 1].last < key
 }
 
 /// How many of the ranges begin at the key or before it. Where all do, this is seen at once.
@@ -55,7 +78,7 @@ pub(crate) fn meeting(ranges: &[Range], low: u64, high: u64) -> (usize, usize)
     requires order { low ≤ high }
     ensures { Meets low high ranges.now result.0 result.1 }
 {
-    let from = ended_before(ranges, low);
+    let from = few_ended_before(ranges, low);
     (from, from + few_begun_by(&ranges[from..], high))
 }
 

@@ -9,10 +9,10 @@ recount-requires-clause-before c =
     let new = c.insert_keys-from.new.ranges.items in
     ap (take n) c.make_room.ensures.starts
     ∙ kept_starts n c.self.inside.ranges.items new c.self.inside.starts.items c.self.invariant (c.insert_keys-from.ensures.before ∙ ap (take n) c.make_room.ensures.ranges)
-    ∙ ap (λ those. starts_of 0 (take n those)) (sym c.deref.ensures.value)
+    ∙ ap (λ those. starts_of 0 (take n those)) (sym c.deref-2.ensures.value)
 
 pub recount-requires-clause-room : goal.recount-requires-clause-room
 recount-requires-clause-room c =
     let before : vec_len c.make_room.new.ranges ≡ vec_len c.make_room.new.starts =
     omega (arith, c.make_room.new.ranges.ok.0, c.make_room.new.starts.ok.0, ap length c.make_room.ensures.ranges, ap length c.make_room.ensures.starts, stored_length c.self.inside.ranges.items c.self.inside.starts.items c.self.invariant) in
-    omega (arith, before, c.deref.ensures.len, c.insert_keys-from.ensures.growth, c.in_ok-make_room.ensures.starts_room)
+    omega (arith, before, c.deref-2.ensures.len, c.insert_keys-from.ensures.growth, c.in_ok-make_room.ensures.starts_room)
