@@ -1,46 +1,29 @@
 -- Keys that are moved in place.
-use Rattle.std.proofs.Common.{◌≡◌, refl, ap, sym, ◌∙◌, subst, Bool, true, false, cond, not, ◌&&◌, ◌||◌, ◌==◌, ℕ, ◌+◌, ◌≤◌, arith, List, [], ◌∷◌, ◌++◌, leb, Some, pos, ℤ, ◌+ℤ◌, append_assoc, w64, SFits, to_z, of_z}
-use Rattle.std.specs.Prelude.{filter, find}
+use Rattle.std.proofs.Common.{◌≡◌, refl, ap, sym, ◌∙◌, subst, Bool, true, false, cond, not, ◌&&◌, ◌||◌, ◌==◌, ℕ, ◌+◌, arith, List, [], ◌∷◌, ◌++◌, pos, ℤ, ◌+ℤ◌, append_assoc, w64, SFits, to_z, of_z, length, ◌<◌}
+use Rattle.std.specs.Prelude.{filter}
 use Rattle.std.specs.Ordering.{int_eq}
 use Rattle.std.specs.Cmp.{signed_Decides}
-use Rattle.std.proofs.lemmas.Bool.{leb-true, not_from_true, not_from_false, false_from_ne_true}
+use Rattle.std.proofs.lemmas.Bool.{not_from_true, not_from_false, false_from_ne_true}
 use Rattle.std.proofs.lemmas.Int.{to_z-of_z}
 use Rattle.std.proofs.lemmas.List.{map-append}
 use Rattle.key_lists.specs.Keys.{is_among, IsRising, without}
-use Rattle.key_lists.proofs.Every.{every_weaker, filter_same, filter_none, filter_all}
+use Rattle.key_lists.proofs.Every.{every, map_own, every_weaker, filter_same, filter_none, filter_all}
 use Rattle.key_lists.proofs.Among.{among-filter, each_among}
 use Rattle.key_lists.proofs.Rising.{rising_some, rising_same, rising-filter}
-use Rattle.row_set.specs.declared.ranges.Range.{Range}
-use Rattle.row_set.specs.Ranges.{keys_from, holds, ranges_of}
+use Rattle.row_set.specs.Ranges.{keys_from}
 use Rattle.row_set.specs.Sets.{IsKeySet, united}
 use Rattle.row_set.proofs.United.{among-united, united_rises}
 use Rattle.tick_model.specs.declared.update.ShiftRange.{ShiftRange}
 use Rattle.tick_model.specs.Rules.{landed}
 use Rattle.tick_model.specs.Shifts.{as_key, delta_at}
 use Rattle.shift_data.specs.declared.parts.Part.{Part}
-use Rattle.shift_data.specs.declared.parts.Segment.{Segment}
 use Rattle.shift_data.specs.Moves.{IsLawful}
 use Rattle.shift_data.specs.Movers.{movers, IsMove}
-use Rattle.shift_data.specs.Parts.{from_on, within, IsSegment}
+use Rattle.shift_data.specs.Parts.{from_on, within}
 use Rattle.shift_data.proofs.Applied.{rising_front, united_past, run_lands}
-use Rattle.shift_data.proofs.Asked.{run_of, all_within, filter-append}
-use Rattle.shift_data.proofs.Keys.{cut, each_within, find_key, none_between}
+use Rattle.shift_data.proofs.Asked.{all_within, filter-append}
+use Rattle.shift_data.proofs.Keys.{cut, each_within}
 use Rattle.shift_data.proofs.Lawful.{lawful, place}
-
--- the part that begins with the first key from one on
-pub move_made : (move : ℕ → ℤ) (keys : List ℕ) (from first : ℕ) (run : Range) (segment : Segment) (last : ℕ) → IsKeySet keys → find (leb from) keys ≡ Some first → find (holds first) (ranges_of keys) ≡ Some run → IsSegment move first segment → first ≤ last → last ≤ segment.last → (int_eq segment.delta (pos 0) ≡ false → last ≤ run.last) → let part : Part = record { first = first; last = last; delta = segment.delta } in IsMove move keys from part
-move_made move keys from first run segment last set e held s order until in_run =
-    let there = find_key (leb from) keys first e in
-    let here = run_of keys first run held in
-    record {
-      above = leb-true from first there.1;
-      order = order;
-      small = omega (arith, s.small);
-      first = there.0;
-      none_before = none_between from first keys set.rising e;
-      same = λ key above below. s.same key above (omega arith);
-      whole = λ moves key above below. here.2 key (omega (arith, here.0)) (omega (arith, in_run moves));
-    }
 
 -- what leaves and what stays, part by part
 module _ (shifts : List ShiftRange) (keys : List ℕ) (from : ℕ) (part : Part) (set : IsKeySet keys) (h : IsMove (delta_at shifts) keys from part) where
@@ -141,3 +124,11 @@ zero_bits delta fits e = (signed_Decides delta (pos 0)).1 (sym (to_z-of_z w64 de
 
 pub nonzero_bits : (delta : ℤ) → (of_z w64 delta ≡ 0 → ⊥) → int_eq delta (pos 0) ≡ false
 nonzero_bits delta h = false_from_ne_true (int_eq delta (pos 0)) (λ e. h (ap (of_z w64) ((signed_Decides delta (pos 0)).0 e)))
+
+-- where nothing moves
+pub landed_none : (shifts : List ShiftRange) (keys : List ℕ) → length shifts < 1 → keys ≡ landed shifts keys
+landed_none [] keys none =
+    sym (map_own (place []) keys (every (λ key. place [] key ≡ key) keys (λ key.
+    let same : key + 0 ≡ key = omega arith in
+    same)))
+landed_none (range ∷ shifts) keys none = absurd (omega (arith, none))

@@ -1,11 +1,13 @@
 pub mod Applied
 pub mod Asked
+pub mod Followed
 pub mod InPlace
 pub mod OneRange
 pub mod Kept
 pub mod Keys
 pub mod Lawful
 pub mod Lists
+pub mod Onward
 pub mod Paired
 pub mod PartFaults
 pub mod Parting

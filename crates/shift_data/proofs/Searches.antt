@@ -67,17 +67,26 @@ pub find_here : (range : ShiftRange) (shifts : List ShiftRange) (key : ℕ) → 
 find_here range shifts key h = ap (λ b. cond b (Some range) (find (λ range. holds range key) shifts)) h
 
 -- nor those that end before it
-find-drop : (key : ℕ) (shifts : List ShiftRange) (i : ℕ) → AllByRecursion (λ range. range.end < key) (take i shifts) → find (λ range. holds range key) shifts ≡ find (λ range. holds range key) (drop i shifts)
+pub find-drop : (key : ℕ) (shifts : List ShiftRange) (i : ℕ) → AllByRecursion (λ range. range.end < key) (take i shifts) → find (λ range. holds range key) shifts ≡ find (λ range. holds range key) (drop i shifts)
 find-drop key shifts zero h = refl
 find-drop key [] (suc i) h = refl
 find-drop key (range ∷ shifts) (suc i) h = find_past range shifts key (holds_not_after range key h.0) ∙ find-drop key shifts i h.1
+
+-- where the first one does not end before the key, none does
+pub none_ended : (key : ℕ) (d : ShiftRange) (shifts : List ShiftRange) → IsShift shifts → 0 < length shifts → key ≤ (get_or shifts 0 d).end → AllByRecursion (λ range. key ≤ range.end) shifts
+none_ended key d [] h some le = tt
+none_ended key d (range ∷ shifts) h some le = (le, later shifts h.2 (ordered shifts h.3))
+  where
+    later : (others : List ShiftRange) → AllByRecursion (λ next. range.end < next.begin) others → AllByRecursion (λ next. next.begin ≤ next.end) others → AllByRecursion (λ next. key ≤ next.end) others
+    later [] past order = tt
+    later (next ∷ others) past order = (omega (arith, past.0, order.0, le), later others past.1 order.1)
 
 -- nor those that begin past it
 pub find_none : (key : ℕ) (shifts : List ShiftRange) → AllByRecursion (λ range. key < range.begin) shifts → find (λ range. holds range key) shifts ≡ None
 find_none key [] h = refl
 find_none key (range ∷ shifts) h = find_past range shifts key (holds_not_before range key h.0) ∙ find_none key shifts h.1
 
-apart-drop : (shifts : List ShiftRange) (i : ℕ) → IsShift shifts → IsShift (drop i shifts)
+pub apart-drop : (shifts : List ShiftRange) (i : ℕ) → IsShift shifts → IsShift (drop i shifts)
 apart-drop shifts zero h = h
 apart-drop [] (suc i) h = tt
 apart-drop (range ∷ shifts) (suc i) h = apart-drop shifts i h.3

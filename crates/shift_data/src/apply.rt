@@ -8,6 +8,7 @@ ghost use Rattle.tick_model.specs.Shifts.{moved, as_key};
 ghost use Rattle.shift_data.specs.ShiftLists.{IsShiftList};
 ghost use Rattle.shift_data.specs.Moves.{IsLawful};
 
+use crate::ahead::shifts_from;
 use crate::parts::segment_at;
 use crate::search::place_of;
 use row_set::{Range, RowSet};
@@ -26,8 +27,10 @@ pub(crate) fn moved_keys(
 {
     let runs = keys.ranges();
     let mut places = RowSet::with_capacity(alloc, runs.len())?;
+    let mut ranges = shifts;
     for run in runs {
-        move_run(shifts, *run, &mut places)?;
+        ranges = shifts_from(ranges, run.first);
+        move_run(ranges, *run, &mut places)?;
     }
     Ok(places)
 }

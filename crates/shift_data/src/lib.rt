@@ -6,6 +6,7 @@
 //! cost is that of the ranges of the shift, and of the ranges of a set that they touch.
 #![tactic(auto)]
 
+mod ahead;
 mod apply;
 mod canonical;
 mod in_place;

@@ -7,8 +7,21 @@ ghost use Rattle.shift_data.specs.ShiftLists.{IsShiftList};
 
 use tick_model::update::ShiftRange;
 
-/// How many of the ranges end before the key.
+/// How many of the ranges end before the key. Where none does, this is seen at once.
 pub(crate) fn ended_before(shifts: &[ShiftRange], key: u64) -> usize
+    requires { IsShiftList shifts.now }
+    ensures within { result ≤ length shifts.now }
+    ensures ended { AllByRecursion (λ range. range.end < key) (take result shifts.now) }
+    ensures others { AllByRecursion (λ range. key ≤ range.end) (drop result shifts.now) }
+{
+    match shifts {
+        [range, ..] if key <= range.end => 0,
+        _ => count_ended(shifts, key),
+    }
+}
+
+/// How many of the ranges end before the key.
+fn count_ended(shifts: &[ShiftRange], key: u64) -> usize
     requires { IsShiftList shifts.now }
     ensures within { result ≤ length shifts.now }
     ensures ended { AllByRecursion (λ range. range.end < key) (take result shifts.now) }

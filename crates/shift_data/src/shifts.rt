@@ -159,8 +159,8 @@ impl ShiftData {
         moved_keys(*self.ranges.allocator(), &self.ranges, keys)
     }
 
-    /// Moves the keys in place, and touches no ranges of keys but those that move. After a refusal some of the keys that
-    /// move may be absent.
+    /// Moves the keys in place. Ranges of keys that stay are gone over only where there are few of them, about eight, for each
+    /// that moves or each of the shift. After a refusal some of the keys that move may be absent.
     pub fn apply_in_place(&self, keys: &mut RowSet) -> Result<(), AllocError>
         requires { IsLawful self.now keys.old }
         ensures { OnOk result (keys.new ≡ landed self.now keys.old) }
