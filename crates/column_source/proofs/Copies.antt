@@ -1,10 +1,11 @@
 -- Blocks that were copied.
-use Rattle.std.proofs.Common.{◌≡◌, refl, ap, sym, ◌∙◌, subst, ℕ, ◌+◌, ◌^◌, ◌<◌, ◌≤◌, arith, List, [], ◌∷◌, ◌++◌, length, take, Option, IsSome, ℤ}
+use Rattle.std.proofs.Common.{◌≡◌, refl, ap, sym, ◌∙◌, subst, ℕ, ◌+◌, ◌^◌, ◌<◌, ◌≤◌, arith, List, [], ◌∷◌, ◌++◌, length, take, drop, set, get_or, zero, suc, Option, IsSome, ℤ}
 use Rattle.std.specs.List.{AllByRecursion}
 use Rattle.column_source.specs.declared.block.Block.{Block}
 use Rattle.column_source.specs.Entries.{Ascend}
 use Rattle.column_source.specs.Slots.{slot_at, entries_from}
-use Rattle.column_source.specs.Blocks.{IsBlock, IsColumn, AreCopies, AreApart, rows_of, kept_of, rows, kept}
+use Rattle.column_source.specs.Blocks.{IsBlock, IsColumn, IsCopy, AreCopies, AreApart, rows_of, kept_of, rows, kept}
+use Rattle.column_source.specs.Moves.{KeepsRows}
 
 pub rows-copies : (blocks copies : List Block) → AreCopies blocks copies → rows copies ≡ rows blocks
 rows-copies [] [] h = refl
@@ -51,3 +52,47 @@ copied_column blocks copies notes h column = record {
   apart = apart-copies 0 blocks copies h column.apart;
   noted = column.noted;
 }
+
+pub copies_keep : (blocks copies : List Block) → AreCopies blocks copies → AllByRecursion IsBlock blocks → KeepsRows blocks copies
+copies_keep blocks copies h sound = record {
+  rows = rows-copies blocks copies h;
+  kept = kept-copies blocks copies h;
+  sound = sound-copies blocks copies h sound;
+  apart = apart-copies 0 blocks copies h;
+}
+
+own_copy : (block : Block) → IsCopy block block
+own_copy block = record { first = refl; first_before = refl; len_before = refl; slots = refl }
+
+pub copies_self : (blocks : List Block) → AreCopies blocks blocks
+copies_self [] = tt
+copies_self (block ∷ blocks) = (own_copy block, copies_self blocks)
+
+pub copies_put : (blocks : List Block) (i : ℕ) (block copy : Block) → block ≡ get_or blocks i block → IsCopy block copy → AreCopies blocks (set blocks i copy)
+copies_put [] i block copy at h = tt
+copies_put (other ∷ blocks) zero block copy at h = (subst (λ b. IsCopy b copy) at h, copies_self blocks)
+copies_put (other ∷ blocks) (suc i) block copy at h = (own_copy other, copies_put blocks i block copy at h)
+
+pub length-copies : (blocks copies : List Block) → AreCopies blocks copies → length copies ≡ length blocks
+length-copies [] [] h = refl
+length-copies [] (copy ∷ copies) h = absurd h
+length-copies (block ∷ blocks) [] h = absurd h
+length-copies (block ∷ blocks) (copy ∷ copies) h = ap suc (length-copies blocks copies h.1)
+
+copies_drop : (n : ℕ) (blocks copies : List Block) → AreCopies blocks copies → AreCopies (drop n blocks) (drop n copies)
+copies_drop zero blocks copies h = h
+copies_drop (suc n) [] [] h = tt
+copies_drop (suc n) [] (copy ∷ copies) h = absurd h
+copies_drop (suc n) (block ∷ blocks) [] h = absurd h
+copies_drop (suc n) (block ∷ blocks) (copy ∷ copies) h = copies_drop n blocks copies h.1
+
+-- the same around a gap
+pub copies_around : (start end : ℕ) (blocks copies : List Block) → AreCopies blocks copies → AreCopies (take start blocks ++ drop end blocks) (take start copies ++ drop end copies)
+copies_around start end blocks copies h = parts start blocks copies h
+  where
+    parts : (n : ℕ) (xs ys : List Block) → AreCopies xs ys → AreCopies (take n xs ++ drop end blocks) (take n ys ++ drop end copies)
+    parts zero xs ys own = copies_drop end blocks copies h
+    parts (suc n) [] [] own = copies_drop end blocks copies h
+    parts (suc n) [] (y ∷ ys) own = absurd own
+    parts (suc n) (x ∷ xs) [] own = absurd own
+    parts (suc n) (x ∷ xs) (y ∷ ys) own = (own.0, parts n xs ys own.1)

@@ -1,5 +1,5 @@
 -- Blocks that are split where a key falls between their rows.
-use Rattle.std.proofs.Common.{◌≡◌, ◌≢◌, refl, ap, sym, ◌∙◌, subst, ℕ, zero, suc, ◌+◌, ◌-◌, ◌<◌, ◌≤◌, arith, List, [], ◌∷◌, ◌++◌, length, take, drop, get_or, min, Option, Some, None, IsSome, ℤ, inl, inr, ◌⊎◌, take-append-drop, length-take-le, length-drop, get_or-take, get_or-drop, append_assoc, set, pos, negsuc, take_all, true≢false}
+use Rattle.std.proofs.Common.{◌≡◌, ◌≢◌, refl, ap, sym, ◌∙◌, subst, ℕ, zero, suc, ◌+◌, ◌-◌, ◌<◌, ◌≤◌, arith, List, [], ◌∷◌, ◌++◌, length, take, drop, get_or, min, Option, Some, None, IsSome, ℤ, inl, inr, take-append-drop, length-take-le, length-drop, get_or-take, get_or-drop, append_assoc, set, pos, negsuc, take_all, true≢false}
 use Rattle.std.proofs.lemmas.Int.{ints}
 use Rattle.std.proofs.Math.Seq.{take-suc}
 use Rattle.std.specs.Prelude.{◌≤ℤ◌}
@@ -15,6 +15,7 @@ use Rattle.column_source.specs.Slots.{slot_at, entries_from, begun_with}
 use Rattle.column_source.specs.Blocks.{IsBlock, AreApart, rows_of, kept_of, rows}
 use Rattle.column_source.specs.Drops.{leading}
 use Rattle.column_source.specs.Moves.{IsBeside, IsBesideRange, IsSplit, KeepsRows, IsCut}
+use Rattle.column_source.specs.Splits.{IsCutPlace, IsRightPart, IsShortened}
 use Rattle.column_source.proofs.EntryLists.{every_front, every_back}
 use Rattle.column_source.proofs.SlotLists.{entries_from-append, entries_below}
 use Rattle.column_source.proofs.Parts.{every_at, every_first, every_last}
@@ -127,10 +128,10 @@ pub beside_below : (key : ℕ) (blocks : List Block) → AllByRecursion (λ x. x
 beside_below key [] h = tt
 beside_below key (block ∷ blocks) h = (inr (every_front (λ x. x.key < key) (rows_of block) (rows blocks) h), beside_below key blocks (every_back (λ x. x.key < key) (rows_of block) (rows blocks) h))
 
-pub beside_above : (key : ℕ) (blocks : List Block) → AllByRecursion (λ block. key < block.first) blocks → AllByRecursion (IsBeside key) blocks
-beside_above key blocks = every_weaker (λ block. key < block.first) (IsBeside key) blocks (λ block lt. inl (omega arith))
+pub beside_above : (key : ℕ) (blocks : List Block) → AllByRecursion (λ block. key ≤ block.first) blocks → AllByRecursion (IsBeside key) blocks
+beside_above key blocks = every_weaker (λ block. key ≤ block.first) (IsBeside key) blocks (λ block le. inl le)
 
-pub beside_around : (key : ℕ) (blocks : List Block) (index : ℕ) (block : Block) → index < length blocks → block ≡ get_or blocks index block → AllByRecursion (λ x. x.key < key) (rows (take index blocks)) → IsBeside key block → AllByRecursion (λ other. key < other.first) (drop (suc index) blocks) → AllByRecursion (IsBeside key) blocks
+pub beside_around : (key : ℕ) (blocks : List Block) (index : ℕ) (block : Block) → index < length blocks → block ≡ get_or blocks index block → AllByRecursion (λ x. x.key < key) (rows (take index blocks)) → IsBeside key block → AllByRecursion (λ other. key ≤ other.first) (drop (suc index) blocks) → AllByRecursion (IsBeside key) blocks
 beside_around key blocks index block lt at below own above =
     subst (AllByRecursion (IsBeside key)) (sym (around blocks index block lt at)) (every-append (IsBeside key) (take index blocks) (block ∷ drop (suc index) blocks) (beside_below key (take index blocks) below) (own, beside_above key (drop (suc index) blocks) above))
 
@@ -198,7 +199,7 @@ module _ (key from place : ℕ) (block : Block) (index : ℕ) (old new : List Bl
       (omega (arith, h.0, split.left_before), (omega (arith, split.left_before, split.left_len, split.right_before), subst (λ n. AreApart n back) (omega (arith, split.right_before, split.right_len)) h.1))
   apart_split low (other ∷ front) back h = (h.0, apart_split (other.first_before + other.len_before) front back h.1)
 
-  pub split_cut : AllByRecursion (λ x. x.key < key) (rows (take index old)) → AllByRecursion (λ other. key < other.first) (drop (suc index) old) → IsCut key old new
+  pub split_cut : AllByRecursion (λ x. x.key < key) (rows (take index old)) → AllByRecursion (λ other. key ≤ other.first) (drop (suc index) old) → IsCut key old new
   split_cut below above = record {
     same = record {
       rows = joined rows_of rows_joined;
@@ -229,20 +230,15 @@ split_list [] index left right lt = absurd (omega arith)
 split_list (x ∷ old) zero left right lt = refl
 split_list (x ∷ old) (suc index) left right lt = ap (λ xs. x ∷ xs) (split_list old index left right (omega arith))
 
-pub held_before : {X : Type 0} (old : List X) (index : ℕ) (held right : X) → index < length old → held ≡ get_or (take (suc index) old ++ right ∷ drop (suc index) old) index held → held ≡ get_or old index held
-held_before [] index held right lt at = absurd (omega arith)
-held_before (x ∷ old) zero held right lt at = at
-held_before (x ∷ old) (suc index) held right lt at = held_before old index held right (omega arith) at
-
 pub front_below : (key : ℕ) (blocks : List Block) (next : ℕ) (block : Block) → next ≢ 0 → next ≤ length blocks → block ≡ get_or blocks (next - 1) block → AllByRecursion IsBlock blocks → Ascend (rows blocks) → AllByRecursion (λ other. other.first ≤ key) (take next blocks) → AllByRecursion (λ x. x.key < key) (rows (take (next - 1) blocks))
 front_below key blocks next block some le at sound ascend begun =
     every_weaker (λ x. x.key < block.first) (λ x. x.key < key) (rows (take (next - 1) blocks)) (λ x lt. omega (arith, lt, last_taken (λ other. other.first ≤ key) blocks next block some le at begun))
     (rows_before (take (next - 1) blocks) block (drop (suc (next - 1)) blocks) (sound_at blocks (next - 1) block (omega arith) at sound) (subst (λ bs. Ascend (rows bs)) (around blocks (next - 1) block (omega arith) at) ascend))
 
 -- blocks at which nothing is split
-pub nothing_to_cut : (key : ℕ) (blocks : List Block) (next : ℕ) (block : Block) → next ≢ 0 → next ≤ length blocks → block ≡ get_or blocks (next - 1) block → AllByRecursion IsBlock blocks → Ascend (rows blocks) → AllByRecursion (λ other. other.first ≤ key) (take next blocks) → AllByRecursion (λ other. key < other.first) (drop next blocks) → IsBeside key block → IsCut key blocks blocks
+pub nothing_to_cut : (key : ℕ) (blocks : List Block) (next : ℕ) (block : Block) → next ≢ 0 → next ≤ length blocks → block ≡ get_or blocks (next - 1) block → AllByRecursion IsBlock blocks → Ascend (rows blocks) → AllByRecursion (λ other. other.first ≤ key) (take next blocks) → AllByRecursion (λ other. key ≤ other.first) (drop next blocks) → IsBeside key block → IsCut key blocks blocks
 nothing_to_cut key blocks next block some le at sound ascend begun above beside =
-    cut_none key blocks sound (beside_around key blocks (next - 1) block (omega arith) at (front_below key blocks next block some le at sound ascend begun) beside (subst (λ n. AllByRecursion (λ other. key < other.first) (drop n blocks)) same above))
+    cut_none key blocks sound (beside_around key blocks (next - 1) block (omega arith) at (front_below key blocks next block some le at sound ascend begun) beside (subst (λ n. AllByRecursion (λ other. key ≤ other.first) (drop n blocks)) same above))
   where
     same : next ≡ suc (next - 1)
     same = omega arith
@@ -272,7 +268,7 @@ pub record Found (key : ℕ) (blocks : List Block) (next : ℕ) (block : Block) 
   pub sound : AllByRecursion IsBlock blocks
   pub ascend : Ascend (rows blocks)
   pub begun : AllByRecursion (λ other. other.first ≤ key) (take next blocks)
-  pub above : AllByRecursion (λ other. key < other.first) (drop next blocks)
+  pub above : AllByRecursion (λ other. key ≤ other.first) (drop next blocks)
 
 pub found_begins : (key : ℕ) (blocks : List Block) (next : ℕ) (block : Block) → Found key blocks next block → block.first ≤ key
 found_begins key blocks next block h = last_taken (λ other. other.first ≤ key) blocks next block h.some h.within h.at h.begun
@@ -281,24 +277,23 @@ pub found_none : (key : ℕ) (blocks : List Block) (next : ℕ) (block : Block) 
 found_none key blocks next block h = nothing_to_cut key blocks next block h.some h.within h.at h.sound h.ascend h.begun h.above
 
 -- no row of the block is at the key or after it
-pub found_past : (key : ℕ) (blocks : List Block) (next : ℕ) (block : Block) → Found key blocks next block → length block.slots.items ≤ key - block.first → IsCut key blocks blocks
-found_past key blocks next block h past =
-    found_none key blocks next block h (inr (every_weaker (λ x. x.key < block.first + length block.slots.items) (λ x. x.key < key) (rows_of block) (λ x lt. omega (arith, lt, past, found_begins key blocks next block h)) (entries_below block.first block.slots.items)))
+pub beside_past : (key : ℕ) (block : Block) → block.first ≤ key → length block.slots.items ≤ key - block.first → IsBeside key block
+beside_past key block begins past =
+    inr (every_weaker (λ x. x.key < block.first + length block.slots.items) (λ x. x.key < key) (rows_of block) (λ x lt. omega (arith, lt, past, begins)) (entries_below block.first block.slots.items))
 
--- the key is the block's first, or no row is at the key or after it
-pub found_whole : (key : ℕ) (blocks : List Block) (next : ℕ) (block : Block) → Found key blocks next block → (place : ℕ) → place ≡ (key - block.first) + leading (drop (key - block.first) block.slots.items) → (place ≡ 0) ⊎ (place ≡ length block.slots.items) → IsCut key blocks blocks
-found_whole key blocks next block h place is (inl first) = found_none key blocks next block h (inl (omega (arith, is, first)))
-found_whole key blocks next block h place is (inr end) =
-    found_none key blocks next block h (inr (subst (λ k. AllByRecursion (λ x. x.key < k) (rows_of block)) (at_key (found_begins key blocks next block h)) (subst (λ s. AllByRecursion (λ x. x.key < block.first + (key - block.first)) (entries_from block.first s)) (ap (λ n. take n block.slots.items) (sym is ∙ end) ∙ take_all (length block.slots.items) block.slots.items (omega arith)) (early_rows block.first (key - block.first) block.slots.items))))
+-- no slot from the key on has a row
+pub beside_whole : (key : ℕ) (block : Block) → block.first ≤ key → length block.slots.items ≤ (key - block.first) + leading (drop (key - block.first) block.slots.items) → IsBeside key block
+beside_whole key block begins past =
+    inr (subst (λ k. AllByRecursion (λ x. x.key < k) (rows_of block)) at_key (subst (λ s. AllByRecursion (λ x. x.key < block.first + (key - block.first)) (entries_from block.first s)) (take_all ((key - block.first) + leading (drop (key - block.first) block.slots.items)) block.slots.items past) (early_rows block.first (key - block.first) block.slots.items)))
   where
-    at_key : block.first ≤ key → block.first + (key - block.first) ≡ key
-    at_key le = omega arith
+    at_key : block.first + (key - block.first) ≡ key
+    at_key = omega (arith, begins)
 
-pub found_cut : (key : ℕ) (blocks : List Block) (next : ℕ) (block : Block) → Found key blocks next block → (place : ℕ) → place ≡ (key - block.first) + leading (drop (key - block.first) block.slots.items) → place ≢ 0 → place < length block.slots.items → (new : List Block) → IsSplit place block (next - 1) blocks new → IsCut key blocks new
-found_cut key blocks next block h place is some within new split =
-    split_cut key (key - block.first) place block (next - 1) blocks new split lt h.at h.sound (sound_at blocks (next - 1) block lt h.at h.sound) (at_key (found_begins key blocks next block h)) is (omega arith) within
+pub found_cut : (key : ℕ) (blocks : List Block) (next : ℕ) (block : Block) → Found key blocks next block → (place : ℕ) → IsCutPlace key place block → (new : List Block) → IsSplit place block (next - 1) blocks new → IsCut key blocks new
+found_cut key blocks next block h place is new split =
+    split_cut key (key - block.first) place block (next - 1) blocks new split lt h.at h.sound (sound_at blocks (next - 1) block lt h.at h.sound) (at_key (found_begins key blocks next block h)) is.place_is (omega (arith, is.place_is, is.begins)) is.within
     (front_below key blocks next block h.some h.within h.at h.sound h.ascend h.begun)
-    (subst (λ n. AllByRecursion (λ other. key < other.first) (drop n blocks)) next_is h.above)
+    (subst (λ n. AllByRecursion (λ other. key ≤ other.first) (drop n blocks)) next_is h.above)
   where
     lt : next - 1 < length blocks
     lt = omega (arith, h.some, h.within)
@@ -309,18 +304,29 @@ found_cut key blocks next block h place is some within new split =
     at_key : block.first ≤ key → block.first + (key - block.first) ≡ key
     at_key le = omega arith
 
-pub found_made : (key : ℕ) (list blocks : List Block) (next : ℕ) (block : Block) → list ≡ blocks → next ≢ 0 → next ≤ length list → block ≡ get_or blocks (next - 1) block → AllByRecursion IsBlock blocks → Ascend (rows blocks) → AllByRecursion (λ other. other.first ≤ key) (take next list) → AllByRecursion (λ other. key < other.first) (drop next list) → Found key blocks next block
-found_made key list blocks next block same some within at sound ascend begun above = record {
-  some = some;
-  within = subst (λ bs. next ≤ length bs) same within;
-  at = at;
-  sound = sound;
-  ascend = ascend;
-  begun = subst (λ bs. AllByRecursion (λ other. other.first ≤ key) (take next bs)) same begun;
-  above = subst (λ bs. AllByRecursion (λ other. key < other.first) (drop next bs)) same above;
-}
-
 -- how many slots are empty from one on
 pub leading_rest : (list slots : List (Option ℤ)) (from : ℕ) → list ≡ slots → leading (take (length list - from) (drop from list)) ≡ leading (drop from slots)
 leading_rest list slots from same =
     ap leading (take_all (length list - from) (drop from list) (omega (arith, length-drop from list))) ∙ ap (λ s. leading (drop from s)) same
+
+-- the two parts of a block in a list
+pub parts_split : (place : ℕ) (block right : Block) (index : ℕ) (old mid new : List Block) → index < length old → mid ≡ take (suc index) old ++ right ∷ drop (suc index) old → IsRightPart place block right → IsShortened place block index mid new → IsSplit place block index old new
+parts_split place block right index old mid new lt between is short = record {
+  left = short.left;
+  right = right;
+  list = short.list ∙ ap (λ bs. set bs index short.left) between ∙ split_list old index short.left right lt;
+  left_slots = short.is.slots;
+  left_first = short.is.first;
+  left_before = short.is.first_before;
+  left_len = short.is.len_before;
+  right_slots = is.slots;
+  right_first = is.first;
+  right_before = is.first_before;
+  right_len = is.len_before;
+}
+
+-- the block at which one was put behind is the same
+pub same_before : {X : Type 0} (old : List X) (index : ℕ) (right x : X) → index < length old → x ≡ get_or old index x → x ≡ get_or (take (suc index) old ++ right ∷ drop (suc index) old) index x
+same_before [] index right x lt at = absurd (omega arith)
+same_before (y ∷ old) zero right x lt at = at
+same_before (y ∷ old) (suc index) right x lt at = same_before old index right x (omega arith) at

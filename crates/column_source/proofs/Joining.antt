@@ -9,7 +9,7 @@ use Rattle.column_source.specs.declared.block.Block.{Block}
 use Rattle.column_source.specs.Entries.{Entry}
 use Rattle.column_source.specs.Slots.{slot_at, entries_from, begun_with, behind, filled}
 use Rattle.column_source.specs.Blocks.{IsBlock, AreApart, rows_of, kept_of, rows, kept}
-use Rattle.column_source.specs.Joins.{IsJoint, joined_slots}
+use Rattle.column_source.specs.Joins.{IsJoint, IsJoined, joined_slots}
 use Rattle.column_source.specs.Moves.{KeepsRows}
 use Rattle.column_source.proofs.EntryLists.{every_back}
 use Rattle.column_source.proofs.SlotLists.{entries_from-append}
@@ -71,13 +71,6 @@ first_joined : (place : ℕ) (left right : List (Option ℤ)) → IsSome (slot_a
 first_joined place [] right h = absurd (true≢false (sym h))
 first_joined place (None ∷ left) right h = absurd (true≢false (sym h))
 first_joined place (Some cell ∷ left) right h = refl
-
--- the joined block
-pub record IsJoined (place : ℕ) (left right joined : Block) : Type 0 where
-  pub slots : joined.slots.items ≡ joined_slots left.slots.items place right.slots.items
-  pub first : joined.first ≡ left.first
-  pub first_before : joined.first_before ≡ left.first_before
-  pub len_before : joined.len_before ≡ place + right.len_before
 
 module _ (place : ℕ) (left right joined : Block) (joint : IsJoint place left right) (is : IsJoined place left right joined) where
   joint_rows : rows_of joined ≡ rows_of left ++ rows_of right

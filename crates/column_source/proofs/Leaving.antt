@@ -1,8 +1,8 @@
 -- Lists of blocks of which some rows are left out.
 use Rattle.std.proofs.Common.{◌≡◌, refl, ap, sym, ◌∙◌, subst, ℕ, zero, suc, ◌+◌, ◌^◌, ◌<◌, ◌≤◌, arith, List, [], ◌∷◌, ◌++◌, length, take, drop, set, get_or, Option, Some, None, IsSome, ℤ, inl, inr, ◌⊎◌, Bool, true, false, cond, not, ◌&&◌, ◌||◌, filter, take-append-drop, ◌==◌, true≢false}
 use Rattle.std.proofs.lemmas.Bool.{ne_eqb}
-use Rattle.std.specs.List.{AllByRecursion, flat_map, remove}
-use Rattle.std.proofs.lemmas.List.{set_split, take-set, drop-set-lt}
+use Rattle.std.specs.List.{AllByRecursion, flat_map}
+use Rattle.std.proofs.lemmas.List.{set_split}
 use Rattle.std.proofs.lemmas.List.Elements.{filter-append}
 use Rattle.std.proofs.lemmas.Grind.{flat_map-append, take-set_at}
 use Rattle.key_lists.proofs.Every.{every, every_weaker, every-append, every-filter, filter_in, filter_passes, filter_same, filter_all, filter_filter}
@@ -118,9 +118,6 @@ module _ (first last : ℕ) (blocks : List Block) (index : ℕ) (block new : Blo
           ∙ ap (λ xs. flat_map f (take index blocks) ++ (xs ++ flat_map f (drop (suc index) blocks))) (sym e)
           ∙ sym (flat_map-append f (take index blocks) (new ∷ drop (suc index) blocks))
           ∙ ap (flat_map f) (sym (set_split blocks index new lt))
-
-  pub remove_left : remove (set blocks index new) index ≡ take index blocks ++ drop (suc index) blocks
-  remove_left = ap (λ xs. xs ++ drop (suc index) (set blocks index new)) (take-set blocks index new) ∙ ap (λ xs. take index blocks ++ xs) (drop-set-lt (suc index) blocks index new (omega arith))
 
 -- entries of which none is left out
 outside_all : (first last : ℕ) (xs : List Entry) → AreOutside first last xs → outside first last xs ≡ xs

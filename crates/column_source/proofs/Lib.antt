@@ -17,3 +17,4 @@ pub mod Filled
 pub mod FirstLists
 pub mod Steps
 pub mod Joining
+pub mod GapLists

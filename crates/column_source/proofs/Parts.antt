@@ -1,5 +1,5 @@
 -- The two parts into which a search cuts a list.
-use Rattle.std.proofs.Common.{◌≡◌, refl, Bool, true, false, ℕ, zero, suc, ◌<◌, ◌≤◌, arith, List, [], ◌∷◌, length, take, drop, get_or, Result, Ok, Err, OnOk, OnErr}
+use Rattle.std.proofs.Common.{◌≡◌, refl, Bool, true, false, ℕ, zero, suc, ◌<◌, ◌≤◌, arith, List, [], ◌∷◌, length, take, drop, get_or, Result, Ok, Err, OnOk, OnErr, is_err, sym, true≢false}
 use Rattle.std.specs.List.{AllByRecursion}
 use Rattle.std.specs.List.Sorted.{IsPartitionPoint}
 
@@ -46,3 +46,11 @@ one_at (x ∷ xs) (suc i) lt = one_at xs i (omega arith)
 pub either_way : {T E : Type 0} (result : Result T E) (P : Type 0) → OnOk result P → OnErr result P → P
 either_way (Ok x) P ok err = ok
 either_way (Err e) P ok err = err
+
+pub ok_of : {T E : Type 0} (result : Result T E) (P : Type 0) → false ≡ is_err result → OnOk result P → P
+ok_of (Ok x) P is h = h
+ok_of (Err e) P is h = absurd (true≢false (sym is))
+
+pub err_of : {T E : Type 0} (result : Result T E) (P : Type 0) → true ≡ is_err result → OnErr result P → P
+err_of (Ok x) P is h = absurd (true≢false is)
+err_of (Err e) P is h = h

@@ -1,9 +1,10 @@
 -- Blocks as of a step.
-use Rattle.std.proofs.Common.{◌≡◌, refl, ap, sym, ◌∙◌, subst, true, false, ℕ, zero, suc, ◌+◌, ◌<◌, ◌≤◌, arith, List, [], ◌∷◌, ◌++◌, length, take, drop, set, get_or, map, cond, nat_eq, leb, leb-true, leb-false}
+use Rattle.std.proofs.Common.{◌≡◌, refl, ap, sym, ◌∙◌, subst, true, false, ℕ, zero, suc, ◌+◌, ◌<◌, ◌≤◌, arith, List, [], ◌∷◌, ◌++◌, length, take, drop, set, get_or, map, cond, nat_eq, leb, leb-true, leb-false, swap}
 use Rattle.std.specs.List.{AllByRecursion, insert}
 use Rattle.std.specs.List.Sorted.{IsPartitionPoint, IsNonDecreasingBy, IsNonDecreasing}
 use Rattle.std.proofs.lemmas.Bool.{ne_eqb, eq-eqb}
 use Rattle.std.proofs.lemmas.List.{length-map, take-map, drop-map, get_or-map}
+use Rattle.std.proofs.lemmas.List.Edits.{swap_is}
 use Rattle.key_lists.proofs.Every.{every_weaker, every_unmapped}
 use Rattle.tick_model.specs.declared.update.ShiftRange.{ShiftRange}
 use Rattle.tick_model.specs.Rules.{landed}
@@ -14,7 +15,7 @@ use Rattle.column_source.specs.Moves.{moved_block}
 use Rattle.column_source.specs.Slots.{filled}
 use Rattle.column_source.specs.Firsts.{FirstKeys}
 use Rattle.column_source.specs.Steps.{as_of, len_at, each_as_of, as_of_step, AreStamped, untouched, IsStampedCopy}
-use Rattle.column_source.proofs.Parts.{front_part, back_part, every_at}
+use Rattle.column_source.proofs.Parts.{front_part, back_part, every_at, one_at}
 use Rattle.column_source.proofs.Listings.{each_apart}
 
 -- a block that the step touched
@@ -80,6 +81,26 @@ seen_with step (first ∷ firsts) (before ∷ befores) [] (suc i) item = refl
 seen_with step (first ∷ firsts) (before ∷ befores) (x ∷ items) zero item = refl
 seen_with step (first ∷ firsts) (before ∷ befores) (x ∷ items) (suc i) item = ap (λ bs. as_of step first before x ∷ bs) (seen_with step firsts befores items i item)
 
+-- two blocks put in the places of one another
+pub get_or_any : {X : Type 0} (xs : List X) (i : ℕ) (x d : X) → i < length xs → x ≡ get_or xs i x → get_or xs i d ≡ x
+get_or_any [] i x d lt at = absurd (omega arith)
+get_or_any (y ∷ xs) zero x d lt at = sym at
+get_or_any (y ∷ xs) (suc i) x d lt at = get_or_any xs i x d (omega arith) at
+
+pub seen_swap : (step : ℕ) (firsts befores : List ℕ) (items : List Stamped) (i j : ℕ) (one other : Block) → length firsts ≡ length items → length befores ≡ length items → i < length items → j < length items → one ≡ get_or (each_as_of step firsts befores items) i one → other ≡ get_or (each_as_of step firsts befores items) j other → each_as_of step (set (set firsts i other.first) j one.first) (set (set befores i other.first_before) j one.first_before) (swap items i j) ≡ set (set (each_as_of step firsts befores items) i other) j one
+seen_swap step firsts befores items i j one other now before lt_i lt_j at_i at_j =
+    let x = one_at items i lt_i in
+    let y = one_at items j lt_j in
+    let own : one ≡ as_of step (get_or firsts i 0) (get_or befores i 0) x.0 = seen_at step firsts befores items i x.0 one now before lt_i x.1 at_i in
+    let next : other ≡ as_of step (get_or firsts j 0) (get_or befores j 0) y.0 = seen_at step firsts befores items j y.0 other now before lt_j y.1 at_j in
+    ap (each_as_of step (set (set firsts i other.first) j one.first) (set (set befores i other.first_before) j one.first_before))
+    (sym (swap_is items i j x.0 lt_i lt_j)
+    ∙ ap (λ z. set (set items i z) j (get_or items i x.0)) (get_or_any items j y.0 x.0 lt_j y.1)
+    ∙ ap (set (set items i y.0) j) (sym x.1))
+    ∙ seen_put step (set firsts i other.first) (set befores i other.first_before) (set items i y.0) j one.first one.first_before x.0
+    ∙ ap (set (each_as_of step (set firsts i other.first) (set befores i other.first_before) (set items i y.0)) j) (ap (λ b. as_of step b.first b.first_before x.0) own ∙ sym own)
+    ∙ ap (λ blocks. set blocks j one) (seen_put step firsts befores items i other.first other.first_before y.0 ∙ ap (set (each_as_of step firsts befores items) i) (ap (λ b. as_of step b.first b.first_before y.0) next ∙ sym next))
+
 -- a block put between others
 pub seen_insert : (step : ℕ) (firsts befores : List ℕ) (items : List Stamped) (i f b : ℕ) (item : Stamped) → length firsts ≡ length items → length befores ≡ length items → i ≤ length items → each_as_of step (insert firsts i f) (insert befores i b) (insert items i item) ≡ insert (each_as_of step firsts befores items) i (as_of step f b item)
 seen_insert step firsts befores items zero f b item now before le = refl
@@ -116,6 +137,20 @@ pub every_inserted : {X : Type 0} (P : X → Type 0) (xs : List X) (i : ℕ) (ne
 every_inserted P xs zero new own h = (own, h)
 every_inserted P [] (suc i) new own h = (own, tt)
 every_inserted P (x ∷ xs) (suc i) new own h = (h.0, every_inserted P xs i new own h.1)
+
+pub every_swapped : {X : Type 0} (P : X → Type 0) (xs : List X) (i j : ℕ) → AllByRecursion P xs → AllByRecursion P (swap xs i j)
+every_swapped P [] i j h = h
+every_swapped P (x ∷ xs) i j h = every_set P (set (x ∷ xs) i (get_or (x ∷ xs) j x)) j (get_or (x ∷ xs) i x) (every_or P (x ∷ xs) i x h.0 h) (every_set P (x ∷ xs) i (get_or (x ∷ xs) j x) (every_or P (x ∷ xs) j x h.0 h) h)
+  where
+    every_or : {X : Type 0} (P : X → Type 0) (xs : List X) (i : ℕ) (d : X) → P d → AllByRecursion P xs → P (get_or xs i d)
+    every_or P [] i d own h = own
+    every_or P (x ∷ xs) zero d own h = h.0
+    every_or P (x ∷ xs) (suc i) d own h = every_or P xs i d own h.1
+
+    every_set : {X : Type 0} (P : X → Type 0) (xs : List X) (i : ℕ) (x : X) → P x → AllByRecursion P xs → AllByRecursion P (set xs i x)
+    every_set P [] i x own h = h
+    every_set P (y ∷ xs) zero x own h = (own, h.1)
+    every_set P (y ∷ xs) (suc i) x own h = (h.0, every_set P xs i x own h.1)
 
 pub every_removed : {X : Type 0} (P : X → Type 0) (xs : List X) (from to : ℕ) → AllByRecursion P xs → AllByRecursion P (take from xs ++ drop to xs)
 every_removed P xs zero zero h = h

@@ -7,3 +7,5 @@ pub mod Drops
 pub mod Moves
 pub mod Steps
 pub mod Joins
+pub mod Splits
+pub mod Gaps

@@ -41,6 +41,7 @@ pub(crate) fn slot(slots: &[Option<i64>], place: u64) -> Option<i64>
 
 impl Block {
     ghost use Rattle.column_source.specs.Blocks.{IsBlock, IsWritten, rows_of, kept_of};
+    ghost use Rattle.column_source.specs.Joins.{joined_slots};
 
     /// Puts a cell into a slot.
     pub(crate) fn write(&mut self, place: usize, cell: i64)
@@ -67,6 +68,25 @@ impl Block {
             self.slots.push(None)?;
         }
         self.slots.push(Some(cell))?;
+        Ok(())
+    }
+
+    /// Puts the slots of another block from a place on, behind the last row.
+    pub(crate) fn join(&mut self, place: usize, right: &[Option<i64>]) -> Result<(), AllocError>
+        requires behind { filled self.old.slots.items ≤ place }
+        requires short { place + length right.now ≤ 512 }
+        ensures ok { OnOk result (self.new.slots.items ≡ joined_slots self.old.slots.items place right.now) }
+        ensures err { OnErr result (self.new.slots.items ≡ self.old.slots.items) }
+        ensures first { self.new.first ≡ self.old.first }
+        ensures first_before { self.new.first_before ≡ self.old.first_before }
+        ensures len_before { self.new.len_before ≡ self.old.len_before }
+    {
+        let len = place + right.len();
+        self.slots.reserve(len.saturating_sub(self.slots.len()))?;
+        let rows = filled(&self.slots);
+        self.slots.truncate(rows);
+        let _ = self.slots.resize(place, None);
+        let _ = self.slots.extend_from_slice(right);
         Ok(())
     }
 }

@@ -283,6 +283,21 @@ impl Blocks {
         };
     }
 
+    /// Puts two blocks in the places of one another.
+    pub(crate) fn swap(&mut self, left: usize, right: usize)
+        requires left { left < length self.old }
+        requires right { right < length self.old }
+        ensures { (one other : Block) → one ≡ slice_index_or self.old left one → other ≡ slice_index_or self.old right other → self.new ≡ slice_set (slice_set self.old left other) right one }
+    {
+        let first = self.first(left);
+        let first_before = self.first_before(left);
+        let next = self.first(right);
+        let next_before = self.first_before(right);
+        self.firsts.put(left, next, next_before);
+        self.firsts.put(right, first, first_before);
+        self.items.swap(left, right);
+    }
+
     /// Puts a block between others.
     pub(crate) fn insert(&mut self, index: usize, block: Block) -> Result<(), AllocError>
         requires { index ≤ length self.old }

@@ -4,11 +4,13 @@ ghost use Rattle.std.specs.List.{AllByRecursion};
 ghost use Rattle.column_source.specs.Entries.{Ascend};
 ghost use Rattle.column_source.specs.Notes.{note_under, restored};
 ghost use Rattle.column_source.specs.Blocks.{IsBlock, IsColumn, AtBlock, AreApart, rows_of, kept_of, rows, kept};
+ghost use Rattle.column_source.specs.Gaps.{IsGap, around};
 ghost use Rattle.column_source.specs.Drops.{AreNoted, AreOutside, Leaves, LeavesAll, LeavesBlock, cleared, left_by, leading, outside};
 
 use crate::block::Block;
 use crate::blocks::Blocks;
 use crate::directory::note;
+use crate::gaps::{Gap, pass_on, seek};
 use crate::notes::Notes;
 use row_set::Range;
 use std::alloc::AllocError;
@@ -137,42 +139,47 @@ fn trim(block: &mut Block)
     block.len_before -= gone;
 }
 
-/// Leaves out the rows of the block at an index under the keys from first to last, and the block where none is left;
-/// returns the index of the next block.
-fn leave_at(blocks: &mut Blocks, index: usize, first: u64, last: u64) -> usize
-    requires sound { AllByRecursion IsBlock blocks.old }
-    requires within { index < length blocks.old }
-    requires begun { AtBlock blocks.old index (λ block. block.first ≤ last) }
+/// Leaves out the rows of the block behind a gap under the keys from first to last, and moves the block before the gap, or into
+/// the gap where no row is left.
+fn leave_next(blocks: &mut Blocks, gap: &mut Gap, first: u64, last: u64)
+    requires gap { IsGap gap.old blocks.old }
+    requires within { gap.old.end < length blocks.old }
+    requires room { gap.old.end + 1 < 2 ^ 64 }
+    requires sound { AllByRecursion IsBlock (around gap.old blocks.old) }
+    requires begun { AtBlock blocks.old gap.old.end (λ block. block.first ≤ last) }
     requires small { last < 2 ^ 62 }
-    ensures leaves { Leaves first last blocks.old blocks.new }
-    ensures sound { AllByRecursion IsBlock blocks.new }
-    ensures within { result ≤ length blocks.new }
-    ensures nearer { length blocks.new + index < length blocks.old + result }
-    ensures done { AreOutside first last (rows (take index blocks.old)) → AreOutside first last (rows (take result blocks.new)) }
+    ensures gap { IsGap gap.new blocks.new }
+    ensures leaves { Leaves first last (around gap.old blocks.old) (around gap.new blocks.new) }
+    ensures sound { AllByRecursion IsBlock (around gap.new blocks.new) }
+    ensures end { gap.new.end ≡ gap.old.end + 1 }
+    ensures len { length blocks.new ≡ length blocks.old }
+    ensures done { AreOutside first last (rows (take gap.old.start (around gap.old blocks.old))) → AreOutside first last (rows (take gap.new.start (around gap.new blocks.new))) }
 {
-    let mut block = blocks.take(index);
+    let mut block = blocks.take(gap.end);
     leave_block(&mut block, first, last);
     let is_empty = block.slots.is_empty();
-    blocks.put(index, block);
+    blocks.put(gap.end, block);
     if is_empty {
-        blocks.remove(index, index + 1);
-        return index;
+        gap.end += 1;
+        return;
     }
-    index + 1
+    pass_on(blocks, gap);
 }
 
-/// Leaves out the rows under the keys from first to last.
-pub(crate) fn leave_rows(blocks: &mut Blocks, first: u64, last: u64)
-    requires sound { AllByRecursion IsBlock blocks.old }
-    requires ascend { Ascend (rows blocks.old) }
+/// Leaves out the rows under the keys from first to last. The blocks of which no row is left are in the gap.
+fn leave_rows(blocks: &mut Blocks, gap: &mut Gap, first: u64, last: u64)
+    requires gap { IsGap gap.old blocks.old }
+    requires sound { AllByRecursion IsBlock (around gap.old blocks.old) }
+    requires ascend { Ascend (rows (around gap.old blocks.old)) }
     requires small { last < 2 ^ 62 }
-    ensures rows { rows blocks.new ≡ outside first last (rows blocks.old) }
-    ensures leaves { Leaves first last blocks.old blocks.new }
-    ensures sound { AllByRecursion IsBlock blocks.new }
+    ensures gap { IsGap gap.new blocks.new }
+    ensures rows { rows (around gap.new blocks.new) ≡ outside first last (rows (around gap.old blocks.old)) }
+    ensures leaves { Leaves first last (around gap.old blocks.old) (around gap.new blocks.new) }
+    ensures sound { AllByRecursion IsBlock (around gap.new blocks.new) }
 {
-    let mut index = blocks.begun_by(first).saturating_sub(1);
-    while index < blocks.len() && blocks.first(index) <= last {
-        index = leave_at(blocks, index, first, last);
+    seek(blocks, gap, first);
+    while gap.end < blocks.len() && blocks.first(gap.end) <= last {
+        leave_next(blocks, gap, first, last);
     }
 }
 
@@ -201,9 +208,11 @@ pub(crate) fn leave_ranges(blocks: &mut Blocks, ranges: &[Range])
     requires small { AllByRecursion (λ range. range.last < 2 ^ 62) ranges.now }
     ensures leaves { LeavesAll ranges.now blocks.old blocks.new }
 {
+    let mut gap = Gap { start: 0, end: 0 };
     for range in ranges {
-        leave_rows(blocks, range.first, range.last);
+        leave_rows(blocks, &mut gap, range.first, range.last);
     }
+    blocks.remove(gap.start, gap.end);
 }
 
 /// Leaves out the rows under the keys of all ranges, from the rows of now alone.

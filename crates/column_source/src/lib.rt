@@ -7,9 +7,12 @@ mod cells;
 mod directory;
 mod drops;
 mod firsts;
+mod gaps;
 mod joins;
 mod moves;
 mod notes;
+mod splits;
+mod sweeps;
 #[cfg(test)]
 mod tests;
 

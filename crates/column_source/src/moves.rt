@@ -2,18 +2,21 @@
 ghost use Rattle.std.specs.Prelude.{◌≡◌, ℕ, ◌+◌, ◌^◌, ◌<◌, ◌≤◌, length, OnOk, OnErr, None};
 ghost use Rattle.std.specs.List.{AllByRecursion};
 ghost use Rattle.tick_model.specs.Rules.{shift_fault};
+ghost use Rattle.shift_data.specs.ShiftLists.{IsShiftList};
 ghost use Rattle.column_source.specs.Entries.{Ascend, keys_of, moved_entries};
-ghost use Rattle.column_source.specs.Slots.{slot_at};
 ghost use Rattle.column_source.specs.Blocks.{IsBlock, AtBlock, AreApart, rows, kept};
 ghost use Rattle.column_source.specs.Moves.{IsCut, IsSplit, KeepsRows, IsBesideRange};
 
-use crate::block::Block;
 use crate::blocks::Blocks;
-use crate::drops::leading;
 use crate::joins::join_some;
+use crate::splits::{part_from, place_between, shorten};
+use crate::sweeps::{cut_many, join_all};
 use shift_data::ShiftData;
 use std::alloc::AllocError;
 use tick_model::update::ShiftRange;
+
+/// The blocks are gone over once for so many ranges, and for fewer each block that a range begins or ends in is searched for.
+const MANY_RANGES: usize = 32;
 
 /// Makes two blocks of one, the second from a slot on.
 fn split(blocks: &mut Blocks, index: usize, place: usize) -> Result<(), AllocError>
@@ -25,19 +28,9 @@ fn split(blocks: &mut Blocks, index: usize, place: usize) -> Result<(), AllocErr
     ensures ok { OnOk result (AtBlock blocks.old index (λ block. IsSplit place block index blocks.old blocks.new)) }
     ensures err { OnErr result (blocks.new ≡ blocks.old) }
 {
-    let before = blocks.before(index);
-    let had = place.min(before.len);
-    let right = Block {
-        first: blocks.first(index) + place as u64,
-        first_before: before.first + had as u64,
-        len_before: before.len - had,
-        slots: Vec::from_slice(blocks.allocator(), &blocks.slots(index)[place..])?,
-    };
+    let right = part_from(blocks, index, place)?;
     blocks.insert(index + 1, right)?;
-    let mut left = blocks.take(index);
-    left.slots.truncate(place);
-    left.len_before = had;
-    blocks.put(index, left);
+    shorten(blocks, index, place);
     Ok(())
 }
 
@@ -53,15 +46,9 @@ fn cut(blocks: &mut Blocks, key: u64) -> Result<(), AllocError>
     if next == 0 {
         return Ok(());
     }
-    let from = (key - blocks.first(next - 1)) as usize;
-    let slots = blocks.slots(next - 1);
-    if from >= slots.len() {
+    let Some(place) = place_between(blocks, next - 1, key) else {
         return Ok(());
-    }
-    let place = from + leading(&slots[from..]);
-    if place == 0 || place == slots.len() {
-        return Ok(());
-    }
+    };
     split(blocks, next - 1, place)
 }
 
@@ -80,6 +67,22 @@ fn cut_ranges(blocks: &mut Blocks, ranges: &[ShiftRange]) -> Result<(), AllocErr
     Ok(())
 }
 
+/// Joins small blocks, and splits blocks so that each range of a shift moves whole ones.
+fn part(blocks: &mut Blocks, ranges: &[ShiftRange]) -> Result<(), AllocError>
+    requires sound { AllByRecursion IsBlock blocks.old }
+    requires ascend { Ascend (rows blocks.old) }
+    requires shift { IsShiftList ranges.now }
+    ensures same { KeepsRows blocks.old blocks.new }
+    ensures ok { OnOk result (AllByRecursion (λ range. AllByRecursion (IsBesideRange range) blocks.new) ranges.now) }
+{
+    if ranges.len() < MANY_RANGES {
+        join_some(blocks, ranges.len());
+        return cut_ranges(blocks, ranges);
+    }
+    join_all(blocks);
+    cut_many(blocks, ranges)
+}
+
 /// Moves the rows of each range by its delta.
 pub(crate) fn shift(blocks: &mut Blocks, shifts: &ShiftData) -> Result<(), AllocError>
     requires sound { AllByRecursion IsBlock blocks.old }
@@ -93,8 +96,7 @@ pub(crate) fn shift(blocks: &mut Blocks, shifts: &ShiftData) -> Result<(), Alloc
     ensures apart { AreApart 0 blocks.old → AreApart 0 blocks.new }
 {
     let ranges = shifts.ranges();
-    join_some(blocks, ranges.len())?;
-    cut_ranges(blocks, ranges)?;
+    part(blocks, ranges)?;
     blocks.shift(ranges);
     Ok(())
 }

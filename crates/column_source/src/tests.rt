@@ -1,5 +1,10 @@
 //! Each call once with ample memory.
 use crate::Column;
+use crate::blocks::Blocks;
+use crate::directory::{cell_at, set};
+use crate::drops::leave_ranges;
+use crate::notes::Notes;
+use crate::sweeps::{cut_many, join_all};
 use row_set::RowSet;
 use shift_data::ShiftData;
 use std::test::Fail;
@@ -36,5 +41,33 @@ fn cells_of_a_copy(rt: HostRuntime) -> Result<(), Fail> {
     let copy = column.copy()?;
     assert_eq!(rt; copy.get(3), 8);
     assert_eq!(rt; copy.get_prev(3), 7);
+    Ok(())
+}
+
+/// Many ranges split the blocks in which they begin or end. The blocks whose rows are left out go, and the others are joined.
+#[test]
+fn many_ranges(rt: HostRuntime) -> Result<(), Fail> {
+    let mut blocks = Blocks::new(rt.alloc());
+    let mut notes = Notes::new(rt.alloc());
+    for row in 0u32..1000 {
+        set(&mut blocks, &mut notes, row as u64, row as i64)?;
+    }
+    blocks.begin();
+    let mut shifts = ShiftData::new(rt.alloc());
+    let mut gone = RowSet::new(rt.alloc());
+    for place in 0u32..40 {
+        let key = 20 * place as u64;
+        assert!(rt; shifts.push(key, key + 9, 1).is_ok());
+        gone.insert_range(key, key + 9)?;
+    }
+    cut_many(&mut blocks, shifts.ranges())?;
+    assert_eq!(rt; blocks.len(), 81);
+    leave_ranges(&mut blocks, gone.ranges());
+    assert_eq!(rt; blocks.len(), 41);
+    join_all(&mut blocks);
+    assert_eq!(rt; blocks.len(), 4);
+    assert_eq!(rt; cell_at(&blocks, 9), None);
+    assert_eq!(rt; cell_at(&blocks, 510), Some(510));
+    assert_eq!(rt; cell_at(&blocks, 519), Some(519));
     Ok(())
 }

@@ -1,0 +1,14 @@
+use Rattle.std.proofs.Common.{◌≡◌, ◌≤◌, drop}
+use Rattle.std.specs.List.{AllByRecursion}
+use Rattle.column_source.specs.Gaps.{IsGap, around}
+use Rattle.column_source.proofs.gaps.pass_behind.Given as goal
+
+abbrev pub invariant-loop-gap : goal.invariant-loop-gap
+invariant-loop-gap l = record {
+  gap : IsGap l.gap l.blocks;
+  same : around l.gap l.blocks ≡ around l.initial.gap l.initial.blocks;
+  above : AllByRecursion (λ block. l.key ≤ block.first) (drop l.initial.gap.start (around l.initial.gap l.initial.blocks)) → AllByRecursion (λ block. l.key ≤ block.first) (drop l.gap.start (around l.initial.gap l.initial.blocks));
+}
+
+abbrev pub decreases-loop-gap : goal.decreases-loop-gap
+decreases-loop-gap l = l.gap.start
