@@ -1,9 +1,12 @@
 pub mod Applied
 pub mod Between
-pub mod CarriedColumns
+pub mod CarriedRows
 pub mod ExactAgain
+pub mod Keeping
 pub mod NewKeys
 pub mod Puts
 pub mod RangePuts
+pub mod SlotCells
 pub mod TableColumns
+pub mod Uses
 pub mod WholeRows

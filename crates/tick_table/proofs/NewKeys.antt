@@ -15,7 +15,7 @@ or_assoc : (a b c : Bool) → (a || (b || c)) ≡ ((a || b) || c)
 or_assoc true b c = refl
 or_assoc false b c = refl
 
-among-insert_row : (key : ℕ) (row : PlainRow) (rows : List PlainRow) → is_among key (keys (insert_row row rows)) ≡ ((row.key == key) || is_among key (keys rows))
+pub among-insert_row : (key : ℕ) (row : PlainRow) (rows : List PlainRow) → is_among key (keys (insert_row row rows)) ≡ ((row.key == key) || is_among key (keys rows))
 among-insert_row key row [] = refl
 among-insert_row key row (other ∷ others) =
     elim (ltb row.key other.key) as (λ b. is_among key (keys (cond b (row ∷ other ∷ others) (other ∷ insert_row row others))) ≡ ((row.key == key) || is_among key (keys (other ∷ others)))) [

@@ -1,108 +1,175 @@
--- Columns of rows, and rows put into them: what is under a key.
-use Rattle.std.proofs.Common.{◌≡◌, refl, ap, sym, ◌∙◌, subst, true, false, cond, not, ◌||◌, ℕ, suc, ◌+◌, ◌*◌, ◌<◌, arith, List, [], ◌∷◌, ◌++◌, map, length, take, drop, Option, Some, None, ℤ, ltb, ◌==◌, unwrap_or, zero-mul}
+-- Rows that are put among others one after the other: as they are found, and as they are added and modified.
+use Rattle.std.proofs.Common.{◌≡◌, refl, ap, ap₂, sym, ◌∙◌, subst, Bool, true, false, cond, ◌||◌, ℕ, suc, ◌+◌, ◌*◌, ◌<◌, ◌≤◌, arith, List, [], ◌∷◌, ◌++◌, length, take, drop, Some, None, ℤ, ltb, ◌==◌, unwrap_or, inl, inr, zero-mul, true≢false}
 use Rattle.std.specs.List.{AllByRecursion}
 use Rattle.std.proofs.lemmas.List.{drop-drop}
-use Rattle.std.proofs.lemmas.Bool.{ne_eqb, eqb-true, eqb-false, or_parts, or_from}
+use Rattle.std.proofs.lemmas.Bool.{cases_lt, ne_eqb, eq-eqb, eqb-true, eqb-false, lt-ltb, or_parts, or_from, or_right}
 use Rattle.key_lists.specs.Keys.{is_among, IsRising}
 use Rattle.key_lists.proofs.Among.{among_below}
-use Rattle.key_lists.proofs.Every.{filter-map, map_map}
+use Rattle.key_lists.proofs.Every.{every_both, every_weaker, every_unmapped, map_map, map_own, map_same, every}
+use Rattle.column_source.proofs.EntryLists.{not_ltb}
 use Rattle.tick_model.specs.declared.table.PlainRow.{PlainRow}
-use Rattle.tick_model.specs.declared.update.ShiftRange.{ShiftRange}
 use Rattle.tick_model.specs.Changes.{rows_under}
-use Rattle.tick_model.specs.Tables.{cell, keys, row_at}
-use Rattle.tick_model.specs.Updates.{removing, shifting, moved_row, insert_row, adding, modifying}
-use Rattle.tick_table.proofs.NewKeys.{among-adding, key-row_at}
-use Rattle.column_source.specs.Entries.{Entry, cell_under, entry_of, keys_of, put, left_entries, moved_entry, moved_entries}
-use Rattle.column_source.proofs.EntryLists.{cell_under-put}
-use Rattle.tick_table.specs.Columns.{column_of, put_rows}
+use Rattle.tick_model.specs.Tables.{keys, row_at}
+use Rattle.tick_model.specs.Updates.{insert_row, adding, modifying}
+use Rattle.tick_table.proofs.NewKeys.{key-row_at}
+use Rattle.tick_table.specs.SlotRows.{put_row, put_rows}
 
-pub keys-column_of : (place : ℕ) (rows : List PlainRow) → keys_of (column_of place rows) ≡ keys rows
-keys-column_of place rows = map_map (λ (entry : Entry). entry.key) (λ (row : PlainRow). entry_of row.key (cell row.cells place)) rows
+or_twice : (a b : Bool) → (a || (a || b)) ≡ (a || b)
+or_twice true b = refl
+or_twice false b = refl
 
--- rows left out and moved in a column
-pub column_stay : (place : ℕ) (shifts : List ShiftRange) (removed : List ℕ) (rows : List PlainRow) → moved_entries shifts (left_entries removed (column_of place rows)) ≡ column_of place (shifting shifts (removing removed rows))
-column_stay place shifts removed rows =
-    ap (map (moved_entry shifts)) (filter-map (λ (entry : Entry). not (is_among entry.key removed)) at rows)
-    ∙ map_map (moved_entry shifts) at (removing removed rows)
-    ∙ sym (map_map at (moved_row shifts) (removing removed rows))
-  where
-    at : PlainRow → Entry
-    at row = entry_of row.key (cell row.cells place)
+or_swap : (a b c : Bool) → (a || (b || c)) ≡ (b || (a || c))
+or_swap true true c = refl
+or_swap true false c = refl
+or_swap false b c = refl
 
--- what is under a key after rows were put there
-abbrev pub over : ℕ → ℕ → List PlainRow → Option ℤ → Option ℤ
-over place key [] o = o
-over place key (row ∷ rows) o = cond (row.key == key) (Some (cell row.cells place)) (over place key rows o)
-
-pub over_absent : (place key : ℕ) (rows : List PlainRow) (o : Option ℤ) → is_among key (keys rows) ≡ false → over place key rows o ≡ o
-over_absent place key [] o h = refl
-over_absent place key (row ∷ rows) o h =
-    let apart = or_parts (row.key == key) (is_among key (keys rows)) h in
-    ap (λ b. cond b (Some (cell row.cells place)) (over place key rows o)) apart.0 ∙ over_absent place key rows o apart.1
-
-pub under-put_rows : (place key : ℕ) (rows : List PlainRow) (entries : List Entry) → IsRising (keys rows) → cell_under key (put_rows place rows entries) ≡ over place key rows (cell_under key entries)
-under-put_rows place key [] entries r = refl
-under-put_rows place key (row ∷ rows) entries r =
-    under-put_rows place key rows (put row.key (cell row.cells place) entries) r.1
-    ∙ ap (over place key rows) (cell_under-put key row.key (cell row.cells place) entries)
-    ∙ (elim (row.key == key) as (λ b. (row.key == key) ≡ b → over place key rows (cond b (Some (cell row.cells place)) (cell_under key entries)) ≡ cond b (Some (cell row.cells place)) (over place key rows (cell_under key entries))) [
-      | true ↦ λ e. over_absent place key rows (Some (cell row.cells place)) (among_below key (keys rows) (subst (λ k. AllByRecursion (λ y. k < y) (keys rows)) (eqb-true row.key key e) r.0))
-      | false ↦ λ e. refl
-    ]) refl
-
-pub put_rows-append : (place : ℕ) (first second : List PlainRow) (entries : List Entry) → put_rows place (first ++ second) entries ≡ put_rows place second (put_rows place first entries)
-put_rows-append place [] second entries = refl
-put_rows-append place (row ∷ first) second entries = put_rows-append place first second (put row.key (cell row.cells place) entries)
-
--- what is under a key of a column after rows were inserted, and after rows were modified
-under-insert_row : (place key : ℕ) (row : PlainRow) (rows : List PlainRow) → is_among row.key (keys rows) ≡ false → cell_under key (column_of place (insert_row row rows)) ≡ cond (row.key == key) (Some (cell row.cells place)) (cell_under key (column_of place rows))
-under-insert_row place key row [] h = refl
-under-insert_row place key row (other ∷ others) h =
-    elim (ltb row.key other.key) as (λ b. cell_under key (column_of place (cond b (row ∷ other ∷ others) (other ∷ insert_row row others))) ≡ cond (row.key == key) (Some (cell row.cells place)) (cell_under key (column_of place (other ∷ others)))) [
-      | true ↦ refl
-      | false ↦ ap (cond (other.key == key) (Some (cell other.cells place))) (under-insert_row place key row others apart.1) ∙ swapped
-    ]
-  where
-    apart : ((other.key == row.key) ≡ false) × (is_among row.key (keys others) ≡ false)
-    apart = or_parts (other.key == row.key) (is_among row.key (keys others)) h
-
-    under : Option ℤ
-    under = cell_under key (column_of place others)
-
-    swapped : cond (other.key == key) (Some (cell other.cells place)) (cond (row.key == key) (Some (cell row.cells place)) (cell_under key (column_of place others))) ≡ cond (row.key == key) (Some (cell row.cells place)) (cond (other.key == key) (Some (cell other.cells place)) (cell_under key (column_of place others)))
-    swapped =
-        (elim (other.key == key) as (λ b. (other.key == key) ≡ b → cond b (Some (cell other.cells place)) (cond (row.key == key) (Some (cell row.cells place)) (cell_under key (column_of place others))) ≡ cond (row.key == key) (Some (cell row.cells place)) (cond b (Some (cell other.cells place)) (cell_under key (column_of place others)))) [
-          | true ↦ λ e. sym (ap (λ b. cond b (Some (cell row.cells place)) (Some (cell other.cells place))) (ne_eqb row.key key (λ same. eqb-false other.key row.key apart.0 (eqb-true other.key key e ∙ sym same))))
-          | false ↦ λ e. refl
-        ]) refl
-
-pub under-adding : (place key : ℕ) (added rows : List PlainRow) → IsRising (keys added) → AllByRecursion (λ k. is_among k (keys rows) ≡ false) (keys added) → cell_under key (column_of place (adding added rows)) ≡ over place key added (cell_under key (column_of place rows))
-under-adding place key [] rows r h = refl
-under-adding place key (row ∷ added) rows r h =
-    under-insert_row place key row (adding added rows) fresh
-    ∙ ap (cond (row.key == key) (Some (cell row.cells place))) (under-adding place key added rows r.1 h.1)
-  where
-    fresh : is_among row.key (keys (adding added rows)) ≡ false
-    fresh =
-        among-adding row.key added rows
-        ∙ or_from (is_among row.key (keys added)) (is_among row.key (keys rows)) (among_below row.key (keys added) r.0) h.0
-
-over_found : (place key : ℕ) (modified : List PlainRow) (row : PlainRow) → over place key modified (Some (cell row.cells place)) ≡ Some (cell (unwrap_or (row_at key modified) row).cells place)
-over_found place key [] row = refl
-over_found place key (other ∷ others) row =
-    elim (other.key == key) as (λ b. cond b (Some (cell other.cells place)) (over place key others (Some (cell row.cells place))) ≡ Some (cell (unwrap_or (cond b (Some other) (row_at key others)) row).cells place)) [
-      | true ↦ refl
-      | false ↦ over_found place key others row
+-- the keys after a row was put
+pub among-put_row : (key : ℕ) (row : PlainRow) (rows : List PlainRow) → is_among key (keys (put_row row rows)) ≡ ((row.key == key) || is_among key (keys rows))
+among-put_row key row [] = refl
+among-put_row key row (other ∷ others) =
+    elim (ltb other.key row.key) as (λ b. is_among key (keys (cond b (other ∷ put_row row others) (cond (other.key == row.key) (row ∷ others) (row ∷ other ∷ others)))) ≡ ((row.key == key) || is_among key (keys (other ∷ others)))) [
+      | true ↦ ap (λ b. (other.key == key) || b) (among-put_row key row others) ∙ or_swap (other.key == key) (row.key == key) (is_among key (keys others))
+      | false ↦ (elim (other.key == row.key) as (λ b. (other.key == row.key) ≡ b → is_among key (keys (cond b (row ∷ others) (row ∷ other ∷ others))) ≡ ((row.key == key) || is_among key (keys (other ∷ others)))) [
+        | true ↦ λ same. sym (ap (λ k. (row.key == key) || ((k == key) || is_among key (keys others))) (eqb-true other.key row.key same) ∙ or_twice (row.key == key) (is_among key (keys others)))
+        | false ↦ λ differs. refl
+      ]) refl
     ]
 
-pub under-modifying : (place key : ℕ) (modified rows : List PlainRow) → (is_among key (keys rows) ≡ false → is_among key (keys modified) ≡ false) → cell_under key (column_of place (modifying modified rows)) ≡ over place key modified (cell_under key (column_of place rows))
-under-modifying place key modified [] h = sym (over_absent place key modified None (h refl))
-under-modifying place key modified (row ∷ rows) h =
-    ap (λ k. cond (k == key) (Some (cell (unwrap_or (row_at row.key modified) row).cells place)) (cell_under key (column_of place (modifying modified rows)))) (key-row_at row.key modified row refl)
-    ∙ (elim (row.key == key) as (λ b. (row.key == key) ≡ b → cond b (Some (cell (unwrap_or (row_at row.key modified) row).cells place)) (cell_under key (column_of place (modifying modified rows))) ≡ over place key modified (cond b (Some (cell row.cells place)) (cell_under key (column_of place rows)))) [
-      | true ↦ λ e. ap (λ k. Some (cell (unwrap_or (row_at k modified) row).cells place)) (eqb-true row.key key e) ∙ sym (over_found place key modified row)
-      | false ↦ λ e. under-modifying place key modified rows (λ absent. h (ap (λ b. b || is_among key (keys rows)) e ∙ absent))
-    ]) refl
+pub put_rows-append : (first second others : List PlainRow) → put_rows (first ++ second) others ≡ put_rows second (put_rows first others)
+put_rows-append [] second others = refl
+put_rows-append (row ∷ first) second others = put_rows-append first second (put_row row others)
+
+-- a key that a row has is there after others were put
+pub there_after : (rows others : List PlainRow) (ks : List ℕ) → AllByRecursion (λ key. is_among key (keys others) ≡ true) ks → AllByRecursion (λ key. is_among key (keys (put_rows rows others)) ≡ true) ks
+there_after [] others ks there = there
+there_after (row ∷ rows) others ks there =
+    there_after rows (put_row row others) ks
+    (every_weaker (λ key. is_among key (keys others) ≡ true) (λ key. is_among key (keys (put_row row others)) ≡ true) ks
+    (λ key here. among-put_row key row others ∙ or_right (row.key == key) (is_among key (keys others)) here) there)
+
+-- a row whose key no other has is inserted
+put_new : (row : PlainRow) (rows : List PlainRow) → is_among row.key (keys rows) ≡ false → put_row row rows ≡ insert_row row rows
+put_new row [] h = refl
+put_new row (other ∷ others) h =
+    let apart = or_parts (other.key == row.key) (is_among row.key (keys others)) h in
+    elim (cases_lt other.key row.key) [
+      | inl less ↦
+          ap (λ b. cond b (other ∷ put_row row others) (cond (other.key == row.key) (row ∷ others) (row ∷ other ∷ others))) (lt-ltb other.key row.key less)
+          ∙ ap (λ rest. other ∷ rest) (put_new row others apart.1)
+          ∙ sym (ap (λ b. cond b (row ∷ other ∷ others) (other ∷ insert_row row others)) (not_ltb row.key other.key (omega arith)))
+      | inr more ↦
+          let differs = eqb-false other.key row.key apart.0 in
+          ap (λ b. cond b (other ∷ put_row row others) (cond (other.key == row.key) (row ∷ others) (row ∷ other ∷ others))) (not_ltb other.key row.key (omega arith))
+          ∙ ap (λ b. cond b (row ∷ others) (row ∷ other ∷ others)) apart.0
+          ∙ sym (ap (λ b. cond b (row ∷ other ∷ others) (other ∷ insert_row row others)) (lt-ltb row.key other.key (omega (arith, differs))))
+    ]
+
+-- rows of two keys are inserted in any order
+insert_first : (row other : PlainRow) (others : List PlainRow) → row.key < other.key → insert_row row (other ∷ others) ≡ row ∷ other ∷ others
+insert_first row other others less = ap (λ b. cond b (row ∷ other ∷ others) (other ∷ insert_row row others)) (lt-ltb row.key other.key less)
+
+insert_later : (row other : PlainRow) (others : List PlainRow) → other.key ≤ row.key → insert_row row (other ∷ others) ≡ other ∷ insert_row row others
+insert_later row other others most = ap (λ b. cond b (row ∷ other ∷ others) (other ∷ insert_row row others)) (not_ltb row.key other.key most)
+
+insert_two : (a b : PlainRow) (rows : List PlainRow) → a.key < b.key → insert_row a (insert_row b rows) ≡ insert_row b (insert_row a rows)
+insert_two a b [] less = insert_first a b [] less ∙ sym (insert_later b a [] (omega arith))
+insert_two a b (other ∷ others) less =
+    elim (cases_lt b.key other.key) [
+      | inl second ↦
+          ap (insert_row a) (insert_first b other others second)
+          ∙ insert_first a b (other ∷ others) less
+          ∙ sym (ap (insert_row b) (insert_first a other others (omega arith)) ∙ insert_later b a (other ∷ others) (omega arith) ∙ ap (λ rest. a ∷ rest) (insert_first b other others second))
+      | inr later ↦
+          ap (insert_row a) (insert_later b other others (omega arith))
+          ∙ (elim (cases_lt a.key other.key) [
+            | inl first ↦
+                insert_first a other (insert_row b others) first
+                ∙ sym (ap (insert_row b) (insert_first a other others first) ∙ insert_later b a (other ∷ others) (omega arith) ∙ ap (λ rest. a ∷ rest) (insert_later b other others (omega arith)))
+            | inr both ↦
+                insert_later a other (insert_row b others) (omega arith)
+                ∙ ap (λ rest. other ∷ rest) (insert_two a b others less)
+                ∙ sym (ap (insert_row b) (insert_later a other others (omega arith)) ∙ insert_later b other (insert_row a others) (omega arith))
+          ])
+    ]
+
+adding-insert : (added rows : List PlainRow) (row : PlainRow) → AllByRecursion (λ key. row.key < key) (keys added) → adding added (insert_row row rows) ≡ insert_row row (adding added rows)
+adding-insert [] rows row above = refl
+adding-insert (other ∷ added) rows row above =
+    ap (insert_row other) (adding-insert added rows row above.1) ∙ sym (insert_two row other (adding added rows) above.0)
+
+-- rows whose keys no other has are added
+pub put_rows-new : (added rows : List PlainRow) → IsRising (keys added) → AllByRecursion (λ key. is_among key (keys rows) ≡ false) (keys added) → put_rows added rows ≡ adding added rows
+put_rows-new [] rows rising free = refl
+put_rows-new (row ∷ added) rows rising free =
+    put_rows-new added (put_row row rows) rising.1
+    (every_both (λ key. row.key < key) (λ key. is_among key (keys rows) ≡ false) (λ key. is_among key (keys (put_row row rows)) ≡ false) (keys added)
+    (λ key above absent. among-put_row key row rows ∙ or_from (row.key == key) (is_among key (keys rows)) (ne_eqb row.key key (λ same. omega arith)) absent) rising.0 free.1)
+    ∙ ap (adding added) (put_new row rows free.0)
+    ∙ adding-insert added rows row rising.0
+
+-- a row whose key another has stands in place of it
+not_found : (key : ℕ) (rows : List PlainRow) → AllByRecursion (λ other. key < other) (keys rows) → row_at key rows ≡ None
+not_found key [] above = refl
+not_found key (row ∷ rows) above = ap (λ b. cond b (Some row) (row_at key rows)) (ne_eqb row.key key (λ same. omega (arith, above.0))) ∙ not_found key rows above.1
+
+abbrev replaced : PlainRow → PlainRow → PlainRow
+replaced row other = unwrap_or (cond (row.key == other.key) (Some row) None) other
+
+put_known : (row : PlainRow) (rows : List PlainRow) → IsRising (keys rows) → is_among row.key (keys rows) ≡ true → put_row row rows ≡ modifying (row ∷ []) rows
+put_known row [] rising here = absurd (true≢false (sym here))
+put_known row (other ∷ others) rising here =
+    elim (cases_lt other.key row.key) [
+      | inl less ↦
+          let differs : (other.key == row.key) ≡ false = ne_eqb other.key row.key (λ same. omega arith) in
+          ap (λ b. cond b (other ∷ put_row row others) (cond (other.key == row.key) (row ∷ others) (row ∷ other ∷ others))) (lt-ltb other.key row.key less)
+          ∙ ap₂ (λ (first : PlainRow) (rest : List PlainRow). first ∷ rest)
+          (sym (ap (λ b. unwrap_or (cond b (Some row) None) other) (ne_eqb row.key other.key (λ same. omega arith))))
+          (put_known row others rising.1 (sym (ap (λ b. b || is_among row.key (keys others)) differs) ∙ here))
+      | inr more ↦ at (other.key == row.key) refl (omega arith)
+    ]
+  where
+    at : (b : Bool) → (other.key == row.key) ≡ b → row.key ≤ other.key → put_row row (other ∷ others) ≡ modifying (row ∷ []) (other ∷ others)
+    at true e most =
+        let same = eqb-true other.key row.key e in
+        ap (λ b. cond b (other ∷ put_row row others) (cond (other.key == row.key) (row ∷ others) (row ∷ other ∷ others))) (not_ltb other.key row.key most)
+        ∙ ap (λ b. cond b (row ∷ others) (row ∷ other ∷ others)) e
+        ∙ ap₂ (λ (first : PlainRow) (rest : List PlainRow). first ∷ rest)
+        (sym (ap (λ b. unwrap_or (cond b (Some row) None) other) (eq-eqb row.key other.key (sym same))))
+        (sym (map_own (replaced row) others
+        (every_weaker (λ (next : PlainRow). other.key < next.key) (λ next. replaced row next ≡ next) others
+        (λ next above. ap (λ b. unwrap_or (cond b (Some row) None) next) (ne_eqb row.key next.key (λ equal. omega (arith, same, equal, above))))
+        (every_unmapped (λ k. other.key < k) (λ (next : PlainRow). next.key) others rising.0))))
+    at false e most =
+        let differs = eqb-false other.key row.key e in
+        let less : row.key < other.key = omega (arith, differs) in
+        absurd (true≢false
+        (sym here ∙ or_from (other.key == row.key) (is_among row.key (keys others)) e
+        (among_below row.key (keys others) (every_weaker (λ k. other.key < k) (λ k. row.key < k) (keys others) (λ k above. omega (arith, above, less)) rising.0))))
+
+pub keys-modifying : (modified rows : List PlainRow) → keys (modifying modified rows) ≡ keys rows
+keys-modifying modified rows =
+    map_map (λ (row : PlainRow). row.key) (λ (row : PlainRow). unwrap_or (row_at row.key modified) row) rows
+    ∙ map_same (λ (row : PlainRow). (unwrap_or (row_at row.key modified) row).key) (λ (row : PlainRow). row.key) rows
+    (every (λ (row : PlainRow). (unwrap_or (row_at row.key modified) row).key ≡ row.key) rows (λ row. key-row_at row.key modified row refl))
+
+modifying-modifying : (row : PlainRow) (modified rows : List PlainRow) → row_at row.key modified ≡ None → modifying modified (modifying (row ∷ []) rows) ≡ modifying (row ∷ modified) rows
+modifying-modifying row modified rows once =
+    map_map (λ (other : PlainRow). unwrap_or (row_at other.key modified) other) (replaced row) rows
+    ∙ map_same (λ (other : PlainRow). unwrap_or (row_at (replaced row other).key modified) (replaced row other)) (λ (other : PlainRow). unwrap_or (row_at other.key (row ∷ modified)) other) rows
+    (every (λ (other : PlainRow). unwrap_or (row_at (replaced row other).key modified) (replaced row other) ≡ unwrap_or (row_at other.key (row ∷ modified)) other) rows
+    (λ other. elim (row.key == other.key) as (λ b. unwrap_or (row_at (unwrap_or (cond b (Some row) None) other).key modified) (unwrap_or (cond b (Some row) None) other) ≡ unwrap_or (cond b (Some row) (row_at other.key modified)) other) [
+      | true ↦ ap (λ o. unwrap_or o row) once
+      | false ↦ refl
+    ]))
+
+-- rows whose keys others have are modified
+pub put_rows-known : (modified rows : List PlainRow) → IsRising (keys modified) → IsRising (keys rows) → AllByRecursion (λ key. is_among key (keys rows) ≡ true) (keys modified) → put_rows modified rows ≡ modifying modified rows
+put_rows-known [] rows rising rows_rise there = sym (map_own (λ row. row) rows (every (λ (row : PlainRow). row ≡ row) rows (λ row. refl)))
+put_rows-known (row ∷ modified) rows rising rows_rise there =
+    ap (put_rows modified) (put_known row rows rows_rise there.0)
+    ∙ put_rows-known modified (modifying (row ∷ []) rows) rising.1 (subst IsRising (sym (keys-modifying (row ∷ []) rows)) rows_rise)
+    (subst (λ ks. AllByRecursion (λ key. is_among key ks ≡ true) (keys modified)) (sym (keys-modifying (row ∷ []) rows)) there.1)
+    ∙ modifying-modifying row modified rows (not_found row.key modified rising.0)
 
 -- rows whose cells stand one after the other
 pub keys-rows_under : (width : ℕ) (ks : List ℕ) (cells : List ℤ) → keys (rows_under width ks cells) ≡ ks

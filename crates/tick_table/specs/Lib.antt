@@ -1,4 +1,5 @@
-pub mod Columns
 pub mod Exact
 pub mod Kept
+pub mod SlotRows
+pub mod Slots
 pub mod Ticking

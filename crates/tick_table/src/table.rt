@@ -1,24 +1,21 @@
 //! The table itself: what it is made of, what it answers and how a change is applied.
 
 ghost use Rattle.std.specs.Prelude.{◌++◌, ◌≡◌, ◌+◌, ◌*◌, ◌^◌, ◌<◌, ◌≤◌, IsTrue, None, length, IfOk, OnOk};
-ghost use Rattle.std.specs.List.{AllByRecursion};
-ghost use Rattle.column_source.specs.Entries.{keys_of};
 ghost use Rattle.row_set.specs.Sets.{IsKeySet};
-ghost use Rattle.shift_data.specs.Moves.{IsLawful};
 ghost use Rattle.tick_laws.specs.Checked.{keys_after};
-ghost use Rattle.tick_table.specs.Columns.{stepped_columns};
-ghost use Rattle.key_lists.specs.Keys.{is_among, without};
+ghost use Rattle.key_lists.specs.Keys.{is_among};
 ghost use Rattle.tick_model.specs.Changes.{change_of, changed, rows_under, told_keys};
 ghost use Rattle.tick_model.specs.Rules.{update_fault};
 ghost use Rattle.tick_model.specs.Tables.{IsTable, cell as cell_of, cells_at, keys};
 ghost use Rattle.tick_model.specs.Updates.{IsTick, Tick};
 ghost use Rattle.tick_table.specs.Exact.{ticking};
+ghost use Rattle.tick_table.specs.SlotRows.{stepped};
 ghost use Rattle.tick_table.specs.Ticking.{fresh};
 
 use crate::change::Change;
-use crate::columns::{bring_on, copied};
+use crate::slot_rows::SlotRows;
+use crate::stepping::bring_on;
 use crate::steps::Steps;
-use column_source::Column;
 use row_set::RowSet;
 use std::alloc::{AllocError, Global};
 use std::marker::Model;
@@ -37,27 +34,25 @@ pub struct TickTable {
     rows: RowSet,
     /// The keys of the rows before the step.
     prev_rows: RowSet,
-    /// The cells of now and of before the step, column by column.
-    columns: Vec<Column>,
+    /// The rows of now and of before the step.
+    slot_rows: SlotRows,
     /// How the rows of before became those of now.
     update: Update,
 }
 
 impl Model for TickTable {
-    ghost use Rattle.std.specs.Prelude.{length, map};
-    ghost use Rattle.tick_table.specs.Columns.{rows_in};
-    ghost use Rattle.tick_table.specs.Kept.{IsKept};
+    ghost use Rattle.tick_table.specs.Kept.{IsKept, table_before, table_now};
     ghost use Rattle.tick_table.specs.Ticking.{Ticking};
 
     ghost Value = { Ticking };
 
     ghost view = { λ table. record {
-      old = record { width = length table.columns.items; rows = rows_in table.prev_rows (map (λ column. column.before) table.columns.items) };
-      new = record { width = length table.columns.items; rows = rows_in table.rows (map (λ column. column.now) table.columns.items) };
+      old = table_before table.slot_rows;
+      new = table_now table.slot_rows;
       update = table.update;
     } };
 
-    ghost invariant = { λ table. IsKept table.rows table.prev_rows table.columns.items table.update };
+    ghost invariant = { λ table. IsKept table.rows table.prev_rows table.slot_rows table.update };
 }
 
 impl TickTable {
@@ -67,14 +62,10 @@ impl TickTable {
         requires few { width ≤ 32 }
         ensures { IfOk result (λ table. table ≡ fresh width) }
     {
-        let mut columns = Vec::with_capacity(alloc, width as usize)?;
-        for _ in 0..width {
-            columns.push(Column::new(alloc))?;
-        }
         Ok(TickTable {
             rows: RowSet::new(alloc),
             prev_rows: RowSet::new(alloc),
-            columns,
+            slot_rows: SlotRows::new(alloc, width as usize),
             update: Update::none(alloc),
         })
     }
@@ -86,7 +77,7 @@ impl TickTable {
         ensures some { 1 ≤ result }
         ensures few { result ≤ 32 }
     {
-        self.columns.len() as u32
+        self.slot_rows.width() as u32
     }
 
     /// The keys of the rows now.
@@ -120,7 +111,7 @@ impl TickTable {
         ensures read { reads.new ≡ reads.old + 1 }
     {
         reads.tick();
-        self.columns[column as usize].get(key)
+        self.slot_rows.row(key)[column as usize]
     }
 
     /// The cell that a row had before the step. It is one read.
@@ -131,7 +122,7 @@ impl TickTable {
         ensures read { reads.new ≡ reads.old + 1 }
     {
         reads.tick();
-        self.columns[column as usize].get_prev(key)
+        self.slot_rows.prev_row(key)[column as usize]
     }
 
     /// Puts the cells of a row now behind others. Each is one read.
@@ -146,10 +137,9 @@ impl TickTable {
         ensures whole { length (cells_at key self.now.new.rows) ≡ self.now.new.width }
         ensures reads { OnOk result (reads.new ≡ reads.old + self.now.new.width) }
     {
-        let _rows = self.rows();
-        for column in 0..self.width() {
-            cells.push(self.cell(column, key, reads))?;
-        }
+        let row = self.slot_rows.row(key);
+        cells.extend_from_slice(row)?;
+        read_all(row, reads);
         Ok(())
     }
 
@@ -165,10 +155,9 @@ impl TickTable {
         ensures whole { length (cells_at key self.now.old.rows) ≡ self.now.old.width }
         ensures reads { OnOk result (reads.new ≡ reads.old + self.now.old.width) }
     {
-        let _rows = self.prev_rows();
-        for column in 0..self.width() {
-            cells.push(self.prev_cell(column, key, reads))?;
-        }
+        let row = self.slot_rows.prev_row(key);
+        cells.extend_from_slice(row)?;
+        read_all(row, reads);
         Ok(())
     }
 
@@ -179,7 +168,7 @@ impl TickTable {
         Ok(TickTable {
             rows: self.rows.copy()?,
             prev_rows: self.prev_rows.copy()?,
-            columns: copied(&self.columns)?,
+            slot_rows: self.slot_rows.copy()?,
             update: self.update.copy()?,
         })
     }
@@ -198,7 +187,7 @@ impl TickTable {
         let TickTable {
             mut rows,
             mut prev_rows,
-            mut columns,
+            mut slot_rows,
             update: last,
         } = self;
         let Change { update, cells } = change;
@@ -206,7 +195,7 @@ impl TickTable {
         bring_all_on(
             &mut rows,
             &mut prev_rows,
-            &mut columns,
+            &mut slot_rows,
             &last,
             &update,
             cells,
@@ -214,28 +203,39 @@ impl TickTable {
         Ok(TickTable {
             rows,
             prev_rows,
-            columns,
+            slot_rows,
             update,
         })
     }
 }
 
-/// Brings the keys from before the step on by the last update, and the keys of now and the columns by the next one.
+/// Each cell of a row is one read.
+fn read_all<L: Ledger>(row: &[i64], reads: &mut Steps<L>)
+    ensures { reads.new ≡ reads.old + length row.now }
+{
+    for _ in row {
+        reads.tick();
+    }
+}
+
+/// Brings the keys from before the step on by the last update, and the keys and the rows of now by the next one.
 fn bring_all_on(
     rows: &mut RowSet,
     prev_rows: &mut RowSet,
-    columns: &mut [Column],
+    slot_rows: &mut SlotRows,
     last: &Update,
     next: &Update,
     cells: &[i64],
 ) -> Result<(), AllocError>
     requires last { update_fault (2 ^ 62) prev_rows.old last.now ≡ None }
     requires next { update_fault (2 ^ 62) rows.old next.now ≡ None }
-    requires lawful { AllByRecursion (λ column. IsLawful next.now.shifted (without next.now.removed (keys_of column.now))) columns.old }
-    requires whole { length cells.now ≡ length (told_keys next.now) * length columns.old }
+    requires keys { rows.old ≡ keys slot_rows.old.now }
+    requires whole { length cells.now ≡ length (told_keys next.now) * slot_rows.old.width }
     ensures rows { OnOk result (rows.new ≡ keys_after rows.old next.now) }
     ensures prev_rows { OnOk result (prev_rows.new ≡ keys_after prev_rows.old last.now) }
-    ensures columns { OnOk result (columns.new ≡ stepped_columns 0 next.now (rows_under (length columns.old) (told_keys next.now) cells.now) columns.old) }
+    ensures width { OnOk result (slot_rows.new.width ≡ slot_rows.old.width) }
+    ensures now { OnOk result (slot_rows.new.now ≡ stepped next.now (rows_under slot_rows.old.width (told_keys next.now) cells.now) slot_rows.old.now) }
+    ensures before { OnOk result (slot_rows.new.before ≡ slot_rows.old.now) }
     ensures added { OnOk result (IsKeySet next.now.added) }
     ensures modified { OnOk result (IsKeySet next.now.modified) }
 {
@@ -243,5 +243,5 @@ fn bring_all_on(
     let _modified = next.modified();
     last.apply_to_keys(prev_rows)?;
     next.apply_to_keys(rows)?;
-    bring_on(columns, next, cells)
+    bring_on(slot_rows, next, cells)
 }

@@ -1,26 +1,29 @@
-use Rattle.std.proofs.Common.{ap, ◌∙◌, arith, ◌++◌, List, ℤ, w64, SFits, to_z-of_z, rules}
-use Rattle.std.proofs.lemmas.List.{take_all}
-use Rattle.tick_model.specs.Tables.{cells_at}
-use Rattle.tick_table.proofs.WholeRows.{row_whole, one_more}
+use Rattle.std.proofs.Common.{◌≡◌, sym, ap, ◌∙◌, ◌++◌, arith, length, List, ℤ}
+use Rattle.key_lists.specs.Keys.{is_among}
+use Rattle.tick_model.specs.Tables.{cells_at, keys}
+use Rattle.tick_table.specs.Ticking.{Ticking}
 use Rattle.tick_table.proofs.table.TickTable.prev_row.Goals as goal
 
-pub returns-in_err-push-clause-whole : goal.returns-in_err-push-clause-whole
-returns-in_err-push-clause-whole g c = row_whole c.args.key c.args.self.now.old c.prev_rows-rows.ensures.table c.requires.here
+pub prev_row-row-requires : goal.prev_row-row-requires
+prev_row-row-requires g c = ap (λ (table : Ticking). is_among c.args.key (keys table.old.rows)) c.self.view_is ∙ c.requires.here
 
-pub loop-column-preserved : goal.loop-column-preserved
-loop-column-preserved g c =
-    let row = cells_at c.args.key c.args.self.now.old.rows in
-    let whole = row_whole c.args.key c.args.self.now.old c.prev_rows-rows.ensures.table c.requires.here in
-    let fits : SFits w64 c.prev_cell.result = search rules in record {
-      cells = c.in_ok-push.ensures.items ∙ one_more c.args.cells.now.items row c.loop-column.cells.items _ c.loop-column.column (omega arith) c.loop-column.invariant.cells (to_z-of_z fits ∙ c.prev_cell.ensures.cell);
-      reads = omega arith;
-    }
+pub returns-in_err-extend_from_slice-clause-whole : goal.returns-in_err-extend_from_slice-clause-whole
+returns-in_err-extend_from_slice-clause-whole g c =
+    let own : c.prev_row-row.result.now ≡ cells_at c.args.key c.args.self.now.old.rows = c.prev_row-row.ensures.cells ∙ ap (λ (table : Ticking). cells_at c.args.key table.old.rows) c.self.view_is in
+    sym (ap length own) ∙ c.prev_row-row.ensures.whole ∙ ap (λ (table : Ticking). table.old.width) c.self.view_is
 
 pub returns-clause-cells : goal.returns-clause-cells
 returns-clause-cells g c =
-    let row = cells_at c.args.key c.args.self.now.old.rows in
-    let whole = row_whole c.args.key c.args.self.now.old c.prev_rows-rows.ensures.table c.requires.here in
-    c.loop-column.invariant.cells ∙ ap (λ (cells : List ℤ). c.args.cells.now.items ++ cells) (take_all c.loop-column.column row (omega arith))
+    let own : c.prev_row-row.result.now ≡ cells_at c.args.key c.args.self.now.old.rows = c.prev_row-row.ensures.cells ∙ ap (λ (table : Ticking). cells_at c.args.key table.old.rows) c.self.view_is in
+    let more : c.extend_from_slice.new.self.items ≡ c.args.cells.now.items ++ c.prev_row-row.result.now = c.in_ok-extend_from_slice.ensures.items in
+    more ∙ ap (λ (cells : List ℤ). c.args.cells.now.items ++ cells) own
 
 pub returns-clause-whole : goal.returns-clause-whole
-returns-clause-whole g c = row_whole c.args.key c.args.self.now.old c.prev_rows-rows.ensures.table c.requires.here
+returns-clause-whole g c =
+    let own : c.prev_row-row.result.now ≡ cells_at c.args.key c.args.self.now.old.rows = c.prev_row-row.ensures.cells ∙ ap (λ (table : Ticking). cells_at c.args.key table.old.rows) c.self.view_is in
+    sym (ap length own) ∙ c.prev_row-row.ensures.whole ∙ ap (λ (table : Ticking). table.old.width) c.self.view_is
+
+pub returns-clause-reads : goal.returns-clause-reads
+returns-clause-reads g c =
+    let wide : length c.prev_row-row.result.now ≡ c.args.self.now.old.width = c.prev_row-row.ensures.whole ∙ ap (λ (table : Ticking). table.old.width) c.self.view_is in
+    omega (arith, wide, c.read_all.ensures)

@@ -1,0 +1,150 @@
+-- The cells of slots: as the cells of one are written, and as a new one comes.
+use Rattle.std.proofs.Common.{◌≡◌, refl, ap, ap₂, sym, ◌∙◌, subst, ℕ, ◌+◌, ◌*◌, ◌<◌, ◌≤◌, arith, List, [], ◌∷◌, ◌++◌, length, take, drop, get_or, set, ℤ, pos, negsuc, inl, inr, length-append, length-drop}
+use Rattle.std.specs.List.{range_with_len}
+use Rattle.std.proofs.Math.Nat.{add-mul}
+use Rattle.std.proofs.lemmas.Bool.{cases_lt}
+use Rattle.std.proofs.lemmas.Int.{ints}
+use Rattle.std.proofs.lemmas.Nat.{row_fits}
+use Rattle.std.proofs.lemmas.List.{drop-take, drop_at, take_at, take_all, take-append-le, length-map, length-set, length-take-le, get_or-set_same, get_or-set_other, get_or_append_left, get_or_push, length_push, same_lists}
+use Rattle.std.proofs.lemmas.List.FromFn.{length-range_with_len, get_or-map-range_with_len}
+use Rattle.std.proofs.lemmas.Slice.{take-put_mid_below, drop-put_mid}
+use borrow.Rule.Slice.PartMut.{put_mid}
+use Rattle.tick_model.specs.Shifts.{as_key}
+use Rattle.tick_table.specs.Slots.{IsFilled, IsSlot, SlotCells, slot_cells, slot_list}
+
+-- the number of a slot as a place
+pub slot_below : (count : ℕ) (slot : ℤ) → IsSlot count slot → as_key slot < count
+slot_below count (pos n) h = let few = h.few in omega (arith, ints, few)
+slot_below count (negsuc n) h = let some = h.some in absurd (omega (arith, ints, some))
+
+pub slot_place : (count : ℕ) (slot : ℤ) → IsSlot count slot → pos (as_key slot) ≡ slot
+slot_place count (pos n) h = refl
+slot_place count (negsuc n) h = let some = h.some in absurd (omega (arith, ints, some))
+
+pub wider : (count more : ℕ) (slot : ℤ) → count ≤ more → IsSlot count slot → IsSlot more slot
+wider count more slot most h = record { some = h.some; few = let few = h.few in omega (arith, ints, few, most) }
+
+pub last_slot : (count : ℕ) → IsSlot (count + 1) (pos count)
+last_slot count = record { some = omega (arith, ints); few = omega (arith, ints) }
+
+-- a slot ends where the next begins or before
+pub slot_fits : (slot count width : ℕ) → slot < count → slot * width + width ≤ count * width
+slot_fits slot count width h = row_fits slot width count width h (omega arith)
+
+pub length-slot_list : (width count : ℕ) (cells : List ℤ) → length (slot_list width count cells) ≡ count
+length-slot_list width count cells = length-map (range_with_len 0 count) (slot_cells width cells) ∙ length-range_with_len 0 count
+
+pub at-slot_list : (width count : ℕ) (cells : List ℤ) (slot : ℕ) (d : List ℤ) → slot < count → get_or (slot_list width count cells) slot d ≡ slot_cells width cells slot
+at-slot_list width count cells slot d h = get_or-map-range_with_len (slot_cells width cells) 0 count slot slot d h (omega arith)
+
+pub length-slot_cells : (width count : ℕ) (cells : List ℤ) (slot : ℕ) → length cells ≡ count * width → slot < count → length (slot_cells width cells slot) ≡ width
+length-slot_cells width count cells slot whole h =
+    let fits = slot_fits slot count width h in
+    length-take-le width (drop (slot * width) cells) (omega (arith, length-drop (slot * width) cells, fits, whole))
+
+-- the place at which the cells of a slot begin
+pub placed : (width count : ℕ) (cells : List ℤ) (view : SlotCells) (slot : ℤ) (index : ℕ) → length cells ≡ count * width → slot_list width count cells ≡ view.rows → IsSlot (length view.rows) slot → pos index ≡ slot
+    → (index ≡ as_key slot) × ((index < count) × (index * width + width ≤ length cells))
+placed width count cells view slot index whole shown own is =
+    let same : index ≡ as_key slot = ap as_key is in
+    let below : as_key slot < count = omega (arith, slot_below (length view.rows) slot own, ap length shown, length-slot_list width count cells) in
+    let less : index < count = omega (arith, same, below) in
+    (same, (less, omega (arith, slot_fits index count width less, whole)))
+
+-- the cells of a slot are written
+module _ (width count : ℕ) (cells row : List ℤ) (slot : ℕ) (whole : length cells ≡ count * width) (fits : length row ≡ width) (h : slot < count) where
+  abbrev written : List ℤ
+  written = put_mid (slot * width) width cells row
+
+  inside : slot * width + width ≤ length cells
+  inside = let own = slot_fits slot count width h in omega (arith, own, whole)
+
+  here : slot_cells width written slot ≡ row
+  here =
+      ap (take width) (drop_at (take (slot * width) cells) _ (slot * width) (length-take-le (slot * width) cells (omega (arith, inside))))
+      ∙ take_at row _ width fits
+
+  before : (other : ℕ) → other < slot → slot_cells width written other ≡ slot_cells width cells other
+  before other less =
+      let ends = slot_fits other slot width less in
+      sym (drop-take (other * width) width written)
+      ∙ ap (drop (other * width)) (take-put_mid_below (slot * width) width cells row (other * width + width) ends (omega (arith, inside)))
+      ∙ drop-take (other * width) width cells
+
+  after : (other : ℕ) → slot < other → slot_cells width written other ≡ slot_cells width cells other
+  after other more =
+      let begins = slot_fits slot other width more in
+      ap (take width) (drop-put_mid (slot * width) width cells row (other * width) begins (omega (arith, inside)) fits)
+
+  pub slot_list-set : slot_list width count written ≡ set (slot_list width count cells) slot row
+  slot_list-set =
+      same_lists (slot_list width count written) (set (slot_list width count cells) slot row)
+      (length-slot_list width count written ∙ sym (length-set (slot_list width count cells) slot row ∙ length-slot_list width count cells))
+      (λ k d less.
+      let below : k < count = omega (arith, less, length-slot_list width count written) in
+      at-slot_list width count written k d below
+      ∙ (elim (cases_lt k slot) [
+        | inl first ↦ before k first ∙ sym (get_or-set_other (slot_list width count cells) slot k row d (λ same. omega (arith, first, same)) ∙ at-slot_list width count cells k d below)
+        | inr not_first ↦ elim (cases_lt slot k) [
+          | inl later ↦ after k later ∙ sym (get_or-set_other (slot_list width count cells) slot k row d (λ same. omega (arith, later, same)) ∙ at-slot_list width count cells k d below)
+          | inr not_later ↦
+              let same : k ≡ slot = omega arith in
+              ap (slot_cells width written) same ∙ here ∙ sym (ap (λ n. get_or (set (slot_list width count cells) slot row) n d) same ∙ get_or-set_same (slot_list width count cells) slot row d (omega (arith, h, length-slot_list width count cells)))
+        ]
+      ]))
+
+  pub length-written : length written ≡ length cells
+  length-written =
+      length-append (take (slot * width) cells) _
+      ∙ omega (arith, length-take-le (slot * width) cells (omega (arith, inside)), length-append row (drop width (drop (slot * width) cells)), length-drop width (drop (slot * width) cells), length-drop (slot * width) cells, fits, inside)
+
+-- a new slot comes behind the others
+module _ (width count : ℕ) (cells row : List ℤ) (whole : length cells ≡ count * width) (fits : length row ≡ width) where
+  pub slot_list-open : slot_list width (count + 1) (cells ++ row) ≡ slot_list width count cells ++ row ∷ []
+  slot_list-open =
+      same_lists (slot_list width (count + 1) (cells ++ row)) (slot_list width count cells ++ row ∷ [])
+      (length-slot_list width (count + 1) (cells ++ row) ∙ sym (length_push (slot_list width count cells) row ∙ ap (λ n. n + 1) (length-slot_list width count cells)))
+      (λ k d less.
+      let below : k < count + 1 = omega (arith, less, length-slot_list width (count + 1) (cells ++ row)) in
+      at-slot_list width (count + 1) (cells ++ row) k d below
+      ∙ (elim (cases_lt k count) [
+        | inl first ↦
+            let ends = slot_fits k count width first in
+            sym (drop-take (k * width) width (cells ++ row))
+            ∙ ap (drop (k * width)) (take-append-le (k * width + width) cells row (omega (arith, ends, whole)))
+            ∙ drop-take (k * width) width cells
+            ∙ sym (get_or_append_left (slot_list width count cells) (row ∷ []) d k (omega (arith, first, length-slot_list width count cells)) ∙ at-slot_list width count cells k d first)
+        | inr last ↦
+            let same : k ≡ count = omega arith in
+            ap (slot_cells width (cells ++ row)) same
+            ∙ ap (take width) (drop_at cells row (count * width) whole)
+            ∙ take_all width row (omega (arith, fits))
+            ∙ sym (get_or_push (slot_list width count cells) row d k (length-slot_list width count cells ∙ sym same))
+      ]))
+
+  pub length-opened : length (cells ++ row) ≡ (count + 1) * width
+  length-opened = length-append cells row ∙ omega (arith, whole, fits, add-mul count 1 width)
+
+-- a row was put into a slot that was free, or into a new one
+pub filled_over : (row : List ℤ) (old new : SlotCells) (slot : ℤ) → new.width ≡ old.width → new.rows ≡ set old.rows (as_key slot) row → old.free ≡ new.free ++ slot ∷ [] → IsSlot (length old.rows) slot → IsFilled row old new slot
+filled_over row old new slot w rows free own =
+    let same : length new.rows ≡ length old.rows = ap length rows ∙ length-set old.rows (as_key slot) row in record {
+      width = w;
+      more = omega (arith, same);
+      inside = subst (λ n. IsSlot n slot) (sym same) own;
+      here = ap (λ (rows : List (List ℤ)). get_or rows (as_key slot) []) rows ∙ get_or-set_same old.rows (as_key slot) row [] (slot_below (length old.rows) slot own);
+      others = λ other below apart. ap (λ (rows : List (List ℤ)). get_or rows other []) rows ∙ get_or-set_other old.rows (as_key slot) other row [] apart;
+      source = inl free;
+    }
+
+pub filled_new : (row : List ℤ) (old new : SlotCells) (slot : ℤ) → new.width ≡ old.width → new.rows ≡ old.rows ++ row ∷ [] → new.free ≡ old.free → slot ≡ pos (length old.rows) → IsFilled row old new slot
+filled_new row old new slot w rows free last =
+    let same : length new.rows ≡ length old.rows + 1 = ap length rows ∙ length_push old.rows row in
+    let place : as_key slot ≡ length old.rows = ap as_key last in record {
+      width = w;
+      more = omega (arith, same);
+      inside = subst (λ n. IsSlot n slot) (sym same) (subst (IsSlot (length old.rows + 1)) (sym last) (last_slot (length old.rows)));
+      here = ap₂ (λ (rows : List (List ℤ)) (n : ℕ). get_or rows n []) rows place ∙ get_or_push old.rows row [] (length old.rows) refl;
+      others = λ other below apart. ap (λ (rows : List (List ℤ)). get_or rows other []) rows ∙ get_or_append_left old.rows (row ∷ []) [] other below;
+      source = inr (free, last);
+    }

@@ -1,0 +1,33 @@
+use Rattle.std.proofs.Common.{ap, sym, ◌∙◌, subst, get_or, length, [], ℤ, SFits, w64, rules, to_z-of_z}
+use Rattle.key_lists.specs.Keys.{is_among}
+use Rattle.tick_model.specs.Shifts.{as_key}
+use Rattle.tick_model.specs.Tables.{cells_at, keys}
+use Rattle.tick_table.specs.Slots.{IsSlot}
+use Rattle.tick_table.specs.SlotRows.{Versions}
+use Rattle.tick_table.proofs.Keeping.{cells-slot_rows, keys-slot_rows, slot_under}
+use Rattle.tick_table.proofs.TableColumns.{cell_there}
+use Rattle.tick_table.proofs.slot_rows.SlotRows.prev_row.Goals as goal
+
+pub get_prev-requires : goal.get_prev-requires
+get_prev-requires c =
+    let s = c.self.inside in
+    cell_there c.args.key s.numbers.before
+    (ap (is_among c.args.key) (sym (keys-slot_rows s.slots.rows s.numbers.before)) ∙ ap (λ (versions : Versions). is_among c.args.key (keys versions.before)) c.self.view_is ∙ c.requires)
+
+pub row-requires : goal.row-requires
+row-requires c =
+    let s = c.self.inside in
+    let fits : SFits w64 c.get_prev.result = search rules in
+    subst (IsSlot (length s.slots.rows)) (sym (to_z-of_z fits)) (slot_under (length s.slots.rows) c.args.key c.get_prev.result s.numbers.before c.self.invariant.before_slots c.get_prev.ensures.cell)
+
+pub returns-clause-cells : goal.returns-clause-cells
+returns-clause-cells c =
+    let s = c.self.inside in
+    let fits : SFits w64 c.get_prev.result = search rules in
+    c.row.ensures.cells
+    ∙ ap (λ (slot : ℤ). get_or s.slots.rows (as_key slot) []) (to_z-of_z fits)
+    ∙ sym (cells-slot_rows s.slots.rows c.args.key c.get_prev.result s.numbers.before c.get_prev.ensures.cell)
+    ∙ ap (λ (versions : Versions). cells_at c.args.key versions.before) c.self.view_is
+
+pub returns-clause-whole : goal.returns-clause-whole
+returns-clause-whole c = c.row.ensures.whole ∙ ap (λ (versions : Versions). versions.width) c.self.view_is
