@@ -1,9 +1,9 @@
 pub mod Parts
+pub mod Ends
 pub mod Order
 pub mod Ranks
 pub mod Listed
 pub mod Tables
 pub mod Keys
 pub mod Groupings
-pub mod Alone
 pub mod Indexed

@@ -104,6 +104,38 @@ fn insert_first(chunks: &mut Vec<Vec<Slot>>, slot: Slot) -> Result<(), AllocErro
     Ok(())
 }
 
+/// Begins a chunk with a row behind all others.
+fn push_chunk(chunks: &mut Vec<Vec<Slot>>, slot: Slot) -> Result<(), AllocError>
+    requires filled { AreFilled chunks.old.items }
+    ensures ok { OnOk result (joined chunks.new.items ≡ joined chunks.old.items ++ slot ∷ []) }
+    ensures err { OnErr result (joined chunks.new.items ≡ joined chunks.old.items) }
+    ensures filled { AreFilled chunks.new.items }
+{
+    let mut rows = Vec::new(*chunks.allocator());
+    rows.push(slot)?;
+    chunks.push(rows)?;
+    Ok(())
+}
+
+/// Puts a row in behind all others: into the last chunk, or into a new one where that is full.
+pub(crate) fn push_row(chunks: &mut Vec<Vec<Slot>>, slot: Slot) -> Result<(), AllocError>
+    requires filled { AreFilled chunks.old.items }
+    ensures ok { OnOk result (joined chunks.new.items ≡ joined chunks.old.items ++ slot ∷ []) }
+    ensures err { OnErr result (joined chunks.new.items ≡ joined chunks.old.items) }
+    ensures filled { AreFilled chunks.new.items }
+{
+    let count = chunks.len();
+    if count == 0 {
+        return push_chunk(chunks, slot);
+    }
+    let last = count - 1;
+    if chunks[last].len() >= CHUNK_LEN {
+        return push_chunk(chunks, slot);
+    }
+    chunks[last].push(slot)?;
+    Ok(())
+}
+
 /// Puts a row in at a place of a chunk. It begins a new chunk, into which the rows behind it go too.
 fn insert_chunk(chunks: &mut Vec<Vec<Slot>>, spot: Spot, slot: Slot) -> Result<(), AllocError>
     requires filled { AreFilled chunks.old.items }

@@ -19,19 +19,6 @@ pub(crate) struct Index {
     pub(crate) handles: Handles,
     pub(crate) table: Table,
     pub(crate) lists: Lists,
-    /// The key of a row that comes, under which it leaves again where memory runs out. The set is kept to be used again.
-    lone: RowSet,
-}
-
-/// Leaves one key in the set, and no other.
-fn keep_alone(keys: &mut RowSet, key: u64) -> Result<(), AllocError>
-    requires { key < 2 ^ 62 }
-    ensures { OnOk result (keys.new ≡ key ∷ []) }
-{
-    if let Some(last) = keys.last() {
-        keys.remove_range(0, last)?;
-    }
-    keys.insert_range(key, key)
 }
 
 impl Index {
@@ -46,7 +33,6 @@ impl Index {
             handles: Handles::new(alloc),
             table: Table::new(alloc, width),
             lists: Lists::new(alloc),
-            lone: RowSet::new(alloc),
         }
     }
 
@@ -61,7 +47,6 @@ impl Index {
         ensures others { rows_of self.new.table (left_rows (key ∷ []) self.new.handles) ≡ rows_of self.old.table (left_rows (key ∷ []) self.old.handles) }
         ensures handles { self.new.handles ≡ self.old.handles }
         ensures width { self.new.table.width ≡ self.old.table.width }
-        ensures lone { self.new.lone ≡ self.old.lone }
     {
         self.table.keep(handle, cells, at)?;
         let place = Place {
@@ -82,10 +67,9 @@ impl Index {
         ensures ok { OnOk result (grouped_of self.new ≡ record (grouped_of self.old) { members = with_member (member_of key cells.now at) (grouped_of self.old).members }) }
         ensures err { OnErr result (grouped_of self.new ≡ grouped_of self.old) }
     {
-        keep_alone(&mut self.lone, key)?;
         let handle = self.handles.add(key)?;
         if let Err(refusal) = self.enter(handle, key, cells, at) {
-            self.handles.remove(&self.lone);
+            self.handles.remove_one(key);
             return Err(refusal);
         }
         Ok(())

@@ -3,7 +3,9 @@ ghost use Rattle.std.specs.Prelude.{◌≡◌, ◌+◌, ◌-◌, ◌<◌, ◌≤
 ghost use Rattle.std.specs.List.{AllByRecursion};
 ghost use Rattle.row_groups.specs.Slots.{AreKnown, is_before, IsParted};
 
-use crate::chunks::{begun_before, count_rows, insert_row, remove_row, rows_before, spot_of};
+use crate::chunks::{
+    begun_before, count_rows, insert_row, push_row, remove_row, rows_before, spot_of,
+};
 use crate::place::{Place, Slot};
 use std::alloc::{AllocError, Global};
 use std::marker::Model;
@@ -77,7 +79,7 @@ impl Sequence {
     }
 
     /// How many rows stand before a place: two binary searches, and the rows of the chunks before it are counted.
-    pub(crate) fn count_before(&self, place: &Place<'_>) -> usize
+    fn search(&self, place: &Place<'_>) -> usize
         requires known { AreKnown place.now.handles.now self.now }
         requires parted { IsParted (is_before place.now.handles.now place.now.at place.now.key) self.now }
         ensures within { result ≤ length self.now }
@@ -92,12 +94,47 @@ impl Sequence {
         count_rows(&self.chunks[..index]) + rows_before(&self.chunks[index], place)
     }
 
+    /// How many rows stand before a place. Where that is all of them or none, a look at the last row or the first shows it.
+    pub(crate) fn count_before(&self, place: &Place<'_>) -> usize
+        requires known { AreKnown place.now.handles.now self.now }
+        requires parted { IsParted (is_before place.now.handles.now place.now.at place.now.key) self.now }
+        ensures within { result ≤ length self.now }
+        ensures before { AllByRecursion (λ slot. is_before place.now.handles.now place.now.at place.now.key slot ≡ true) (take result self.now) }
+        ensures others { AllByRecursion (λ slot. is_before place.now.handles.now place.now.at place.now.key slot ≡ false) (drop result self.now) }
+    {
+        if let Some(last) = self.last() {
+            if place.is_after(last) {
+                return self.len;
+            }
+        }
+        if let Some(first) = self.first() {
+            if !place.is_after(first) {
+                return 0;
+            }
+        }
+        self.search(place)
+    }
+
+    /// Puts a row in behind all others, at a cost that does not grow with them. After a refusal all is as it was.
+    pub(crate) fn push(&mut self, slot: Slot) -> Result<(), AllocError>
+        ensures ok { OnOk result (self.new ≡ self.old ++ slot ∷ []) }
+        ensures err { OnErr result (self.new ≡ self.old) }
+    {
+        let len = self.len.checked_add(1).ok_or(AllocError)?;
+        push_row(&mut self.chunks, slot)?;
+        self.len = len;
+        Ok(())
+    }
+
     /// Puts a row in at a position. After a refusal all is as it was.
     pub(crate) fn insert(&mut self, position: usize, slot: Slot) -> Result<(), AllocError>
         requires { position ≤ length self.old }
         ensures ok { OnOk result (self.new ≡ take position self.old ++ slot ∷ drop position self.old) }
         ensures err { OnErr result (self.new ≡ self.old) }
     {
+        if position == self.len {
+            return self.push(slot);
+        }
         let len = self.len.checked_add(1).ok_or(AllocError)?;
         insert_row(&mut self.chunks, position, slot)?;
         self.len = len;

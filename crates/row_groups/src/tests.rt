@@ -1,5 +1,7 @@
 //! Each call once with ample memory.
 use crate::Groups;
+use crate::place::Slot;
+use crate::sequence::Sequence;
 use row_set::RowSet;
 use shift_data::ShiftData;
 use std::test::Fail;
@@ -17,6 +19,33 @@ fn rows_come_and_leave(rt: HostRuntime) -> Result<(), Fail> {
     groups.remove(&gone);
     assert_eq!(rt; groups.group(&[5]).first_key(), Some(3));
     assert!(rt; groups.group(&[6]).is_empty());
+    Ok(())
+}
+
+/// A row comes behind the other of its group, which leaves as the oldest.
+#[test]
+fn the_oldest_row_leaves(rt: HostRuntime) -> Result<(), Fail> {
+    let mut groups = Groups::new(rt.alloc(), 1);
+    groups.add(0, &[5], 10)?;
+    groups.add(1, &[5], 20)?;
+    assert_eq!(rt; groups.group(&[5]).count_at_most(20), 2);
+    let mut gone = RowSet::new(rt.alloc());
+    gone.insert_range(0, 0)?;
+    groups.remove(&gone);
+    assert_eq!(rt; groups.group(&[5]).first_key(), Some(1));
+    Ok(())
+}
+
+/// Rows that come behind one another fill a chunk and begin the next.
+#[test]
+fn rows_come_behind_one_another(rt: HostRuntime) -> Result<(), Fail> {
+    let mut rows = Sequence::new(rt.alloc());
+    for handle in 0..600 {
+        rows.push(Slot { at: 0, handle })?;
+    }
+    assert_eq!(rt; rows.len(), 600);
+    let last = rows.last();
+    assert_eq!(rt; last.map(|slot| slot.handle), Some(599));
     Ok(())
 }
 

@@ -6,7 +6,7 @@ ghost use Rattle.row_handles.specs.Entries.{Ascend, handle_under};
 use std::alloc::AllocError;
 
 /// At most this many rows are in one block.
-const BLOCK_LEN: usize = 512;
+const BLOCK_LEN: usize = 128;
 
 /// A row, by how far its key is below the ceiling of its block.
 #[derive(Clone, Copy)]

@@ -59,7 +59,7 @@ impl Index {
     }
 
     /// Leaves out the rows under the keys from first to last.
-    fn leave_rows(&mut self, first: u64, last: u64)
+    pub(crate) fn leave_rows(&mut self, first: u64, last: u64)
         requires sound { IsIndex self.old }
         requires order { first ≤ last }
         requires small { last < 2 ^ 62 }

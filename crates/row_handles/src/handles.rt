@@ -1,5 +1,5 @@
 //! The handles themselves.
-ghost use Rattle.std.specs.Prelude.{◌≡◌, ◌<◌, ◌^◌, [], None, Some, IsSome, IfOk, OnOk, OnErr};
+ghost use Rattle.std.specs.Prelude.{◌≡◌, ◌<◌, ◌^◌, ◌∷◌, [], None, Some, IsSome, IfOk, OnOk, OnErr};
 ghost use Rattle.tick_model.specs.Rules.{shift_fault};
 ghost use Rattle.row_handles.specs.Entries.{AreHandled, handle_under, key_with, keys_of, left_rows, moved_rows, with_row};
 
@@ -77,6 +77,14 @@ impl Handles {
         ensures { self.new ≡ left_rows keys.now self.old }
     {
         self.index.leave_ranges(keys.ranges());
+    }
+
+    /// Takes out the row under a key, if there is one. The others keep their handles. It takes no memory.
+    pub fn remove_one(&mut self, key: u64)
+        requires small { key < 2 ^ 62 }
+        ensures { self.new ≡ left_rows (key ∷ []) self.old }
+    {
+        self.index.leave_rows(key, key);
     }
 
     /// Moves the rows to the keys to which the shift leads them, where they rise again. Each keeps its handle. The cost is

@@ -12,7 +12,7 @@ use slab::Slab;
 use std::alloc::AllocError;
 
 /// Two blocks become one where they have no more rows than these together.
-const JOINED_LEN: usize = 256;
+const JOINED_LEN: usize = 64;
 
 /// Puts the rows into the block with this number.
 fn settle(places: &mut Slab<Place>, rows: &[Row], number: usize)

@@ -21,6 +21,20 @@ fn rows_come_and_leave(rt: HostRuntime) -> Result<(), Fail> {
     Ok(())
 }
 
+/// A row leaves by its key alone, and one that is not there may leave too.
+#[test]
+fn a_row_leaves(rt: HostRuntime) -> Result<(), Fail> {
+    let mut handles = Handles::new(rt.alloc());
+    let first = handles.add(3)?;
+    let second = handles.add(4)?;
+    handles.remove_one(3);
+    handles.remove_one(5);
+    assert_eq!(rt; handles.handle_of(3), None);
+    assert_eq!(rt; handles.handle_of(4), Some(second));
+    assert_eq!(rt; handles.add(5)?, first);
+    Ok(())
+}
+
 /// The oldest of two rows leaves, the other takes its key, and a row comes behind it.
 #[test]
 fn a_feed_drops_its_oldest_row(rt: HostRuntime) -> Result<(), Fail> {

@@ -16,16 +16,14 @@ enter-requires-clause-handle c = ap (handle_under c.args.key) c.in_ok-handle.ens
 
 pub returns-in-Err-clause-sound : goal.returns-in-Err-clause-sound
 returns-in-Err-clause-sound c =
-    index_left (c.args.key ∷ []) c.enter.new.self _ c.in-Err.ensures.err
-    (c.remove.ensures ∙ ap (λ keys. left_rows keys c.enter.new.self.handles) (c.enter.ensures.lone ∙ c.in_ok-keep_alone.ensures)) refl refl
+    index_left (c.args.key ∷ []) c.enter.new.self _ c.in-Err.ensures.err c.remove_one.ensures refl refl
 
 pub returns-in-Err-clause-err : goal.returns-in-Err-clause-err
 returns-in-Err-clause-err c =
     let old = c.args.self.now in
     let key = c.args.key in
-    let left = c.remove.ensures ∙ ap (λ keys. left_rows keys c.enter.new.self.handles) (c.enter.ensures.lone ∙ c.in_ok-keep_alone.ensures) in
     let back = ap (left_rows (key ∷ [])) c.in_ok-handle.ensures.rows ∙ left_again key c.in_ok-handle.handle old.handles (ascending old.handles c.requires.sound.handled) c.requires.absent in
-    let rows = ap (rows_of c.enter.new.self.table) left ∙ c.enter.ensures.others ∙ ap (rows_of old.table) back in
+    let rows = ap (rows_of c.enter.new.self.table) c.remove_one.ensures ∙ c.enter.ensures.others ∙ ap (rows_of old.table) back in
     grouped_same _ _ _ _ c.enter.ensures.width (ap members_of rows)
 
 pub returns-clause-ok : goal.returns-clause-ok

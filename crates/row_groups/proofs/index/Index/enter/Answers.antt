@@ -27,7 +27,7 @@ put-requires-clause-parted c =
     ranked_parted c.args.self.now.handles _ c.args.key (slots_under c.args.cells.now c.args.self.now.lists.by_cells) (holds_group (c.args.key ∷ []) c.args.self.now c.args.cells.now c.requires.others).ranked
 
 abbrev new : goal.After-put → Index
-new c = record { handles = c.args.self.now.handles; table = c.keep.new.self; lists = c.put.new.self; lone = c.args.self.now.lone }
+new c = record { handles = c.args.self.now.handles; table = c.keep.new.self; lists = c.put.new.self }
 
 enters : (c : goal.After-put) → Enters c.args.key c.args.handle c.args.cells.now c.args.at c.args.self.now (new c)
 enters c = record {
