@@ -20,7 +20,7 @@ impl Model for CallCounter {
 
 impl CallCounter {
     ghost use Rattle.std.specs.Prelude.{◌≡◌, ◌≤◌};
-    ghost use Rattle.std.specs.Bool.{OnTrue};
+    ghost use Rattle.std.specs.Bool.{OnTrue, OnFalse};
     ghost use Rattle.tick_io.specs.Counts.{Rose};
     ghost use Rattle.tick_io.specs.Calls.{no_calls, next_fails, after_call};
 
@@ -47,6 +47,7 @@ impl CallCounter {
         ensures after { self.new ≡ after_call failed self.old }
         ensures rose { OnTrue failed (Rose self.old.failures self.new.failures) }
         ensures never_falls { self.old.failures ≤ self.new.failures }
+        ensures steady { OnFalse failed (self.new.failures ≡ self.old.failures) }
     {
         self.made = self.made.saturating_add(1);
         if failed {

@@ -1,5 +1,5 @@
 //! Files by name, as the engine loads them.
-ghost use Rattle.std.specs.Prelude.{◌≡◌, ◌<◌, ◌≤◌, ℕ, Bool, List, Option, Some, IfOk, IsErrOf, IsSomeAnd, IsTrue, length, vec_len};
+ghost use Rattle.std.specs.Prelude.{◌≡◌, ◌<◌, ◌≤◌, ℕ, Bool, List, Option, Some, IfOk, OnOk, IsErrOf, IsSomeAnd, IsTrue, length, vec_len};
 ghost use Rattle.tick_io.specs.Counts.{Rose};
 ghost use Rattle.tick_io.specs.Loads.{IfTooLong};
 ghost use Rattle.tick_io.specs.declared.inputs.LoadFault.TheVariants.{Memory};
@@ -46,8 +46,8 @@ pub trait Inputs {
 
     /// All the bytes of a file that has at most `most` of them.
     ///
-    /// `TooLong` comes only where there are more, and `Failed` only where the count of this name rose in this call. No load changes
-    /// what any name has.
+    /// `TooLong` comes only where there are more, and `Failed` only where the count of this name rose in this call. Where the bytes are
+    /// given no count rises. No load changes what any name has.
     fn load(&mut self, alloc: Global, name: &str, most: usize) -> Result<Vec<u8>, LoadFault>
         ensures within { IfOk result (λ loaded. vec_len loaded ≤ most) }
         ensures whole { IfOk result (λ loaded. IsTrue told → content self.old name.now ≡ Some loaded.items) }
@@ -57,5 +57,6 @@ pub trait Inputs {
         ensures failed { IsErrOf result LoadFault.Failed → Rose (failures self.old name.now) (failures self.new name.now) }
 
         ensures never_falls { (other : List ℕ) → failures self.old other ≤ failures self.new other }
+        ensures steady { OnOk result ((other : List ℕ) → failures self.new other ≡ failures self.old other) }
         ensures kept { content self.new ≡ content self.old };
 }

@@ -58,6 +58,7 @@ impl Inputs for MemoryInputs {
 
         ensures failed { IsErrOf result LoadFault.Failed → Rose self.old.calls.failures self.new.calls.failures }
         ensures never_falls { self.old.calls.failures ≤ self.new.calls.failures }
+        ensures steady { OnOk result (self.new.calls.failures ≡ self.old.calls.failures) }
     {
         let answer = answer(alloc, &self.files, self.calls.next_fails(), name, most);
         self.calls.count(matches!(answer, Err(LoadFault::Failed)));
@@ -148,6 +149,7 @@ impl Sink for MemorySink {
 
         ensures failed { IsErrOf result SinkFault.Failed → Rose self.old.calls.failures self.new.calls.failures }
         ensures never_falls { self.old.calls.failures ≤ self.new.calls.failures }
+        ensures steady { OnOk result (self.new.calls.failures ≡ self.old.calls.failures) }
     {
         let fails = self.calls.next_fails();
         self.calls.count(fails);

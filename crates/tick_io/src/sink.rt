@@ -42,7 +42,8 @@ pub trait Sink: Send {
 
     /// Appends a prefix of the piece, of one byte at least, and returns its length.
     ///
-    /// After an error nothing was appended. `Failed` comes only where the count of failures rose in this call.
+    /// After an error nothing was appended. `Failed` comes only where the count of failures rose in this call; a write that takes bytes
+    /// leaves it as it is.
     fn write(&mut self, piece: &[u8]) -> Result<usize, SinkFault>
         requires { 0 < length piece.now }
         ensures progress { IfOk result (λ count. 1 ≤ count) }
@@ -50,7 +51,8 @@ pub trait Sink: Send {
         ensures appended { IfOk result (λ count. bytes self.new ≡ append_known (bytes self.old) (take count piece.now)) }
         ensures err { OnErr result (bytes self.new ≡ bytes self.old) }
         ensures failed { IsErrOf result SinkFault.Failed → Rose (failures self.old) (failures self.new) }
-        ensures never_falls { failures self.old ≤ failures self.new };
+        ensures never_falls { failures self.old ≤ failures self.new }
+        ensures steady { OnOk result (failures self.new ≡ failures self.old) };
 }
 
 /// Appends the whole piece. It takes no memory of its own.
@@ -61,6 +63,7 @@ pub fn put_all<S: Sink>(sink: &mut S, piece: &[u8]) -> Result<(), SinkFault>
     ensures err { OnErr result (AppendsPrefix (S.bytes sink.old) (S.bytes sink.new) piece.now) }
     ensures failed { IsErrOf result SinkFault.Failed → Rose (S.failures sink.old) (S.failures sink.new) }
     ensures never_falls { S.failures sink.old ≤ S.failures sink.new }
+    ensures steady { OnOk result (S.failures sink.new ≡ S.failures sink.old) }
 {
     let mut done = 0;
     while done < piece.len() {

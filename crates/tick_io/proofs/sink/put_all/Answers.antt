@@ -15,4 +15,5 @@ loop-done-preserved g c =
       within = omega (arith, c.in_ok-done.ensures.within, length-drop done piece);
       written = appended ∙ ap (λ known. append_known known (take count (drop done piece))) c.loop-done.invariant.written ∙ append_known-take _ done count piece;
       never_falls = omega (arith, c.in_ok-done.ensures.never_falls);
+      steady = c.in_ok-done.ensures.steady ∙ c.loop-done.invariant.steady;
     }

@@ -10,6 +10,7 @@ invariant-loop-done g l =
       within : l.done ≤ length l.piece;
       written : sink.bytes l.sink ≡ append_known (sink.bytes l.fn.sink) (take l.done l.piece);
       never_falls : sink.failures l.fn.sink ≤ sink.failures l.sink;
+      steady : sink.failures l.sink ≡ sink.failures l.fn.sink;
     }
 
 abbrev pub decreases-loop-done : goal.decreases-loop-done
