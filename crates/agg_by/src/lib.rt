@@ -16,7 +16,5 @@ mod rows;
 mod running;
 mod staying;
 mod sums;
-#[cfg(test)]
-mod tests;
 
 pub use agg_op::AggOp;

@@ -10,6 +10,3 @@ mod numbers;
 mod program;
 
 pub use command::{Command, Task, read_words};
-
-#[cfg(test)]
-mod tests;

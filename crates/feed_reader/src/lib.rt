@@ -29,6 +29,3 @@ pub use feeds::read_feed;
 pub use laws::{assembled_runs_are_lawful, read_feeds_are_lawful, read_tables_are_openings};
 pub use raw::{RawBatch, RawBlock, RawCell, RawFeed, RawRow, RawTable};
 pub use tables::read_table;
-
-#[cfg(test)]
-mod tests;

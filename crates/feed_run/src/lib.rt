@@ -19,6 +19,3 @@ mod watching;
 
 pub use program::tick_main;
 pub use refusal::Refusal;
-
-#[cfg(test)]
-mod tests;

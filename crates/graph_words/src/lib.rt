@@ -22,8 +22,6 @@ mod plays;
 mod seats;
 mod start;
 mod table;
-#[cfg(test)]
-mod tests;
 
 pub use claims::{ClaimSeat, Claims};
 pub use graph::{Edge, Tagged};

@@ -12,8 +12,6 @@ mod edges;
 mod head_op;
 mod places;
 mod tail_op;
-#[cfg(test)]
-mod tests;
 
 pub use head_op::HeadOp;
 pub use tail_op::TailOp;

@@ -8,5 +8,3 @@ pub mod opening;
 pub mod plan;
 pub mod run;
 pub mod steps;
-#[cfg(test)]
-mod tests;

@@ -11,8 +11,6 @@ mod merging;
 mod rows;
 mod shifts;
 mod starts;
-#[cfg(test)]
-mod tests;
 mod touching;
 
 pub use fault::MergeFault;

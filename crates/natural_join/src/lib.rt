@@ -23,8 +23,6 @@ mod keyed;
 mod matches;
 mod notes;
 mod rows;
-#[cfg(test)]
-mod tests;
 mod touched;
 
 pub use join_op::{JoinFault, JoinOp};

@@ -7,8 +7,6 @@
 
 mod crossing;
 mod testing;
-#[cfg(test)]
-mod tests;
 mod view_op;
 mod where_op;
 

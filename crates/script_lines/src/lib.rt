@@ -12,7 +12,5 @@ mod members;
 mod parts;
 mod predicates;
 pub mod reading;
-#[cfg(test)]
-mod tests;
 pub mod token;
 mod words;

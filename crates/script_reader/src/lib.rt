@@ -12,6 +12,4 @@ mod nodes;
 mod numbers;
 pub mod reader;
 pub mod script;
-#[cfg(test)]
-mod tests;
 mod texts;

@@ -21,8 +21,6 @@ mod plays;
 mod rows;
 mod start;
 mod store;
-#[cfg(test)]
-mod tests;
 mod turns;
 mod writers;
 

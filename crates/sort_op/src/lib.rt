@@ -14,8 +14,6 @@ mod order;
 mod positions;
 mod reading;
 mod rows;
-#[cfg(test)]
-mod tests;
 
 pub use entry::Entry;
 pub use operator::SortOp;

@@ -13,8 +13,6 @@ mod opening;
 mod records;
 mod rows;
 mod steps;
-#[cfg(test)]
-mod tests;
 mod told;
 
 pub use changes::SourceKeys;

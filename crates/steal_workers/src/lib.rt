@@ -21,8 +21,6 @@ mod raising;
 mod ready;
 mod rest;
 mod team;
-#[cfg(test)]
-mod tests;
 mod work;
 
 pub use crew::Crew;

@@ -8,8 +8,6 @@ mod coalesce;
 mod columns;
 mod in_place;
 mod search;
-#[cfg(test)]
-mod tests;
 mod update;
 
 pub use columns::ColumnSet;

@@ -11,8 +11,6 @@ mod slots;
 mod stepping;
 mod steps;
 mod table;
-#[cfg(test)]
-mod tests;
 
 pub use change::Change;
 pub use steps::Steps;

@@ -19,8 +19,6 @@ mod step_work;
 mod stop;
 mod sweep;
 mod team;
-#[cfg(test)]
-mod tests;
 mod work;
 mod worker;
 mod workers;

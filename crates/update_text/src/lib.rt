@@ -30,6 +30,3 @@ pub use record::write_fields;
 pub use shown::Shown;
 pub use snapshots::write_snapshot;
 pub use updates::{write_added, write_update};
-
-#[cfg(test)]
-mod tests;

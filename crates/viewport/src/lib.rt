@@ -11,8 +11,6 @@ mod laws;
 mod mirror;
 mod rows;
 mod slice;
-#[cfg(test)]
-mod tests;
 mod touched;
 mod viewport;
 

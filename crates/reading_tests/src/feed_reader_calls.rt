@@ -1,0 +1,375 @@
+//! Feeds and table files, each with what is read of it or the first record that is refused.
+
+ghost use Rattle.std.specs.Prelude.{◌≡◌, ◌<◌, ◌^◌, [], IfOk, length};
+ghost use Rattle.std.specs.List.{All};
+
+use feed_reader::{
+    RawCell, RawFeed, RawTable, TextFault, TextKind, assemble, code, read_feed, read_table,
+};
+use script_reader::reader::read_script;
+use script_reader::script::Script;
+use std::alloc::{AllocError, Global};
+use std::test::Fail;
+use tick_model::feed::Run;
+use tick_model::items::Items;
+use tick_model::name::Name;
+use tick_model::plan::{ColumnSpec, Expr, Kind, Node, Op, Plan, Pred};
+
+fn column(alloc: Global, name: &str, kind: Kind) -> Result<ColumnSpec, AllocError> {
+    Ok(ColumnSpec {
+        name: Name::of(String::from_str(alloc, name)?),
+        kind,
+    })
+}
+
+fn columns(alloc: Global) -> Result<Items<ColumnSpec>, AllocError> {
+    let mut columns = Items::new(alloc);
+    columns.push(column(alloc, "sym", Kind::Text)?)?;
+    columns.push(column(alloc, "qty", Kind::Long)?)?;
+    Ok(columns)
+}
+
+fn source(alloc: Global, name: &str) -> Result<Node, AllocError> {
+    Ok(Node {
+        name: Name::of(String::from_str(alloc, name)?),
+        columns: columns(alloc)?,
+        op: Op::Source,
+    })
+}
+
+/// The plan of two sources, `t` and `u`, of a text column `sym` and a number column `qty`.
+fn two_sources(alloc: Global) -> Result<Plan, AllocError>
+    ensures { IfOk result (λ plan. length plan.nodes < 2 ^ 32) }
+{
+    let mut nodes = Items::new(alloc);
+    nodes.push(source(alloc, "t")?)?;
+    nodes.push(source(alloc, "u")?)?;
+    Ok(Plan {
+        nodes,
+        printed: Items::new(alloc),
+        published: Items::new(alloc),
+    })
+}
+
+/// The number of a refused record, and the kind; nothing where the text is read.
+type Refusal = Option<(u64, TextKind)>;
+
+const FEEDS: [(&str, Refusal); 66] = [
+    ("", None),
+    (".\n", None),
+    ("t,t\na,0,IBM,5\na,1,AAPL,20\n.\n", None),
+    ("t,t\na,0,IBM,5\na,1,AAPL,20\n.", None),
+    ("\u{feff}t,t\r\n\r\na,0,IBM,5\r.\r\n", None),
+    ("\"t\",\"t\"\na,\"0\",\"x, \"\"y\"\"\",5\n.\n", None),
+    (
+        "t,t\nt,t\n.\nt,t\nr,0,0\ns,1,1,4\na,0,A,7\nt,t\ns,5,5,-2\na,9,A,3\nm,0,A,8\n.\n",
+        None,
+    ),
+    (
+        "t,t\nr,0,3\nr,4,9\ns,0,1,1\ns,2,3,-1099511627775\na,7,,\nm,7,,0\nt,u\na,0,A,1\n.\n",
+        None,
+    ),
+    (
+        "t,t\na,00000000000000000,A,-9223372036854775807\na,1099511627775,A,9223372036854775807\n.\n",
+        None,
+    ),
+    // a feed that is cut after so many bytes
+    ("t", Some((1, TextKind::FieldCount))),
+    ("t,", Some((1, TextKind::UnknownTable))),
+    ("t,t", Some((1, TextKind::Unfinished))),
+    ("t,t\n", Some((1, TextKind::Unfinished))),
+    ("t,t\na", Some((2, TextKind::FieldCount))),
+    ("t,t\na,0,IBM", Some((2, TextKind::FieldCount))),
+    ("t,t\na,0,IBM,", Some((2, TextKind::Unfinished))),
+    ("t,t\na,0,IBM,5\n", Some((2, TextKind::Unfinished))),
+    ("t,t\na,0,IBM,5\na,1,AAPL", Some((3, TextKind::FieldCount))),
+    (
+        "t,t\na,0,IBM,5\na,1,AAPL,20\n",
+        Some((3, TextKind::Unfinished)),
+    ),
+    // tags
+    ("x,1", Some((1, TextKind::BadTag))),
+    ("\"\"", Some((1, TextKind::BadTag))),
+    ("tt,t", Some((1, TextKind::BadTag))),
+    ("T,t", Some((1, TextKind::BadTag))),
+    (" t,t", Some((1, TextKind::BadTag))),
+    // places
+    ("a,0,A,1", Some((1, TextKind::OutOfOrder))),
+    ("r", Some((1, TextKind::OutOfOrder))),
+    (".\ns,0,0,1", Some((2, TextKind::OutOfOrder))),
+    ("t,t\n.\nm,0,A,1", Some((3, TextKind::OutOfOrder))),
+    ("t,t\ns,0,0,1\nr,1,1", Some((3, TextKind::OutOfOrder))),
+    ("t,t\na,0,A,1\ns,1,1,1", Some((3, TextKind::OutOfOrder))),
+    ("t,t\nm,0,A,1\na,1,A,1", Some((3, TextKind::OutOfOrder))),
+    ("t,t\na,0,A,1\nr,x", Some((3, TextKind::OutOfOrder))),
+    // numbers of fields
+    ("t,t,t", Some((1, TextKind::FieldCount))),
+    ("t,t\nr,0", Some((2, TextKind::FieldCount))),
+    ("t,t\ns,0,0", Some((2, TextKind::FieldCount))),
+    ("t,t\na,0,A,1,2", Some((2, TextKind::FieldCount))),
+    ("t,t\nm,x,1", Some((2, TextKind::FieldCount))),
+    (".,.", Some((1, TextKind::FieldCount))),
+    // numbers
+    ("t,t\nr,2,1", Some((2, TextKind::BadNumber))),
+    ("t,t\nr,,1", Some((2, TextKind::BadNumber))),
+    ("t,t\nr,1,1099511627776", Some((2, TextKind::BadNumber))),
+    ("t,t\nr,-1,1", Some((2, TextKind::BadNumber))),
+    ("t,t\nr,+1,1", Some((2, TextKind::BadNumber))),
+    (
+        "t,t\nr,00000000000000000001,1",
+        Some((2, TextKind::BadNumber)),
+    ),
+    ("t,t\ns,2,1,1", Some((2, TextKind::BadNumber))),
+    ("t,t\ns,1,1,0", Some((2, TextKind::BadNumber))),
+    ("t,t\ns,1,1,-0", Some((2, TextKind::BadNumber))),
+    ("t,t\ns,1,1,1099511627776", Some((2, TextKind::BadNumber))),
+    ("t,t\ns,1,1,-1099511627776", Some((2, TextKind::BadNumber))),
+    (
+        "t,t\na,1,A,-9223372036854775808",
+        Some((2, TextKind::BadNumber)),
+    ),
+    (
+        "t,t\na,1,A,9223372036854775808",
+        Some((2, TextKind::BadNumber)),
+    ),
+    ("t,t\na,1,A,1 ", Some((2, TextKind::BadNumber))),
+    ("t,t\na,x,A,1", Some((2, TextKind::BadNumber))),
+    // tables
+    ("t,v", Some((1, TextKind::UnknownTable))),
+    ("t,T", Some((1, TextKind::UnknownTable))),
+    // what does not ascend
+    ("t,t\na,1,A,1\na,1,A,2", Some((3, TextKind::OutOfOrder))),
+    ("t,t\nm,1,A,1\nm,0,A,2", Some((3, TextKind::OutOfOrder))),
+    ("t,t\nr,0,3\nr,3,4", Some((3, TextKind::OutOfOrder))),
+    ("t,t\ns,0,3,1\ns,3,4,1", Some((3, TextKind::OutOfOrder))),
+    ("t,t\na,1,A,1\na,1,A,x", Some((3, TextKind::BadNumber))),
+    // the first refused record is named
+    ("t,t\nr,1,1\nx\n", Some((3, TextKind::BadTag))),
+    ("t,t\n.\nt,v\nx\n", Some((3, TextKind::UnknownTable))),
+    (
+        "t,t\na,0,A,1\nt,t\na,0,A,2\n",
+        Some((4, TextKind::Unfinished)),
+    ),
+    (
+        "t,t\na,0,A,1\nt,t\na,0,A,2\na,0,A,3\n",
+        Some((5, TextKind::OutOfOrder)),
+    ),
+    ("t,t\nt,u\nt,v\n", Some((3, TextKind::UnknownTable))),
+    ("t,t\n.\n.\nt,t\n", Some((4, TextKind::Unfinished))),
+];
+
+const TABLES: [(&str, Refusal); 16] = [
+    ("sym,qty", None),
+    ("sym,qty\nA,1\n\"\",\n,3\n", None),
+    ("\u{feff}\"sym\",qty\r\nA,00000000000000007\r\n", None),
+    ("sym,qty\n\n\nA,1\n", None),
+    ("", Some((1, TextKind::Header))),
+    ("sym", Some((1, TextKind::Header))),
+    ("qty,sym", Some((1, TextKind::Header))),
+    ("sym,qty,", Some((1, TextKind::Header))),
+    ("Sym,qty\nA", Some((1, TextKind::Header))),
+    ("sym,qty\nA\n", Some((2, TextKind::FieldCount))),
+    ("sym,qty\nA,1,2\n", Some((2, TextKind::FieldCount))),
+    ("sym,qty\n\"\"\n", Some((2, TextKind::FieldCount))),
+    ("sym,qty\nA,1\nA,x\n", Some((3, TextKind::BadNumber))),
+    (
+        "sym,qty\nA,-9223372036854775808\n",
+        Some((2, TextKind::BadNumber)),
+    ),
+    ("sym,qty\nA,1\nA,-\nA\n", Some((3, TextKind::BadNumber))),
+    (
+        "sym,qty\nA,00000000000000000007\n",
+        Some((2, TextKind::BadNumber)),
+    ),
+];
+
+/// Bytes that are not UTF-8: two halves of one letter in two fields, in one field of a later record, and before another kind.
+const NOT_TEXT: [(&[u8; 12], u64); 3] = [
+    (b"t,\xc3,\xa4\n\n\n\n\n\n\n", 1),
+    (b"t,t\na,0,\xff,1\n", 2),
+    (b".\nx,\xff\n\n\n\n\n\n\n", 2),
+];
+
+fn refusal<X: Drop>(answer: Result<X, TextFault>) -> Result<Refusal, AllocError> {
+    match answer {
+        Ok(_) => Ok(None),
+        Err(TextFault::Refused { number, kind }) => Ok(Some((number, kind))),
+        Err(TextFault::Memory) => Err(AllocError),
+    }
+}
+
+#[test]
+fn a_feed_is_read_or_its_first_bad_record_is_named(rt: HostRuntime) -> Result<(), Fail> {
+    let plan = two_sources(rt.alloc())?;
+    for (place, (feed, want)) in FEEDS.iter().enumerate() {
+        let answer = refusal(read_feed(rt.alloc(), feed.as_bytes(), &plan))?;
+        assert!(rt; answer == *want, "feed {place}");
+    }
+    Ok(())
+}
+
+#[test]
+fn a_table_file_is_read_or_its_first_bad_record_is_named(rt: HostRuntime) -> Result<(), Fail> {
+    let columns = columns(rt.alloc())?;
+    for (place, (text, want)) in TABLES.iter().enumerate() {
+        let answer = refusal(read_table(rt.alloc(), text.as_bytes(), &columns))?;
+        assert!(rt; answer == *want, "table file {place}");
+    }
+    Ok(())
+}
+
+#[test]
+fn a_field_is_utf8(rt: HostRuntime) -> Result<(), Fail> {
+    let plan = two_sources(rt.alloc())?;
+    for (feed, number) in NOT_TEXT.iter() {
+        let answer = refusal(read_feed(rt.alloc(), feed.as_slice(), &plan))?;
+        assert!(rt; answer == Some((*number, TextKind::NotUtf8)));
+    }
+    Ok(())
+}
+
+#[test]
+fn a_step_has_several_blocks_of_a_source(rt: HostRuntime) -> Result<(), Fail> {
+    let plan = two_sources(rt.alloc())?;
+    let feed = "t,u\n.\n.\nt,t\nr,0,0\nt,u\nt,t\na,7,IBM,\nm,8,,5\n.\n";
+    let Ok(feed) = read_feed(rt.alloc(), feed.as_bytes(), &plan) else {
+        return Err(Fail::from(AllocError));
+    };
+    let batches = feed.batches.as_slice();
+    assert!(rt; batches.len() == 3);
+    assert!(rt; batches[0].blocks.len() == 1);
+    assert!(rt; batches[1].blocks.is_empty());
+    let blocks = batches[2].blocks.as_slice();
+    assert!(rt; blocks.len() == 3);
+    assert!(rt; blocks[0].table == 0 && blocks[0].number == 4 && blocks[0].removed.len() == 1);
+    assert!(rt; blocks[1].table == 1 && blocks[1].number == 6 && blocks[1].added.is_empty());
+    assert!(rt; blocks[2].table == 0 && blocks[2].number == 7);
+    let added = blocks[2].added.as_slice();
+    assert!(rt; added.len() == 1 && added[0].key == 7);
+    assert!(rt; matches!(added[0].cells.as_slice(), [RawCell::Text(_), RawCell::Null]));
+    let modified = blocks[2].modified.as_slice();
+    assert!(rt; modified.len() == 1 && modified[0].key == 8);
+    assert!(rt;
+        matches!(
+            modified[0].cells.as_slice(),
+            [RawCell::Null, RawCell::Long(5)]
+        )
+    );
+    Ok(())
+}
+
+/// A plan of no nodes.
+fn no_nodes(alloc: Global) -> Plan
+    ensures { result.nodes ≡ [] }
+{
+    Plan {
+        nodes: Items::new(alloc),
+        printed: Items::new(alloc),
+        published: Items::new(alloc),
+    }
+}
+
+fn literals(alloc: Global) -> Result<Items<Name>, AllocError> {
+    let mut literals = Items::new(alloc);
+    literals.push(Name::of(String::from_str(alloc, "M")?))?;
+    Ok(literals)
+}
+
+fn small_feed(alloc: Global) -> Result<RawFeed, AllocError> {
+    let plan = two_sources(alloc)?;
+    let feed = "t,t\na,7,Z,\na,8,A,4\nm,9,M,\nt,u\na,0,Z,1\n.\n";
+    match read_feed(alloc, feed.as_bytes(), &plan) {
+        Ok(feed) => Ok(feed),
+        Err(_) => Err(AllocError),
+    }
+}
+
+#[test]
+fn texts_are_coded_by_their_ranks(rt: HostRuntime) -> Result<(), Fail> {
+    let plan = no_nodes(rt.alloc());
+    let literals = literals(rt.alloc())?;
+    let tables = Items::new(rt.alloc());
+    let coded = code(
+        rt.alloc(),
+        &plan,
+        &literals,
+        &tables,
+        small_feed(rt.alloc())?,
+    )?;
+    assert!(rt; coded.opening.is_empty());
+    let texts = coded.texts.as_slice();
+    assert!(rt; texts.len() == 3);
+    assert!(rt; texts[0].as_str() == "A" && texts[1].as_str() == "M" && texts[2].as_str() == "Z");
+    let batches = coded.batches.as_slice();
+    assert!(rt; batches.len() == 1);
+    let blocks = batches[0].blocks.as_slice();
+    assert!(rt; blocks.len() == 2);
+    let added = blocks[0].added.as_slice();
+    assert!(rt; added.len() == 2 && added[0].key == 7);
+    assert!(rt; matches!(added[0].cells.as_slice(), [2, i64::MIN]));
+    assert!(rt; matches!(added[1].cells.as_slice(), [0, 4]));
+    Ok(())
+}
+
+const SCRIPT: &str = "table t sym:text qty:long\nb = where t sym = \"M\"\nprint b";
+
+/// A script that is read: one source, and a test by a text.
+fn small_script(alloc: Global) -> Result<Script, AllocError>
+    ensures nodes { IfOk result (λ script. length script.plan.nodes < 2 ^ 32) }
+    ensures columns { IfOk result (λ script. All (λ node. length node.columns < 2 ^ 32) script.plan.nodes) }
+{
+    match read_script(alloc, SCRIPT.as_bytes()) {
+        Ok(script) => Ok(script),
+        Err(_) => Err(AllocError),
+    }
+}
+
+fn feed_for(alloc: Global, plan: &Plan) -> Result<RawFeed, AllocError>
+    requires { length plan.now.nodes < 2 ^ 32 }
+{
+    match read_feed(alloc, "t,t\na,7,Z,\na,8,A,4\n.\n".as_bytes(), plan) {
+        Ok(feed) => Ok(feed),
+        Err(_) => Err(AllocError),
+    }
+}
+
+/// One table file, with two rows.
+fn small_tables(alloc: Global) -> Result<Items<RawTable>, AllocError> {
+    let mut tables = Items::new(alloc);
+    match read_table(alloc, "sym,qty\nB,1\n,2\n".as_bytes(), &columns(alloc)?) {
+        Ok(table) => tables.push(table)?,
+        Err(_) => return Err(AllocError),
+    }
+    Ok(tables)
+}
+
+fn small_run(alloc: Global) -> Result<Run, AllocError> {
+    let script = small_script(alloc)?;
+    let feed = feed_for(alloc, &script.plan)?;
+    assemble(alloc, script, small_tables(alloc)?, feed)
+}
+
+#[test]
+fn a_run_is_assembled(rt: HostRuntime) -> Result<(), Fail> {
+    let run = small_run(rt.alloc())?;
+    let texts = run.texts.as_slice();
+    assert!(rt; texts.len() == 4);
+    assert!(rt; texts[0].as_str() == "A" && texts[1].as_str() == "B" && texts[2].as_str() == "M");
+    let opening = run.opening.as_slice();
+    assert!(rt; opening.len() == 1 && opening[0].rows.len() == 2);
+    let rows = opening[0].rows.as_slice();
+    assert!(rt; matches!(rows[0].cells.as_slice(), [1, 1]));
+    assert!(rt; matches!(rows[1].cells.as_slice(), [i64::MIN, 2]));
+    let nodes = run.plan.nodes.as_slice();
+    assert!(rt; nodes.len() == 2);
+    assert!(rt;
+        matches!(
+            &nodes[1].op,
+            Op::Keep {
+                test: Pred::Compare(_, _, Expr::Rank(2)),
+                ..
+            }
+        )
+    );
+    Ok(())
+}

@@ -1,0 +1,215 @@
+//! Each call once, and a sink that fails within a piece.
+ghost use Rattle.std.specs.Prelude.{◌≡◌, length, map, true, IfOk, Some};
+ghost use Rattle.tick_model.specs.LawfulRuns.{AreTexts};
+ghost use Rattle.tick_model.specs.Names.{are_distinct};
+
+use std::alloc::{AllocError, Global};
+use std::test::Fail;
+use tick_io::{MemorySink, Sink, SinkFault};
+use tick_model::formula::NULL;
+use tick_model::items::Items;
+use tick_model::name::Name;
+use tick_model::plan::{ColumnSpec, Kind};
+use tick_model::table::PlainRow;
+use tick_model::update::ShiftRange;
+use tick_table::TickTable;
+use update_text::{
+    PrintedFault, Shown, WriteFault, read_update, write_added, write_fields, write_snapshot,
+    write_update,
+};
+
+/// A sink that takes one byte at a time, and fails where it is full.
+#[derive(Drop)]
+struct NarrowSink {
+    bytes: Vec<u8>,
+    room: usize,
+    failures: u64,
+}
+
+impl Sink for NarrowSink {
+    ghost bytes = { λ sink. Some sink.bytes.items };
+
+    ghost failures = { λ sink. sink.failures };
+
+    fn write(&mut self, piece: &[u8]) -> Result<usize, SinkFault> {
+        if self.bytes.len() >= self.room {
+            self.failures = self.failures.saturating_add(1);
+            return Err(SinkFault::Failed);
+        }
+        self.bytes.push(piece[0])?;
+        Ok(1)
+    }
+}
+
+fn name(alloc: Global, text: &str) -> Result<Name, AllocError>
+    ensures { IfOk result (λ name. name ≡ text.now) }
+{
+    Ok(Name::of(String::from_str(alloc, text)?))
+}
+
+/// The table `big` of a text column `sym` and a number column `qty`.
+fn big(alloc: Global) -> Result<Shown, AllocError>
+    ensures two { IfOk result (λ shown. length shown.columns ≡ 2) }
+    ensures distinct { IfOk result (λ shown. are_distinct (map (λ column. column.name) shown.columns) ≡ true) }
+{
+    let mut columns = Items::new(alloc);
+    columns.push(ColumnSpec {
+        name: name(alloc, "sym")?,
+        kind: Kind::Text,
+    })?;
+    columns.push(ColumnSpec {
+        name: name(alloc, "qty")?,
+        kind: Kind::Long,
+    })?;
+    Ok(Shown {
+        name: name(alloc, "big")?,
+        columns,
+    })
+}
+
+fn texts(alloc: Global) -> Result<Items<Name>, AllocError> {
+    let mut texts = Items::new(alloc);
+    texts.push(name(alloc, "AAPL")?)?;
+    texts.push(name(alloc, "x, \"y\"\r\n")?)?;
+    Ok(texts)
+}
+
+fn row(alloc: Global, key: u64, sym: i64, qty: i64) -> Result<PlainRow, AllocError>
+    ensures { IfOk result (λ row. length row.cells ≡ 2) }
+{
+    Ok(PlainRow {
+        key,
+        cells: Items::of([sym, qty].to_vec(alloc)?),
+    })
+}
+
+#[test]
+fn a_record_quotes_its_fields(rt: HostRuntime) -> Result<(), Fail> {
+    let mut fields = Vec::new(rt.alloc());
+    for field in ["done", "", "a\"b", "c,d", "e\rf", "g\nh"] {
+        fields.push(String::from_str(rt.alloc(), field)?)?;
+    }
+    let mut sink = MemorySink::new(rt.alloc(), Vec::new(rt.alloc()));
+    write_fields(rt.alloc(), &mut sink, fields.as_slice())?;
+    let want = b"done,,\"a\"\"b\",\"c,d\",\"e\rf\",\"g\nh\"\n";
+    assert_eq!(rt; sink.bytes(), want.as_slice());
+    Ok(())
+}
+
+#[test]
+fn added_rows_are_told(rt: HostRuntime) -> Result<(), Fail> {
+    let shown = big(rt.alloc())?;
+    let texts = texts(rt.alloc())?;
+    let mut sink = MemorySink::new(rt.alloc(), Vec::new(rt.alloc()));
+    let none = Items::new(rt.alloc());
+    assert_eq!(rt;
+        write_added(rt.alloc(), &mut sink, 0, &shown, &texts, &none)?,
+        0
+    );
+    assert_eq!(rt; sink.bytes().len(), 0);
+    let mut rows = Items::new(rt.alloc());
+    rows.push(row(rt.alloc(), 1, 0, 20)?)?;
+    rows.push(row(rt.alloc(), 2, NULL, -7)?)?;
+    rows.push(row(rt.alloc(), 3, 1, NULL)?)?;
+    assert_eq!(rt;
+        write_added(rt.alloc(), &mut sink, 1, &shown, &texts, &rows)?,
+        4
+    );
+    let want = b"step,1,big\na,1,AAPL,20\na,2,,-7\na,3,\"x, \"\"y\"\"\r\n\",\n";
+    assert_eq!(rt; sink.bytes(), want.as_slice());
+    Ok(())
+}
+
+#[test]
+fn an_empty_update_is_not_told(rt: HostRuntime) -> Result<(), Fail> {
+    let shown = big(rt.alloc())?;
+    let texts = texts(rt.alloc())?;
+    let table = TickTable::new(rt.alloc(), 2)?;
+    let mut sink = MemorySink::new(rt.alloc(), Vec::new(rt.alloc()));
+    let count = write_update(rt.alloc(), &mut sink, 3, &shown, &texts, &table)?;
+    assert_eq!(rt; count, 0);
+    assert_eq!(rt; sink.bytes().len(), 0);
+    Ok(())
+}
+
+#[test]
+fn a_snapshot_is_told(rt: HostRuntime) -> Result<(), Fail> {
+    let shown = big(rt.alloc())?;
+    let texts = texts(rt.alloc())?;
+    let mut sink = MemorySink::new(rt.alloc(), Vec::new(rt.alloc()));
+    let words = [2, 1, 0, 2, 5, 9_223_372_036_854_775_808, u64::MAX];
+    write_snapshot(rt.alloc(), &mut sink, 3, 0, 4, &shown, &texts, &words)?;
+    let want = b"snap,3,0,4,big\nw,1,AAPL,2\nw,5,,-1\n";
+    assert_eq!(rt; sink.bytes(), want.as_slice());
+    Ok(())
+}
+
+#[test]
+fn a_prefix_is_written_before_a_failure(rt: HostRuntime) -> Result<(), Fail> {
+    let mut fields = Vec::new(rt.alloc());
+    fields.push(String::from_str(rt.alloc(), "done")?)?;
+    fields.push(String::from_str(rt.alloc(), "17")?)?;
+    let mut sink = NarrowSink {
+        bytes: Vec::new(rt.alloc()),
+        room: 6,
+        failures: 0,
+    };
+    assert_eq!(rt;
+        write_fields(rt.alloc(), &mut sink, fields.as_slice()),
+        Err(WriteFault::Failed)
+    );
+    assert_eq!(rt; sink.bytes.as_slice(), b"done,1".as_slice());
+    assert_eq!(rt; sink.failures, 1);
+    Ok(())
+}
+
+/// Three texts in byte order.
+fn symbols(alloc: Global) -> Result<Items<Name>, AllocError>
+    ensures { IfOk result (λ texts. AreTexts texts) }
+{
+    let first = name(alloc, "AAPL")?;
+    let second = name(alloc, "IBM")?;
+    let third = name(alloc, "X")?;
+    Ok(Items::of(vec![in alloc; first, second, third]?))
+}
+
+#[test]
+fn a_change_is_read_back(rt: HostRuntime) -> Result<(), Fail> {
+    let shown = big(rt.alloc())?;
+    let texts = symbols(rt.alloc())?;
+    let text = b"step,2,big\ns,1,1,5\na,2,X,30\n";
+    let printed = read_update(rt.alloc(), text, &shown, &texts)?;
+    assert_eq!(rt; printed.step, 2);
+    assert_eq!(rt; printed.change.cells.as_slice(), [2, 30].as_slice());
+    let update = &printed.change.update;
+    let moved = ShiftRange {
+        begin: 1,
+        end: 1,
+        delta: 5,
+    };
+    assert_eq!(rt; update.shifted().ranges(), [moved].as_slice());
+    assert_eq!(rt; update.added().first(), Some(2));
+    assert_eq!(rt; update.added().len(), 1);
+    assert!(rt; update.removed().is_empty() && update.modified().is_empty());
+    Ok(())
+}
+
+#[test]
+fn other_texts_are_refused(rt: HostRuntime) -> Result<(), Fail> {
+    let shown = big(rt.alloc())?;
+    let texts = symbols(rt.alloc())?;
+    for text in [
+        "step,2,big\ns,1,1,0\na,2,X,30\n",
+        "step,2,big\ns,1,1,5\na,02,X,30\n",
+        "step,2,big\ns,1,1,5\na,2,\"X\",30\n",
+        "step,2,big\ns,1,1,5\na,2,Y,30\n",
+        "step,2,t\ns,1,1,5\na,2,X,30\n",
+        "step,2,big\na,2,X,30\ns,1,1,5\n",
+        "step,2,big\n",
+        "",
+    ] {
+        let read = read_update(rt.alloc(), text.as_bytes(), &shown, &texts);
+        assert!(rt; matches!(read, Err(PrintedFault::NotPrinted)));
+    }
+    Ok(())
+}

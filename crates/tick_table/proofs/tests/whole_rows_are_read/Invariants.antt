@@ -1,4 +1,0 @@
-use Rattle.tick_table.proofs.tests.whole_rows_are_read.Given as goal
-
-abbrev pub ghosts-two_rows : goal.ghosts-two_rows
-ghosts-two_rows g a = record { name = a.blank.name; parts = a.blank.parts }

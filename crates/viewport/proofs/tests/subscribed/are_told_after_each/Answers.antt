@@ -1,7 +1,0 @@
-use Rattle.std.proofs.Common.{◌≡◌, sym, subst}
-use Rattle.tick_table.specs.Exact.{IsExact}
-use Rattle.viewport.proofs.ExampleTicks.{insertion_exact}
-use Rattle.viewport.proofs.tests.subscribed.are_told_after_each.Goals as goal
-
-pub pass-requires-2-clause-exact : goal.pass-requires-2-clause-exact
-pass-requires-2-clause-exact c = subst IsExact (sym c.requires.both) insertion_exact
