@@ -1,5 +1,7 @@
 //! What a mirror answers, with ample memory.
 
+mod subscribed;
+
 use row_set::RowSet;
 use shift_data::ShiftData;
 use std::alloc::{AllocError, Global};
