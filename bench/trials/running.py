@@ -20,15 +20,17 @@ def lines(text):
 
 @dataclasses.dataclass
 class Trial:
-    """Words and files, and what is to be answered. Where that is not given, the rules of the pages say it."""
+    """Words and files. What is to be answered is said by the rules of the pages, and may also be written out."""
 
     name: str
     words: list
     content: dict
     wanted: Answer = None
 
-    def answer(self):
-        return self.wanted or answer(self.words, self.content)
+    def answers(self):
+        """What must be answered: as it is written out, where it is, and as the reader of the rules says."""
+        said = answer(self.words, self.content)
+        return [self.wanted, said] if self.wanted else [said]
 
 
 def trial(name, script, feed="", *, words=("run", "s", "f"), status=None, wrote=None, **tables):
@@ -86,10 +88,10 @@ class Judge:
         """Tries a trial."""
         self.write(tried.content)
         status, wrote = self.ran(tried.words)
-        wanted = tried.answer()
-        if not wanted.is_given_by(status, wrote):
-            inputs = ", ".join(f"{os.fsdecode(name)} {short(data)}" for name, data in tried.content.items())
-            self.note(f"{tried.name}: {b' '.join(tried.words)!r} {inputs}", f"status {wanted.status}, {short(wanted.shown())}", f"status {status}, {short(wrote)}")
+        for wanted in tried.answers():
+            if not wanted.is_given_by(status, wrote):
+                inputs = ", ".join(f"{os.fsdecode(name)} {short(data)}" for name, data in tried.content.items())
+                self.note(f"{tried.name}: {b' '.join(tried.words)!r} {inputs}", f"status {wanted.status}, {short(wanted.shown())}", f"status {status}, {short(wrote)}")
 
     def hold_all(self, trials):
         for tried in trials:
