@@ -4,9 +4,6 @@ use Rattle.key_lists.specs.Keys.{is_among, IsRising, without}
 use Rattle.key_lists.proofs.Rising.{rising_some}
 use Rattle.std.proofs.Common.{subst}
 use Rattle.shift_data.specs.Moves.{IsLawful}
-use Rattle.table_update.specs.Coalesced.{Follow}
-use Rattle.tick_laws.specs.Checked.{keys_after}
-use Rattle.tick_laws.proofs.Blocks.{block_checked}
 use Rattle.tick_model.specs.declared.feed.Block.{Block}
 use Rattle.tick_model.specs.Sources.{IsBlock, block_fault, carry_on, update_of}
 use Rattle.tick_model.specs.Tables.{keys}
@@ -14,17 +11,16 @@ use Rattle.tick_model.specs.Updates.{new_keys}
 use Rattle.source_changes.specs.Blocks.{IsReadable}
 use Rattle.source_changes.specs.Faults.{keys_fault}
 use Rattle.source_changes.specs.Stepping.{IsStepping, Stands, Stepping, stepped, ticked}
-use Rattle.source_changes.proofs.Carrying.{carried_keys}
 use Rattle.source_changes.proofs.Faulted.{block_keys_fault}
 use Rattle.source_changes.proofs.Gathered.{ranges_rise}
-use Rattle.source_changes.proofs.Standing.{follow, stands_on, told_moves}
+use Rattle.source_changes.proofs.Standing.{stands_on, told_moves}
 use Rattle.source_changes.proofs.Ticked.{stepping, tick_is}
 
 module _ (step : Stepping) (h : IsStepping step) (block : Block) (r : IsReadable block) (l : IsBlock step.old.width block) where
   pub same_fault : keys_fault (keys (ticked step).new.rows) (update_of block) ≡ block_fault (ticked step).new block
   same_fault = block_keys_fault (ticked step).new block l.rising_added
 
-  pub keys_rise : IsRising (keys (ticked step).new.rows)
+  keys_rise : IsRising (keys (ticked step).new.rows)
   keys_rise = h.is_tick.new_table.rising
 
   removed_rise : IsRising (update_of block).removed
@@ -43,14 +39,8 @@ module _ (step : Stepping) (h : IsStepping step) (block : Block) (r : IsReadable
     pub moves : IsLawful block.shifts (without (update_of block).removed (keys step.told))
     moves = told_moves (ticked step) step h block l unbroken removed_rise h.is_tick.old_table.rising added_rise
 
-    pub follows : Follow (keys step.old.rows) step.update (update_of block)
-    follows = follow (ticked step) step h block l unbroken removed_rise h.is_tick.old_table.rising added_rise
-
     pub steps_on : IsStepping (stepped step block)
     steps_on = stepping (carry_on (ticked step) block) (stepped step block) stands
 
     pub ticks_on : ticked (stepped step block) ≡ carry_on (ticked step) block
     ticks_on = sym (tick_is (carry_on (ticked step) block) (stepped step block) stands)
-
-    pub keys_on : keys_after (keys (ticked step).new.rows) (update_of block) ≡ keys (carry_on (ticked step) block).new.rows
-    keys_on = sym (carried_keys (ticked step).new block (block_checked (ticked step).new block unbroken l.rising_added))

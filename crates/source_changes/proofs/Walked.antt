@@ -1,11 +1,9 @@
 -- The blocks of a batch, one after the other, over the steps of all sources.
-use Rattle.std.proofs.Common.{◌≡◌, refl, ap, ap₂, sym, ◌∙◌, subst, ℕ, zero, suc, ◌<◌, ◌≤◌, ◌^◌, arith, List, [], ◌∷◌, ◌++◌, map, length, get_or, set, None, lit≤, take, drop, add-one, ◌+◌}
-use Rattle.std.proofs.Math.Seq.{take-suc}
-use Rattle.std.proofs.Math.ListN.{drop_of_length-le}
-use Rattle.std.proofs.lemmas.List.{append-nil, drop_more, length-map, map-append}
+use Rattle.std.proofs.Common.{◌≡◌, refl, ap, sym, ◌∙◌, subst, ℕ, zero, suc, ◌<◌, ◌≤◌, ◌^◌, arith, List, [], ◌∷◌, ◌++◌, map, length, get_or, set, None, lit≤, drop, ◌+◌}
 use Rattle.std.specs.List.{AllByRecursion}
 use Rattle.std.specs.Option.{option_or}
-use Rattle.key_lists.proofs.Every.{every_weaker, every-map, map_map}
+use Rattle.std.proofs.lemmas.List.{drop_more}
+use Rattle.key_lists.proofs.Every.{every_weaker, every-map}
 use Rattle.tick_laws.specs.Bounded.{AreSourceTables}
 use Rattle.tick_laws.proofs.Blocks.{block_checked, block_told}
 use Rattle.tick_laws.proofs.CheckedUpdates.{keys-carry, keys_after-below}
@@ -20,12 +18,12 @@ use Rattle.tick_model.specs.declared.table.PlainTable.{PlainTable}
 use Rattle.tick_model.specs.Evaluation.{source_number}
 use Rattle.tick_model.specs.LawfulRuns.{IsLawfulBlock, IsSourceRow, sources_of}
 use Rattle.tick_model.specs.Plans.{columns_at}
-use Rattle.tick_model.specs.Sources.{IsBlock, after_block, after_blocks, block_fault, blocks_fault, carry_on, carried, no_tick, tick_at, unchanged, update_of}
+use Rattle.tick_model.specs.Sources.{IsBlock, after_block, after_blocks, block_fault, blocks_fault, carry_on, carried, no_tick, tick_at, update_of}
 use Rattle.tick_model.specs.Tables.{IsRow, keys}
 use Rattle.tick_model.specs.Updates.{Tick}
-use Rattle.source_changes.specs.Blocks.{IsReadable}
-use Rattle.source_changes.specs.declared.faults.BatchFault.{BatchFault}
 use Rattle.source_changes.specs.declared.faults.BatchFault.TheVariants.{Memory, Rule}
+use Rattle.source_changes.specs.declared.faults.BatchFault.{BatchFault}
+use Rattle.source_changes.specs.Blocks.{IsReadable}
 use Rattle.source_changes.specs.Faults.{IsFault, record_fault}
 use Rattle.source_changes.specs.Stepping.{IsStepping, Stepping, ticked}
 use Rattle.source_changes.proofs.Gathered.{every_at}
@@ -169,49 +167,28 @@ module _ (plan : Plan) (steps : List Stepping) (block : Block) (step : Stepping)
           below = subst (λ (tick : Tick). AllByRecursion (λ key. key < 2 ^ 40) (keys tick.new.rows)) (sym on) (stays_below plan texts block l (ticked step).new fine);
         })
 
-    pub keys_on : (sets : List (List ℕ)) (set_new : List ℕ) → sets ≡ map (λ (s : Stepping). keys (ticked s).new.rows) steps → set_new ≡ keys (carry_on (ticked step) block).new.rows
-        → set sets at set_new ≡ map (λ (s : Stepping). keys (ticked s).new.rows) (set steps at new)
-    keys_on sets set_new e f =
-        ap₂ (λ (a : List (List ℕ)) (b : List ℕ). set a at b) e (f ∙ ap (λ (tick : Tick). keys tick.new.rows) (sym on))
-        ∙ sym (map-set (λ (s : Stepping). keys (ticked s).new.rows) steps at new)
-
--- one more element of a list that is gone through
-pub map_more : {X Y Z : Type 0} (g : Y → Z) (f : X → Y) (xs : List X) (i : ℕ) (x : X) → x ≡ get_or xs i x → i < length xs → map g (map f (take i xs)) ++ g (f x) ∷ [] ≡ map g (map f (take (i + 1) xs))
-map_more g f xs i x is less =
-    ap (λ x. map g (map f (take i xs)) ++ g (f x) ∷ []) is
-    ∙ sym (ap (λ some. map g (map f some)) (ap (λ n. take n xs) (add-one i) ∙ take-suc xs i x less)
-    ∙ ap (map g) (map-append f (take i xs) (get_or xs i x ∷ []))
-    ∙ map-append g (map f (take i xs)) (f (get_or xs i x) ∷ []))
-
 get_same : {X : Type 0} (xs : List X) (i : ℕ) (d e : X) → i < length xs → get_or xs i d ≡ get_or xs i e
 get_same [] i d e less = absurd (omega (arith, less))
 get_same (x ∷ xs) zero d e less = refl
 get_same (x ∷ xs) (suc i) d e less = get_same xs i d e (omega (arith, less))
 
-abbrev pub keys_of_step : Stepping → List ℕ
-keys_of_step step = keys (ticked step).new.rows
-
--- where its node, its keys and its step are
+-- where its node and its step are
 pub node_at : (plan : Plan) (texts : ℕ) (blocks : List Block) (i : ℕ) (block : Block) → AllByRecursion (IsLawfulBlock plan texts) blocks → block ≡ get_or blocks i block → i < length blocks → block.table < length plan.nodes
 node_at plan texts blocks i block lawful is less = node_there plan texts block (subst (IsLawfulBlock plan texts) (sym is) (every_at (IsLawfulBlock plan texts) blocks i block lawful less))
 
-pub steps_in : (plan : Plan) (texts : ℕ) (blocks : List Block) (i : ℕ) (block : Block) (steps : List Stepping) (sets : List (List ℕ)) (p : ℕ) → AllByRecursion (IsLawfulBlock plan texts) blocks → block ≡ get_or blocks i block → i < length blocks
-    → AreSources (sources_of plan.nodes) steps → sets ≡ map keys_of_step steps → p ≡ source_number plan.nodes block.table → p < length steps
-steps_in plan texts blocks i block steps sets p lawful is less h k here =
+pub readable_at : (plan : Plan) (texts : ℕ) (blocks : List Block) (i : ℕ) (block : Block) → AllByRecursion (IsLawfulBlock plan texts) blocks → block ≡ get_or blocks i block → i < length blocks → IsReadable block
+readable_at plan texts blocks i block lawful is less = readable plan texts block (subst (IsLawfulBlock plan texts) (sym is) (every_at (IsLawfulBlock plan texts) blocks i block lawful less))
+
+pub steps_in : (plan : Plan) (texts : ℕ) (blocks : List Block) (i : ℕ) (block : Block) (steps : List Stepping) (p : ℕ) → AllByRecursion (IsLawfulBlock plan texts) blocks → block ≡ get_or blocks i block → i < length blocks
+    → AreSources (sources_of plan.nodes) steps → p ≡ source_number plan.nodes block.table → p < length steps
+steps_in plan texts blocks i block steps p lawful is less h here =
     let there = source_is_there plan texts block (subst (IsLawfulBlock plan texts) (sym is) (every_at (IsLawfulBlock plan texts) blocks i block lawful less)) in
     let count = count_is (sources_of plan.nodes) steps h in
     omega (arith, count, there, here)
 
-pub sets_in : (plan : Plan) (texts : ℕ) (blocks : List Block) (i : ℕ) (block : Block) (steps : List Stepping) (sets : List (List ℕ)) (p : ℕ) → AllByRecursion (IsLawfulBlock plan texts) blocks → block ≡ get_or blocks i block → i < length blocks
-    → AreSources (sources_of plan.nodes) steps → sets ≡ map keys_of_step steps → p ≡ source_number plan.nodes block.table → p < length sets
-sets_in plan texts blocks i block steps sets p lawful is less h k here =
-    let there = steps_in plan texts blocks i block steps sets p lawful is less h k here in
-    let count = ap length k ∙ length-map steps keys_of_step in
-    omega (arith, count, there)
-
 -- the block at an index, and the step of its source
-module _ (plan : Plan) (texts : ℕ) (blocks : List Block) (i : ℕ) (block : Block) (steps : List Stepping) (sets : List (List ℕ)) (d : Stepping) (e : List ℕ) (p : ℕ)
-    (lawful : AllByRecursion (IsLawfulBlock plan texts) blocks) (is : block ≡ get_or blocks i block) (less : i < length blocks) (h : AreSources (sources_of plan.nodes) steps) (k : sets ≡ map keys_of_step steps) (here : p ≡ source_number plan.nodes block.table) where
+module _ (plan : Plan) (texts : ℕ) (blocks : List Block) (i : ℕ) (block : Block) (steps : List Stepping) (d : Stepping) (p : ℕ)
+    (lawful : AllByRecursion (IsLawfulBlock plan texts) blocks) (is : block ≡ get_or blocks i block) (less : i < length blocks) (h : AreSources (sources_of plan.nodes) steps) (here : p ≡ source_number plan.nodes block.table) where
   abbrev step_at : Stepping
   step_at = get_or steps p d
 
@@ -219,22 +196,13 @@ module _ (plan : Plan) (texts : ℕ) (blocks : List Block) (i : ℕ) (block : Bl
   l = subst (IsLawfulBlock plan texts) (sym is) (every_at (IsLawfulBlock plan texts) blocks i block lawful less)
 
   pub steps_bound : p < length steps
-  steps_bound = steps_in plan texts blocks i block steps sets p lawful is less h k here
+  steps_bound = steps_in plan texts blocks i block steps p lawful is less h here
 
   source_here : IsSource (get_or (sources_of plan.nodes) p no_node) step_at
   source_here = source_at (sources_of plan.nodes) steps p d h (let there = source_is_there plan texts block l in omega (arith, there, here))
 
-  pub stepping_at : IsStepping step_at
-  stepping_at = source_here.stepping
-
-  pub keys_at : get_or sets p e ≡ keys_of_step step_at
-  keys_at = ap (λ (all : List (List ℕ)). get_or all p e) k ∙ get-map keys_of_step steps p d e steps_bound
-
-  pub below_at : AllByRecursion (λ key. key < 2 ^ 40) (get_or sets p e)
-  below_at = subst (AllByRecursion (λ key. key < 2 ^ 40)) (sym keys_at) source_here.below
-
-  pub readable_at : IsReadable block
-  readable_at = readable plan texts block l
+  pub below_at : AllByRecursion (λ key. key < 2 ^ 40) (keys (ticked step_at).new.rows)
+  below_at = source_here.below
 
   pub whole_at : IsBlock step_at.old.width block
   whole_at = subst (λ width. IsBlock width block) (ap (λ q. length (get_or (sources_of plan.nodes) q no_node).columns) (sym here) ∙ sym source_here.width_is) (is_block plan texts block l)
@@ -255,9 +223,6 @@ module _ (plan : Plan) (texts : ℕ) (blocks : List Block) (i : ℕ) (block : Bl
     pub sources_next : AreSources (sources_of plan.nodes) (set steps p new)
     sources_next = subst (λ q. AreSources (sources_of plan.nodes) (set steps q new)) (sym here) (source_on plan steps block step_at new place_in is_step on texts l h stepping fine)
 
-    pub keys_next : (set_new : List ℕ) → set_new ≡ keys (carry_on (ticked step_at) block).new.rows → set sets p set_new ≡ map keys_of_step (set steps p new)
-    keys_next set_new f = subst (λ q. set sets q set_new ≡ map keys_of_step (set steps q new)) (sym here) (keys_on plan steps block step_at new place_in is_step on sets set_new k f)
-
     pub ticks_next : after_blocks plan (map ticked (set steps p new)) (drop (i + 1) blocks) ≡ after_blocks plan (map ticked steps) (drop i blocks)
     ticks_next =
         sym (ap (after_blocks plan (map ticked steps)) seam
@@ -269,25 +234,3 @@ module _ (plan : Plan) (texts : ℕ) (blocks : List Block) (i : ℕ) (block : Bl
         sym (ap (blocks_fault plan (map ticked steps)) seam
         ∙ fault_goes_on plan steps block step_at new place_in is_step on fine (drop (i + 1) blocks)
         ∙ ap (λ q. blocks_fault plan (map ticked (set steps q new)) (drop (i + 1) blocks)) (sym here))
-
--- before the first block
-pub news_are : {T : Type 0} (f : T → PlainTable) (tables : List T) (steps : List Stepping) → map ticked steps ≡ map (λ table. unchanged (f table)) tables → map (λ step. (ticked step).new) steps ≡ map f tables
-news_are f tables steps e = sym (map_map (λ (tick : Tick). tick.new) ticked steps) ∙ ap (map (λ (tick : Tick). tick.new)) e ∙ map_map (λ (tick : Tick). tick.new) (λ table. unchanged (f table)) tables
-
-pub keys_are : {T : Type 0} (f : T → PlainTable) (tables : List T) (steps : List Stepping) → map ticked steps ≡ map (λ table. unchanged (f table)) tables → map keys_of_step steps ≡ map (λ table. keys (f table).rows) tables
-keys_are f tables steps e = sym (map_map (λ (tick : Tick). keys tick.new.rows) ticked steps) ∙ ap (map (λ (tick : Tick). keys tick.new.rows)) e ∙ map_map (λ (tick : Tick). keys tick.new.rows) (λ table. unchanged (f table)) tables
-
-pub keys_through : (steps : List Stepping) → map keys_of_step steps ≡ map (λ tick. keys tick.new.rows) (map ticked steps)
-keys_through steps = sym (map_map (λ (tick : Tick). keys tick.new.rows) ticked steps)
-
--- a list that was written over as a whole
-pub whole : {X : Type 0} (n : ℕ) (new items : List X) → length new ≡ length items → n ≡ length items → take n (new ++ drop (length new) items) ≡ new
-whole {X = X} n new items same len =
-    ap₂ (λ (n k : ℕ). take n (new ++ drop k items)) (len ∙ sym same) same
-    ∙ ap (λ rest. take (length new) (new ++ rest)) (drop_of_length-le items (let all : length items ≤ length items = omega arith in all))
-    ∙ ap (take (length new)) (append-nil new)
-    ∙ take_all new
-  where
-    take_all : (xs : List X) → take (length xs) xs ≡ xs
-    take_all [] = refl
-    take_all (x ∷ xs) = ap (λ rest. x ∷ rest) (take_all xs)

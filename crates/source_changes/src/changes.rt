@@ -4,7 +4,8 @@ ghost use Rattle.std.specs.Prelude.{◌≡◌, ℕ, ◌+◌, ◌<◌, ◌≤◌,
 ghost use Rattle.std.specs.List.{AllByRecursion};
 ghost use Rattle.source_changes.specs.Faults.{IsFault};
 ghost use Rattle.source_changes.specs.Openings.{IsOpenedTable};
-ghost use Rattle.source_changes.specs.Stepping.{IsStepping, ticked};
+ghost use Rattle.source_changes.specs.Stepping.{ticked};
+ghost use Rattle.source_changes.specs.Taking.{IsTaking, taking};
 ghost use Rattle.tick_laws.specs.Bounded.{AreSourceTables};
 ghost use Rattle.tick_model.specs.Changes.{change_of};
 ghost use Rattle.tick_model.specs.Evaluation.{source_number};
@@ -14,10 +15,11 @@ ghost use Rattle.tick_model.specs.Tables.{keys};
 
 use crate::faults::BatchFault;
 use crate::opening::first_keys;
-use crate::steps::SourceStep;
+use crate::taking::{ClosedSource, TakenBlocks};
 use row_set::RowSet;
 use std::alloc::{AllocError, Global};
 use std::marker::Model;
+use std::mem;
 use tick_model::feed::{Batch, Block};
 use tick_model::items::Items;
 use tick_model::plan::{Node, Plan};
@@ -48,31 +50,45 @@ fn place_of(nodes: &[Node], node: u32) -> usize
     before.iter().filter(|node| is_source(node)).count()
 }
 
-/// The sources before the first block of a step.
+/// The sources before the first block of a step, whose keys these are.
 fn unchanged_steps<'t, 'b>(
     alloc: Global,
     tables: &[&'t TickTable],
-) -> Result<Vec<SourceStep<'t, 'b>>, AllocError>
-    ensures stepping { IfOk result (λ steps. AllByRecursion IsStepping steps.items) }
-    ensures ticks { IfOk result (λ steps. map ticked steps.items ≡ map (λ table. unchanged table.now.new) tables.now) }
+    sets: Vec<RowSet>,
+) -> Result<Vec<TakenBlocks<'t, 'b>>, AllocError>
+    requires { sets.items ≡ map (λ table. keys table.now.new.rows) tables.now }
+    ensures taking { IfOk result (λ steps. AllByRecursion IsTaking steps.items) }
+    ensures ticks { IfOk result (λ steps. map (λ step. ticked (taking step)) steps.items ≡ map (λ table. unchanged table.now.new) tables.now) }
 {
     let mut steps = Vec::with_capacity(alloc, tables.len())?;
-    for table in tables {
-        steps.push(SourceStep::new(alloc, table))?;
+    for keys in sets {
+        let table = tables[steps.len()];
+        steps.push(TakenBlocks::new(alloc, table, keys))?;
     }
     Ok(steps)
 }
 
-/// The changes of the sources.
-fn changes_of(alloc: Global, steps: &[SourceStep<'_, '_>]) -> Result<Vec<Change>, AllocError>
-    requires { AllByRecursion IsStepping steps.now }
-    ensures { IfOk result (λ changes. changes.items ≡ map change_of (map ticked steps.now)) }
+/// The changes of the sources, and the keys that they have then.
+#[derive(Drop)]
+struct Closed {
+    changes: Vec<Change>,
+    sets: Vec<RowSet>,
+}
+
+/// The changes of the sources, when all blocks are taken, and their keys.
+fn close_steps(alloc: Global, steps: Vec<TakenBlocks<'_, '_>>) -> Result<Closed, AllocError>
+    requires { AllByRecursion IsTaking steps.items }
+    ensures changes { IfOk result (λ closed. closed.changes.items ≡ map (λ step. change_of (ticked (taking step))) steps.entry.items) }
+    ensures keys { IfOk result (λ closed. closed.sets.items ≡ map (λ step. keys (ticked (taking step)).new.rows) steps.entry.items) }
 {
     let mut changes = Vec::with_capacity(alloc, steps.len())?;
+    let mut sets = Vec::with_capacity(alloc, steps.len())?;
     for step in steps {
-        changes.push(step.change(alloc)?)?;
+        let ClosedSource { change, keys } = step.close(alloc)?;
+        changes.push(change)?;
+        sets.push(keys)?;
     }
-    Ok(changes)
+    Ok(Closed { changes, sets })
 }
 
 /// Takes the blocks of a batch, in the order of the feed.
@@ -80,24 +96,19 @@ fn take_blocks<'t, 'b>(
     alloc: Global,
     plan: &Plan,
     blocks: &'b [Block],
-    sets: &mut [RowSet],
-    steps: &mut [SourceStep<'t, 'b>],
+    steps: &mut [TakenBlocks<'t, 'b>],
 ) -> Result<(), BatchFault>
     requires blocks { (texts : ℕ) × AllByRecursion (IsLawfulBlock plan.now texts) blocks.now }
-    requires stepping { AllByRecursion IsStepping steps.old }
-    requires tables { AreSourceTables (sources_of plan.now.nodes) (map (λ step. (ticked step).new) steps.old) }
-    requires keys { sets.old ≡ map (λ step. keys (ticked step).new.rows) steps.old }
-    ensures lawful { OnOk result (blocks_fault plan.now (map ticked steps.old) blocks.now ≡ None) }
-    ensures stepping { OnOk result (AllByRecursion IsStepping steps.new) }
-    ensures ticks { OnOk result (map ticked steps.new ≡ after_blocks plan.now (map ticked steps.old) blocks.now) }
-    ensures keys { OnOk result (sets.new ≡ map (λ step. keys (ticked step).new.rows) steps.new) }
-    ensures cause { IfErr result (IsFault (blocks_fault plan.now (map ticked steps.old) blocks.now)) }
+    requires taking { AllByRecursion IsTaking steps.old }
+    requires tables { AreSourceTables (sources_of plan.now.nodes) (map (λ step. (ticked (taking step)).new) steps.old) }
+    ensures lawful { OnOk result (blocks_fault plan.now (map (λ step. ticked (taking step)) steps.old) blocks.now ≡ None) }
+    ensures taking { OnOk result (AllByRecursion IsTaking steps.new) }
+    ensures ticks { OnOk result (map (λ step. ticked (taking step)) steps.new ≡ after_blocks plan.now (map (λ step. ticked (taking step)) steps.old) blocks.now) }
+    ensures cause { IfErr result (IsFault (blocks_fault plan.now (map (λ step. ticked (taking step)) steps.old) blocks.now)) }
 {
     for block in blocks {
         let place = place_of(plan.nodes.as_slice(), block.table);
-        let keys = &mut sets[place];
-        let step = &mut steps[place];
-        match step.take(alloc, keys, block) {
+        match steps[place].take(alloc, block) {
             Ok(()) => {}
             Err(fault) => return Err(fault),
         }
@@ -135,15 +146,11 @@ impl SourceKeys {
         ensures keys { OnOk result (self.new ≡ map (λ tick. keys tick.new.rows) (after_blocks plan.now (map (λ table. unchanged table.now.new) tables.now) batch.now.blocks)) }
         ensures cause { IfErr result (IsFault (blocks_fault plan.now (map (λ table. unchanged table.now.new) tables.now) batch.now.blocks)) }
     {
-        let mut steps = unchanged_steps(alloc, tables)?;
-        take_blocks(
-            alloc,
-            plan,
-            batch.blocks.as_slice(),
-            &mut self.sets,
-            &mut steps,
-        )?;
-        let changes = changes_of(alloc, &steps)?;
+        let sets = mem::replace(&mut self.sets, Vec::new(alloc));
+        let mut steps = unchanged_steps(alloc, tables, sets)?;
+        take_blocks(alloc, plan, batch.blocks.as_slice(), &mut steps)?;
+        let Closed { changes, sets } = close_steps(alloc, steps)?;
+        self.sets = sets;
         Ok(changes)
     }
 }

@@ -2,17 +2,21 @@
 //!
 //! The blocks of a batch are taken in the order of the feed. Each is checked on the keys that the blocks before it have left
 //! of its source (`SourceKeys`, which keeps the keys of every source through the steps). What the blocks of one source have
-//! changed so far is kept as one update and the rows that they told (`SourceStep`); the change of the source is made of it
-//! once, when all blocks are taken. A step costs the records of its batch, and never the rows of a table.
+//! changed so far is gathered to one update (`Gathered`) and the rows that they told (`ToldRows`); the change of the source is
+//! made of it once, when all blocks are taken (`SourceStep`). A step costs the records of its batch, and never the rows of a
+//! table: many blocks of one source that move no row cost little more than one with all their records.
 #![tactic(auto)]
 
 mod blocks;
 mod changes;
+mod checks;
 mod faults;
+mod gathering;
 mod opening;
 mod records;
 mod rows;
 mod steps;
+mod taking;
 mod told;
 
 pub use changes::SourceKeys;

@@ -1,34 +1,23 @@
-//! A source through the blocks of a step.
+//! A source after the blocks of a step, whose rows are read.
 
-ghost use Rattle.std.specs.Prelude.{◌≡◌, ◌^◌, ◌<◌, None, option_map, IfErr, IfOk, OnOk};
-ghost use Rattle.std.specs.List.{AllByRecursion};
+ghost use Rattle.std.specs.Prelude.{◌≡◌, ◌^◌, ◌<◌, option_map, IfOk};
 ghost use Rattle.key_lists.specs.Keys.{without};
-ghost use Rattle.shift_data.specs.Moves.{IsLawful, canonical};
-ghost use Rattle.source_changes.specs.Blocks.{IsReadable};
-ghost use Rattle.source_changes.specs.Faults.{IsFault, IsKeysBelow, keys_fault, record_fault};
-ghost use Rattle.source_changes.specs.Stepping.{IsStepping, first_update as first_said, key_before as key_of_before, stepped, ticked, touched_by, update_after as update_said_after};
-ghost use Rattle.table_update.specs.Coalesced.{Follow};
-ghost use Rattle.tick_laws.specs.Checked.{keys_after};
+ghost use Rattle.shift_data.specs.Moves.{IsLawful};
+ghost use Rattle.source_changes.specs.Stepping.{IsStepping, key_before as key_of_before, ticked, touched_by};
 ghost use Rattle.tick_model.specs.Changes.{change_of};
-ghost use Rattle.tick_model.specs.Sources.{block_fault, carry_on, unchanged, update_of as update_said, IsBlock};
 ghost use Rattle.tick_model.specs.Tables.{keys as table_keys, row_at};
 
-use crate::blocks::{bring_on, update_of};
-use crate::faults::{BatchFault, KeyFault};
-use crate::records::record_of;
 use crate::told::ToldRows;
 use row_changes::{Touched, change_of_touched};
 use row_set::RowSet;
 use std::alloc::{AllocError, Global};
 use std::marker::{Brand, Model};
-use std::mem;
 use std::sync::ledger::{Blank, Ledger};
 use table_update::Update;
-use tick_model::feed::Block;
 use tick_table::{Change, Steps, TickTable};
 
-/// What the blocks of a step have changed of a source so far. A contract sees the table before the step, the update of all
-/// blocks so far, and the rows that they told.
+/// What the blocks of a step have changed of a source. A contract sees the table before the step, the update of all blocks,
+/// and the rows that they told.
 #[derive(Drop)]
 pub(crate) struct SourceStep<'t, 'b> {
     table: &'t TickTable,
@@ -45,16 +34,20 @@ impl<'t, 'b> Model for SourceStep<'t, 'b> {
 }
 
 impl<'t, 'b> SourceStep<'t, 'b> {
-    /// A source that no block has changed.
-    pub(crate) fn new(alloc: Global, table: &'t TickTable) -> SourceStep<'t, 'b>
-        ensures stepping { IsStepping result }
-        ensures tick { ticked result ≡ unchanged table.now.new }
+    /// A source after the blocks of a step, with the update that they make of its table and the rows that they told.
+    pub(crate) fn new(
+        table: &'t TickTable,
+        update: Update,
+        told: ToldRows<'b>,
+    ) -> SourceStep<'t, 'b>
+        ensures old { result.old ≡ table.now.new }
+        ensures update { result.update ≡ update }
+        ensures told { result.told ≡ told.entry }
     {
-        let _rows = table.rows();
         SourceStep {
             table,
-            update: Update::none(alloc),
-            told: ToldRows::new(alloc),
+            update,
+            told,
         }
     }
 
@@ -85,48 +78,6 @@ impl<'t, 'b> SourceStep<'t, 'b> {
         let shifted = self.update.shifted();
         let before = shifted.unapply_without(rows, removed, &here)?;
         Ok(before.first())
-    }
-
-    /// Takes the next block of the source, whose keys now these are. After a refusal the source and its keys are to be given
-    /// up.
-    pub(crate) fn take(
-        &mut self,
-        alloc: Global,
-        keys: &mut RowSet,
-        block: &'b Block,
-    ) -> Result<(), BatchFault>
-        requires stepping { IsStepping self.old }
-        requires keys { keys.old ≡ table_keys (ticked self.old).new.rows }
-        requires below { AllByRecursion (λ key. key < 2 ^ 40) keys.old }
-        requires readable { IsReadable block.now }
-        requires whole { IsBlock self.old.old.width block.now }
-        ensures lawful { OnOk result (block_fault (ticked self.old).new block.now ≡ None) }
-        ensures stepping { OnOk result (IsStepping self.new) }
-        ensures tick { OnOk result (ticked self.new ≡ carry_on (ticked self.old) block.now) }
-        ensures keys { OnOk result (keys.new ≡ table_keys (carry_on (ticked self.old) block.now).new.rows) }
-        ensures cause { IfErr result (IsFault (record_fault block.now (block_fault (ticked self.old).new block.now))) }
-    {
-        let next = update_of(alloc, block)?;
-        match check(keys, &next, block) {
-            Ok(()) => {}
-            Err(fault) => return Err(fault),
-        }
-        self.go_on(alloc, next, block)?;
-        Ok(())
-    }
-
-    /// The step after a block, whose update this is.
-    fn go_on(&mut self, alloc: Global, next: Update, block: &'b Block) -> Result<(), AllocError>
-        requires next { next ≡ update_said block.now }
-        requires lawful { IsLawful block.now.shifts (without (update_said block.now).removed (table_keys self.old.told)) }
-        requires follow { Follow (table_keys self.old.old.rows) self.old.update next }
-        ensures { OnOk result (self.new ≡ stepped self.old block.now) }
-    {
-        self.told.tell(alloc, &next, block)?;
-        let update = mem::replace(&mut self.update, Update::none(alloc));
-        let after = update_after(update, next, self.table.rows())?;
-        self.update = after;
-        Ok(())
     }
 
     /// The change of the source.
@@ -171,57 +122,4 @@ impl<'t, 'b> SourceStep<'t, 'b> {
             compared_now,
         })
     }
-}
-
-/// Makes the keys of a source those that it has after a block, which is checked on them.
-fn check(keys: &mut RowSet, update: &Update, block: &Block) -> Result<(), BatchFault>
-    requires update { update.now ≡ update_said block.now }
-    requires readable { IsReadable block.now }
-    requires small { IsKeysBelow (2 ^ 40) keys.old }
-    ensures lawful { OnOk result (keys_fault keys.old update.now ≡ None) }
-    ensures keys { OnOk result (keys.new ≡ keys_after keys.old update.now) }
-    ensures cause { IfErr result (IsFault (record_fault block.now (keys_fault keys.old update.now))) }
-{
-    match bring_on(keys, update) {
-        Ok(()) => Ok(()),
-        Err(KeyFault::Memory) => Err(BatchFault::Memory),
-        Err(KeyFault::Broken(rule)) => Err(BatchFault::Rule {
-            number: record_of(block, rule),
-            rule,
-        }),
-    }
-}
-
-/// The update of a table with the old keys after the next one.
-fn update_after(update: Update, next: Update, old: &RowSet) -> Result<Update, AllocError>
-    requires { Follow old.now update next }
-    ensures { IfOk result (λ after. after ≡ update_said_after old.now update next) }
-{
-    if update.is_empty() {
-        first_update(next, old)
-    } else {
-        update.coalesce(&next, old)
-    }
-}
-
-/// The first update of a step that changes a table at all.
-fn first_update(next: Update, old: &RowSet) -> Result<Update, AllocError>
-    requires { IsLawful next.shifted (without next.removed old.now) }
-    ensures { IfOk result (λ first. first ≡ first_said old.now next) }
-{
-    let longest = next.shifted().canonical_without(old, next.removed())?;
-    let Update {
-        removed,
-        added,
-        modified,
-        shifted: _,
-        columns,
-    } = next;
-    Ok(Update {
-        removed,
-        added,
-        modified,
-        shifted: longest,
-        columns,
-    })
 }

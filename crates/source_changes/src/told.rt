@@ -1,19 +1,23 @@
 //! The rows that the blocks of a step have told of a source, under the keys that they have now.
 
-ghost use Rattle.std.specs.Prelude.{◌≡◌, ◌+◌, ◌^◌, ◌<◌, [], length, map, option_map, pos, ◌≤ℤ◌, OnOk};
+ghost use Rattle.std.specs.Prelude.{◌≡◌, ◌^◌, ◌<◌, ◌≤◌, false, true, not, [], filter, map, option_map, IfNone, IfOk, IfSome, IsSome, OnOk};
+ghost use Rattle.std.specs.BTreeMap.{get};
 ghost use Rattle.std.specs.List.{AllByRecursion};
-ghost use Rattle.key_lists.specs.Keys.{without};
+ghost use Rattle.std.specs.Map.{keys_of as map_keys};
+ghost use Rattle.std.specs.Ordering.{nat_cmp};
+ghost use Rattle.key_lists.specs.Keys.{is_among, without};
+ghost use Rattle.row_set.specs.Ranges.{holds, keys_of};
 ghost use Rattle.shift_data.specs.Moves.{IsLawful};
-ghost use Rattle.source_changes.specs.Stepping.{put_row, put_rows, told_after};
-ghost use Rattle.source_changes.specs.Told.{AreNumbered, told_rows};
+ghost use Rattle.source_changes.specs.Stepping.{put_rows, told_after};
+ghost use Rattle.source_changes.specs.Told.{told_row};
 ghost use Rattle.tick_model.specs.Sources.{update_of};
 ghost use Rattle.tick_model.specs.Tables.{keys, row_at};
 ghost use Rattle.tick_model.specs.Updates.{removing, shifting};
 
-use column_source::Column;
-use row_set::RowSet;
+use row_set::{Range, RowSet};
 use shift_data::ShiftData;
 use std::alloc::{AllocError, Global};
+use std::collections::BTreeMap;
 use std::marker::Model;
 use std::mem;
 use table_update::Update;
@@ -23,24 +27,18 @@ use tick_model::table::PlainRow;
 /// Rows of blocks, of which the cells are not copied. A contract sees the list of the rows, which rise by key.
 #[derive(Drop)]
 pub(crate) struct ToldRows<'a> {
-    keys: RowSet,
-    /// The number of each row.
-    numbers: Column,
-    /// The cells of each number.
-    cells: Vec<&'a [i64]>,
+    /// The cells of each row under its key.
+    rows: BTreeMap<u64, &'a [i64]>,
 }
 
 impl<'a> Model for ToldRows<'a> {
-    ghost use Rattle.std.specs.Prelude.{◌≡◌, List, length, map};
-    ghost use Rattle.column_source.specs.Entries.{keys_of};
-    ghost use Rattle.source_changes.specs.Told.{AreNumbered, told_rows};
+    ghost use Rattle.std.specs.Prelude.{List, map};
+    ghost use Rattle.source_changes.specs.Told.{told_row};
     ghost use Rattle.tick_model.specs.declared.table.PlainRow.{PlainRow};
 
     ghost Value = { List PlainRow };
 
-    ghost view = { λ told. told_rows (map (λ row. row.now) told.cells.items) told.numbers.now };
-
-    ghost invariant = { λ told. (told.keys ≡ keys_of told.numbers.now) × AreNumbered (length told.cells.items) told.numbers.now };
+    ghost view = { λ told. map told_row told.rows.entries };
 }
 
 impl<'a> ToldRows<'a> {
@@ -49,9 +47,7 @@ impl<'a> ToldRows<'a> {
         ensures { result ≡ [] }
     {
         ToldRows {
-            keys: RowSet::new(alloc),
-            numbers: Column::new(alloc),
-            cells: Vec::new(alloc),
+            rows: BTreeMap::new(alloc),
         }
     }
 
@@ -59,24 +55,14 @@ impl<'a> ToldRows<'a> {
     pub(crate) fn get(&self, key: u64) -> Option<&'a [i64]>
         ensures { option_map (λ cells. cells.now) result ≡ option_map (λ row. row.cells) (row_at key self.now) }
     {
-        if !self.keys.contains(key) {
-            return None;
-        }
-        let number = self.numbers.get(key);
-        Some(self.cells[index_of(number)])
+        self.rows.get(&key).copied()
     }
 
-    /// Takes the rows under these keys away. After a refusal the rows are to be given up.
-    fn remove(&mut self, alloc: Global, removed: &RowSet) -> Result<(), AllocError>
-        ensures { OnOk result (self.new ≡ removing removed.now self.old) }
+    /// Takes the rows under these keys away.
+    fn remove(&mut self, removed: &RowSet)
+        ensures { self.new ≡ removing removed.now self.old }
     {
-        let mut keys = mem::replace(&mut self.keys, RowSet::new(alloc));
-        let mut numbers = mem::replace(&mut self.numbers, Column::new(alloc));
-        keys.remove_all(removed)?;
-        numbers.drop_keys(removed)?;
-        self.keys = keys;
-        self.numbers = numbers;
-        Ok(())
+        remove_ranges(&mut self.rows, removed.ranges());
     }
 
     /// Moves the rows. After a refusal they are to be given up.
@@ -84,29 +70,20 @@ impl<'a> ToldRows<'a> {
         requires { IsLawful shift.now (keys self.old) }
         ensures { OnOk result (self.new ≡ shifting shift.now self.old) }
     {
-        let mut keys = mem::replace(&mut self.keys, RowSet::new(alloc));
-        let mut numbers = mem::replace(&mut self.numbers, Column::new(alloc));
-        shift.apply_in_place(&mut keys)?;
-        numbers.shift(shift)?;
-        self.keys = keys;
-        self.numbers = numbers;
+        if shift.ranges().is_empty() {
+            return Ok(());
+        }
+        let rows = mem::replace(&mut self.rows, BTreeMap::new(alloc));
+        let moved = moved_rows(alloc, rows, shift)?;
+        self.rows = moved;
         Ok(())
     }
 
-    /// Puts rows, whose keys these are, among those that are told. After a refusal they are to be given up.
-    fn put(&mut self, alloc: Global, set: &RowSet, rows: &'a [PlainRow]) -> Result<(), AllocError>
-        requires { set.now ≡ keys rows.now }
+    /// Puts rows among those that are told. After a refusal they are to be given up.
+    fn put(&mut self, rows: &'a [PlainRow]) -> Result<(), AllocError>
         ensures { OnOk result (self.new ≡ put_rows rows.now self.old) }
     {
-        let mut keys = mem::replace(&mut self.keys, RowSet::new(alloc));
-        let mut numbers = mem::replace(&mut self.numbers, Column::new(alloc));
-        let _keys = keys.len();
-        let _set = set.len();
-        keys.insert_all(set)?;
-        number_rows(&mut numbers, &mut self.cells, rows)?;
-        self.keys = keys;
-        self.numbers = numbers;
-        Ok(())
+        put_all(&mut self.rows, rows)
     }
 
     /// Makes the told rows those after a block, whose update this is. After a refusal they are to be given up.
@@ -120,50 +97,69 @@ impl<'a> ToldRows<'a> {
         requires lawful { IsLawful block.now.shifts (without (update_of block.now).removed (keys self.old)) }
         ensures { OnOk result (self.new ≡ told_after self.old block.now) }
     {
-        self.remove(alloc, update.removed())?;
+        self.remove(update.removed());
         self.shift(alloc, update.shifted())?;
-        self.put(alloc, update.added(), block.added.as_slice())?;
-        self.put(alloc, update.modified(), block.modified.as_slice())
+        self.put(block.added.as_slice())?;
+        self.put(block.modified.as_slice())
     }
 }
 
-/// The number of a row as an index.
-fn index_of(number: i64) -> usize
-    requires { pos 0 ≤ℤ number }
-    ensures { pos result ≡ number }
+/// The first told key of a range.
+fn first_told<'a>(rows: &BTreeMap<u64, &'a [i64]>, range: &Range) -> Option<u64>
+    requires { range.now.first ≤ range.now.last }
+    ensures held { IfSome result (λ key. holds key range.now ≡ true) }
+    ensures told { IfSome result (λ key. IsSome (get nat_cmp rows.now key)) }
+    ensures none { IfNone result (AllByRecursion (λ entry. holds entry.0 range.now ≡ false) rows.now.entries) }
 {
-    number as usize
+    match rows.range(range.first..=range.last).next() {
+        Some((key, _)) => Some(*key),
+        None => None,
+    }
 }
 
-/// Puts rows among others, each with a number of its own.
-fn number_rows<'a>(
-    numbers: &mut Column,
-    cells: &mut Vec<&'a [i64]>,
-    rows: &'a [PlainRow],
-) -> Result<(), AllocError>
-    requires small { AllByRecursion (λ key. key < 2 ^ 62) (keys rows.now) }
-    requires numbered { AreNumbered (length cells.old.items) numbers.old.now }
-    ensures numbered { OnOk result (AreNumbered (length cells.new.items) numbers.new.now) }
-    ensures rows { OnOk result (told_rows (map (λ row. row.now) cells.new.items) numbers.new.now ≡ put_rows rows.now (told_rows (map (λ row. row.now) cells.old.items) numbers.old.now)) }
+/// Takes the rows under the keys of a range away, each by a search: the cost is that of the rows that are told there.
+fn remove_range<'a>(rows: &mut BTreeMap<u64, &'a [i64]>, range: &Range)
+    requires { range.now.first ≤ range.now.last }
+    ensures { rows.new.entries ≡ filter (λ entry. not (holds entry.0 range.now)) rows.old.entries }
+{
+    while let Some(key) = first_told(rows, range) {
+        let _cells = rows.remove(&key);
+    }
+}
+
+/// Takes the rows under the keys of ranges away.
+fn remove_ranges<'a>(rows: &mut BTreeMap<u64, &'a [i64]>, ranges: &[Range])
+    requires { AllByRecursion (λ range. range.first ≤ range.last) ranges.now }
+    ensures { rows.new.entries ≡ filter (λ entry. not (is_among entry.0 (keys_of ranges.now))) rows.old.entries }
+{
+    for range in ranges {
+        remove_range(rows, range);
+    }
+}
+
+/// The rows under the keys to which they move.
+fn moved_rows<'a>(
+    alloc: Global,
+    mut rows: BTreeMap<u64, &'a [i64]>,
+    shift: &ShiftData,
+) -> Result<BTreeMap<u64, &'a [i64]>, AllocError>
+    requires small { AllByRecursion (λ key. key < 2 ^ 62) (map_keys rows.entries) }
+    requires lawful { IsLawful shift.now (map_keys rows.entries) }
+    ensures { IfOk result (λ moved. map told_row moved.entries ≡ shifting shift.now (map told_row rows.entry.entries)) }
+{
+    let mut moved = BTreeMap::new(alloc);
+    while let Some((key, cells)) = rows.pop_first() {
+        moved.insert(shift.landing(key), cells)?;
+    }
+    Ok(moved)
+}
+
+/// Puts rows among others.
+fn put_all<'a>(told: &mut BTreeMap<u64, &'a [i64]>, rows: &'a [PlainRow]) -> Result<(), AllocError>
+    ensures { OnOk result (map told_row told.new.entries ≡ put_rows rows.now (map told_row told.old.entries)) }
 {
     for row in rows {
-        number_row(numbers, cells, row)?;
+        told.insert(row.key, row.cells.as_slice())?;
     }
-    Ok(())
-}
-
-/// Puts a row among others, with the next number.
-fn number_row<'a>(
-    numbers: &mut Column,
-    cells: &mut Vec<&'a [i64]>,
-    row: &'a PlainRow,
-) -> Result<(), AllocError>
-    requires small { row.now.key < 2 ^ 62 }
-    requires numbered { AreNumbered (length cells.old.items) numbers.old.now }
-    ensures numbered { OnOk result (AreNumbered (length cells.new.items) numbers.new.now) }
-    ensures rows { OnOk result (told_rows (map (λ row. row.now) cells.new.items) numbers.new.now ≡ put_row row.now (told_rows (map (λ row. row.now) cells.old.items) numbers.old.now)) }
-{
-    numbers.set(row.key, cells.len() as i64)?;
-    cells.push(row.cells.as_slice())?;
     Ok(())
 }

@@ -1,83 +1,94 @@
-use Rattle.std.proofs.Common.{◌≡◌, ap, sym, ◌∙◌, subst, refl, ◌<◌, List, length}
+use Rattle.std.proofs.Common.{◌≡◌, ap, sym, ◌∙◌, subst, ◌<◌, List, length, map}
+use Rattle.std.proofs.Math.ListN.{drop_of_length-le}
+use Rattle.key_lists.proofs.Every.{every_weaker, every-map, map_map}
+use Rattle.tick_laws.specs.Bounded.{AreSourceTables}
 use Rattle.tick_model.specs.declared.plan.Node.{Node}
 use Rattle.tick_model.specs.Evaluation.{source_number}
 use Rattle.tick_model.specs.LawfulRuns.{sources_of}
+use Rattle.tick_model.specs.Sources.{after_blocks, blocks_fault}
+use Rattle.source_changes.specs.declared.taking.TakenBlocks.{TakenBlocks}
 use Rattle.source_changes.specs.Faults.{IsFault}
-use Rattle.source_changes.proofs.Walked.{below_at, each_stepping, fault_at, faults_next, keys_at, keys_next, node_at, readable_at, sets_in, sources_from, sources_next, stepping_at, steps_in, ticks_next, whole_at}
+use Rattle.source_changes.specs.Stepping.{IsStepping, Stepping, ticked}
+use Rattle.source_changes.specs.Taking.{IsTaking, taking}
+use Rattle.source_changes.proofs.Gathered.{every_at}
+use Rattle.source_changes.proofs.Turns.{below_there, bound, every_set, fault_there, faults_follow, sources_follow, steps_in_turn, ticks_follow, whole_there}
+use Rattle.source_changes.proofs.Walked.{node_at, readable_at, sources_from}
 use Rattle.source_changes.proofs.changes.take_blocks.Goals as goal
 
 pub loop-block-init : goal.loop-block-init
-loop-block-init c = record {
-  sources = sources_from (sources_of c.args.plan.now.nodes) c.args.steps.now c.requires.stepping c.requires.tables;
-  keys = c.requires.keys;
-  ticks = refl;
-  faults = refl;
-}
+loop-block-init c =
+    let ticks = map_map ticked taking c.args.steps.now in
+    record {
+      all_taking = c.requires.taking;
+      sources =
+          sources_from (sources_of c.args.plan.now.nodes) (map taking c.args.steps.now)
+          (every-map IsStepping taking c.args.steps.now (every_weaker IsTaking (λ (source : TakenBlocks). IsStepping (taking source)) c.args.steps.now (λ source h. h.stepping) c.requires.taking))
+          (subst (AreSourceTables (sources_of c.args.plan.now.nodes)) (sym (map_map (λ (step : Stepping). (ticked step).new) taking c.args.steps.now)) c.requires.tables);
+      ticks = ap (λ ticks. after_blocks c.args.plan.now ticks c.args.blocks.now) ticks;
+      faults = ap (λ ticks. blocks_fault c.args.plan.now ticks c.args.blocks.now) ticks;
+    }
 
 pub place_of-place-requires : goal.place_of-place-requires
 place_of-place-requires c =
     subst (λ (nodes : List Node). c.block-item.result.table < length nodes) (sym c.as_slice.ensures)
     (node_at c.args.plan.now c.requires.blocks.0 c.args.blocks.now c.loop-block.block-index c.block-item.result c.requires.blocks.1 c.block-item.is c.loop-block-test.true)
 
-pub bounds-sets-place : goal.bounds-sets-place
-bounds-sets-place c =
-    let here : c.place_of-place.result ≡ source_number c.args.plan.now.nodes c.block-item.result.table =
-    c.place_of-place.ensures ∙ ap (λ (nodes : List Node). source_number nodes c.block-item.result.table) c.as_slice.ensures in
-    sets_in c.args.plan.now c.requires.blocks.0 c.args.blocks.now c.loop-block.block-index c.block-item.result c.loop-block.steps c.loop-block.sets c.place_of-place.result c.requires.blocks.1 c.block-item.is c.loop-block-test.true c.loop-block.invariant.sources c.loop-block.invariant.keys here
-
 pub bounds-steps-place : goal.bounds-steps-place
 bounds-steps-place c =
     let here : c.place_of-place.result ≡ source_number c.args.plan.now.nodes c.block-item.result.table =
     c.place_of-place.ensures ∙ ap (λ (nodes : List Node). source_number nodes c.block-item.result.table) c.as_slice.ensures in
-    steps_in c.args.plan.now c.requires.blocks.0 c.args.blocks.now c.loop-block.block-index c.block-item.result c.loop-block.steps c.loop-block.sets c.place_of-place.result c.requires.blocks.1 c.block-item.is c.loop-block-test.true c.loop-block.invariant.sources c.loop-block.invariant.keys here
+    steps_in_turn c.args.plan.now c.requires.blocks.0 c.args.blocks.now c.loop-block.block-index c.block-item.result c.loop-block.steps c.place_of-place.result c.requires.blocks.1 c.block-item.is c.loop-block-test.true c.loop-block.invariant.sources here
 
-pub take-requires-clause-stepping : goal.take-requires-clause-stepping
-take-requires-clause-stepping c =
+pub take-requires-clause-taking : goal.take-requires-clause-taking
+take-requires-clause-taking c =
     let here : c.place_of-place.result ≡ source_number c.args.plan.now.nodes c.block-item.result.table =
     c.place_of-place.ensures ∙ ap (λ (nodes : List Node). source_number nodes c.block-item.result.table) c.as_slice.ensures in
-    stepping_at c.args.plan.now c.requires.blocks.0 c.args.blocks.now c.loop-block.block-index c.block-item.result c.loop-block.steps c.loop-block.sets c.index-steps-place.result c.index-sets-place.result c.place_of-place.result c.requires.blocks.1 c.block-item.is c.loop-block-test.true c.loop-block.invariant.sources c.loop-block.invariant.keys here
-
-pub take-requires-clause-keys : goal.take-requires-clause-keys
-take-requires-clause-keys c =
-    let here : c.place_of-place.result ≡ source_number c.args.plan.now.nodes c.block-item.result.table =
-    c.place_of-place.ensures ∙ ap (λ (nodes : List Node). source_number nodes c.block-item.result.table) c.as_slice.ensures in
-    keys_at c.args.plan.now c.requires.blocks.0 c.args.blocks.now c.loop-block.block-index c.block-item.result c.loop-block.steps c.loop-block.sets c.index-steps-place.result c.index-sets-place.result c.place_of-place.result c.requires.blocks.1 c.block-item.is c.loop-block-test.true c.loop-block.invariant.sources c.loop-block.invariant.keys here
+    every_at IsTaking c.loop-block.steps c.place_of-place.result c.index-steps-place.result c.loop-block.invariant.all_taking (bound c.args.plan.now c.requires.blocks.0 c.args.blocks.now c.loop-block.block-index c.block-item.result c.loop-block.steps c.index-steps-place.result c.place_of-place.result c.requires.blocks.1 c.block-item.is c.loop-block-test.true c.loop-block.invariant.sources here)
 
 pub take-requires-clause-below : goal.take-requires-clause-below
 take-requires-clause-below c =
     let here : c.place_of-place.result ≡ source_number c.args.plan.now.nodes c.block-item.result.table =
     c.place_of-place.ensures ∙ ap (λ (nodes : List Node). source_number nodes c.block-item.result.table) c.as_slice.ensures in
-    below_at c.args.plan.now c.requires.blocks.0 c.args.blocks.now c.loop-block.block-index c.block-item.result c.loop-block.steps c.loop-block.sets c.index-steps-place.result c.index-sets-place.result c.place_of-place.result c.requires.blocks.1 c.block-item.is c.loop-block-test.true c.loop-block.invariant.sources c.loop-block.invariant.keys here
+    below_there c.args.plan.now c.requires.blocks.0 c.args.blocks.now c.loop-block.block-index c.block-item.result c.loop-block.steps c.index-steps-place.result c.place_of-place.result c.requires.blocks.1 c.block-item.is c.loop-block-test.true c.loop-block.invariant.sources here
 
 pub take-requires-clause-readable : goal.take-requires-clause-readable
 take-requires-clause-readable c =
-    let here : c.place_of-place.result ≡ source_number c.args.plan.now.nodes c.block-item.result.table =
-    c.place_of-place.ensures ∙ ap (λ (nodes : List Node). source_number nodes c.block-item.result.table) c.as_slice.ensures in
-    readable_at c.args.plan.now c.requires.blocks.0 c.args.blocks.now c.loop-block.block-index c.block-item.result c.loop-block.steps c.loop-block.sets c.index-steps-place.result c.index-sets-place.result c.place_of-place.result c.requires.blocks.1 c.block-item.is c.loop-block-test.true c.loop-block.invariant.sources c.loop-block.invariant.keys here
+    readable_at c.args.plan.now c.requires.blocks.0 c.args.blocks.now c.loop-block.block-index c.block-item.result c.requires.blocks.1 c.block-item.is c.loop-block-test.true
 
 pub take-requires-clause-whole : goal.take-requires-clause-whole
 take-requires-clause-whole c =
     let here : c.place_of-place.result ≡ source_number c.args.plan.now.nodes c.block-item.result.table =
     c.place_of-place.ensures ∙ ap (λ (nodes : List Node). source_number nodes c.block-item.result.table) c.as_slice.ensures in
-    whole_at c.args.plan.now c.requires.blocks.0 c.args.blocks.now c.loop-block.block-index c.block-item.result c.loop-block.steps c.loop-block.sets c.index-steps-place.result c.index-sets-place.result c.place_of-place.result c.requires.blocks.1 c.block-item.is c.loop-block-test.true c.loop-block.invariant.sources c.loop-block.invariant.keys here
+    whole_there c.args.plan.now c.requires.blocks.0 c.args.blocks.now c.loop-block.block-index c.block-item.result c.loop-block.steps c.index-steps-place.result c.place_of-place.result c.requires.blocks.1 c.block-item.is c.loop-block-test.true c.loop-block.invariant.sources here
 
 pub returns-in-Err-clause-cause : goal.returns-in-Err-clause-cause
 returns-in-Err-clause-cause c =
     let here : c.place_of-place.result ≡ source_number c.args.plan.now.nodes c.block-item.result.table =
     c.place_of-place.ensures ∙ ap (λ (nodes : List Node). source_number nodes c.block-item.result.table) c.as_slice.ensures in
     subst (λ o. IsFault o c.in-Err.fault) c.loop-block.invariant.faults
-    (fault_at c.args.plan.now c.requires.blocks.0 c.args.blocks.now c.loop-block.block-index c.block-item.result c.loop-block.steps c.loop-block.sets c.index-steps-place.result c.index-sets-place.result c.place_of-place.result c.requires.blocks.1 c.block-item.is c.loop-block-test.true c.loop-block.invariant.sources c.loop-block.invariant.keys here c.in-Err.fault c.in-Err.ensures.cause)
+    (fault_there c.args.plan.now c.requires.blocks.0 c.args.blocks.now c.loop-block.block-index c.block-item.result c.loop-block.steps c.index-steps-place.result c.place_of-place.result c.requires.blocks.1 c.block-item.is c.loop-block-test.true c.loop-block.invariant.sources here c.in-Err.fault c.in-Err.ensures.cause)
 
 pub loop-block-preserved : goal.loop-block-preserved
 loop-block-preserved c =
     let here : c.place_of-place.result ≡ source_number c.args.plan.now.nodes c.block-item.result.table =
     c.place_of-place.ensures ∙ ap (λ (nodes : List Node). source_number nodes c.block-item.result.table) c.as_slice.ensures in
     record {
-      sources = sources_next c.args.plan.now c.requires.blocks.0 c.args.blocks.now c.loop-block.block-index c.block-item.result c.loop-block.steps c.loop-block.sets c.index-steps-place.result c.index-sets-place.result c.place_of-place.result c.requires.blocks.1 c.block-item.is c.loop-block-test.true c.loop-block.invariant.sources c.loop-block.invariant.keys here c.take.new.self c.in-Ok.ensures.tick c.in-Ok.ensures.stepping c.in-Ok.ensures.lawful;
-      keys = keys_next c.args.plan.now c.requires.blocks.0 c.args.blocks.now c.loop-block.block-index c.block-item.result c.loop-block.steps c.loop-block.sets c.index-steps-place.result c.index-sets-place.result c.place_of-place.result c.requires.blocks.1 c.block-item.is c.loop-block-test.true c.loop-block.invariant.sources c.loop-block.invariant.keys here c.take.new.self c.in-Ok.ensures.tick c.in-Ok.ensures.stepping c.in-Ok.ensures.lawful c.take.new.keys c.in-Ok.ensures.keys;
-      ticks = ticks_next c.args.plan.now c.requires.blocks.0 c.args.blocks.now c.loop-block.block-index c.block-item.result c.loop-block.steps c.loop-block.sets c.index-steps-place.result c.index-sets-place.result c.place_of-place.result c.requires.blocks.1 c.block-item.is c.loop-block-test.true c.loop-block.invariant.sources c.loop-block.invariant.keys here c.take.new.self c.in-Ok.ensures.tick c.in-Ok.ensures.stepping c.in-Ok.ensures.lawful ∙ c.loop-block.invariant.ticks;
-      faults = faults_next c.args.plan.now c.requires.blocks.0 c.args.blocks.now c.loop-block.block-index c.block-item.result c.loop-block.steps c.loop-block.sets c.index-steps-place.result c.index-sets-place.result c.place_of-place.result c.requires.blocks.1 c.block-item.is c.loop-block-test.true c.loop-block.invariant.sources c.loop-block.invariant.keys here c.take.new.self c.in-Ok.ensures.tick c.in-Ok.ensures.stepping c.in-Ok.ensures.lawful ∙ c.loop-block.invariant.faults;
+      all_taking = every_set IsTaking c.loop-block.steps c.place_of-place.result c.take.new.self c.loop-block.invariant.all_taking c.in-Ok.ensures.taking;
+      sources = sources_follow c.args.plan.now c.requires.blocks.0 c.args.blocks.now c.loop-block.block-index c.block-item.result c.loop-block.steps c.index-steps-place.result c.place_of-place.result c.requires.blocks.1 c.block-item.is c.loop-block-test.true c.loop-block.invariant.sources here c.take.new.self c.in-Ok.ensures.tick c.in-Ok.ensures.taking c.in-Ok.ensures.lawful;
+      ticks = ticks_follow c.args.plan.now c.requires.blocks.0 c.args.blocks.now c.loop-block.block-index c.block-item.result c.loop-block.steps c.index-steps-place.result c.place_of-place.result c.requires.blocks.1 c.block-item.is c.loop-block-test.true c.loop-block.invariant.sources here c.take.new.self c.in-Ok.ensures.tick c.in-Ok.ensures.taking c.in-Ok.ensures.lawful ∙ c.loop-block.invariant.ticks;
+      faults = faults_follow c.args.plan.now c.requires.blocks.0 c.args.blocks.now c.loop-block.block-index c.block-item.result c.loop-block.steps c.index-steps-place.result c.place_of-place.result c.requires.blocks.1 c.block-item.is c.loop-block-test.true c.loop-block.invariant.sources here c.take.new.self c.in-Ok.ensures.tick c.in-Ok.ensures.taking c.in-Ok.ensures.lawful ∙ c.loop-block.invariant.faults;
     }
 
-pub returns-clause-stepping : goal.returns-clause-stepping
-returns-clause-stepping c = each_stepping (sources_of c.args.plan.now.nodes) c.loop-block.steps c.loop-block.invariant.sources
+pub returns-clause-taking : goal.returns-clause-taking
+returns-clause-taking c = c.loop-block.invariant.all_taking
+
+pub returns-clause-lawful : goal.returns-clause-lawful
+returns-clause-lawful c =
+    sym c.loop-block.invariant.faults
+    ∙ ap (blocks_fault c.args.plan.now (map ticked (map taking c.loop-block.steps))) (drop_of_length-le c.args.blocks.now c.loop-block-test.false)
+
+pub returns-clause-ticks : goal.returns-clause-ticks
+returns-clause-ticks c =
+    sym (map_map ticked taking c.loop-block.steps)
+    ∙ sym (ap (after_blocks c.args.plan.now (map ticked (map taking c.loop-block.steps))) (drop_of_length-le c.args.blocks.now c.loop-block-test.false))
+    ∙ c.loop-block.invariant.ticks

@@ -1,15 +1,17 @@
 use Rattle.std.proofs.Common.{◌≡◌, drop, map}
+use Rattle.std.specs.List.{AllByRecursion}
 use Rattle.tick_model.specs.LawfulRuns.{sources_of}
 use Rattle.tick_model.specs.Sources.{after_blocks, blocks_fault}
-use Rattle.tick_model.specs.Tables.{keys}
+use Rattle.source_changes.specs.declared.taking.TakenBlocks.{TakenBlocks}
 use Rattle.source_changes.specs.Stepping.{ticked}
+use Rattle.source_changes.specs.Taking.{IsTaking, taking}
 use Rattle.source_changes.proofs.Walked.{AreSources}
 use Rattle.source_changes.proofs.changes.take_blocks.Given as goal
 
 abbrev pub invariant-loop-block : goal.invariant-loop-block
 invariant-loop-block l = record {
-  sources : AreSources (sources_of l.plan.nodes) l.steps;
-  keys : l.sets ≡ map (λ step. keys (ticked step).new.rows) l.steps;
-  ticks : after_blocks l.plan (map ticked l.steps) (drop l.block-index l.blocks) ≡ after_blocks l.plan (map ticked l.fn.steps) l.blocks;
-  faults : blocks_fault l.plan (map ticked l.steps) (drop l.block-index l.blocks) ≡ blocks_fault l.plan (map ticked l.fn.steps) l.blocks;
+  all_taking : AllByRecursion IsTaking l.steps;
+  sources : AreSources (sources_of l.plan.nodes) (map taking l.steps);
+  ticks : after_blocks l.plan (map ticked (map taking l.steps)) (drop l.block-index l.blocks) ≡ after_blocks l.plan (map (λ (step : TakenBlocks). ticked (taking step)) l.fn.steps) l.blocks;
+  faults : blocks_fault l.plan (map ticked (map taking l.steps)) (drop l.block-index l.blocks) ≡ blocks_fault l.plan (map (λ (step : TakenBlocks). ticked (taking step)) l.fn.steps) l.blocks;
 }

@@ -1,11 +1,15 @@
-use Rattle.std.proofs.Common.{◌≡◌, map, take}
+use Rattle.std.proofs.Common.{◌≡◌, length, map, take, vec_len, Bor}
 use Rattle.std.specs.List.{AllByRecursion}
 use Rattle.tick_model.specs.Sources.{unchanged}
-use Rattle.source_changes.specs.Stepping.{IsStepping, ticked}
+use Rattle.tick_table.specs.Ticking.{Ticking}
+use Rattle.source_changes.specs.declared.taking.TakenBlocks.{TakenBlocks}
+use Rattle.source_changes.specs.Stepping.{ticked}
+use Rattle.source_changes.specs.Taking.{IsTaking, taking}
 use Rattle.source_changes.proofs.changes.unchanged_steps.Given as goal
 
-abbrev pub invariant-loop-table : goal.invariant-loop-table
-invariant-loop-table l = record {
-  stepping : AllByRecursion IsStepping l.steps.items;
-  ticks : map ticked l.steps.items ≡ map (λ table. unchanged table.now.new) (take l.table-index l.tables);
+abbrev pub invariant-loop-keys : goal.invariant-loop-keys
+invariant-loop-keys l = record {
+  all_taking : AllByRecursion IsTaking l.steps.items;
+  ticks : map (λ (step : TakenBlocks). ticked (taking step)) l.steps.items ≡ map (λ (table : Bor Ticking). unchanged table.now.new) (take (length l.yielded) l.tables);
+  count : vec_len l.steps ≡ length l.yielded;
 }

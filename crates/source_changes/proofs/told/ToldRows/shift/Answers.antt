@@ -1,40 +1,30 @@
-use Rattle.std.proofs.Common.{◌≡◌, ap, sym, ◌∙◌, subst, length, map, List, ℤ, Bor}
-use Rattle.column_source.specs.Entries.{Cells, keys_of, moved_entries}
+use Rattle.std.proofs.Common.{◌≡◌, ap, sym, ◌∙◌, subst, eqb-true, ℕ, length, map, List, ℤ, Bor}
+use Rattle.std.specs.BTreeMap.{BTreeMap}
+use Rattle.std.specs.Map.{keys_of as map_keys}
+use Rattle.std.proofs.lemmas.List.{nil_from_length}
 use Rattle.shift_data.specs.Moves.{IsLawful}
-use Rattle.tick_model.specs.Rules.{landed}
 use Rattle.tick_model.specs.Tables.{keys}
 use Rattle.tick_model.specs.Updates.{shifting}
-use Rattle.source_changes.specs.Told.{AreNumbered, told_rows}
-use Rattle.source_changes.proofs.Numbered.{keys-told_rows, keys_moved, numbered_moved, told_moved}
+use Rattle.source_changes.specs.Told.{told_row}
+use Rattle.source_changes.proofs.Mapped.{keys-told, none_shifted, small_keys}
 use Rattle.source_changes.proofs.told.ToldRows.shift.Goals as goal
 
-pub apply_in_place-requires : goal.apply_in_place-requires
-apply_in_place-requires c =
-    let s = c.self.inside in
-    let cells : List (List ℤ) = map (λ (row : Bor (List ℤ)). row.now) s.cells.items in
-    let same : keys c.args.self.now ≡ c.replace-keys.result = ap keys (sym c.self.view_is) ∙ keys-told_rows cells s.numbers.now ∙ sym c.self.invariant.0 ∙ sym c.replace-keys.ensures.value in
+pub returns-then-is_empty : goal.returns-then-is_empty
+returns-then-is_empty c =
+    let none : length c.ranges-2.result.now ≡ 0 = eqb-true (length c.ranges-2.result.now) 0 (sym c.is_empty.ensures ∙ c.if-is_empty.true) in
+    none_shifted c.args.shift.now c.args.self.now (sym c.ranges-2.ensures.ranges ∙ nil_from_length c.ranges-2.result.now none)
+
+pub moved_rows-requires-clause-lawful : goal.moved_rows-requires-clause-lawful
+moved_rows-requires-clause-lawful c =
+    let same : keys c.args.self.now ≡ map_keys c.replace-rows.result.entries =
+    ap keys (sym c.self.view_is) ∙ keys-told c.self.inside.rows.entries ∙ sym (ap (λ (rows : BTreeMap ℕ (Bor (List ℤ))). map_keys rows.entries) c.replace-rows.ensures.value) in
     subst (IsLawful c.args.shift.now) same c.requires
 
-pub shift-requires : goal.shift-requires
-shift-requires c =
-    let s = c.self.inside in
-    let cells : List (List ℤ) = map (λ (row : Bor (List ℤ)). row.now) s.cells.items in
-    let same : keys c.args.self.now ≡ keys_of c.replace-numbers.result.now = ap keys (sym c.self.view_is) ∙ keys-told_rows cells s.numbers.now ∙ sym (ap (λ (column : Cells). keys_of column.now) c.replace-numbers.ensures.value) in
-    subst (IsLawful c.args.shift.now) same c.requires
-
-pub invariant_of-self-2 : goal.invariant_of-self-2
-invariant_of-self-2 c =
-    let s = c.self.inside in
-    let numbers : c.shift.new.self.now ≡ moved_entries c.args.shift.now s.numbers.now =
-    c.in_ok-shift.ensures.now ∙ ap (λ (column : Cells). moved_entries c.args.shift.now column.now) c.replace-numbers.ensures.value in (
-      c.in_ok-apply_in_place.ensures ∙ ap (landed c.args.shift.now) (c.replace-keys.ensures.value ∙ c.self.invariant.0) ∙ keys_moved c.args.shift.now s.numbers.now ∙ sym (ap keys_of numbers),
-      subst (AreNumbered (length s.cells.items)) (sym numbers) (numbered_moved (length s.cells.items) c.args.shift.now s.numbers.now c.self.invariant.1),
-    )
+pub moved_rows-requires-clause-small : goal.moved_rows-requires-clause-small
+moved_rows-requires-clause-small c = small_keys c.args.shift.now (map_keys c.replace-rows.result.entries) c.ranges-2.ensures.shift (moved_rows-requires-clause-lawful c)
 
 pub returns : goal.returns
 returns c =
-    let s = c.self.inside in
-    let cells : List (List ℤ) = map (λ (row : Bor (List ℤ)). row.now) s.cells.items in
-    let numbers : c.shift.new.self.now ≡ moved_entries c.args.shift.now s.numbers.now =
-    c.in_ok-shift.ensures.now ∙ ap (λ (column : Cells). moved_entries c.args.shift.now column.now) c.replace-numbers.ensures.value in
-    ap (told_rows cells) numbers ∙ told_moved cells c.args.shift.now s.numbers.now ∙ ap (shifting c.args.shift.now) c.self.view_is
+    c.in_ok-moved.ensures
+    ∙ ap (λ (rows : BTreeMap ℕ (Bor (List ℤ))). shifting c.args.shift.now (map told_row rows.entries)) c.replace-rows.ensures.value
+    ∙ ap (shifting c.args.shift.now) c.self.view_is

@@ -13,7 +13,7 @@ shift-requires c =
     let said : Update = update_of c.args.block.now in
     let shifts : c.shifted.result.now ≡ said.shifted = c.shifted.ensures ∙ ap (λ (update : Update). update.shifted) c.requires.update in
     let left : keys c.remove.new.self ≡ without said.removed (keys c.args.self.now) =
-    ap keys c.in_ok-remove.ensures
+    ap keys c.remove.ensures
     ∙ keys-removing c.removed.result.now c.args.self.now
     ∙ ap (λ (removed : List ℕ). without removed (keys c.args.self.now)) (c.removed.ensures.keys ∙ ap (λ (update : Update). update.removed) c.requires.update) in
     subst (IsLawful c.shifted.result.now) (sym left) (subst (λ (shifts : List ShiftRange). IsLawful shifts (without said.removed (keys c.args.self.now))) (sym shifts) c.requires.lawful)

@@ -1,0 +1,238 @@
+-- Told rows in a map by key: as they are found, put, taken away and moved.
+use Rattle.std.proofs.Common.{◌≡◌, refl, ap, ap₂, sym, ◌∙◌, subst, Bool, true, false, cond, not, ◌||◌, ◌&&◌, ◌==◌, ℕ, ◌+◌, ◌^◌, ◌<◌, ◌≤◌, arith, List, [], ◌∷◌, ◌++◌, append_assoc, length, get_or, take, map, add-one, ℤ, pos, Bor, Some, None, Less, Equal, Greater, nat_cmp, leb, inl, inr, filter, unwrap_or, Ordering}
+use Rattle.std.proofs.Math.Seq.{take-suc}
+use Rattle.std.specs.BTreeMap.{insert_entry, is_at}
+use Rattle.std.specs.BTreeMap.Range.{entries_between, range_contains}
+use Rattle.std.specs.declared.ops.Bound.TheVariants.{Included}
+use Rattle.std.specs.Cmp.{nat_cmp_is}
+use Rattle.std.specs.List.{AllByRecursion}
+use Rattle.std.specs.Map.{keys_of as map_keys, lookup, remove_entry}
+use Rattle.std.specs.Ordering.{is_eq, is_le, is_lt, match_ordering}
+use Rattle.std.specs.Prelude.{option_map, find, ◌+ℤ◌}
+use Rattle.std.proofs.lemmas.Bool.{and_right, cases_eq, cases_lt, eq-eqb, eqb-true, le-leb, le-ltb, lt-leb, lt-ltb, ne_eqb}
+use Rattle.std.proofs.lemmas.Grind.{flat_map-append}
+use Rattle.std.proofs.lemmas.Int.{ints}
+use Rattle.std.proofs.lemmas.List.{append-nil}
+use Rattle.key_lists.specs.Keys.{is_among, IsRising}
+use Rattle.key_lists.proofs.Among.{among-append}
+use Rattle.key_lists.proofs.Every.{every, every_weaker, filter-map, filter_all, filter_filter, filter_same, map_map, map_own}
+use Rattle.row_set.specs.declared.ranges.Range.{Range}
+use Rattle.row_set.specs.Ranges.{AreApart, holds, keys_in, keys_of}
+use Rattle.row_set.proofs.Held.{among-in}
+use Rattle.shift_data.specs.Moves.{IsLawful}
+use Rattle.shift_data.specs.ShiftLists.{IsShiftList}
+use Rattle.shift_data.proofs.Lawful.{lawful, not_past}
+use Rattle.tick_model.specs.declared.table.PlainRow.{PlainRow}
+use Rattle.tick_model.specs.declared.update.ShiftRange.{ShiftRange}
+use Rattle.tick_model.specs.Printable.{IsShiftRange}
+use Rattle.tick_model.specs.Rules.{is_past}
+use Rattle.tick_model.specs.Shifts.{as_key, holds as moves, moved}
+use Rattle.tick_model.specs.Tables.{keys, row_at}
+use Rattle.tick_model.specs.Updates.{moved_row, removing, shifting}
+use Rattle.source_changes.specs.Stepping.{put_row, put_rows}
+use Rattle.source_changes.specs.Told.{told_row}
+use Rattle.source_changes.proofs.Looked.{keys-shifting}
+
+abbrev Told : Type 0
+Told = ℕ × Bor (List ℤ)
+
+equal_keys : (a b : ℕ) → is_eq (nat_cmp a b) ≡ (b == a)
+equal_keys a b =
+    elim (cases_lt a b) [
+      | inl below ↦ ap is_eq (sym (nat_cmp_is a b Less below)) ∙ sym (ne_eqb b a (λ e. omega arith))
+      | inr not_below ↦ elim (cases_eq a b) [
+        | inl same ↦ ap is_eq (sym (nat_cmp_is a b Equal same)) ∙ sym (eq-eqb b a (sym same))
+        | inr other ↦ let above : b < a = omega arith in ap is_eq (sym (nat_cmp_is a b Greater above)) ∙ sym (ne_eqb b a (λ e. other (sym e)))
+      ]
+    ]
+
+-- the row under a key
+pub cells_found : (key : ℕ) (entries : List Told) → option_map (λ (cells : Bor (List ℤ)). cells.now) (lookup (is_at (nat_cmp key)) entries) ≡ option_map (λ (row : PlainRow). row.cells) (row_at key (map told_row entries))
+cells_found key [] = refl
+cells_found key (entry ∷ entries) =
+    ap (λ b. option_map (λ (cells : Bor (List ℤ)). cells.now) (cond b (Some entry.1) (lookup (is_at (nat_cmp key)) entries))) (equal_keys key entry.0)
+    ∙ elim (entry.0 == key) as (λ b. option_map (λ (cells : Bor (List ℤ)). cells.now) (cond b (Some entry.1) (lookup (is_at (nat_cmp key)) entries)) ≡ option_map (λ (row : PlainRow). row.cells) (cond b (Some (told_row entry)) (row_at key (map told_row entries)))) [
+      | true ↦ refl
+      | false ↦ cells_found key entries
+    ]
+
+-- a row that is put
+pub told_put : (key : ℕ) (cells : Bor (List ℤ)) (entries : List Told) → map told_row (insert_entry nat_cmp entries key cells) ≡ put_row (told_row (key, cells)) (map told_row entries)
+told_put key cells [] = refl
+told_put key cells (entry ∷ entries) =
+    elim (cases_lt key entry.0) [
+      | inl below ↦
+          ap placed (sym (nat_cmp_is key entry.0 Less below))
+          ∙ sym (ap₂ put (le-ltb entry.0 key (omega arith)) (ne_eqb entry.0 key (λ e. omega arith)))
+      | inr not_below ↦ elim (cases_eq key entry.0) [
+        | inl same ↦
+            ap placed (sym (nat_cmp_is key entry.0 Equal same))
+            ∙ ap (λ k. told_row (k, cells) ∷ map told_row entries) (sym same)
+            ∙ sym (ap₂ put (le-ltb entry.0 key (omega arith)) (eq-eqb entry.0 key (sym same)))
+        | inr other ↦
+            let above : entry.0 < key = omega arith in
+            ap placed (sym (nat_cmp_is key entry.0 Greater above))
+            ∙ ap (λ rest. told_row entry ∷ rest) (told_put key cells entries)
+            ∙ sym (ap (λ b. put b (entry.0 == key)) (lt-ltb entry.0 key above))
+      ]
+    ]
+  where
+    placed : Ordering → List PlainRow
+    placed order = map told_row (match_ordering order ((key, cells) ∷ entry ∷ entries) ((entry.0, cells) ∷ entries) (entry ∷ insert_entry nat_cmp entries key cells))
+
+    put : Bool → Bool → List PlainRow
+    put less same =
+        cond less (told_row entry ∷ put_row (told_row (key, cells)) (map told_row entries))
+        (cond same (told_row (key, cells) ∷ map told_row entries) (told_row (key, cells) ∷ told_row entry ∷ map told_row entries))
+
+put_rows-one : (first : List PlainRow) (row : PlainRow) (others : List PlainRow) → put_rows (first ++ row ∷ []) others ≡ put_row row (put_rows first others)
+put_rows-one [] row others = refl
+put_rows-one (other ∷ first) row others = put_rows-one first row (put_row other others)
+
+pub put_more : (rows : List PlainRow) (i : ℕ) (row : PlainRow) (others : List PlainRow) → row ≡ get_or rows i row → i < length rows → put_row row (put_rows (take i rows) others) ≡ put_rows (take (i + 1) rows) others
+put_more rows i row others is less =
+    ap (λ row. put_row row (put_rows (take i rows) others)) is
+    ∙ sym (ap (λ some. put_rows some others) (ap (λ n. take n rows) (add-one i) ∙ take-suc rows i row less) ∙ put_rows-one (take i rows) (get_or rows i row) others)
+
+-- rows that are taken away
+abbrev outside : Range → Told → Bool
+outside range entry = not (holds entry.0 range)
+
+filter_empty : {X : Type 0} (p : X → Bool) (xs : List X) → filter p xs ≡ [] → AllByRecursion (λ x. p x ≡ false) xs
+filter_empty p [] h = tt
+filter_empty p (x ∷ xs) h =
+    (elim (p x) as (λ b. p x ≡ b → cond b (x ∷ filter p xs) (filter p xs) ≡ [] → AllByRecursion (λ x. p x ≡ false) (x ∷ xs)) [
+      | true ↦ λ e h. absurd (cc h)
+      | false ↦ λ e h. (e, filter_empty p xs h)
+    ]) refl h
+
+at_or_above : (first key : ℕ) → is_le (nat_cmp first key) ≡ leb first key
+at_or_above first key =
+    elim (cases_lt first key) [
+      | inl below ↦ ap is_le (sym (nat_cmp_is first key Less below)) ∙ sym (le-leb first key (omega arith))
+      | inr not_below ↦ elim (cases_eq first key) [
+        | inl same ↦ ap is_le (sym (nat_cmp_is first key Equal same)) ∙ sym (le-leb first key (omega arith))
+        | inr other ↦ let above : key < first = omega arith in ap is_le (sym (nat_cmp_is first key Greater above)) ∙ sym (lt-leb first key above)
+      ]
+    ]
+
+not_past_last : (last key : ℕ) → not (is_lt (nat_cmp last key)) ≡ leb key last
+not_past_last last key =
+    elim (cases_lt last key) [
+      | inl below ↦ ap (λ order. not (is_lt order)) (sym (nat_cmp_is last key Less below)) ∙ sym (lt-leb key last below)
+      | inr not_below ↦ elim (cases_eq last key) [
+        | inl same ↦ ap (λ order. not (is_lt order)) (sym (nat_cmp_is last key Equal same)) ∙ sym (le-leb key last (omega arith))
+        | inr other ↦ let above : key < last = omega arith in ap (λ order. not (is_lt order)) (sym (nat_cmp_is last key Greater above)) ∙ sym (le-leb key last (omega arith))
+      ]
+    ]
+
+between_is : (range : Range) (key : ℕ) → range_contains nat_cmp (Included range.first) (Included range.last) key ≡ holds key range
+between_is range key = ap₂ (λ a b. a && b) (at_or_above range.first key) (not_past_last range.last key)
+
+pub none_held : (range : Range) (entries : List Told) → entries_between nat_cmp (Included range.first) (Included range.last) entries ≡ [] → AllByRecursion (λ entry. holds entry.0 range ≡ false) entries
+none_held range entries h =
+    every_weaker (λ (entry : Told). range_contains nat_cmp (Included range.first) (Included range.last) entry.0 ≡ false) (λ entry. holds entry.0 range ≡ false) entries
+    (λ entry e. sym (between_is range entry.0) ∙ e)
+    (filter_empty (λ (entry : Told). range_contains nat_cmp (Included range.first) (Included range.last) entry.0) entries h)
+
+pub left_without : (key : ℕ) (range : Range) (entries : List Told) → holds key range ≡ true → filter (λ entry. not (holds entry.0 range)) (remove_entry (is_at (nat_cmp key)) entries) ≡ filter (λ entry. not (holds entry.0 range)) entries
+left_without key range [] h = refl
+left_without key range (entry ∷ entries) h =
+    (elim (is_eq (nat_cmp key entry.0)) as (λ b. is_eq (nat_cmp key entry.0) ≡ b → filter (outside range) (cond b entries (entry ∷ remove_entry (is_at (nat_cmp key)) entries)) ≡ filter (outside range) (entry ∷ entries)) [
+      | true ↦ λ e. sym (ap (λ b. cond (not b) (entry ∷ filter (outside range) entries) (filter (outside range) entries)) (ap (λ k. holds k range) (eqb-true entry.0 key (sym (equal_keys key entry.0) ∙ e)) ∙ h))
+      | false ↦ λ e. ap (λ rest. cond (outside range entry) (entry ∷ rest) rest) (left_without key range entries h)
+    ]) refl
+
+pub all_left : (range : Range) (entries : List Told) → AllByRecursion (λ entry. holds entry.0 range ≡ false) entries → filter (λ entry. not (holds entry.0 range)) entries ≡ entries
+all_left range entries h =
+    filter_same (outside range) (λ _. true) entries (every_weaker (λ (entry : Told). holds entry.0 range ≡ false) (λ entry. outside range entry ≡ true) entries (λ entry e. ap not e) h)
+    ∙ filter_all entries
+
+pub left_more : (ranges : List Range) (i : ℕ) (d : Range) (entries : List Told) → i < length ranges
+    → filter (λ entry. not (holds entry.0 (get_or ranges i d))) (filter (λ entry. not (is_among entry.0 (keys_of (take i ranges)))) entries) ≡ filter (λ entry. not (is_among entry.0 (keys_of (take (i + 1) ranges)))) entries
+left_more ranges i d entries less =
+    filter_filter (outside (get_or ranges i d)) (λ (entry : Told). not (is_among entry.0 (keys_of (take i ranges)))) entries
+    ∙ filter_same (λ (entry : Told). not (is_among entry.0 (keys_of (take i ranges))) && outside (get_or ranges i d) entry) (λ entry. not (is_among entry.0 (keys_of (take (i + 1) ranges)))) entries (every (λ (entry : Told). (not (is_among entry.0 (keys_of (take i ranges))) && outside (get_or ranges i d) entry) ≡ not (is_among entry.0 (keys_of (take (i + 1) ranges)))) entries (λ entry. each entry.0))
+  where
+    neither : (a b : Bool) → (not a && not b) ≡ not (a || b)
+    neither true b = refl
+    neither false b = refl
+
+    more : keys_of (take (i + 1) ranges) ≡ keys_of (take i ranges) ++ keys_in (get_or ranges i d)
+    more =
+        ap (λ n. keys_of (take n ranges)) (add-one i) ∙ ap keys_of (take-suc ranges i d less)
+        ∙ flat_map-append keys_in (take i ranges) (get_or ranges i d ∷ []) ∙ ap (λ keys. keys_of (take i ranges) ++ keys) (append-nil (keys_in (get_or ranges i d)))
+
+    each : (key : ℕ) → (not (is_among key (keys_of (take i ranges))) && not (holds key (get_or ranges i d))) ≡ not (is_among key (keys_of (take (i + 1) ranges)))
+    each key =
+        ap (λ b. not (is_among key (keys_of (take i ranges))) && not b) (sym (among-in key (get_or ranges i d)))
+        ∙ neither (is_among key (keys_of (take i ranges))) (is_among key (keys_in (get_or ranges i d)))
+        ∙ ap not (sym (ap (is_among key) more ∙ among-append key (keys_of (take i ranges)) (keys_in (get_or ranges i d))))
+
+pub ranges_ascend : (low : ℕ) (ranges : List Range) → AreApart low ranges → AllByRecursion (λ range. range.first ≤ range.last) ranges
+ranges_ascend low [] h = tt
+ranges_ascend low (range ∷ ranges) h = (h.0.ascends, ranges_ascend (range.last + 2) ranges h.1)
+
+-- rows that move
+none_moves : (limit : ℕ) (shifts : List ShiftRange) (key : ℕ) → AllByRecursion (IsShiftRange limit) shifts → limit ≤ key → find (λ range. moves range key) shifts ≡ None
+none_moves limit [] key h above = refl
+none_moves limit (range ∷ shifts) key h above =
+    let end = h.0.end in
+    ap (λ b. cond b (Some range) (find (λ range. moves range key) shifts)) (and_right (leb range.begin key) (leb key range.end) (lt-leb key range.end (omega (arith, end, above))))
+    ∙ none_moves limit shifts key h.1 above
+
+small_key : (limit : ℕ) (shifts : List ShiftRange) (key : ℕ) → AllByRecursion (IsShiftRange limit) shifts → is_past limit (moved shifts key) ≡ false → key < limit
+small_key limit shifts key h inside =
+    elim (cases_lt key limit) [
+      | inl below ↦ below
+      | inr not_below ↦
+          let above : limit ≤ key = omega arith in
+          let there = not_past limit (moved shifts key) inside in
+          let stays : moved shifts key ≡ pos key +ℤ pos 0 = ap (λ o. pos key +ℤ unwrap_or (option_map (λ (range : ShiftRange). range.delta) o) (pos 0)) (none_moves limit shifts key h above) in
+          let place : pos (as_key (moved shifts key)) ≡ pos key +ℤ pos 0 = sym there.0 ∙ stays in
+          let under = there.1 in
+          absurd (omega (arith, ints, place, under, above))
+    ]
+
+pub small_keys : (shifts : List ShiftRange) (keys : List ℕ) → IsShiftList shifts → IsLawful shifts keys → AllByRecursion (λ key. key < 2 ^ 62) keys
+small_keys shifts keys h law =
+    every_weaker (λ key. is_past (2 ^ 62) (moved shifts key) ≡ false) (λ key. key < 2 ^ 62) keys (λ key inside. small_key (2 ^ 62) shifts key h.small inside) (lawful shifts keys law).inside
+
+put_last : (row : PlainRow) (others rows : List PlainRow) → IsRising (keys (others ++ row ∷ rows)) → put_row row others ≡ others ++ row ∷ []
+put_last row [] rows h = refl
+put_last row (other ∷ others) rows h =
+    ap (λ b. cond b (other ∷ put_row row others) (cond (other.key == row.key) (row ∷ others) (row ∷ other ∷ others))) (lt-ltb other.key row.key (behind (λ key. other.key < key) others h.0))
+    ∙ ap (λ rest. other ∷ rest) (put_last row others rows h.1)
+  where
+    behind : (P : ℕ → Type 0) (others : List PlainRow) → AllByRecursion P (keys (others ++ row ∷ rows)) → P row.key
+    behind P [] h = h.0
+    behind P (other ∷ others) h = behind P others h.1
+
+put_behind : (rows others : List PlainRow) → IsRising (keys (others ++ rows)) → put_rows rows others ≡ others ++ rows
+put_behind [] others h = sym (append-nil others)
+put_behind (row ∷ rows) others h =
+    let more : (others ++ row ∷ []) ++ rows ≡ others ++ row ∷ rows = append_assoc others (row ∷ []) rows in
+    ap (put_rows rows) (put_last row others rows h) ∙ put_behind rows (others ++ row ∷ []) (subst (λ all. IsRising (keys all)) (sym more) h) ∙ more
+
+-- rows that are put one after the other as they move are the moved rows
+pub all_put : (shifts : List ShiftRange) (rows : List PlainRow) → IsLawful shifts (keys rows) → put_rows (shifting shifts rows) [] ≡ shifting shifts rows
+all_put shifts rows law = put_behind (shifting shifts rows) [] (subst IsRising (sym (keys-shifting shifts rows)) (lawful shifts (keys rows) law).rising)
+
+pub keys-told : (entries : List Told) → keys (map told_row entries) ≡ map_keys entries
+keys-told entries = map_map (λ (row : PlainRow). row.key) told_row entries
+
+-- the rows under other keys
+pub told_left : (removed : List ℕ) (entries : List Told) → map told_row (filter (λ entry. not (is_among entry.0 removed)) entries) ≡ removing removed (map told_row entries)
+told_left removed entries = sym (filter-map (λ (row : PlainRow). not (is_among row.key removed)) told_row entries)
+
+-- with no range, and with all rows moved
+pub none_shifted : (shifts : List ShiftRange) (rows : List PlainRow) → shifts ≡ [] → rows ≡ shifting shifts rows
+none_shifted shifts rows none =
+    sym (ap (λ shifts. shifting shifts rows) none ∙ map_own (moved_row []) rows (every (λ (row : PlainRow). moved_row [] row ≡ row) rows (λ row. ap (λ key. let made : PlainRow = record { key = key; cells = row.cells } in made) (still row.key))))
+  where
+    still : (key : ℕ) → as_key (moved [] key) ≡ key
+    still key = let same : key + 0 ≡ key = omega arith in same
+
+pub all_moved : (shifts : List ShiftRange) (entries done all : List Told) → entries ≡ [] → IsLawful shifts (map_keys all) → put_rows (shifting shifts (map told_row entries)) (map told_row done) ≡ put_rows (shifting shifts (map told_row all)) [] → map told_row done ≡ shifting shifts (map told_row all)
+all_moved shifts entries done all none law whole =
+    sym (ap (λ (entries : List Told). put_rows (shifting shifts (map told_row entries)) (map told_row done)) none) ∙ whole ∙ all_put shifts (map told_row all) (subst (IsLawful shifts) (sym (keys-told all)) law)
