@@ -229,9 +229,31 @@ def of_feed_bytes():
     yield ran(what, f"a step of {blocks:,} empty blocks", "done,1\n", T, [filled(b"t,t\n", blocks), ".\n"])
     pairs = each(1_700_000, lambda i: f"t,t\na,{i},1\nt,t\nr,{i},{i}\n")
     yield ran(what, "a step of 3,400,000 blocks, which add a row and remove it again", "done,1\n", SHOWN, [pairs, ".\n"])
-    for blocks in (10_000, 20_000, 40_000):
-        wrote = ["step,1,t\n", each(blocks, lambda i: f"a,{2 * i},1\n"), "done,1\n"]
-        yield ran(what, f"a step of {blocks:,} blocks, which add a row each, with gaps between", wrote, SHOWN, [each(blocks, lambda i: f"t,t\na,{2 * i},1\n"), ".\n"])
+    for blocks in (40_000, 400_000, 3_800_000):
+        given, wrote = f"a step of {blocks:,} blocks, which add a row each, with gaps between", ["step,1,t\n", each(blocks, lambda i: f"a,{2 * i},1\n"), "done,1\n"]
+        yield ran(what, f"{given}, from the first on", wrote, SHOWN, [each(blocks, lambda i: f"t,t\na,{2 * i},1\n"), ".\n"])
+        yield ran(what, f"{given}, from the last on", wrote, SHOWN, [each(blocks, lambda i, last=blocks - 1: f"t,t\na,{2 * (last - i)},1\n"), ".\n"])
+    yield from of_blocks_over_rows(what)
+
+
+def of_blocks_over_rows(what):
+    """Many blocks in one step, each of a row of a table whose keys have no gaps at first."""
+    rows, blocks = 2_000_000, 1_000_000
+    feed = ["t,t\n", each(rows, lambda i: f"a,{i},1\n"), ".\n"]
+    wrote = ["step,1,t\n", each(rows, lambda i: f"a,{i},1\n"), "step,2,t\n"]
+    given = f"{rows:,} rows, then a step of {blocks:,} blocks, which each"
+    for order, place in ("from the first on", lambda i: 2 * i), ("from the last on", lambda i: 2 * (blocks - 1 - i)):
+        removed = each(blocks, lambda i, place=place: f"t,t\nr,{place(i)},{place(i)}\n")
+        yield ran(what, f"{given} remove a row, {order}", wrote + [each(blocks, lambda i: f"r,{2 * i},{2 * i}\n"), "done,2\n"], SHOWN, feed + [removed, ".\n"])
+        modified = each(blocks, lambda i, place=place: f"t,t\nm,{place(i)},2\n")
+        yield ran(what, f"{given} modify a row, {order}", wrote + ["c,x\n", each(blocks, lambda i: f"m,{2 * i},2\n"), "done,2\n"], SHOWN, feed + [modified, ".\n"])
+    turns = each(blocks // 2, lambda i: f"t,t\nr,{2 * i},{2 * i}\nt,t\na,{2 * i},2\n")
+    turned = [each(blocks // 2, lambda i: f"r,{2 * i},{2 * i}\n"), each(blocks // 2, lambda i: f"a,{2 * i},2\n"), "done,2\n"]
+    yield ran(what, f"{given} remove a row or put it back", wrote + turned, SHOWN, feed + [turns, ".\n"])
+    for moved in (5_000, 10_000):
+        feed = ["t,t\n", each(moved, lambda i: f"a,{2 * i},1\n"), ".\n", each(moved, lambda i: f"t,t\ns,{2 * i},{2 * i},1\n"), ".\n"]
+        wrote = ["step,1,t\n", each(moved, lambda i: f"a,{2 * i},1\n"), f"step,2,t\ns,0,{2 * moved - 2},1\ndone,2\n"]
+        yield ran(what, f"{moved:,} rows with gaps between, then a step of {moved:,} blocks, which move a row each", wrote, SHOWN, feed)
 
 
 def of_steps():
