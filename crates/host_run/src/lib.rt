@@ -1,6 +1,6 @@
 //! The command over this process: its words, its files and its standard output.
 //!
-//! Each program of the repository is a `main` that calls `run`.
+//! `tick` and each of the examples is a `main` that calls `run`.
 #![tactic(auto)]
 
 ghost use Rattle.std.specs.Prelude.{◌≡◌, ◌≤◌, ◌⊎◌};

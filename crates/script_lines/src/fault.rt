@@ -21,7 +21,7 @@ pub enum ScriptKind {
     TakenColumn,
     /// Eighth: a text stands under arithmetic, or kinds differ that have to be one.
     WrongKind,
-    /// Second: a number is past the greatest of 64 bits. Ninth: a number of rows is out of its range.
+    /// Second: a number is past the greatest of 64 bits, and no token before it is bad. Ninth: a number of rows is out of its range.
     NumberRange,
     /// Eleventh: the node would be the 257th.
     TooManyNodes,
