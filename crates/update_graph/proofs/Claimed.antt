@@ -1,6 +1,5 @@
 -- What is known of claims for a step of a run.
 use Rattle.std.proofs.Common.{◌≡◌, ap, sym, ◌∙◌, subst, ℕ, ◌+◌, ◌^◌, ◌<◌, zero, suc, arith, Bool, true, false, true≢false, not, List, [], ◌∷◌, map, length, get_or, refl}
-use Rattle.std.specs.Prelude.{IfOk, Result, Ok, Err}
 use mathlib.Core.Option.{some}
 use lib.ListN.{get_elem?}
 use Rattle.graph_words.specs.declared.graph.Edge.{Edge}
@@ -61,25 +60,11 @@ module _ (run : Run) (plan : Plan Tag) (s : IsForStep run plan) where
 
   -- a work that was taken
   module _ (work : Tag) (n : ℕ) (same : work ≡ tag run plan.first.value.step n) where
-    pub work_run : work.run ≡ run
-    work_run = ap (λ (t : Tag). t.run) same
-
-    pub work_entered : IsEntered run (work.step + 1)
-    work_entered = subst (λ (t : Tag). IsEntered run (t.step + 1)) (sym same) s.entered
-
     pub work_within : n < length run.plan.nodes → work.node < length run.plan.nodes
     work_within within = subst (λ (t : Tag). t.node < length run.plan.nodes) (sym same) within
 
     pub work_operator : is_operator run n ≡ true → is_operator run work.node ≡ true
     work_operator is = subst (λ (t : Tag). is_operator run t.node ≡ true) (sym same) is
-
-    pub work_shares : (shares : List Tag) → shares ≡ map (tag run (plan.first.value.step + 1)) (inputs_of (op_at run n)) → shares ≡ map (tag run (work.step + 1)) (inputs_of (op_at run work.node))
-    work_shares shares is = subst (λ (t : Tag). shares ≡ map (tag run (t.step + 1)) (inputs_of (op_at run t.node))) (sym same) is
-
-    -- what it is at the next step, and what the node hands on
-    pub work_next : {E : Type 0} (pick : Tag × Tag → Tag) (worked : Result (Tag × Tag) E) → IfOk worked (λ out. pick out ≡ tag run (work.step + 1) work.node) → IfOk worked (λ out. pick out ≡ tag run (plan.first.value.step + 1) n)
-    work_next pick (Ok out) is = subst (λ (t : Tag). pick out ≡ tag run (t.step + 1) t.node) same is
-    work_next pick (Err e) is = tt
 
   -- what is put back
   pub next_tagged : (next : Tag) (n : ℕ) → next ≡ tag run (plan.first.value.step + 1) n → (next.run ≡ plan.first.value.run) × (next.node ≡ n) × (next.step ≡ plan.first.value.step + 1)

@@ -1,3 +1,4 @@
+mod Advancing
 mod Batches
 mod Changing
 mod Claimed

@@ -1,10 +1,5 @@
--- What a node keeps may go to another thread: its operator, and its table, which others may hold too; and a worker's seat may.
-use Rattle.std.proofs.Common.{[], ◌∷◌}
-use denote.Param.Send.{IsSend, IsSync, recorded_send, sendable, struct_send}
-use denote.RattleType.{RattleType}
-use denote.Struct.Declared.{shape}
-use denote.Struct.Tuple.{TupleAt, type_at}
-use mir.Syntax.{Sym}
+-- What a node keeps may go to another thread: its operator, and its table, which others may hold too.
+use denote.Param.Send.{IsSend, IsSync, sendable}
 use Rattle.operators.below.agg_by.proofs.agg_op.AggOp.TheSendSync as agg
 use Rattle.operators.below.as_of_join.proofs.as_of_op.AsOfOp.TheSendSync as as_of
 use Rattle.operators.below.head_tail.proofs.head_op.HeadOp.TheSendSync as head
@@ -20,10 +15,6 @@ use Rattle.tick_model.proofs.plan.Comparison.TheSendSync as comparison
 use Rattle.tick_model.proofs.plan.Expr.TheLaws.TheKnot as expr
 use Rattle.tick_model.proofs.plan.Pred.TheLaws.TheKnot as pred
 use Rattle.tick_table.specs.contracts.table.TickTable as table
-use Rattle.graph_words.proofs.claims.ClaimSeat.TheSendSync as seat
-use Rattle.graph_words.specs.contracts.claims.ClaimSeat as seat_type
-use Rattle.update_graph.specs.contracts.shares.Share as share
-use Rattle.update_graph.specs.contracts.work.Work as work
 
 pub operator_send : IsSend operator.the_row
 operator_send = search (
@@ -50,10 +41,3 @@ pub table_sync : IsSync table.the_row
 table_sync = search (sendable, crossing.crosses, maps.crosses) depth 60 fits 20000
 
 pub ruleset sent = (operator_send, table_send, table_sync, crossing.crosses, sendable)
-
-pub seat_send : IsSend (seat_type.the_row work.the_row share.the_row)
-seat_send = seat.the_send work.the_row share.the_row (search sent depth 60 fits 20000) (search sent depth 60 fits 20000)
-
--- what a closure holds may go to another thread, where each of its three parts may
-pub three_send : (name : Sym) (A B C : RattleType) → IsSend A → IsSend B → IsSend C → IsSend (TupleAt name (A ∷ B ∷ C ∷ []))
-three_send name A B C a b c = recorded_send _ _ _ (type_at name (A ∷ B ∷ C ∷ [])).to_one (struct_send (shape (type_at name (A ∷ B ∷ C ∷ []))) (a, (b, (c, tt))))

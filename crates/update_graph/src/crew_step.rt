@@ -12,10 +12,9 @@ ghost use Rattle.update_graph.specs.Graphs.{AreSources};
 ghost use Rattle.update_graph.specs.Holdings.{AllBack, IsClaimed, IsGoneOn, IsHeld};
 ghost use Rattle.update_graph.specs.Tags.{tags};
 
+use crate::edges::copied_edges;
 use crate::first_seat::open_sources;
-use crate::step::{begin_step, end_step};
-use crate::step_work::StepWork;
-use crate::team::{HasRun, run_is_shared};
+use crate::step_work::{HasRun, StepWork, run_is_shared};
 use crate::work::Work;
 use crate::worker::{StepClaims, StepSeat};
 use graph_words::Edge;
@@ -26,6 +25,45 @@ use tick_io::Gate;
 use tick_model::feed::Run;
 use tick_model::sources::is_source;
 use tick_table::Shared;
+
+/// The claims on all nodes for a step, and the first seat.
+fn begin_step(
+    alloc: Global,
+    run: &Run,
+    works: Vec<Work>,
+    step: u64,
+    edges: &[Edge],
+) -> Result<(StepClaims, StepSeat), AllocError>
+    requires entered { IsEntered run.now step }
+    requires later { 1 ≤ step }
+    requires works { works.items ≡ tags run.now (step - 1) (length run.now.plan.nodes) }
+    requires some { 0 < length works.items }
+    requires edges { edges.now ≡ edges_of run.now.plan }
+    ensures claimed { IfOk result (λ begun. IsClaimed run.now begun.0.plan) }
+    ensures step { IfOk result (λ begun. step ≡ begun.0.plan.first.value.step + 1) }
+    ensures edges { IfOk result (λ begun. edges.now ≡ begun.0.plan.edges.items) }
+    ensures of { IfOk result (λ begun. IsSeatOf begun.0 begun.1) }
+    ensures first { IfOk result (λ begun. begun.1.view ≡ first_view begun.0.plan) }
+{
+    let _ = run;
+    let _ = step;
+    let nodes = works.len() as u32;
+    let own = copied_edges(alloc, edges)?;
+    let (claims, seat) = StepClaims::start(alloc, nodes, own, works)?;
+    Ok((claims, seat))
+}
+
+/// What all nodes keep at the step of their claims. The seat has put all of it back.
+fn end_step(run: &Run, claims: StepClaims, seat: StepSeat) -> Result<Vec<Work>, AllocError>
+    requires claimed { IsClaimed run.now claims.plan }
+    requires of { IsSeatOf claims seat }
+    requires all { AllBack claims.plan seat.view }
+    ensures { IfOk result (λ works. works.items ≡ tags run.now (claims.plan.first.value.step + 1) (length run.now.plan.nodes)) }
+{
+    let _ = run;
+    let works = claims.finish(seat)?;
+    Ok(works)
+}
 
 /// Adds a node with an operator to the list where it is on offer. The seat has it then.
 fn accept_into(run: &Run, claims: &StepClaims, seat: &mut StepSeat, node: u32, ready: &mut Ready)

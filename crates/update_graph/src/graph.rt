@@ -22,10 +22,10 @@ ghost use Rattle.update_graph.specs.Tags.{tags};
 
 use crate::crew_step::crew_step;
 use crate::edges::all_edges;
+use crate::in_order::advance_all;
 use crate::opening::open_all;
 use crate::shares::tables_of;
 use crate::sources::{changed_sources, opened_sources, referred};
-use crate::step::work_step;
 use crate::stop::{Stop, refused};
 use crate::sweep::{Sweep, swept};
 use crate::work::Work;
@@ -178,6 +178,7 @@ fn finished(
     requires swept { IsSwept run.now step (length run.now.plan.nodes) sweep }
     ensures run { IfOk result (λ graph. graph.run ≡ run.now) }
     ensures step { IfOk result (λ graph. graph.step ≡ step) }
+    ensures batch { OnOk result (batch_fault run.now step ≡ None) }
     ensures nodes { OnOk result (node_fault 0 (state run.now step) ≡ None) }
     ensures ran { IfOk result (λ graph. RanOnce run.now.plan graph.ran) }
     ensures cause { IfErr result (IsStop run.now step) }
@@ -191,8 +192,8 @@ fn finished(
     }
 }
 
-/// The graph at the next step, from what its nodes keep there.
-fn reached(
+/// The graph at the next step, by the batch of that step. This thread works the nodes in order.
+fn next<G: Gate>(
     alloc: Global,
     run: &Run,
     step: u64,
@@ -200,36 +201,6 @@ fn reached(
     keys: SourceKeys,
     sources: Vec<Shared>,
     works: Vec<Work>,
-) -> Result<Graph, Stop>
-    requires entered { IsEntered run.now (step + 1) }
-    requires edges { edges.items ≡ edges_of run.now.plan }
-    requires keys { keys ≡ map (λ table. keys_of table.rows) (sources_at run.now (step + 1)) }
-    requires sources { tables sources.items ≡ sources_shown run.now (step + 1) }
-    requires works { works.items ≡ tags run.now (step + 1) (length run.now.plan.nodes) }
-    requires next { step < length run.now.batches }
-    ensures run { IfOk result (λ graph. graph.run ≡ run.now) }
-    ensures step { IfOk result (λ graph. graph.step ≡ step + 1) }
-    ensures batch { OnOk result (batch_fault run.now (step + 1) ≡ None) }
-    ensures nodes { OnOk result (node_fault 0 (state run.now (step + 1)) ≡ None) }
-    ensures ran { IfOk result (λ graph. RanOnce run.now.plan graph.ran) }
-    ensures cause { IfErr result (IsStop run.now (step + 1)) }
-{
-    let sweep = swept(alloc, run, step + 1, works, &sources)?;
-    let graph = finished(alloc, run, step + 1, edges, keys, sources, sweep)?;
-    Ok(graph)
-}
-
-/// The graph at the next step, by the batch of that step.
-fn next<R: Threads + Sync, G: Gate>(
-    rt: &R,
-    alloc: Global,
-    run: &Run,
-    step: u64,
-    edges: Vec<Edge>,
-    keys: SourceKeys,
-    sources: Vec<Shared>,
-    works: Vec<Work>,
-    workers: u32,
     gate: &G,
 ) -> Result<Graph, Stop>
     requires lawful { IsLawfulRun run.now }
@@ -239,7 +210,6 @@ fn next<R: Threads + Sync, G: Gate>(
     requires keys { keys ≡ map (λ table. keys_of table.rows) (sources_at run.now step) }
     requires sources { tables sources.items ≡ sources_shown run.now step }
     requires works { works.items ≡ tags run.now step (length run.now.plan.nodes) }
-    requires few { workers ≤ 64 }
     ensures run { IfOk result (λ graph. graph.run ≡ run.now) }
     ensures step { IfOk result (λ graph. graph.step ≡ step + 1) }
     ensures batch { OnOk result (batch_fault run.now (step + 1) ≡ None) }
@@ -250,18 +220,10 @@ fn next<R: Threads + Sync, G: Gate>(
     let mut keys = keys;
     let changes = changes_of(alloc, run, step, &mut keys, &sources)?;
     let sources = changed_sources(alloc, run, step + 1, sources, changes)?;
-    let works = work_step(
-        rt,
-        alloc,
-        run,
-        works,
-        step + 1,
-        &edges,
-        &sources,
-        workers,
-        gate,
-    )?;
-    reached(alloc, run, step, edges, keys, sources, works)
+    let blank = Blank::new(1);
+    let sweep = advance_all::<G, Brand>(alloc, run, step + 1, works, &sources, gate, blank)?;
+    let graph = finished(alloc, run, step + 1, edges, keys, sources, sweep)?;
+    Ok(graph)
 }
 
 /// The same, with the nodes worked by a crew.
@@ -306,7 +268,9 @@ fn next_by<R: Threads + Sync, G: Gate>(
         crew,
         gate,
     )?;
-    reached(alloc, run, step, edges, keys, sources, works)
+    let sweep = swept(alloc, run, step + 1, works, &sources)?;
+    let reached = finished(alloc, run, step + 1, edges, keys, sources, sweep)?;
+    Ok(reached)
 }
 
 impl Graph {
@@ -347,6 +311,10 @@ impl Graph {
         ensures ran { IfOk result (λ graph. RanOnce run.now.plan graph.ran) }
         ensures cause { IfErr result (IsStop run.now (self.step + 1)) }
     {
+        if workers > 1 {
+            let mut crew = Crew::new(alloc, workers)?;
+            return self.cycle_by(rt, alloc, run, &mut crew, gate);
+        }
         let Graph {
             run: _,
             step,
@@ -358,9 +326,7 @@ impl Graph {
             ran: _,
         } = self;
         drop(tables);
-        next(
-            rt, alloc, run, step, edges, keys, sources, works, workers, gate,
-        )
+        next(alloc, run, step, edges, keys, sources, works, gate)
     }
 
     /// The same, worked by a crew, which is kept from step to step. No more threads are started than the crew has hands.

@@ -1,6 +1,7 @@
 //! What a crew's hand does to a node of a step.
 
 ghost use Rattle.std.specs.Prelude.{◌≡◌, ◌+◌, ◌<◌, ◌≤◌, ◌^◌, [], ℕ, IfOk, OnOk, length, map, true};
+ghost use Rattle.std.specs.Thread.{IsSync};
 ghost use mathlib.Core.Option.{some};
 ghost use lib.ListN.{get_elem?};
 ghost use Rattle.graph_words.specs.declared.graph.Edge.{Edge};
@@ -8,6 +9,8 @@ ghost use Rattle.graph_words.specs.declared.table.Mark.TheVariants.{Unmarked};
 ghost use Rattle.graph_words.specs.Marks.{at};
 ghost use Rattle.graph_words.specs.Seats.{AtEdge, Has, IsSeatOf};
 ghost use Rattle.steal_workers.specs.Lists.{IsListed};
+ghost use Rattle.tick_model.specs.contracts.feed.Run as run_type;
+ghost use Rattle.tick_model.specs.declared.feed.Run.{Run};
 ghost use Rattle.tick_model.specs.Evaluation.{inputs_of};
 ghost use Rattle.update_graph.specs.Edges.{edges_of};
 ghost use Rattle.update_graph.specs.Entered.{IsEntered};
@@ -15,7 +18,6 @@ ghost use Rattle.update_graph.specs.Steps.{IsHandedInto, IsListing};
 ghost use Rattle.update_graph.specs.Tags.{is_operator, op_at, tag};
 
 use crate::shares::Share;
-use crate::team::HasRun;
 use crate::work::Work;
 use crate::worker::{StepClaims, StepSeat, begin_node, hand_over, settle_node};
 use graph_words::Edge;
@@ -27,6 +29,34 @@ use tick_io::Gate;
 use tick_model::feed::Run;
 use tick_model::items::Items;
 use tick_table::Steps;
+
+/// What has a run.
+pub(crate) trait HasRun: Sync {
+    ghost own_run: { Self → Run };
+
+    /// The run.
+    fn run(&self) -> &Run
+        ensures { result.now ≡ Self.own_run self.now };
+}
+
+/// A run may be shared.
+pub(crate) fn run_is_shared()
+    ensures { IsSync run_type.the_row }
+{
+    is_shared::<Run>()
+}
+
+fn is_shared<T: Sync>()
+    ensures { IsSync T.row }
+{}
+
+impl HasRun for Run {
+    ghost own_run = { λ run. run };
+
+    fn run(&self) -> &Run {
+        self
+    }
+}
 
 /// Delivers a share along an edge. A node that this makes ready is added to the list.
 fn hand_into(

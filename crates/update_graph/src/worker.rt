@@ -1,6 +1,6 @@
 //! One node of a step: from its work and what its inputs hand to it, to what it hands on.
 
-ghost use Rattle.std.specs.Prelude.{◌≡◌, ◌+◌, ◌<◌, ◌^◌, ℕ, IfOk, OnOk, Option, None, Some, length, map, true};
+ghost use Rattle.std.specs.Prelude.{◌≡◌, ◌+◌, ◌<◌, ◌^◌, ℕ, IfOk, OnOk, length, map};
 ghost use mathlib.Core.Option.{some};
 ghost use lib.ListN.{get_elem?};
 ghost use Rattle.graph_words.specs.declared.graph.Edge.{Edge};
@@ -10,7 +10,7 @@ ghost use Rattle.graph_words.specs.Seats.{AtEdge, Has, IsSeatOf};
 ghost use Rattle.graph_words.specs.Views.{mark_node};
 ghost use Rattle.tick_model.specs.Evaluation.{inputs_of};
 ghost use Rattle.update_graph.specs.Edges.{froms_to};
-ghost use Rattle.update_graph.specs.Holdings.{IsClaimed, IsForStep, IsGoneOn, IsHeld, IsNew};
+ghost use Rattle.update_graph.specs.Holdings.{IsForStep, IsNew};
 ghost use Rattle.update_graph.specs.Steps.{IsBegun, IsHanding, IsHandedOver, IsTaking};
 ghost use Rattle.update_graph.specs.Tags.{op_at, tag};
 
@@ -18,11 +18,8 @@ use crate::shares::Share;
 use crate::work::Work;
 use graph_words::{ClaimSeat, Claims, Edge};
 use std::alloc::{AllocError, Global};
-use std::sync::ledger::Ledger;
-use tick_io::Gate;
 use tick_model::feed::Run;
 use tick_model::items::Items;
-use tick_table::Steps;
 
 /// The claims on the nodes of a step.
 pub(crate) type StepClaims = Claims<Work, Share>;
@@ -169,62 +166,4 @@ pub(crate) fn settle_node(
     let (work, share) = worked?;
     claims.put_back(seat, node, work);
     Ok(share)
-}
-
-/// Works a node that the seat has, with the gate round it. Of the nodes that this makes ready the least is kept, and the others
-/// are put on offer.
-pub(crate) fn work_node<G: Gate, L: Ledger>(
-    alloc: Global,
-    run: &Run,
-    claims: &StepClaims,
-    seat: &mut StepSeat,
-    edges: &[Edge],
-    node: u32,
-    gate: &G,
-    reads: &mut Steps<L>,
-) -> Result<Option<u32>, AllocError>
-    requires claimed { IsClaimed run.now claims.now.plan }
-    requires of { IsSeatOf claims.now seat.old }
-    requires edges { edges.now ≡ claims.now.plan.edges.items }
-    requires held { IsHeld run.now claims.now.plan seat.old.view (Some node) }
-    ensures of { OnOk result (IsSeatOf claims.now seat.new) }
-    ensures held { IfOk result (IsHeld run.now claims.now.plan seat.new.view) }
-    ensures later { IfOk result (λ kept. (m : ℕ) → kept ≡ Some m → node < m) }
-    ensures on { OnOk result (IsGoneOn seat.old.view seat.new.view) }
-    ensures back { OnOk result (at seat.new.view.nodes node ≡ PutBack) }
-{
-    let (work, shares) = begin_node(alloc, run, claims, seat, edges, node)?;
-    gate.enter(node);
-    let worked = work.advance(alloc, run, shares, reads);
-    gate.leave(node);
-    let share = settle_node(run, claims, seat, node, worked)?;
-    let kept = hand_on(claims, seat, run, edges, node, &share)?;
-    Ok(kept)
-}
-
-/// Works a node, then the one that this leaves kept, and so on.
-pub(crate) fn work_from<G: Gate, L: Ledger>(
-    alloc: Global,
-    run: &Run,
-    claims: &StepClaims,
-    seat: &mut StepSeat,
-    edges: &[Edge],
-    node: u32,
-    gate: &G,
-    reads: &mut Steps<L>,
-) -> Result<(), AllocError>
-    requires claimed { IsClaimed run.now claims.now.plan }
-    requires of { IsSeatOf claims.now seat.old }
-    requires edges { edges.now ≡ claims.now.plan.edges.items }
-    requires held { IsHeld run.now claims.now.plan seat.old.view (Some node) }
-    ensures of { OnOk result (IsSeatOf claims.now seat.new) }
-    ensures held { OnOk result (IsHeld run.now claims.now.plan seat.new.view None) }
-    ensures on { OnOk result (IsGoneOn seat.old.view seat.new.view) }
-    ensures back { OnOk result (at seat.new.view.nodes node ≡ PutBack) }
-{
-    let mut kept = work_node(alloc, run, claims, seat, edges, node, gate, reads)?;
-    while let Some(next) = kept {
-        kept = work_node(alloc, run, claims, seat, edges, next, gate, reads)?;
-    }
-    Ok(())
 }

@@ -28,3 +28,6 @@ gathered-requires-clause-nodes c =
 
 pub returns-in_ok-graph-in-None-clause-ran : goal.returns-in_ok-graph-in-None-clause-ran
 returns-in_ok-graph-in-None-clause-ran c = ran_once c.args.run.now c.in_ok-graph-in-None.graph.ran (c.in_ok-graph-in-None.ensures.ran ∙ c.requires.swept.ran)
+
+pub returns-in_ok-graph-in-None-clause-batch : goal.returns-in_ok-graph-in-None-clause-batch
+returns-in_ok-graph-in-None-clause-batch c = c.requires.entered.batches c.args.step (omega arith)

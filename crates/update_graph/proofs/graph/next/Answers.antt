@@ -7,7 +7,7 @@ use Rattle.update_graph.proofs.graph.next.Goals as goal
 pub changed_sources-requires-clause-sources : goal.changed_sources-requires-clause-sources
 changed_sources-requires-clause-sources g c = ap news c.requires.sources ∙ sources_new c.args.run.now c.args.step ∙ sym (sources_old c.args.run.now c.args.step c.in_ok-changes.ensures.entered)
 
-pub work_step-requires-clause-works : goal.work_step-requires-clause-works
-work_step-requires-clause-works g c κs within =
+pub advance_all-requires-clause-works : goal.advance_all-requires-clause-works
+advance_all-requires-clause-works g c κs within =
     let same : c.args.step ≡ c.args.step + 1 - 1 = omega arith in
     c.requires.works ∙ ap (λ k. tags c.args.run.now k (length c.args.run.now.plan.nodes)) same

@@ -2,7 +2,7 @@ use Rattle.std.proofs.Common.{◌∙◌, ◌+◌, sym, length}
 use Rattle.update_graph.proofs.Claimed.{run_is}
 use Rattle.update_graph.proofs.ClaimedWorks.{works_back}
 use Rattle.update_graph.proofs.WorkSent.{sent}
-use Rattle.update_graph.proofs.step.end_step.Goals as goal
+use Rattle.update_graph.proofs.crew_step.end_step.Goals as goal
 
 pub returns : goal.returns
 returns c =

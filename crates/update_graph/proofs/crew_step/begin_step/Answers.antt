@@ -4,7 +4,7 @@ use Rattle.update_graph.proofs.ClaimedWorks.{claimed, count_works, whole_works, 
 use Rattle.update_graph.proofs.PlanEdges.{edge_ends, few_edges}
 use Rattle.update_graph.proofs.PlanLimits.{few_nodes}
 use Rattle.update_graph.proofs.WorkSent.{sent}
-use Rattle.update_graph.proofs.step.begin_step.Goals as goal
+use Rattle.update_graph.proofs.crew_step.begin_step.Goals as goal
 
 pub overflow_cast-nodes : goal.overflow_cast-nodes
 overflow_cast-nodes c =

@@ -1,0 +1,6 @@
+use Rattle.std.proofs.Common.{length}
+use Rattle.update_graph.specs.Sweeps.{IsSwept}
+use Rattle.update_graph.proofs.in_order.advance_all.Given as goal
+
+abbrev pub invariant-loop-work : goal.invariant-loop-work
+invariant-loop-work g l = IsSwept l.run l.step (length l.yielded) l.sweep
