@@ -13,7 +13,5 @@ mod moves;
 mod notes;
 mod splits;
 mod sweeps;
-#[cfg(test)]
-mod tests;
 
 pub use cells::Column;

@@ -7,9 +7,6 @@
 ghost use Rattle.std.specs.Prelude.{◌≡◌};
 ghost use Rattle.tick_model.specs.Plans.{kind_of as kind_over, test_fits as test_fits_over};
 
-#[cfg(test)]
-mod tests;
-
 pub use tick_model::formula::{passes, value};
 use tick_model::kinds;
 use tick_model::plan::{Expr, Kind, Pred};

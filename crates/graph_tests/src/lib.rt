@@ -1,6 +1,8 @@
-//! Tests of `update_graph`, with ample memory: in a crate of their own, so that those are proved once.
+//! Tests with ample memory of the public calls of `update_graph` over a crew of `steal_workers`, and of a step of `snapshot_store` that is abandoned.
 
 #![tactic(auto)]
 
 #[cfg(test)]
-mod update_graph_calls;
+mod abandoned_steps;
+#[cfg(test)]
+mod made_cycles;

@@ -8,9 +8,6 @@ ghost use Rattle.std.specs.Prelude.{◌≡◌, ◌+◌, ◌^◌, ◌<◌, ◌≤
 ghost use Rattle.tick_model.specs.Clock.{idle, updating, completed};
 ghost use Rattle.logical_clock.specs.States.{value_in};
 
-#[cfg(test)]
-mod tests;
-
 /// What a run does.
 #[derive(Clone, Copy, Debug, PartialEq, Eq)]
 pub enum ClockState {

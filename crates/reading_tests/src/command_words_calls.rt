@@ -1,11 +1,10 @@
 //! Words and the commands that they make.
 
-use command_words::{Command, Task, read_words};
+use command_words::read_words;
 use std::alloc::{AllocError, Global};
-use std::process::Abort;
 use std::test::Fail;
 
-/// Words with one space between two of them, and what they ask for: the task and the five numbers, or nothing.
+/// Words with one space between two of them, and the command, or nothing.
 #[derive(Clone, Copy)]
 struct Case {
     words: &'static str,
@@ -15,19 +14,19 @@ struct Case {
 const CASES: [Case; 13] = [
     Case {
         words: "run s f",
-        told: "run s f 1 0 0 2 1",
+        told: "Command { task: Run { script: Name { text: \"s\" }, feed: Name { text: \"f\" } }, workers: 1, callers: 0, snaps: 0, attempts: 2, every: 1 }",
     },
     Case {
         words: "run --workers 08 s --callers=16 f --snaps 64",
-        told: "run s f 8 16 64 2 1",
+        told: "Command { task: Run { script: Name { text: \"s\" }, feed: Name { text: \"f\" } }, workers: 8, callers: 16, snaps: 64, attempts: 2, every: 1 }",
     },
     Case {
         words: "demo --attempts=0 -- 10000",
-        told: "demo 10000 1 0 0 0 1",
+        told: "Command { task: Demo { steps: 10000 }, workers: 1, callers: 0, snaps: 0, attempts: 0, every: 1 }",
     },
     Case {
         words: "run - -- --workers",
-        told: "run - --workers 1 0 0 2 1",
+        told: "Command { task: Run { script: Name { text: \"-\" }, feed: Name { text: \"--workers\" } }, workers: 1, callers: 0, snaps: 0, attempts: 2, every: 1 }",
     },
     Case {
         words: "run s f --workers 1 --workers 1",
@@ -47,11 +46,11 @@ const CASES: [Case; 13] = [
     },
     Case {
         words: "watch s f n 0 4194304 --every=100000",
-        told: "watch s f n 0 4194304 1 0 0 2 100000",
+        told: "Command { task: Watch { script: Name { text: \"s\" }, feed: Name { text: \"f\" }, node: Name { text: \"n\" }, first: 0, count: 4194304 }, workers: 1, callers: 0, snaps: 0, attempts: 2, every: 100000 }",
     },
     Case {
         words: "watch --workers 3 s f n -- 4194303 1",
-        told: "watch s f n 4194303 1 3 0 0 2 1",
+        told: "Command { task: Watch { script: Name { text: \"s\" }, feed: Name { text: \"f\" }, node: Name { text: \"n\" }, first: 4194303, count: 1 }, workers: 3, callers: 0, snaps: 0, attempts: 2, every: 1 }",
     },
     Case {
         words: "watch s f n 0 0",
@@ -75,53 +74,20 @@ fn words(alloc: Global, text: &str) -> Result<Vec<String>, AllocError> {
     Ok(words)
 }
 
-fn told_task(alloc: Global, task: &Task) -> Result<String, AllocError> {
-    match task {
-        Task::Run { script, feed } => {
-            format!(in alloc; "run {} {}", script.as_str(), feed.as_str())
-        }
-        Task::Demo { steps } => format!(in alloc; "demo {steps}"),
-        Task::Watch {
-            script,
-            feed,
-            node,
-            first,
-            count,
-        } => format!(in alloc;
-            "watch {} {} {} {first} {count}",
-            script.as_str(),
-            feed.as_str(),
-            node.as_str()
-        ),
-    }
-}
-
-fn told_command(alloc: Global, command: &Command) -> Result<String, AllocError> {
-    let task = told_task(alloc, &command.task)?;
-    format!(in alloc;
-        "{task} {} {} {} {} {}",
-        command.workers, command.callers, command.snaps, command.attempts, command.every
-    )
-}
-
+/// The command, or nothing where the words are of none.
 fn told(alloc: Global, text: &str) -> Result<String, AllocError> {
     let words = words(alloc, text)?;
     match read_words(alloc, words.as_slice())? {
-        Some(command) => told_command(alloc, &command),
+        Some(command) => format!(in alloc; "{command:?}"),
         None => Ok(String::new(alloc)),
     }
-}
-
-fn check<R: Abort>(rt: &R, alloc: Global, case: &Case) -> Result<(), Fail> {
-    let told = told(alloc, case.words)?;
-    assert_eq!(rt; told.as_str(), case.told);
-    Ok(())
 }
 
 #[test]
 fn words_make_commands(rt: HostRuntime) -> Result<(), Fail> {
     for case in &CASES {
-        check(&rt, rt.alloc(), case)?;
+        let answer = told(rt.alloc(), case.words)?;
+        assert_eq!(rt; answer.as_str(), case.told);
     }
     Ok(())
 }

@@ -1,55 +1,15 @@
 //! Feeds and table files, each with what is read of it or the first record that is refused.
 
-ghost use Rattle.std.specs.Prelude.{◌≡◌, ◌<◌, ◌^◌, [], IfOk, length};
-ghost use Rattle.std.specs.List.{All};
-
-use feed_reader::{
-    RawCell, RawFeed, RawTable, TextFault, TextKind, assemble, code, read_feed, read_table,
-};
-use script_reader::reader::read_script;
-use script_reader::script::Script;
+use super::scripts::{run_of, script_of};
+use feed_reader::{RawTable, TextFault, TextKind, read_feed, read_table};
 use std::alloc::{AllocError, Global};
 use std::test::Fail;
 use tick_model::feed::Run;
 use tick_model::items::Items;
-use tick_model::name::Name;
-use tick_model::plan::{ColumnSpec, Expr, Kind, Node, Op, Plan, Pred};
+use tick_model::plan::{ColumnSpec, Expr, Op, Pred};
 
-fn column(alloc: Global, name: &str, kind: Kind) -> Result<ColumnSpec, AllocError> {
-    Ok(ColumnSpec {
-        name: Name::of(String::from_str(alloc, name)?),
-        kind,
-    })
-}
-
-fn columns(alloc: Global) -> Result<Items<ColumnSpec>, AllocError> {
-    let mut columns = Items::new(alloc);
-    columns.push(column(alloc, "sym", Kind::Text)?)?;
-    columns.push(column(alloc, "qty", Kind::Long)?)?;
-    Ok(columns)
-}
-
-fn source(alloc: Global, name: &str) -> Result<Node, AllocError> {
-    Ok(Node {
-        name: Name::of(String::from_str(alloc, name)?),
-        columns: columns(alloc)?,
-        op: Op::Source,
-    })
-}
-
-/// The plan of two sources, `t` and `u`, of a text column `sym` and a number column `qty`.
-fn two_sources(alloc: Global) -> Result<Plan, AllocError>
-    ensures { IfOk result (λ plan. length plan.nodes < 2 ^ 32) }
-{
-    let mut nodes = Items::new(alloc);
-    nodes.push(source(alloc, "t")?)?;
-    nodes.push(source(alloc, "u")?)?;
-    Ok(Plan {
-        nodes,
-        printed: Items::new(alloc),
-        published: Items::new(alloc),
-    })
-}
+/// Two sources, `t` and `u`, of a text column `sym` and a number column `qty`.
+const TWO_SOURCES: &str = "table t sym:text qty:long\ntable u sym:text qty:long\n";
 
 /// The number of a refused record, and the kind; nothing where the text is read.
 type Refusal = Option<(u64, TextKind)>;
@@ -200,153 +160,48 @@ fn refusal<X: Drop>(answer: Result<X, TextFault>) -> Result<Refusal, AllocError>
 
 #[test]
 fn a_feed_is_read_or_its_first_bad_record_is_named(rt: HostRuntime) -> Result<(), Fail> {
-    let plan = two_sources(rt.alloc())?;
+    let script = script_of(rt.alloc(), TWO_SOURCES)?;
     for (place, (feed, want)) in FEEDS.iter().enumerate() {
-        let answer = refusal(read_feed(rt.alloc(), feed.as_bytes(), &plan))?;
+        let answer = refusal(read_feed(rt.alloc(), feed.as_bytes(), &script.plan))?;
         assert!(rt; answer == *want, "feed {place}");
     }
-    Ok(())
-}
-
-#[test]
-fn a_table_file_is_read_or_its_first_bad_record_is_named(rt: HostRuntime) -> Result<(), Fail> {
-    let columns = columns(rt.alloc())?;
-    for (place, (text, want)) in TABLES.iter().enumerate() {
-        let answer = refusal(read_table(rt.alloc(), text.as_bytes(), &columns))?;
-        assert!(rt; answer == *want, "table file {place}");
-    }
-    Ok(())
-}
-
-#[test]
-fn a_field_is_utf8(rt: HostRuntime) -> Result<(), Fail> {
-    let plan = two_sources(rt.alloc())?;
     for (feed, number) in NOT_TEXT.iter() {
-        let answer = refusal(read_feed(rt.alloc(), feed.as_slice(), &plan))?;
+        let answer = refusal(read_feed(rt.alloc(), feed.as_slice(), &script.plan))?;
         assert!(rt; answer == Some((*number, TextKind::NotUtf8)));
     }
     Ok(())
 }
 
 #[test]
-fn a_step_has_several_blocks_of_a_source(rt: HostRuntime) -> Result<(), Fail> {
-    let plan = two_sources(rt.alloc())?;
-    let feed = "t,u\n.\n.\nt,t\nr,0,0\nt,u\nt,t\na,7,IBM,\nm,8,,5\n.\n";
-    let Ok(feed) = read_feed(rt.alloc(), feed.as_bytes(), &plan) else {
-        return Err(Fail::from(AllocError));
+fn a_table_file_is_read_or_its_first_bad_record_is_named(rt: HostRuntime) -> Result<(), Fail> {
+    let script = script_of(rt.alloc(), TWO_SOURCES)?;
+    let Some(source) = script.plan.nodes.as_slice().first() else {
+        return Err(Fail::from("no source"));
     };
-    let batches = feed.batches.as_slice();
-    assert!(rt; batches.len() == 3);
-    assert!(rt; batches[0].blocks.len() == 1);
-    assert!(rt; batches[1].blocks.is_empty());
-    let blocks = batches[2].blocks.as_slice();
-    assert!(rt; blocks.len() == 3);
-    assert!(rt; blocks[0].table == 0 && blocks[0].number == 4 && blocks[0].removed.len() == 1);
-    assert!(rt; blocks[1].table == 1 && blocks[1].number == 6 && blocks[1].added.is_empty());
-    assert!(rt; blocks[2].table == 0 && blocks[2].number == 7);
-    let added = blocks[2].added.as_slice();
-    assert!(rt; added.len() == 1 && added[0].key == 7);
-    assert!(rt; matches!(added[0].cells.as_slice(), [RawCell::Text(_), RawCell::Null]));
-    let modified = blocks[2].modified.as_slice();
-    assert!(rt; modified.len() == 1 && modified[0].key == 8);
-    assert!(rt;
-        matches!(
-            modified[0].cells.as_slice(),
-            [RawCell::Null, RawCell::Long(5)]
-        )
-    );
-    Ok(())
-}
-
-/// A plan of no nodes.
-fn no_nodes(alloc: Global) -> Plan
-    ensures { result.nodes ≡ [] }
-{
-    Plan {
-        nodes: Items::new(alloc),
-        printed: Items::new(alloc),
-        published: Items::new(alloc),
+    for (place, (text, want)) in TABLES.iter().enumerate() {
+        let answer = refusal(read_table(rt.alloc(), text.as_bytes(), &source.columns))?;
+        assert!(rt; answer == *want, "table file {place}");
     }
-}
-
-fn literals(alloc: Global) -> Result<Items<Name>, AllocError> {
-    let mut literals = Items::new(alloc);
-    literals.push(Name::of(String::from_str(alloc, "M")?))?;
-    Ok(literals)
-}
-
-fn small_feed(alloc: Global) -> Result<RawFeed, AllocError> {
-    let plan = two_sources(alloc)?;
-    let feed = "t,t\na,7,Z,\na,8,A,4\nm,9,M,\nt,u\na,0,Z,1\n.\n";
-    match read_feed(alloc, feed.as_bytes(), &plan) {
-        Ok(feed) => Ok(feed),
-        Err(_) => Err(AllocError),
-    }
-}
-
-#[test]
-fn texts_are_coded_by_their_ranks(rt: HostRuntime) -> Result<(), Fail> {
-    let plan = no_nodes(rt.alloc());
-    let literals = literals(rt.alloc())?;
-    let tables = Items::new(rt.alloc());
-    let coded = code(
-        rt.alloc(),
-        &plan,
-        &literals,
-        &tables,
-        small_feed(rt.alloc())?,
-    )?;
-    assert!(rt; coded.opening.is_empty());
-    let texts = coded.texts.as_slice();
-    assert!(rt; texts.len() == 3);
-    assert!(rt; texts[0].as_str() == "A" && texts[1].as_str() == "M" && texts[2].as_str() == "Z");
-    let batches = coded.batches.as_slice();
-    assert!(rt; batches.len() == 1);
-    let blocks = batches[0].blocks.as_slice();
-    assert!(rt; blocks.len() == 2);
-    let added = blocks[0].added.as_slice();
-    assert!(rt; added.len() == 2 && added[0].key == 7);
-    assert!(rt; matches!(added[0].cells.as_slice(), [2, i64::MIN]));
-    assert!(rt; matches!(added[1].cells.as_slice(), [0, 4]));
     Ok(())
 }
 
 const SCRIPT: &str = "table t sym:text qty:long\nb = where t sym = \"M\"\nprint b";
 
-/// A script that is read: one source, and a test by a text.
-fn small_script(alloc: Global) -> Result<Script, AllocError>
-    ensures nodes { IfOk result (λ script. length script.plan.nodes < 2 ^ 32) }
-    ensures columns { IfOk result (λ script. All (λ node. length node.columns < 2 ^ 32) script.plan.nodes) }
-{
-    match read_script(alloc, SCRIPT.as_bytes()) {
-        Ok(script) => Ok(script),
+/// A table file with two rows.
+fn small_table(alloc: Global, columns: &Items<ColumnSpec>) -> Result<RawTable, AllocError> {
+    match read_table(alloc, "sym,qty\nB,1\n,2\n".as_bytes(), columns) {
+        Ok(table) => Ok(table),
         Err(_) => Err(AllocError),
     }
-}
-
-fn feed_for(alloc: Global, plan: &Plan) -> Result<RawFeed, AllocError>
-    requires { length plan.now.nodes < 2 ^ 32 }
-{
-    match read_feed(alloc, "t,t\na,7,Z,\na,8,A,4\n.\n".as_bytes(), plan) {
-        Ok(feed) => Ok(feed),
-        Err(_) => Err(AllocError),
-    }
-}
-
-/// One table file, with two rows.
-fn small_tables(alloc: Global) -> Result<Items<RawTable>, AllocError> {
-    let mut tables = Items::new(alloc);
-    match read_table(alloc, "sym,qty\nB,1\n,2\n".as_bytes(), &columns(alloc)?) {
-        Ok(table) => tables.push(table)?,
-        Err(_) => return Err(AllocError),
-    }
-    Ok(tables)
 }
 
 fn small_run(alloc: Global) -> Result<Run, AllocError> {
-    let script = small_script(alloc)?;
-    let feed = feed_for(alloc, &script.plan)?;
-    assemble(alloc, script, small_tables(alloc)?, feed)
+    let mut tables = Items::new(alloc);
+    let script = script_of(alloc, SCRIPT)?;
+    if let Some(source) = script.plan.nodes.as_slice().first() {
+        tables.push(small_table(alloc, &source.columns)?)?;
+    }
+    run_of(alloc, SCRIPT, tables, "t,t\na,7,Z,\na,8,A,4\n.\n")
 }
 
 #[test]

@@ -1,9 +1,11 @@
-//! Tests of `script_lines`, `script_reader`, `feed_reader`, `update_text`, `command_words` and `made_run`, with ample memory: in a crate of their own, so that those are proved once.
+//! Tests with ample memory of the public calls of `tick_model` (the evaluator, and whether a plan is lawful and fits), `script_lines`, `script_reader`, `feed_reader`, `update_text`, `command_words` and `made_run`.
 
 #![tactic(auto)]
 
 #[cfg(test)]
 mod command_words_calls;
+#[cfg(test)]
+mod evaluated;
 #[cfg(test)]
 mod feed_reader_calls;
 #[cfg(test)]
@@ -12,5 +14,7 @@ mod made_run_calls;
 mod script_lines_calls;
 #[cfg(test)]
 mod script_reader_calls;
+#[cfg(test)]
+mod scripts;
 #[cfg(test)]
 mod update_text_calls;

@@ -12,11 +12,7 @@ use tick_model::name::Name;
 use tick_model::plan::{ColumnSpec, Kind};
 use tick_model::table::PlainRow;
 use tick_model::update::ShiftRange;
-use tick_table::TickTable;
-use update_text::{
-    PrintedFault, Shown, WriteFault, read_update, write_added, write_fields, write_snapshot,
-    write_update,
-};
+use update_text::{PrintedFault, Shown, WriteFault, read_update, write_added, write_fields};
 
 /// A sink that takes one byte at a time, and fails where it is full.
 #[derive(Drop)]
@@ -101,12 +97,6 @@ fn added_rows_are_told(rt: HostRuntime) -> Result<(), Fail> {
     let shown = big(rt.alloc())?;
     let texts = texts(rt.alloc())?;
     let mut sink = MemorySink::new(rt.alloc(), Vec::new(rt.alloc()));
-    let none = Items::new(rt.alloc());
-    assert_eq!(rt;
-        write_added(rt.alloc(), &mut sink, 0, &shown, &texts, &none)?,
-        0
-    );
-    assert_eq!(rt; sink.bytes().len(), 0);
     let mut rows = Items::new(rt.alloc());
     rows.push(row(rt.alloc(), 1, 0, 20)?)?;
     rows.push(row(rt.alloc(), 2, NULL, -7)?)?;
@@ -116,30 +106,6 @@ fn added_rows_are_told(rt: HostRuntime) -> Result<(), Fail> {
         4
     );
     let want = b"step,1,big\na,1,AAPL,20\na,2,,-7\na,3,\"x, \"\"y\"\"\r\n\",\n";
-    assert_eq!(rt; sink.bytes(), want.as_slice());
-    Ok(())
-}
-
-#[test]
-fn an_empty_update_is_not_told(rt: HostRuntime) -> Result<(), Fail> {
-    let shown = big(rt.alloc())?;
-    let texts = texts(rt.alloc())?;
-    let table = TickTable::new(rt.alloc(), 2)?;
-    let mut sink = MemorySink::new(rt.alloc(), Vec::new(rt.alloc()));
-    let count = write_update(rt.alloc(), &mut sink, 3, &shown, &texts, &table)?;
-    assert_eq!(rt; count, 0);
-    assert_eq!(rt; sink.bytes().len(), 0);
-    Ok(())
-}
-
-#[test]
-fn a_snapshot_is_told(rt: HostRuntime) -> Result<(), Fail> {
-    let shown = big(rt.alloc())?;
-    let texts = texts(rt.alloc())?;
-    let mut sink = MemorySink::new(rt.alloc(), Vec::new(rt.alloc()));
-    let words = [2, 1, 0, 2, 5, 9_223_372_036_854_775_808, u64::MAX];
-    write_snapshot(rt.alloc(), &mut sink, 3, 0, 4, &shown, &texts, &words)?;
-    let want = b"snap,3,0,4,big\nw,1,AAPL,2\nw,5,,-1\n";
     assert_eq!(rt; sink.bytes(), want.as_slice());
     Ok(())
 }

@@ -22,8 +22,6 @@ mod rows;
 mod run;
 mod snapshots;
 mod steps;
-#[cfg(test)]
-mod tests;
 mod writing;
 
 pub use hands::Hands;

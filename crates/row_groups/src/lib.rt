@@ -10,8 +10,6 @@ mod lists;
 mod place;
 mod sequence;
 mod table;
-#[cfg(test)]
-mod tests;
 
 pub use group::Group;
 pub use groups::Groups;

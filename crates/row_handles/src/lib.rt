@@ -7,7 +7,5 @@ mod handles;
 mod index;
 mod joins;
 mod moves;
-#[cfg(test)]
-mod tests;
 
 pub use handles::{Handle, Handles};

@@ -14,8 +14,6 @@ mod rows;
 mod search;
 mod shifts;
 mod sweeps;
-#[cfg(test)]
-mod tests;
 
 pub use ranges::Range;
 pub use rows::RowSet;

@@ -1,25 +1,28 @@
 //! Calls of the program over files and a sink in memory: words and files against the status and the bytes.
 
-mod at_once;
 mod cut;
-mod day;
-mod gate;
+mod long;
 mod made;
+mod meetings;
 mod refused;
 mod snapshots;
+mod stepped;
 mod watched;
 mod worked;
 
 use cut::CUTS;
-use day::{DAY, REFERENCES, WIDE, day_feed, day_text, long_file, trades_file};
 use feed_run::tick_main;
+use made::SUMMARIES;
 use refused::REFUSED;
+use snapshots::KEPT;
 use std::alloc::{AllocError, Global};
 use std::process::Abort;
 use std::sync::Wait;
 use std::test::Fail;
 use std::thread::Threads;
+use stepped::STEPS;
 use tick_io::{Gate, MemoryInputs, MemorySink, OpenGate};
+use watched::{SORTED, WATCHED};
 use worked::RUNS;
 
 /// A script, a feed, the status and what is written.
@@ -46,8 +49,6 @@ const FILTER: &str = "table t sym:text qty:long\nbig = where t qty > 10\nprint b
 
 const ONE_STEP: &str = "t,t\na,0,IBM,5\na,1,AAPL,20\n.\n";
 
-const SOURCE: &str = "table t x:long\nprint t\n";
-
 const FROM_FILE: &str = "table t x:long from \"t.csv\"\nprint t\n";
 
 const FILE: &str = "x\n1\n\"\"\n3\n";
@@ -63,35 +64,18 @@ fn words(alloc: Global, text: &str) -> Result<Vec<String>, AllocError> {
     Ok(words)
 }
 
-/// Puts a file among others, where it is there.
-fn put_file(
+/// The files that are there, each with its name.
+fn files(
     alloc: Global,
-    files: &mut Vec<(String, Vec<u8>)>,
-    name: &str,
-    content: Option<&str>,
-) -> Result<(), AllocError> {
-    if let Some(content) = content {
-        files.push((
-            String::from_str(alloc, name)?,
-            content.as_bytes().to_vec(alloc)?,
-        ))?;
+    texts: &[(&str, Option<&str>)],
+) -> Result<Vec<(String, Vec<u8>)>, AllocError> {
+    let mut files = Vec::new(alloc);
+    for (name, text) in texts {
+        if let Some(text) = text {
+            let bytes = text.as_bytes().to_vec(alloc)?;
+            files.push((String::from_str(alloc, name)?, bytes))?;
+        }
     }
-    Ok(())
-}
-
-fn files(alloc: Global, case: &Case) -> Result<Vec<(String, Vec<u8>)>, AllocError> {
-    let mut files = Vec::new(alloc);
-    put_file(alloc, &mut files, "s", case.script)?;
-    put_file(alloc, &mut files, "f", case.feed)?;
-    put_file(alloc, &mut files, "t.csv", case.table)?;
-    Ok(files)
-}
-
-/// A script and a feed.
-fn files_of(alloc: Global, script: &str, feed: &str) -> Result<Vec<(String, Vec<u8>)>, AllocError> {
-    let mut files = Vec::new(alloc);
-    put_file(alloc, &mut files, "s", Some(script))?;
-    put_file(alloc, &mut files, "f", Some(feed))?;
     Ok(files)
 }
 
@@ -100,15 +84,14 @@ fn call<R: Threads + Wait + Sync, G: Gate>(
     rt: &R,
     alloc: Global,
     words_text: &str,
-    files: Vec<(String, Vec<u8>)>,
+    texts: &[(&str, Option<&str>)],
     failing: u64,
     gate: &G,
 ) -> Result<(u8, MemorySink), AllocError> {
     let words = words(alloc, words_text)?;
+    let files = files(alloc, texts)?;
     let mut inputs = MemoryInputs::new(alloc, files, Vec::new(alloc));
-    let mut failing_calls = Vec::new(alloc);
-    failing_calls.push(failing)?;
-    let mut out = MemorySink::new(alloc, failing_calls);
+    let mut out = MemorySink::new(alloc, vec![in alloc; failing]?);
     let status = tick_main(rt, alloc, words.as_slice(), &mut inputs, &mut out, gate);
     Ok((status, out))
 }
@@ -117,25 +100,25 @@ fn call<R: Threads + Wait + Sync, G: Gate>(
 fn compare<R: Abort + Threads + Wait + Sync>(
     rt: &R,
     alloc: Global,
-    words_text: &str,
-    files: Vec<(String, Vec<u8>)>,
+    words: &str,
+    texts: &[(&str, Option<&str>)],
     failing: u64,
     status: u8,
     bytes: &str,
 ) -> Result<(), Fail> {
-    let (answer, out) = call(rt, alloc, words_text, files, failing, &OpenGate)?;
-    assert_eq!(rt; answer, status);
-    assert_eq!(rt; out.bytes(), bytes.as_bytes());
+    let (answer, out) = call(rt, alloc, words, texts, failing, &OpenGate)?;
+    assert_eq!(rt; answer, status, "{words}");
+    assert_eq!(rt; out.bytes(), bytes.as_bytes(), "{words}");
     Ok(())
 }
 
 fn run<R: Abort + Threads + Wait + Sync>(rt: &R, alloc: Global, case: &Case) -> Result<(), Fail> {
-    let files = files(alloc, case)?;
+    let texts = [("s", case.script), ("f", case.feed), ("t.csv", case.table)];
     compare(
         rt,
         alloc,
         case.words,
-        files,
+        &texts,
         case.failing,
         case.status,
         case.bytes,
@@ -143,24 +126,25 @@ fn run<R: Abort + Threads + Wait + Sync>(rt: &R, alloc: Global, case: &Case) -> 
 }
 
 /// A call over a script and a feed alone.
-fn case_of(words: &'static str, row: &Row) -> Case {
+fn run_row<R: Abort + Threads + Wait + Sync>(
+    rt: &R,
+    alloc: Global,
+    words: &str,
+    row: &Row,
+) -> Result<(), Fail> {
     let (script, feed, status, bytes) = *row;
-    Case {
-        words,
-        script: Some(script),
-        feed: Some(feed),
-        table: None,
-        failing: 0,
-        status,
-        bytes,
-    }
+    let texts = [("s", Some(script)), ("f", Some(feed))];
+    compare(rt, alloc, words, &texts, 0, status, bytes)
 }
 
 #[test]
 fn updates_are_printed_whatever_the_workers(rt: HostRuntime) -> Result<(), Fail> {
-    for row in RUNS.iter() {
-        for words in WORKERS.iter() {
-            run(&rt, rt.alloc(), &case_of(words, row))?;
+    for words in WORKERS {
+        for row in RUNS.iter() {
+            run_row(&rt, rt.alloc(), words, row)?;
+        }
+        for row in STEPS.iter() {
+            run_row(&rt, rt.alloc(), words, row)?;
         }
     }
     Ok(())
@@ -169,7 +153,7 @@ fn updates_are_printed_whatever_the_workers(rt: HostRuntime) -> Result<(), Fail>
 #[test]
 fn the_first_refusal_is_told(rt: HostRuntime) -> Result<(), Fail> {
     for row in REFUSED.iter() {
-        run(&rt, rt.alloc(), &case_of("run s f", row))?;
+        run_row(&rt, rt.alloc(), "run s f", row)?;
     }
     Ok(())
 }
@@ -178,11 +162,31 @@ fn the_first_refusal_is_told(rt: HostRuntime) -> Result<(), Fail> {
 fn a_feed_that_is_cut_is_refused(rt: HostRuntime) -> Result<(), Fail> {
     for (left, status, bytes) in CUTS.iter() {
         let feed = ONE_STEP.get(..*left).unwrap_or("");
-        run(
-            &rt,
-            rt.alloc(),
-            &case_of("run s f", &(FILTER, feed, *status, bytes)),
-        )?;
+        run_row(&rt, rt.alloc(), "run s f", &(FILTER, feed, *status, bytes))?;
+    }
+    Ok(())
+}
+
+#[test]
+fn watched_rows_are_told(rt: HostRuntime) -> Result<(), Fail> {
+    for (words, feed, status, bytes) in WATCHED.iter() {
+        run_row(&rt, rt.alloc(), words, &(SORTED, feed, *status, bytes))?;
+    }
+    Ok(())
+}
+
+#[test]
+fn made_runs_are_summed_up(rt: HostRuntime) -> Result<(), Fail> {
+    for (words, text) in SUMMARIES.iter() {
+        compare(&rt, rt.alloc(), words, &[], 0, 0, text)?;
+    }
+    Ok(())
+}
+
+#[test]
+fn so_many_words_are_kept(rt: HostRuntime) -> Result<(), Fail> {
+    for (words, row) in KEPT.iter() {
+        run_row(&rt, rt.alloc(), words, row)?;
     }
     Ok(())
 }
@@ -255,47 +259,4 @@ fn words_and_files_are_answered(rt: HostRuntime) -> Result<(), Fail> {
         run(&rt, rt.alloc(), case)?;
     }
     Ok(())
-}
-
-/// The files of a day's run.
-fn day_files(alloc: Global) -> Result<Vec<(String, Vec<u8>)>, AllocError> {
-    let mut files = Vec::new(alloc);
-    put_file(alloc, &mut files, "s", Some(DAY))?;
-    put_file(alloc, &mut files, "f", Some(&day_feed(alloc)?))?;
-    put_file(alloc, &mut files, "trades.csv", Some(&trades_file(alloc)?))?;
-    put_file(alloc, &mut files, "ref.csv", Some(REFERENCES))?;
-    Ok(files)
-}
-
-#[test]
-fn a_day_is_run(rt: HostRuntime) -> Result<(), Fail> {
-    let text = day_text(rt.alloc())?;
-    for words in WORKERS.iter() {
-        let files = day_files(rt.alloc())?;
-        compare(&rt, rt.alloc(), words, files, 0, 0, &text)?;
-    }
-    Ok(())
-}
-
-/// The files of a merge of one table with itself, sixteen times, that has too many rows.
-fn wide_files(alloc: Global) -> Result<Vec<(String, Vec<u8>)>, AllocError> {
-    let mut files = Vec::new(alloc);
-    put_file(alloc, &mut files, "s", Some(WIDE))?;
-    put_file(alloc, &mut files, "f", Some(""))?;
-    put_file(alloc, &mut files, "t.csv", Some(&long_file(alloc)?))?;
-    Ok(files)
-}
-
-#[test]
-fn too_many_rows_fail_their_node(rt: HostRuntime) -> Result<(), Fail> {
-    let files = wide_files(rt.alloc())?;
-    compare(
-        &rt,
-        rt.alloc(),
-        "run s f",
-        files,
-        0,
-        8,
-        "fault,8,node,0,m,too-many-rows,4194320\n",
-    )
 }

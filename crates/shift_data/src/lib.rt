@@ -19,6 +19,3 @@ mod stretches;
 mod unapply;
 
 pub use shifts::{Broken, ShiftData, ShiftFault};
-
-#[cfg(test)]
-mod tests;

@@ -18,6 +18,3 @@ pub use host::{HostInputs, StdSink};
 pub use inputs::{Inputs, LoadFault};
 pub use memory::{MemoryInputs, MemorySink, SteadySink, VoidSink};
 pub use sink::{Sink, SinkFault, put_all};
-
-#[cfg(test)]
-mod tests;

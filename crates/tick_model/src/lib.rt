@@ -23,6 +23,4 @@ pub mod sort;
 pub mod sources;
 pub mod sums;
 pub mod table;
-#[cfg(test)]
-mod tests;
 pub mod update;

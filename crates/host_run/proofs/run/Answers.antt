@@ -1,8 +1,5 @@
 use Rattle.std.proofs.Common.{◌≡◌, ◌≤◌, ◌⊎◌, sym, subst}
-use Rattle.host_run.proofs.Statuses.{some_status}
 use Rattle.host_run.proofs.run.Goals as goal
 
 pub returns : goal.returns
-returns g c = record {
-  status = subst (λ status. (status ≤ 10) ⊎ (status ≡ 12)) (sym c.from-2.ensures) (some_status c.tick_main-status.result c.tick_main-status.ensures.statuses);
-}
+returns g c = record { status = subst (λ status. (status ≤ 10) ⊎ (status ≡ 12)) (sym c.from.ensures) c.run_words.ensures }

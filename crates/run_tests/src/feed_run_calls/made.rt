@@ -1,10 +1,7 @@
 //! Made runs, summed up.
 
-use super::compare;
-use std::test::Fail;
-
 /// The words of a demonstration and what it prints, whatever the workers and the callers.
-const SUMMARIES: [(&str, &str); 4] = [
+pub(super) const SUMMARIES: [(&str, &str); 4] = [
     (
         "demo 0",
         "demo,0,0\nsize,trades,0\nsize,ref,8\nsize,big,0\nsize,val,0\nsize,j,0\nsize,bysec,0\nsize,srt,0\nsize,top10,0\nsize,both,0\ndone,0\n",
@@ -16,12 +13,3 @@ const SUMMARIES: [(&str, &str); 4] = [
 
 const TEN_STEPS: &str =
     "demo,10,99\nsize,trades,180\nsize,ref,8\nsize,big,99\nsize,val,99\nsize,j,99\nsize,bysec,2\nsize,srt,99\nsize,top10,10\nsize,both,279\ndone,10\n";
-
-#[test]
-fn made_runs_are_summed_up(rt: HostRuntime) -> Result<(), Fail> {
-    for (words, text) in SUMMARIES.iter() {
-        let files = Vec::new(rt.alloc());
-        compare(&rt, rt.alloc(), words, files, 0, 0, text)?;
-    }
-    Ok(())
-}

@@ -1,6 +1,6 @@
 //! Runs with callers beside them, and how much they may keep.
 
-use super::{call, compare, files_of};
+use super::{Row, call, compare};
 use std::alloc::{AllocError, Global};
 use std::process::Abort;
 use std::sync::Wait;
@@ -13,6 +13,9 @@ const PUBLISHED: &str = "table t x:long\npublish t 10\n";
 
 /// A feed of four steps.
 const STEPS: &str = "t,t\na,0,1\n.\nt,t\na,1,2\n.\nt,t\nr,0,0\n.\nt,t\na,2,3\n.\n";
+
+/// Both files.
+const FILES: [(&str, Option<&str>); 2] = [("s", Some(PUBLISHED)), ("f", Some(STEPS))];
 
 /// The rows of the table at each step.
 const ROWS: [&str; 5] = ["", "w,0,1\n", "w,0,1\nw,1,2\n", "w,1,2\n", "w,1,2\nw,2,3\n"];
@@ -45,6 +48,21 @@ const WIDEST: &str = "table t x:long\npublish t 262143\n";
 
 /// One row more.
 const TOO_WIDE: &str = "table t x:long\npublish t 262144\n";
+
+/// The words, the script and the feed, the status and what is written: so many words are kept, and no more.
+pub(super) const KEPT: [(&str, Row); 4] = [
+    ("run s f", (WIDEST, "", 0, "done,0\n")),
+    ("run s f --callers 16 --snaps 1", (WIDEST, "", 0, EMPTY)),
+    ("run s f", (TOO_WIDE, "", 4, "fault,4,script,2,too-wide\n")),
+    (
+        "run s f --callers 16 --snaps 2",
+        (WIDEST, "", 2, "fault,2,kept,25165776\n"),
+    ),
+];
+
+/// What sixteen callers write who take two snapshots each of an empty table.
+const EMPTY: &str =
+    "snap,0,0,0,t\nsnap,0,1,0,t\nsnap,1,0,0,t\nsnap,1,1,0,t\nsnap,2,0,0,t\nsnap,2,1,0,t\nsnap,3,0,0,t\nsnap,3,1,0,t\nsnap,4,0,0,t\nsnap,4,1,0,t\nsnap,5,0,0,t\nsnap,5,1,0,t\nsnap,6,0,0,t\nsnap,6,1,0,t\nsnap,7,0,0,t\nsnap,7,1,0,t\nsnap,8,0,0,t\nsnap,8,1,0,t\nsnap,9,0,0,t\nsnap,9,1,0,t\nsnap,10,0,0,t\nsnap,10,1,0,t\nsnap,11,0,0,t\nsnap,11,1,0,t\nsnap,12,0,0,t\nsnap,12,1,0,t\nsnap,13,0,0,t\nsnap,13,1,0,t\nsnap,14,0,0,t\nsnap,14,1,0,t\nsnap,15,0,0,t\nsnap,15,1,0,t\ndone,0\n";
 
 /// The steps of the snapshots in a text.
 fn steps(alloc: Global, text: &str) -> Result<Vec<usize>, AllocError> {
@@ -80,8 +98,7 @@ fn compare_beside<R: Abort + Threads + Wait + Sync>(
     alloc: Global,
     words: &str,
 ) -> Result<(), Fail> {
-    let files = files_of(alloc, PUBLISHED, STEPS)?;
-    let (status, out) = call(rt, alloc, words, files, 0, &OpenGate)?;
+    let (status, out) = call(rt, alloc, words, &FILES, 0, &OpenGate)?;
     let text = str::from_utf8(out.bytes()).unwrap_or("");
     let steps = steps(alloc, text)?;
     assert_eq!(rt; status, 0);
@@ -94,18 +111,6 @@ fn compare_beside<R: Abort + Threads + Wait + Sync>(
     Ok(())
 }
 
-/// What sixteen callers write who take two snapshots each of an empty table.
-fn empty_text(alloc: Global) -> Result<String, AllocError> {
-    let mut text = String::new(alloc);
-    for caller in 0..16_u32 {
-        for call in 0..2_u32 {
-            text.push_str(&format!(in alloc; "snap,{caller},{call},0,t\n")?)?;
-        }
-    }
-    text.push_str("done,0\n")?;
-    Ok(text)
-}
-
 #[test]
 fn callers_take_the_last_snapshots(rt: HostRuntime) -> Result<(), Fail> {
     let mut text = String::new(rt.alloc());
@@ -113,8 +118,7 @@ fn callers_take_the_last_snapshots(rt: HostRuntime) -> Result<(), Fail> {
         text.push_str(piece)?;
     }
     for words in LAST_ALONE.iter() {
-        let files = files_of(rt.alloc(), PUBLISHED, STEPS)?;
-        compare(&rt, rt.alloc(), words, files, 0, 0, &text)?;
+        compare(&rt, rt.alloc(), words, &FILES, 0, 0, &text)?;
     }
     Ok(())
 }
@@ -124,8 +128,7 @@ fn the_pieces_before_a_failed_write_are_written(rt: HostRuntime) -> Result<(), F
     let mut text = String::new(rt.alloc());
     let mut failing = 1;
     for piece in LAST_PIECES.iter() {
-        let files = files_of(rt.alloc(), PUBLISHED, STEPS)?;
-        compare(&rt, rt.alloc(), LAST_ALONE[0], files, failing, 10, &text)?;
+        compare(&rt, rt.alloc(), LAST_ALONE[0], &FILES, failing, 10, &text)?;
         text.push_str(piece)?;
         failing = failing.saturating_add(1);
     }
@@ -138,45 +141,4 @@ fn snapshots_beside_a_run_are_whole_tables(rt: HostRuntime) -> Result<(), Fail> 
         compare_beside(&rt, rt.alloc(), words)?;
     }
     Ok(())
-}
-
-#[test]
-fn so_many_words_are_kept(rt: HostRuntime) -> Result<(), Fail> {
-    let files = files_of(rt.alloc(), WIDEST, "")?;
-    compare(&rt, rt.alloc(), "run s f", files, 0, 0, "done,0\n")?;
-    let files = files_of(rt.alloc(), WIDEST, "")?;
-    let text = empty_text(rt.alloc())?;
-    compare(
-        &rt,
-        rt.alloc(),
-        "run s f --callers 16 --snaps 1",
-        files,
-        0,
-        0,
-        &text,
-    )
-}
-
-#[test]
-fn more_words_are_refused(rt: HostRuntime) -> Result<(), Fail> {
-    let files = files_of(rt.alloc(), TOO_WIDE, "")?;
-    compare(
-        &rt,
-        rt.alloc(),
-        "run s f",
-        files,
-        0,
-        4,
-        "fault,4,script,2,too-wide\n",
-    )?;
-    let files = files_of(rt.alloc(), WIDEST, "")?;
-    compare(
-        &rt,
-        rt.alloc(),
-        "run s f --callers 16 --snaps 2",
-        files,
-        0,
-        2,
-        "fault,2,kept,25165776\n",
-    )
 }

@@ -1,16 +1,14 @@
 //! Watched runs.
 
-use super::{case_of, run};
-use std::test::Fail;
-
-const SORTED: &str = "table t qty:long\ns = sort t -qty\nprint s\n";
+/// The watched table.
+pub(super) const SORTED: &str = "table t qty:long\ns = sort t -qty\nprint s\n";
 
 const TWO_STEPS: &str = "t,t\na,0,5\na,1,20\n.\nt,t\na,2,10\n.\n";
 
 const FAILING: &str = "t,t\na,0,5\na,1,20\n.\nt,t\na,0,10\n.\n";
 
 /// The words, the feed, the status and what is written.
-const WATCHED: [(&str, &str, u8, &str); 6] = [
+pub(super) const WATCHED: [(&str, &str, u8, &str); 6] = [
     (
         "watch s f s 0 2",
         TWO_STEPS,
@@ -38,15 +36,3 @@ const WATCHED: [(&str, &str, u8, &str); 6] = [
     ),
     ("watch s f s 0 0", TWO_STEPS, 2, "fault,2,usage\n"),
 ];
-
-#[test]
-fn watched_rows_are_told(rt: HostRuntime) -> Result<(), Fail> {
-    for (words, feed, status, bytes) in WATCHED.iter() {
-        run(
-            &rt,
-            rt.alloc(),
-            &case_of(words, &(SORTED, *feed, *status, *bytes)),
-        )?;
-    }
-    Ok(())
-}

@@ -1,0 +1,14 @@
+//! Tests with ample memory: of the public calls of `row_set`, `shift_data` and `logical_clock`, of the inputs and sinks of `tick_io`, and of `SortOrder` of `sort_op`.
+
+#![tactic(auto)]
+
+#[cfg(test)]
+mod clock_values;
+#[cfg(test)]
+mod files;
+#[cfg(test)]
+mod key_sets;
+#[cfg(test)]
+mod moved_keys;
+#[cfg(test)]
+mod sorted_entries;

@@ -1,0 +1,504 @@
+//! Every operator over rows that come, go, move and change, also in several blocks of one step.
+
+use super::Row;
+
+/// The scripts and feeds, with what is written.
+pub(super) const STEPS: [Row; 3] = [
+    (
+        "\
+table t sym:text qty:long
+w = where t qty > 10 and not [sym = \"B\"]
+v = view t dbl = qty * 2 - 1, gap = null
+g = agg t by sym do n = count, s = sum qty, lo = min qty, hi = max qty, a1 = first qty, a2 = last qty
+o = sort t sym, -qty
+h = head 2 o
+l = tail 2 t
+m = merge t o
+print t
+print w
+print v
+print g
+print o
+print h
+print l
+print m
+",
+        "\
+t,t
+a,0,A,5
+a,1,B,20
+a,2,A,30
+a,4,C,
+.
+t,t
+r,1,1
+s,2,2,3
+s,4,4,4
+a,1,B,12
+a,7,A,40
+m,0,A,15
+m,5,C,31
+.
+t,t
+s,0,1,2
+a,0,C,7
+t,t
+r,5,5
+s,7,8,-2
+m,2,A,16
+.
+t,t
+m,2,A,16
+.
+t,t
+r,0,0
+r,2,3
+r,5,6
+.
+",
+        0,
+        "\
+step,1,t
+a,0,A,5
+a,1,B,20
+a,2,A,30
+a,4,C,
+step,1,w
+a,2,A,30
+step,1,v
+a,0,A,5,9,
+a,1,B,20,39,
+a,2,A,30,59,
+a,4,C,,,
+step,1,g
+a,0,A,2,35,5,30,5,30
+a,1,B,1,20,20,20,20,20
+a,4,C,1,,,,,
+step,1,o
+a,0,A,30
+a,1,A,5
+a,2,B,20
+a,3,C,
+step,1,h
+a,0,A,30
+a,1,A,5
+step,1,l
+a,2,A,30
+a,4,C,
+step,1,m
+a,0,A,5
+a,1,B,20
+a,2,A,30
+a,4,C,
+a,65536,A,30
+a,65537,A,5
+a,65538,B,20
+a,65539,C,
+step,2,t
+r,1,1
+s,2,2,3
+s,4,4,4
+a,1,B,12
+a,7,A,40
+c,sym,qty
+m,0,A,15
+m,5,C,31
+step,2,w
+s,2,2,3
+a,0,A,15
+a,7,A,40
+c,sym,qty
+m,5,C,31
+step,2,v
+r,1,1
+s,2,2,3
+s,4,4,4
+a,1,B,12,23,
+a,7,A,40,79,
+c,sym,qty,dbl
+m,0,A,15,29,
+m,5,C,31,61,
+step,2,g
+r,1,1
+r,4,4
+a,1,B,1,12,12,12,12,12
+a,5,C,2,31,31,31,31,
+c,s,lo,hi,a1,a2
+m,0,A,2,55,15,40,15,40
+step,2,o
+r,0,2
+s,3,3,1
+a,0,A,40
+a,1,A,15
+a,2,B,12
+a,3,C,31
+step,2,h
+r,0,1
+a,0,A,40
+a,1,A,15
+step,2,l
+r,2,2
+s,4,4,4
+a,7,A,40
+step,2,m
+r,1,1
+r,65536,65538
+s,2,2,3
+s,4,4,4
+s,65539,65539,1
+a,1,B,12
+a,7,A,40
+a,65536,A,40
+a,65537,A,15
+a,65538,B,12
+a,65539,C,31
+c,sym,qty
+m,0,A,15
+m,5,C,31
+step,3,t
+r,5,5
+s,0,1,2
+s,7,8,-2
+a,0,C,7
+c,qty
+m,2,A,16
+step,3,w
+r,5,5
+s,0,0,2
+s,7,7,-2
+c,qty
+m,2,A,16
+step,3,v
+r,5,5
+s,0,1,2
+s,7,8,-2
+a,0,C,7,13,
+c,qty,dbl
+m,2,A,16,31,
+step,3,g
+r,5,5
+s,0,1,2
+a,0,C,2,7,7,7,7,
+c,s,lo,a1
+m,2,A,2,56,16,40,16,40
+step,3,o
+r,1,1
+r,3,3
+a,1,A,16
+a,3,C,7
+step,3,h
+r,1,1
+a,1,A,16
+step,3,l
+s,7,8,-2
+step,3,m
+r,5,5
+r,65537,65537
+r,65539,65539
+s,0,1,2
+s,7,8,-2
+a,0,C,7
+a,65537,A,16
+a,65539,C,7
+c,qty
+m,2,A,16
+step,5,t
+r,0,0
+r,2,3
+r,5,6
+step,5,w
+r,2,2
+r,5,5
+step,5,v
+r,0,0
+r,2,3
+r,5,6
+step,5,g
+r,0,0
+r,2,3
+step,5,o
+r,0,4
+step,5,h
+r,0,1
+step,5,l
+r,5,6
+step,5,m
+r,0,0
+r,2,3
+r,5,6
+r,65536,65540
+done,5
+",
+    ),
+    (
+        "\
+table l sym:text ts:long
+table r sym:text at:long px:long
+fst = join l r on sym take p1 = px first
+lst = join l r on sym take p2 = px last
+aso = asof l r on sym at ts = at take px, seen = at
+print fst
+print lst
+print aso
+",
+        "\
+t,r
+a,1,A,10,100
+a,2,B,10,200
+a,3,A,20,110
+t,l
+a,0,A,15
+a,1,B,5
+a,2,C,9
+.
+t,l
+s,1,2,3
+a,1,A,25
+m,4,B,10
+.
+t,r
+r,1,1
+s,2,3,4
+a,2,A,12,120
+m,6,B,4,210
+.
+t,r
+s,2,2,-2
+a,9,C,9,300
+t,l
+r,0,0
+s,4,5,-2
+m,1,B,5
+.
+t,r
+r,0,0
+r,6,7
+r,9,9
+t,l
+s,3,3,9
+.
+",
+        0,
+        "\
+step,1,fst
+a,0,A,15,100
+a,1,B,5,200
+a,2,C,9,
+step,1,lst
+a,0,A,15,110
+a,1,B,5,200
+a,2,C,9,
+step,1,aso
+a,0,A,15,100,10
+a,1,B,5,,
+a,2,C,9,,
+step,2,fst
+s,1,2,3
+a,1,A,25,100
+c,ts
+m,4,B,10,200
+step,2,lst
+s,1,2,3
+a,1,A,25,110
+c,ts
+m,4,B,10,200
+step,2,aso
+s,1,2,3
+a,1,A,25,110,20
+c,ts,px,seen
+m,4,B,10,200,10
+step,3,fst
+c,p1
+m,0,A,15,120
+m,1,A,25,120
+m,4,B,10,210
+step,3,lst
+c,p2
+m,4,B,10,210
+step,3,aso
+c,px,seen
+m,0,A,15,120,12
+m,4,B,10,210,4
+step,4,fst
+r,0,0
+s,4,5,-2
+c,sym,ts,p1
+m,1,B,5,210
+m,3,C,9,300
+step,4,lst
+r,0,0
+s,4,5,-2
+c,sym,ts,p2
+m,1,B,5,210
+m,3,C,9,300
+step,4,aso
+r,0,0
+s,4,5,-2
+c,sym,ts,px,seen
+m,1,B,5,210,4
+m,3,C,9,300,9
+step,5,fst
+s,3,3,9
+c,p1
+m,1,B,5,
+m,2,B,10,
+m,12,C,9,
+step,5,lst
+s,3,3,9
+c,p2
+m,1,B,5,
+m,2,B,10,
+m,12,C,9,
+step,5,aso
+s,3,3,9
+c,px,seen
+m,1,B,5,,
+m,2,B,10,,
+m,12,C,9,,
+done,5
+",
+    ),
+    (
+        "\
+table t x:long y:long
+u = where t x < 3 or not y >= 3 and x != y
+s = sort u y, -x
+d = head 3 s
+e = tail 2 s
+a = agg s do n = count, lo = min x, hi = max x
+b = agg t by x, y do n = count
+m = merge d e
+k = sort m -y
+print s
+print d
+print e
+print a
+print b
+print k
+",
+        "\
+t,t
+a,0,1,9
+a,1,2,2
+a,2,3,1
+a,3,4,4
+a,4,5,0
+a,5,1,9
+.
+t,t
+r,4,4
+s,5,5,-1
+m,1,2,8
+m,3,0,4
+.
+t,t
+r,0,1
+a,9,7,2
+t,t
+r,9,9
+a,10,7,1
+.
+t,t
+r,2,4
+r,10,10
+.
+",
+        0,
+        "\
+step,1,s
+a,0,5,0
+a,1,3,1
+a,2,2,2
+a,3,1,9
+a,4,1,9
+step,1,d
+a,0,5,0
+a,1,3,1
+a,2,2,2
+step,1,e
+a,3,1,9
+a,4,1,9
+step,1,a
+a,0,5,1,5
+step,1,b
+a,0,1,9,2
+a,1,2,2,1
+a,2,3,1,1
+a,3,4,4,1
+a,4,5,0,1
+step,1,k
+a,0,1,9
+a,1,1,9
+a,2,2,2
+a,3,3,1
+a,4,5,0
+step,2,s
+r,0,0
+r,2,2
+s,1,1,-1
+a,1,0,4
+a,2,2,8
+step,2,d
+r,0,0
+r,2,2
+s,1,1,-1
+a,1,0,4
+a,2,2,8
+step,2,a
+r,0,0
+a,0,5,0,3
+step,2,b
+r,1,1
+r,3,4
+a,1,2,8,1
+a,3,0,4,1
+step,2,k
+r,2,2
+r,4,4
+s,3,3,1
+a,2,2,8
+a,3,0,4
+step,3,s
+r,2,3
+s,0,1,1
+s,4,4,-1
+a,0,7,1
+step,3,d
+r,2,2
+s,0,1,1
+a,0,7,1
+step,3,e
+r,3,3
+s,4,4,-1
+a,2,0,4
+step,3,a
+r,0,0
+a,0,4,0,7
+step,3,b
+r,0,1
+a,4,1,9,1
+a,10,7,1,1
+step,3,k
+r,0,0
+r,2,2
+s,1,1,-1
+s,3,3,-2
+a,2,0,4
+a,3,7,1
+step,4,s
+r,0,3
+step,4,d
+r,0,2
+step,4,e
+r,2,3
+step,4,a
+r,0,0
+step,4,b
+r,2,4
+r,10,10
+step,4,k
+r,0,4
+done,4
+",
+    ),
+];

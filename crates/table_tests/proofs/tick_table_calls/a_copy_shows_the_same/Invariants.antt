@@ -1,4 +1,0 @@
-use Rattle.table_tests.proofs.tick_table_calls.a_copy_shows_the_same.Given as goal
-
-abbrev pub ghosts-shown : goal.ghosts-shown
-ghosts-shown g a = record { name = a.blank.name; parts = a.blank.parts }
