@@ -1,0 +1,4 @@
+pub mod Edits
+pub mod Joined
+pub mod Sums
+pub mod Searches
