@@ -8,7 +8,7 @@ ghost use Rattle.tick_model.specs.Tables.{cell as cell_of, cells_at, keys};
 
 use std::alloc::{AllocError, Global};
 use std::sync::ledger::Ledger;
-use tick_model::sort::cell;
+use tick_model::cells::cell;
 use tick_table::{Steps, TickTable};
 
 /// One of the two ends of a step.

@@ -7,7 +7,7 @@ use cases::CASES;
 use std::alloc::{AllocError, Global};
 use std::process::Abort;
 use std::test::Fail;
-use tick_model::evaluate::evaluate;
+use plain_evaluator::evaluate;
 use tick_model::feed::{Block, Run};
 use tick_model::formula::NULL;
 use tick_model::items::Items;

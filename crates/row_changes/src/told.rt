@@ -14,7 +14,7 @@ use row_set::RowSet;
 use std::alloc::{AllocError, Global};
 use std::sync::ledger::Ledger;
 use table_update::ColumnSet;
-use tick_model::sort::cell;
+use tick_model::cells::cell;
 use tick_model::update::KeyPair;
 use tick_table::Steps;
 

@@ -16,7 +16,7 @@ use std::alloc::{AllocError, Global};
 use std::sync::ledger::Ledger;
 use tick_model::items::Items;
 use tick_model::plan::SortBy;
-use tick_model::sort::cell;
+use tick_model::cells::cell;
 use tick_model::update::KeyPair;
 use tick_table::{Steps, TickTable};
 

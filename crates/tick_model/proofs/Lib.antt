@@ -2,17 +2,11 @@ pub mod Among
 pub mod Examples
 pub mod SortOrders
 pub mod Stable
-pub mod SumsSoFar
 pub mod ColumnLists
 pub mod KeyBounds
 pub mod RisingNumbers
-pub mod Matches
-pub mod GroupCells
-pub mod Numbering
 pub mod Widths
 pub mod TableRows
 pub mod Results
-pub mod ReadyOperators
 pub mod SourceTables
 pub mod LawfulNodes
-pub mod Evaluated

@@ -23,7 +23,6 @@ pub mod Sort
 pub mod Sources
 pub mod Spoiled
 pub mod States
-pub mod Stops
 pub mod Tables
 pub mod Texts
 pub mod Updates

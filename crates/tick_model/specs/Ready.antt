@@ -7,8 +7,6 @@ use Rattle.tick_model.specs.declared.plan.Op.TheVariants.{Source, Keep, View, Jo
 use Rattle.tick_model.specs.declared.table.PlainTable.{PlainTable}
 use Rattle.tick_model.specs.Formulas.{IsWithin, IsTestWithin}
 use Rattle.tick_model.specs.Merge.{last_key, region}
-use Rattle.tick_model.specs.declared.operators.NoTable.{NoTable}
-use Rattle.tick_model.specs.declared.operators.NoTable.TheVariants.{Memory, Fault as ByFault}
 use Rattle.tick_model.specs.Evaluation.{Outcome, Table, Fault, no_table}
 
 abbrev pub table_in : List PlainTable → ℕ → PlainTable
@@ -51,9 +49,3 @@ IsReady (AsOf left right on at take) tables = (left < length tables) × (right <
 abbrev pub IsNodeReady : Op → List PlainTable → ℕ → List PlainTable → Type 0
 IsNodeReady Source sources place tables = place < length sources
 IsNodeReady op sources place tables = IsReady op tables
-
--- what a call says of an outcome: its table, or its fault
-abbrev pub Gives : Result PlainTable NoTable → Outcome → Type 0
-Gives (Ok table) outcome = outcome ≡ Table table
-Gives (Err Memory) outcome = Unit {0}
-Gives (Err (ByFault fault)) outcome = outcome ≡ Fault fault

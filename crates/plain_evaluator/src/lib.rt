@@ -1,0 +1,15 @@
+//! The plain evaluator: the tables of a plan's nodes, afresh from its sources, as the definitions have them.
+//!
+//! It is slow and short. The engine never calls it: it shows that the definitions compute, and tests hold the engine to it.
+#![tactic(auto)]
+
+mod evaluate;
+mod groups;
+mod joins;
+mod merges;
+mod operators;
+mod rows;
+mod sort;
+mod sums;
+
+pub use evaluate::{EvalStop, Evaluated, evaluate};

@@ -1,9 +1,0 @@
-use Rattle.std.proofs.Common.{subst}
-use Rattle.tick_model.specs.Ready.{Gives, table_in}
-use Rattle.tick_model.proofs.ReadyOperators.{operator_ready, ready_outcome}
-use Rattle.tick_model.proofs.evaluate.table_of.Goals as goal
-
-pub returns-in_default : goal.returns-in_default
-returns-in_default c =
-    subst (Gives c.operated.result) (ready_outcome c.args.op.now (table_in c.args.sources.now c.args.place) c.args.tables.now
-    (operator_ready c.args.op.now c.args.sources.now c.args.place c.args.tables.now c.in_default.not-Source c.requires)) c.operated.ensures
