@@ -18,9 +18,9 @@ use row_set::RowSet;
 use shift_data::ShiftData;
 use std::alloc::{AllocError, Global};
 use std::sync::ledger::Ledger;
+use tick_model::cells::cell;
 use tick_model::formula::NULL;
 use tick_model::plan::Agg;
-use tick_model::cells::cell;
 use tick_table::{Steps, TickTable};
 
 /// An aggregate with what is kept for it besides the rows by their groups.

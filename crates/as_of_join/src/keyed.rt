@@ -16,8 +16,8 @@ use row_set::RowSet;
 use shown_rows::KeyPairs;
 use std::alloc::{AllocError, Global};
 use std::sync::ledger::Ledger;
-use tick_model::plan::OnPair;
 use tick_model::cells::cell;
+use tick_model::plan::OnPair;
 use tick_table::{Steps, TickTable};
 
 /// An input of an as-of join.

@@ -17,7 +17,7 @@ use Rattle.tick_model.specs.declared.plan.Op.TheVariants.{Source, Keep, View, Jo
 use Rattle.tick_model.specs.declared.plan.Plan.{Plan}
 use Rattle.tick_model.specs.Evaluation.{inputs_of, is_source}
 use Rattle.tick_model.specs.Formulas.{IsTestWithin, IsWithin}
-use Rattle.tick_model.specs.Plans.{agg_kind, columns_at, columns_fit, follow, has_kind, have_kinds, is_bound, is_lawful, is_test_bound, kind_at, kind_of, kinds_of, long_alone, same_columns, same_kind_at, some_of, test_fits}
+use Rattle.tick_model.specs.Plans.{agg_kind, columns_at, columns_fit, follow, has_kind, have_kinds, keep_names, is_bound, is_lawful, is_test_bound, kind_at, kind_of, kinds_of, long_alone, same_columns, same_kind_at, some_of, test_fits}
 use Rattle.tick_model.proofs.LawfulNodes.{IsLawfulNode, lawful_node}
 use Rattle.tick_model.proofs.Results.{IsOperator}
 use Rattle.tick_model.proofs.Widths.{all_within, follow_some, follow_width, have_some, kinds_width, same_width, test_within, within}
@@ -103,7 +103,7 @@ module _ (input : ℕ → List ColumnSpec) (columns : List ColumnSpec) (narrow :
   planned (AggOp from by aggs) o fit =
       let keys = map (kind_at (input from)) by in
       let values = map (agg_kind (input from)) aggs in
-      let parts = and_parts (some_of aggs) (have_kinds columns (keys ++ values)) fit in
+      let parts = and_parts (some_of aggs) (have_kinds columns (keys ++ values)) (and_parts (some_of aggs && have_kinds columns (keys ++ values)) (keep_names columns (input from) by) fit).0 in
       let wide : length columns ≡ length (keys ++ values) = kinds_width columns (keys ++ values) parts.1 in
       let of_keys : length keys ≡ length by = length-map by (kind_at (input from)) in
       let of_values : length values ≡ length aggs = length-map aggs (agg_kind (input from)) in

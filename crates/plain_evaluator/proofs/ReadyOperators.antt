@@ -20,7 +20,7 @@ use Rattle.tick_model.specs.Agg.{agg_table}
 use Rattle.tick_model.specs.Merge.{merge_table, merge_fault}
 use Rattle.tick_model.specs.Sort.{sort_table}
 use Rattle.tick_model.specs.HeadTail.{head_table, tail_table}
-use Rattle.tick_model.specs.Plans.{kinds_of, kind_of, kind_at, agg_kind, test_fits, is_bound, is_test_bound, same_columns, have_kinds, follow, some_of, same_kind_at, has_kind, columns_fit, bound_of}
+use Rattle.tick_model.specs.Plans.{kinds_of, kind_of, kind_at, agg_kind, test_fits, is_bound, is_test_bound, same_columns, have_kinds, keep_names, follow, some_of, same_kind_at, has_kind, columns_fit, bound_of}
 use Rattle.tick_model.specs.Evaluation.{Outcome, Table, NoInput, has_table, outcome_at, table_at, table_of, inputs_of, result, fault_of, or_fault, applied, outcome_of, no_table}
 use Rattle.tick_model.specs.Ready.{table_in, IsWhole, IsReady, IsNodeReady}
 use Rattle.tick_model.proofs.Widths.{kinds_width, follow_width, follow_some, test_within, all_within}
@@ -65,7 +65,7 @@ ready_is (Join left right on take choice) columns bound tables cols o fit narrow
 ready_is (AggOp from by aggs) columns bound tables cols o fit narrow known h room =
     let keys = map (kind_at (columns from)) by in
     let values = map (agg_kind (columns from)) aggs in
-    let kinds = (and_parts (some_of aggs) (have_kinds cols (keys ++ values)) fit).1 in
+    let kinds = (and_parts (some_of aggs) (have_kinds cols (keys ++ values)) (and_parts (some_of aggs && have_kinds cols (keys ++ values)) (keep_names cols (columns from) by) fit).0).1 in
     let width : length cols ≡ length (keys ++ values) = kinds_width cols (keys ++ values) kinds in
     let of_keys : length keys ≡ length by = length-map by (kind_at (columns from)) in
     let of_values : length values ≡ length aggs = length-map aggs (agg_kind (columns from)) in

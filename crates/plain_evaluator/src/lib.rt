@@ -13,3 +13,4 @@ mod sort;
 mod sums;
 
 pub use evaluate::{EvalStop, Evaluated, evaluate};
+pub use rows::rows_copied;

@@ -4,15 +4,15 @@ mod cases;
 
 use super::scripts::{run_of, script_of};
 use cases::CASES;
+use plain_evaluator::{evaluate, rows_copied};
 use std::alloc::{AllocError, Global};
 use std::process::Abort;
 use std::test::Fail;
-use plain_evaluator::evaluate;
 use tick_model::feed::{Block, Run};
 use tick_model::formula::NULL;
 use tick_model::items::Items;
 use tick_model::limits::MOST_COLUMNS;
-use tick_model::rows::rows_copied;
+use tick_model::plan::Plan;
 use tick_model::sources::is_source;
 use tick_model::table::{PlainRow, PlainTable};
 
@@ -90,5 +90,25 @@ fn a_literal_without_its_rank_is_of_no_lawful_plan(rt: HostRuntime) -> Result<()
     let script = script_of(rt.alloc(), "table u sym:text\nx = where u sym = \"B\"\n")?;
     assert!(rt; !script.plan.lawful());
     assert!(rt; !script.plan.fits(&Items::new(rt.alloc())));
+    Ok(())
+}
+
+/// The table of one script with the groups of another, which are over a table of the same kinds.
+fn groups_over(alloc: Global, table: &str, groups: &str) -> Result<Plan, AllocError> {
+    let mut plan = script_of(alloc, table)?.plan;
+    let mut nodes = script_of(alloc, groups)?.plan.nodes.into_vec();
+    if let Some(node) = nodes.pop() {
+        plan.nodes.push(node)?;
+    }
+    Ok(plan)
+}
+
+#[test]
+fn groups_have_the_names_of_their_key_columns(rt: HostRuntime) -> Result<(), Fail> {
+    let groups = "table t sym:text\nn = agg t by sym do n = count\n";
+    for (table, is_lawful) in [("table t sym:text\n", true), ("table t id:text\n", false)] {
+        let plan = groups_over(rt.alloc(), table, groups)?;
+        assert_eq!(rt; plan.lawful(), is_lawful);
+    }
     Ok(())
 }

@@ -1,6 +1,6 @@
 -- Columns that fit each other: what an operator's columns are made of, and the tests that they pass.
 use Rattle.std.proofs.Common.{◌≡◌, refl, ap, sym, ◌∙◌, true, false, ◌&&◌, ℕ, zero, suc, ◌<◌, ◌≤◌, arith, List, [], ◌∷◌, ◌++◌, map, length, Option, Some, None, is_some}
-use Rattle.std.specs.Prelude.{ℤ, pos, negsuc, unwrap_or, nat_le, slice_index}
+use Rattle.std.specs.Prelude.{ℤ, pos, negsuc, unwrap_or, nat_le, slice_get, slice_index}
 use Rattle.std.specs.List.{AllByRecursion, list_all}
 use Rattle.std.proofs.lemmas.Bool.{cond_both, and_parts, and_from, true≢false, false≢true, false_from_ne_true}
 use Rattle.std.proofs.lemmas.Slice.Eq.{bytes_eq-Decides}
@@ -11,7 +11,7 @@ use Rattle.tick_model.specs.declared.plan.Op.{Op}
 use Rattle.tick_model.specs.declared.plan.Op.TheVariants as ops
 use Rattle.tick_model.specs.Evaluation.{inputs_of}
 use Rattle.tick_model.specs.Names.{is_name, same_name}
-use Rattle.tick_model.specs.Plans.{same_kind, kinds_of, kind_at, kind_of, has_kind, same_columns, have_kinds, follow, same_kind_at, agg_kind, some_of, test_fits, is_test_bound, is_bound, columns_fit}
+use Rattle.tick_model.specs.Plans.{same_kind, kinds_of, kind_at, kind_of, has_kind, same_columns, have_kinds, has_name, keep_names, follow, same_kind_at, agg_kind, some_of, test_fits, is_test_bound, is_bound, columns_fit}
 use Rattle.script_lines.specs.Kept.{IsNamed}
 use Rattle.script_reader.specs.Checks.{named_columns, all_there, column_at, table_at, rows_of}
 
@@ -116,6 +116,16 @@ kinds_of_columns columns [] within = refl
 kinds_of_columns columns (column ∷ by) within =
     and_from (has_kind (column_at columns column).kind (kind_at columns column)) (have_kinds (map (column_at columns) by) (map (kind_at columns) by)) (kind_of_column columns column within.0) (kinds_of_columns columns by within.1)
 
+own_name : (columns : List ColumnSpec) (column : ℕ) → column < length columns → has_name (column_at columns column).name (slice_get columns column) ≡ true
+own_name [] column less = absurd (omega (arith, less))
+own_name (c ∷ columns) zero less = same_name-refl c.name
+own_name (c ∷ columns) (suc column) less = own_name columns column (omega (arith, less))
+
+pub keep_names-append : (columns : List ColumnSpec) (by : List ℕ) (new : List ColumnSpec) → AllByRecursion (λ column. column < length columns) by → keep_names (map (column_at columns) by ++ new) columns by ≡ true
+keep_names-append columns [] new within = refl
+keep_names-append columns (column ∷ by) new within =
+    and_from (has_name (column_at columns column).name (slice_get columns column)) (keep_names (map (column_at columns) by ++ new) columns by) (own_name columns column within.0) (keep_names-append columns by new within.1)
+
 name_of_column : (columns : List ColumnSpec) (column : ℕ) → AreNamed columns → column < length columns → is_name (column_at columns column).name ≡ true
 name_of_column [] column are less = absurd (omega (arith, less))
 name_of_column (c ∷ columns) zero are less = are.0
@@ -147,7 +157,7 @@ columns_fit_same (ops.View from exprs) f g columns same = ap (λ table. some_of 
 columns_fit_same (ops.Join left right on taken choice) f g columns same =
     ap (λ table. some_of on && some_of taken && list_all (same_kind_at table (f right)) on && follow columns table (map (kind_at (f right)) taken)) same.0
     ∙ ap (λ table. some_of on && some_of taken && list_all (same_kind_at (g left) table) on && follow columns (g left) (map (kind_at table) taken)) same.1.0
-columns_fit_same (ops.Agg from by aggs) f g columns same = ap (λ table. some_of aggs && have_kinds columns (map (kind_at table) by ++ map (agg_kind table) aggs)) same.0
+columns_fit_same (ops.Agg from by aggs) f g columns same = ap (λ table. some_of aggs && have_kinds columns (map (kind_at table) by ++ map (agg_kind table) aggs) && keep_names columns table by) same.0
 columns_fit_same (ops.Merge inputs) f g columns same = ap (λ rest. nat_le 2 (length inputs) && nat_le (length inputs) 16 && rest) (merged_same f g columns inputs same)
 columns_fit_same (ops.Sort from by) f g columns same = ap (λ table. some_of by && same_columns columns table && list_all (λ sort. is_some (kind_at table sort.column)) by) same.0
 columns_fit_same (ops.Head from rows) f g columns same = ap (λ table. same_columns columns table && nat_le rows 4194304) same.0

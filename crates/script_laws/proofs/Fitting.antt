@@ -16,7 +16,7 @@ use Rattle.tick_model.specs.declared.plan.SortBy.{SortBy}
 use Rattle.tick_model.specs.declared.plan.Op.TheVariants as ops
 use Rattle.tick_model.specs.Evaluation.{inputs_of}
 use Rattle.tick_model.specs.Names.{is_name}
-use Rattle.tick_model.specs.Plans.{kinds_of, kind_of, kind_at, has_kind, agg_kind, some_of, is_bound, is_test_bound, test_fits, same_columns, have_kinds, follow, columns_fit}
+use Rattle.tick_model.specs.Plans.{kinds_of, kind_of, kind_at, has_kind, agg_kind, some_of, is_bound, is_test_bound, test_fits, same_columns, have_kinds, keep_names, follow, columns_fit}
 use Rattle.script_lines.specs.declared.fault.ScriptKind.{ScriptKind}
 use Rattle.script_lines.specs.declared.line.Computed.{Computed}
 use Rattle.script_lines.specs.declared.line.Declared.{Declared}
@@ -32,7 +32,7 @@ use Rattle.script_reader.specs.Binding.{bound_expr, bound_test, bound_op}
 use Rattle.script_reader.specs.Checks.{Before, Draft, node_named, column_named, table_at, each, expr_of, pair_of, taken_of, gathered_of, sort_of, pred_of, exprs_of, kept, viewed, joined, joined_as_of, grouped, merged, sorted, headed, tailed, drafted, source_column, source_draft, named_columns, all_there, expr_kinds, viewed_columns, joined_columns, pairs_fit, gathered_columns, column_at, rows_of}
 use Rattle.script_laws.proofs.Reading.{then, whatever, each_read, each_long, node_found, column_found}
 use Rattle.script_laws.proofs.Bound.{kinds_bound, test_fits_bound, exprs_bound, test_bound}
-use Rattle.script_laws.proofs.Columns.{IsTable, table_within, some_alike, some_before, some_behind, same_columns-refl, follow-append, have_kinds-append, have_kinds-named, named-named, some-named, kind_there, kinds_there, kinds_of_columns, names_of_columns, few_rows, first_within}
+use Rattle.script_laws.proofs.Columns.{IsTable, table_within, some_alike, some_before, some_behind, same_columns-refl, follow-append, have_kinds-append, have_kinds-named, named-named, some-named, kind_there, kinds_there, kinds_of_columns, keep_names-append, names_of_columns, few_rows, first_within}
 
 -- a draft over the columns of the nodes before it
 pub record IsFitting (ranks : List ℕ) (tables : List (List ColumnSpec)) (draft : Draft) : Type 0 where
@@ -191,8 +191,10 @@ module _ (ranks : List ℕ) (before : Before) (long : length before.names ≡ le
               (named-named names kinds (every-map IsNamed (λ (g : Gathered). g.name) gathered keep));
         };
         fits = λ e.
-            and_from (some_of aggs) (have_kinds (gathered_columns (T input) by gathered aggs) (map (kind_at (T input)) by ++ kinds)) (some_alike aggs gathered same some)
-            (have_kinds-append (map (column_at (T input)) by) (named_columns names kinds) (map (kind_at (T input)) by) kinds (kinds_of_columns (T input) by by_within) (have_kinds-named names kinds counted e));
+            and_from (some_of aggs && have_kinds (gathered_columns (T input) by gathered aggs) (map (kind_at (T input)) by ++ kinds)) (keep_names (gathered_columns (T input) by gathered aggs) (T input) by)
+            (and_from (some_of aggs) (have_kinds (gathered_columns (T input) by gathered aggs) (map (kind_at (T input)) by ++ kinds)) (some_alike aggs gathered same some)
+            (have_kinds-append (map (column_at (T input)) by) (named_columns names kinds) (map (kind_at (T input)) by) kinds (kinds_of_columns (T input) by by_within) (have_kinds-named names kinds counted e)))
+            (keep_names-append (T input) by (named_columns names kinds) by_within);
       }
 
   fitting_agg : (name : List ℕ) (by : List (List ℕ)) (gathered : List Gathered) → MembersKeep GatheredKeeps gathered → IfOk (grouped before name by gathered) F

@@ -14,9 +14,9 @@ use row_set::RowSet;
 use shown_rows::KeyPairs;
 use std::alloc::{AllocError, Global};
 use std::sync::ledger::Ledger;
+use tick_model::cells::cell;
 use tick_model::items::Items;
 use tick_model::plan::SortBy;
-use tick_model::cells::cell;
 use tick_model::update::KeyPair;
 use tick_table::{Steps, TickTable};
 

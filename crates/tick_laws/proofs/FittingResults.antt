@@ -23,7 +23,7 @@ use Rattle.tick_model.specs.Sort.{in_order}
 use Rattle.tick_model.specs.Evaluation.{inputs_of, result}
 use Rattle.tick_model.specs.LawfulRuns.{has_ranks, has_op_ranks}
 use Rattle.tick_model.specs.Names.{same_name}
-use Rattle.tick_model.specs.Plans.{same_kind, long_alone, both_long, kind_of, is_bound, kinds_of, has_kind, same_columns, have_kinds, follow, kind_at, same_kind_at, agg_kind, some_of, columns_fit, is_test_bound, test_fits}
+use Rattle.tick_model.specs.Plans.{same_kind, long_alone, both_long, kind_of, is_bound, kinds_of, has_kind, same_columns, have_kinds, keep_names, follow, kind_at, same_kind_at, agg_kind, some_of, columns_fit, is_test_bound, test_fits}
 use Rattle.tick_model.specs.Printable.{names_text, fits_kind, fit_columns}
 use Rattle.key_lists.proofs.Every.{every, every_weaker, every_both, every-map, every-filter}
 use Rattle.tick_laws.specs.Fitting.{FitsColumns, HasColumns}
@@ -198,7 +198,7 @@ module _ (texts : ℕ) where
         h.0)
     result_kinds (AggOp from by aggs) s f r h =
         let kinds = map (kind_at (input from)) by ++ map (agg_kind (input from)) aggs in
-        let have = and_parts (some_of aggs) (have_kinds columns kinds) f in
+        let have = and_parts (some_of aggs) (have_kinds columns kinds) (and_parts (some_of aggs && have_kinds columns kinds) (keep_names columns (input from) by) f).0 in
         every-map (λ (row : PlainRow). Fits columns row.cells) _ (filter (is_first by (table from).rows) (table from).rows)
         (every_weaker (λ (row : PlainRow). Fits (input from) row.cells) (λ (row : PlainRow). Fits columns (key_cells by row.cells ++ map (aggregate (group_of by (table from).rows row)) aggs)) (filter (is_first by (table from).rows) (table from).rows)
         (λ row fits. have_fit columns kinds (key_cells by row.cells ++ map (aggregate (group_of by (table from).rows row)) aggs) have.1

@@ -17,7 +17,7 @@ use Rattle.tick_model.specs.Agg.{is_first}
 use Rattle.tick_model.specs.Merge.{last_key, region, row_from, merged_rows, merge_fault, width_of}
 use Rattle.tick_model.specs.Sort.{in_order, numbered}
 use Rattle.tick_model.specs.Evaluation.{inputs_of, result, fault_of}
-use Rattle.tick_model.specs.Plans.{columns_fit, bound_of, same_columns, follow, have_kinds, kind_of, kinds_of, kind_at, agg_kind, is_bound, is_test_bound, test_fits, some_of, same_kind_at}
+use Rattle.tick_model.specs.Plans.{columns_fit, bound_of, same_columns, follow, have_kinds, keep_names, kind_of, kinds_of, kind_at, agg_kind, is_bound, is_test_bound, test_fits, some_of, same_kind_at}
 use Rattle.key_lists.proofs.Every.{every_weaker, every_both, every-map, every_unmapped, every-filter}
 use Rattle.tick_laws.specs.Bounded.{IsNodeTable}
 use Rattle.tick_laws.proofs.EvalNodes.{all_pass, is_source_op}
@@ -129,7 +129,7 @@ module _ (input : ℕ → List ColumnSpec) (columns : List ColumnSpec) (bound : 
       }
   node_table (Agg from by aggs) s f room bounds h fault =
       let kinds = map (kind_at (input from)) by ++ map (agg_kind (input from)) aggs in
-      let have = and_parts (some_of aggs) (have_kinds columns kinds) f in
+      let have = and_parts (some_of aggs) (have_kinds columns kinds) (and_parts (some_of aggs && have_kinds columns kinds) (keep_names columns (input from) by) f).0 in
       let width = length-have_kinds columns kinds have.1 in
       let firsts = filter (is_first by (table from).rows) (table from).rows in
       record {

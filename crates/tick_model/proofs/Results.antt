@@ -27,7 +27,7 @@ use Rattle.tick_model.specs.Agg.{key_cells, group_of, aggregate, agg_row, is_fir
 use Rattle.tick_model.specs.Merge.{last_key, region, row_from, merged_rows, merge_table, merge_fault}
 use Rattle.tick_model.specs.Sort.{in_order, sort_table}
 use Rattle.tick_model.specs.HeadTail.{head_table, tail_table}
-use Rattle.tick_model.specs.Plans.{kinds_of, kind_of, kind_at, agg_kind, test_fits, is_bound, is_test_bound, same_columns, have_kinds, follow, some_of, same_kind_at, has_kind, columns_fit, bound_of}
+use Rattle.tick_model.specs.Plans.{kinds_of, kind_of, kind_at, agg_kind, test_fits, is_bound, is_test_bound, same_columns, have_kinds, keep_names, follow, some_of, same_kind_at, has_kind, columns_fit, bound_of}
 use Rattle.tick_model.specs.Evaluation.{inputs_of, result, fault_of}
 use Rattle.tick_model.specs.Ready.{HaveRoom}
 use Rattle.tick_model.proofs.TableRows.{every-take, every-drop, every-ordered, length-ordered, length-numbered, numbered_whole, numbered_below, last_below, region_within}
@@ -259,7 +259,7 @@ result_is (Join left right on take choice) columns bound table cols o fit h none
 result_is (AggOp from by aggs) columns bound table cols o fit h none =
     let keys = map (kind_at (columns from)) by in
     let values = map (agg_kind (columns from)) aggs in
-    let kinds = (and_parts (some_of aggs) (have_kinds cols (keys ++ values)) fit).1 in
+    let kinds = (and_parts (some_of aggs) (have_kinds cols (keys ++ values)) (and_parts (some_of aggs && have_kinds cols (keys ++ values)) (keep_names cols (columns from) by) fit).0).1 in
     let width : length by + length aggs ≡ length cols = ap₂ ◌+◌ (sym (length-map by (kind_at (columns from)))) (sym (length-map aggs (agg_kind (columns from)))) ∙ sym (length-append keys values) ∙ sym (kinds_width cols (keys ++ values) kinds) in
     resized width (grouped_result by aggs (table from) (length (columns from)) (bound from) h.0)
 result_is (Merge inputs) columns bound table cols o fit h none =

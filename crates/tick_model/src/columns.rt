@@ -1,14 +1,15 @@
 //! The columns of a node, against those of its inputs.
 
-ghost use Rattle.std.specs.Prelude.{◌≡◌, ◌++◌, ◌&&◌, map, is_some};
+ghost use Rattle.std.specs.Prelude.{◌≡◌, ◌++◌, ◌&&◌, map, is_some, slice_get};
 ghost use Rattle.std.specs.List.{list_all};
 ghost use Rattle.tick_model.specs.Names.{same_name};
-ghost use Rattle.tick_model.specs.Plans.{same_kind, has_kind as has_kind_of, is_bound as is_bound_in, same_columns as same_columns_of, have_kinds as have_kinds_of, follow as follow_of, kind_at as kind_in, same_kind_at as same_kind_in, some_of, agg_kind, columns_fit as columns_fit_of, columns_at as columns_in};
+ghost use Rattle.tick_model.specs.Plans.{same_kind, has_kind as has_kind_of, is_bound as is_bound_in, same_columns as same_columns_of, have_kinds as have_kinds_of, follow as follow_of, kind_at as kind_in, same_kind_at as same_kind_in, some_of, agg_kind, has_name, keep_names as keep_names_of, columns_fit as columns_fit_of, columns_at as columns_in};
 
 use crate::kinds::{
     is_bound, is_test_bound, kind_at, kind_of, kinds_meet, long_alone, same_kind, test_fits,
 };
 use crate::limits::{FEWEST_INPUTS, MOST_INPUTS, MOST_ROWS};
+use crate::name::Name;
 use crate::plan::{Agg, ColumnSpec, Expr, Kind, Node, OnPair, Op, Pred, SortBy};
 
 /// What has a kind over the columns of an input, as a formula, the number of a column and an aggregate have.
@@ -134,6 +135,25 @@ fn are_of_groups(columns: &[ColumnSpec], by: &[u32], aggs: &[Agg], input: &[Colu
     have_kinds(keys, by, input) && have_kinds(values, aggs, input)
 }
 
+/// Whether the input has a column at this place, and of this name.
+fn has_name_at(name: &Name, input: &[ColumnSpec], place: u32) -> bool
+    ensures { result ≡ has_name name.now (slice_get input.now place) }
+{
+    match input.get(place as usize) {
+        Some(column) => name.as_str() == column.name.as_str(),
+        None => false,
+    }
+}
+
+/// Whether the columns begin with the key columns of the input, by their names.
+fn keep_names(columns: &[ColumnSpec], input: &[ColumnSpec], by: &[u32]) -> bool
+    ensures { result ≡ keep_names_of columns.now input.now by.now }
+{
+    by.iter()
+        .zip(columns)
+        .all(|(place, column)| has_name_at(&column.name, input, *place))
+}
+
 fn has_members<T>(items: &[T]) -> bool
     ensures { result ≡ some_of items.now }
 {
@@ -257,6 +277,7 @@ pub fn columns_fit(op: &Op, nodes: &[Node], columns: &[ColumnSpec]) -> bool
             let input = columns_at(nodes, *input);
             has_members(aggs.as_slice())
                 && are_of_groups(columns, by.as_slice(), aggs.as_slice(), input)
+                && keep_names(columns, input, by.as_slice())
         }
         Op::Merge { inputs } => {
             FEWEST_INPUTS <= inputs.len()
