@@ -28,6 +28,31 @@ use worked::RUNS;
 /// A script, a feed, the status and what is written.
 type Row = (&'static str, &'static str, u8, &'static str);
 
+/// The numbers of the load and of the write that fail, or 0.
+#[derive(Clone, Copy)]
+struct Failing {
+    load: u64,
+    write: u64,
+}
+
+impl Failing {
+    const NONE: Failing = Failing { load: 0, write: 0 };
+
+    fn load(number: u64) -> Failing {
+        Failing {
+            load: number,
+            write: 0,
+        }
+    }
+
+    fn write(number: u64) -> Failing {
+        Failing {
+            load: 0,
+            write: number,
+        }
+    }
+}
+
 /// One call of the program.
 #[derive(Clone, Copy)]
 struct Case {
@@ -39,8 +64,7 @@ struct Case {
     feed: Option<&'static str>,
     /// The file `t.csv`, where it is there.
     table: Option<&'static str>,
-    /// The number of the write that fails, or 0.
-    failing: u64,
+    failing: Failing,
     status: u8,
     bytes: &'static str,
 }
@@ -79,21 +103,32 @@ fn files(
     Ok(files)
 }
 
-/// Makes a call, and gives its status and what was written to.
+/// Makes a call over files, and gives its status and what was written to.
+fn call_over<R: Threads + Wait + Sync, G: Gate>(
+    rt: &R,
+    alloc: Global,
+    words_text: &str,
+    files: Vec<(String, Vec<u8>)>,
+    failing: Failing,
+    gate: &G,
+) -> Result<(u8, MemorySink), AllocError> {
+    let words = words(alloc, words_text)?;
+    let mut inputs = MemoryInputs::new(alloc, files, vec![in alloc; failing.load]?);
+    let mut out = MemorySink::new(alloc, vec![in alloc; failing.write]?);
+    let status = tick_main(rt, alloc, words.as_slice(), &mut inputs, &mut out, gate);
+    Ok((status, out))
+}
+
+/// Makes a call over texts, and gives its status and what was written to.
 fn call<R: Threads + Wait + Sync, G: Gate>(
     rt: &R,
     alloc: Global,
     words_text: &str,
     texts: &[(&str, Option<&str>)],
-    failing: u64,
+    failing: Failing,
     gate: &G,
 ) -> Result<(u8, MemorySink), AllocError> {
-    let words = words(alloc, words_text)?;
-    let files = files(alloc, texts)?;
-    let mut inputs = MemoryInputs::new(alloc, files, Vec::new(alloc));
-    let mut out = MemorySink::new(alloc, vec![in alloc; failing]?);
-    let status = tick_main(rt, alloc, words.as_slice(), &mut inputs, &mut out, gate);
-    Ok((status, out))
+    call_over(rt, alloc, words_text, files(alloc, texts)?, failing, gate)
 }
 
 /// Makes a call and compares its status and bytes.
@@ -102,7 +137,7 @@ fn compare<R: Abort + Threads + Wait + Sync>(
     alloc: Global,
     words: &str,
     texts: &[(&str, Option<&str>)],
-    failing: u64,
+    failing: Failing,
     status: u8,
     bytes: &str,
 ) -> Result<(), Fail> {
@@ -134,7 +169,7 @@ fn run_row<R: Abort + Threads + Wait + Sync>(
 ) -> Result<(), Fail> {
     let (script, feed, status, bytes) = *row;
     let texts = [("s", Some(script)), ("f", Some(feed))];
-    compare(rt, alloc, words, &texts, 0, status, bytes)
+    compare(rt, alloc, words, &texts, Failing::NONE, status, bytes)
 }
 
 #[test]
@@ -178,7 +213,7 @@ fn watched_rows_are_told(rt: HostRuntime) -> Result<(), Fail> {
 #[test]
 fn made_runs_are_summed_up(rt: HostRuntime) -> Result<(), Fail> {
     for (words, text) in SUMMARIES.iter() {
-        compare(&rt, rt.alloc(), words, &[], 0, 0, text)?;
+        compare(&rt, rt.alloc(), words, &[], Failing::NONE, 0, text)?;
     }
     Ok(())
 }
@@ -198,7 +233,7 @@ fn words_and_files_are_answered(rt: HostRuntime) -> Result<(), Fail> {
         script: Some(FROM_FILE),
         feed: Some(""),
         table: Some(FILE),
-        failing: 0,
+        failing: Failing::NONE,
         status: 0,
         bytes: "step,0,t\na,0,1\na,1,\na,2,3\ndone,0\n",
     };
@@ -247,16 +282,83 @@ fn words_and_files_are_answered(rt: HostRuntime) -> Result<(), Fail> {
             ..whole
         },
         Case {
-            script: Some(FILTER),
-            feed: Some(ONE_STEP),
-            failing: 2,
+            failing: Failing::load(1),
+            status: 3,
+            bytes: "fault,3,read,s\n",
+            ..whole
+        },
+        Case {
+            failing: Failing::load(2),
+            status: 3,
+            bytes: "fault,3,read,t.csv\n",
+            ..whole
+        },
+        Case {
+            failing: Failing::load(3),
+            status: 3,
+            bytes: "fault,3,read,f\n",
+            ..whole
+        },
+        Case {
+            failing: Failing::write(1),
             status: 10,
-            bytes: "step,1,big\na,1,AAPL,20\n",
+            bytes: "",
+            ..whole
+        },
+        Case {
+            failing: Failing::write(2),
+            status: 10,
+            bytes: "step,0,t\na,0,1\na,1,\na,2,3\n",
+            ..whole
+        },
+        Case {
+            failing: Failing::write(3),
             ..whole
         },
     ];
     for case in &cases {
         run(&rt, rt.alloc(), case)?;
     }
+    Ok(())
+}
+
+/// A script of so many tables, which all have the same columns.
+fn script_of_tables(alloc: Global, count: usize) -> Result<String, AllocError> {
+    let mut script = String::new(alloc);
+    for table in 0..count {
+        script.push_str(format!(in alloc; "table t{table} x:long\n")?.as_str())?;
+    }
+    Ok(script)
+}
+
+#[test]
+fn a_script_has_so_many_nodes(rt: HostRuntime) -> Result<(), Fail> {
+    for (count, status, bytes) in [
+        (256, 0, "done,0\n"),
+        (257, 4, "fault,4,script,257,too-many-nodes\n"),
+    ] {
+        let script = script_of_tables(rt.alloc(), count)?;
+        let texts = [("s", Some(script.as_str())), ("f", Some(""))];
+        compare(
+            &rt,
+            rt.alloc(),
+            "run s f",
+            &texts,
+            Failing::NONE,
+            status,
+            bytes,
+        )?;
+    }
+    Ok(())
+}
+
+#[test]
+fn a_line_that_is_no_text_is_told(rt: HostRuntime) -> Result<(), Fail> {
+    let alloc = rt.alloc();
+    let script = vec![in alloc; 255_u8]?;
+    let files = vec![in alloc; (String::from_str(alloc, "s")?, script)]?;
+    let (status, out) = call_over(&rt, alloc, "run s f", files, Failing::NONE, &OpenGate)?;
+    assert_eq!(rt; status, 4);
+    assert_eq!(rt; out.bytes(), b"fault,4,script,1,not-utf8\n".as_slice());
     Ok(())
 }

@@ -1,6 +1,6 @@
 //! Runs over longer files: a day of trades, a step of many ranges, and a table that is merged with itself too often.
 
-use super::{WORKERS, compare};
+use super::{Failing, WORKERS, compare};
 use std::alloc::{AllocError, Global};
 use std::test::Fail;
 
@@ -64,7 +64,7 @@ fn a_day_is_run(rt: HostRuntime) -> Result<(), Fail> {
         ("ref.csv", Some(REFERENCES)),
     ];
     for words in WORKERS {
-        compare(&rt, alloc, words, &texts, 0, 0, &text)?;
+        compare(&rt, alloc, words, &texts, Failing::NONE, 0, &text)?;
     }
     Ok(())
 }
@@ -122,7 +122,7 @@ fn a_step_has_many_ranges(rt: HostRuntime) -> Result<(), Fail> {
         ("f", Some(feed.as_str())),
         ("t.csv", Some(table.as_str())),
     ];
-    compare(&rt, alloc, "run s f", &texts, 0, 0, &text)
+    compare(&rt, alloc, "run s f", &texts, Failing::NONE, 0, &text)
 }
 
 /// A table and sixteen times its rows.
@@ -150,7 +150,7 @@ fn too_many_rows_fail_their_node(rt: HostRuntime) -> Result<(), Fail> {
         rt.alloc(),
         "run s f",
         &texts,
-        0,
+        Failing::NONE,
         8,
         "fault,8,node,0,m,too-many-rows,4194320\n",
     )

@@ -1,6 +1,6 @@
 //! Runs whose gate holds nodes and a caller until others have come or gone: nodes are worked at once, a node waits for its own inputs alone, and a snapshot is taken while a node is at work.
 
-use super::call;
+use super::{Failing, call};
 use std::sync::atomic::{AtomicU64, Ordering};
 use std::test::Fail;
 use tick_io::Gate;
@@ -118,7 +118,7 @@ fn nodes_and_callers_meet(rt: HostRuntime) -> Result<(), Fail> {
             met: AtomicU64::new(0),
         };
         let texts = [("s", Some(meeting.script)), ("f", Some(meeting.feed))];
-        let (status, out) = call(&rt, rt.alloc(), meeting.words, &texts, 0, &gate)?;
+        let (status, out) = call(&rt, rt.alloc(), meeting.words, &texts, Failing::NONE, &gate)?;
         let text = meeting.text;
         assert_eq!(rt; status, 0, "{text}");
         assert_eq!(rt; out.bytes(), text.as_bytes());

@@ -1,6 +1,6 @@
 //! Runs with callers beside them, and how much they may keep.
 
-use super::{Row, call, compare};
+use super::{Failing, Row, call, compare};
 use std::alloc::{AllocError, Global};
 use std::process::Abort;
 use std::sync::Wait;
@@ -98,7 +98,7 @@ fn compare_beside<R: Abort + Threads + Wait + Sync>(
     alloc: Global,
     words: &str,
 ) -> Result<(), Fail> {
-    let (status, out) = call(rt, alloc, words, &FILES, 0, &OpenGate)?;
+    let (status, out) = call(rt, alloc, words, &FILES, Failing::NONE, &OpenGate)?;
     let text = str::from_utf8(out.bytes()).unwrap_or("");
     let steps = steps(alloc, text)?;
     assert_eq!(rt; status, 0);
@@ -118,7 +118,7 @@ fn callers_take_the_last_snapshots(rt: HostRuntime) -> Result<(), Fail> {
         text.push_str(piece)?;
     }
     for words in LAST_ALONE.iter() {
-        compare(&rt, rt.alloc(), words, &FILES, 0, 0, &text)?;
+        compare(&rt, rt.alloc(), words, &FILES, Failing::NONE, 0, &text)?;
     }
     Ok(())
 }
@@ -126,11 +126,19 @@ fn callers_take_the_last_snapshots(rt: HostRuntime) -> Result<(), Fail> {
 #[test]
 fn the_pieces_before_a_failed_write_are_written(rt: HostRuntime) -> Result<(), Fail> {
     let mut text = String::new(rt.alloc());
-    let mut failing = 1;
+    let mut write = 1;
     for piece in LAST_PIECES.iter() {
-        compare(&rt, rt.alloc(), LAST_ALONE[0], &FILES, failing, 10, &text)?;
+        compare(
+            &rt,
+            rt.alloc(),
+            LAST_ALONE[0],
+            &FILES,
+            Failing::write(write),
+            10,
+            &text,
+        )?;
         text.push_str(piece)?;
-        failing = failing.saturating_add(1);
+        write = write.saturating_add(1);
     }
     Ok(())
 }
