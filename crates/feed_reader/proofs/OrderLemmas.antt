@@ -9,6 +9,7 @@ use Rattle.std.specs.declared.cmp.Ordering.TheVariants.{Less, Equal, Greater}
 use Rattle.std.specs.Cmp.Lexicographic.{slice_cmp, texts_ties}
 use Rattle.std.specs.BTreeSet.{insert_key}
 use Rattle.std.proofs.lemmas.Cmp.{nat_list_cmp_total, nat_list_eq_equiv}
+use Rattle.std.proofs.lemmas.Slice.Eq.{bytes_eq-Decides}
 use Rattle.key_lists.proofs.Every.{every_weaker}
 use Rattle.tick_model.specs.Changes.{is_none}
 use Rattle.tick_model.specs.LawfulRuns.{AreTexts, is_before}
@@ -17,7 +18,7 @@ use Rattle.feed_reader.specs.declared.raw.RawTable.{RawTable}
 use Rattle.feed_reader.specs.Coding.{with_text, with_texts, all_texts, texts_of}
 use Rattle.feed_reader.specs.Runs.{IsAmong}
 
-abbrev order : List ℕ → List ℕ → Ordering
+abbrev pub order : List ℕ → List ℕ → Ordering
 order = slice_cmp nat_cmp
 
 -- what comes before another
@@ -53,7 +54,7 @@ inserted_at Less text x xs e some are more = (some, (ap is_lt e, before_all text
 inserted_at Equal text x xs e some are more = are
 inserted_at Greater text x xs e some are more = (are.0, follows Greater text x xs e are.1 refl, more)
 
-are_inserted : (texts : List (List ℕ)) (text : List ℕ) → is_none text ≡ false → AreTexts texts → AreTexts (insert_key order texts text)
+pub are_inserted : (texts : List (List ℕ)) (text : List ℕ) → is_none text ≡ false → AreTexts texts → AreTexts (insert_key order texts text)
 are_inserted [] text some are = (some, tt, tt)
 are_inserted (x ∷ xs) text some are = inserted_at (order text x) text x xs refl some are (are_inserted xs text some are.2)
 
@@ -124,6 +125,55 @@ unfolding has
 noted_all old [] = tt
 noted_all old (text ∷ more) =
     (λ some. keeps_all text (with_text old text) more (is_noted (is_none text) old text some), noted_all (with_text old text) more)
+
+-- a text that is there changes nothing
+or_rest : (a b : Bool) → a ≡ false → (a || b) ≡ true → b ≡ true
+or_rest true b e there = cc e
+or_rest false b e there = there
+
+before_at : (b : Bool) (x text y : List ℕ) (more : Bool) → bytes_eq text y ≡ b → is_before x y ≡ true → (more ≡ true → is_before x text ≡ true) → (b || more) ≡ true → is_before x text ≡ true
+before_at true x text y more same here later there = subst (λ (t : List ℕ). is_before x t ≡ true) (sym ((bytes_eq-Decides text y).0 same)) here
+before_at false x text y more same here later there = later there
+
+before_there : (x text : List ℕ) (xs : List (List ℕ)) → AllByRecursion (λ later. is_before x later ≡ true) xs → has text xs ≡ true → is_before x text ≡ true
+unfolding has
+before_there x text [] all there = cc there
+before_there x text (y ∷ ys) all there = before_at (bytes_eq text y) x text y (has text ys) refl all.0 (before_there x text ys all.1) there
+
+there_at : (o : Ordering) (text x : List ℕ) (xs : List (List ℕ)) → order text x ≡ o → AllByRecursion (λ later. is_before x later ≡ true) xs → has text (x ∷ xs) ≡ true → (has text xs ≡ true → insert_key order xs text ≡ xs) → match_ordering o (text ∷ x ∷ xs) (x ∷ xs) (x ∷ insert_key order xs text) ≡ x ∷ xs
+unfolding has
+there_at Less text x xs e all there more =
+    let later = or_rest (bytes_eq text x) (has text xs) (texts_ties text x ∙ ap is_eq e) there in
+    let less = less_of (order x text) (before_there x text xs all later) in
+    let greater = nat_list_cmp_total.antisymm x text ∙ ap ordering_reverse e in
+    cc (less, greater)
+there_at Equal text x xs e all there more = refl
+there_at Greater text x xs e all there more = ap (λ rest. x ∷ rest) (more (or_rest (bytes_eq text x) (has text xs) (texts_ties text x ∙ ap is_eq e) there))
+
+there_already : (texts : List (List ℕ)) (text : List ℕ) → AreTexts texts → list_any (bytes_eq text) texts ≡ true → insert_key order texts text ≡ texts
+unfolding has
+there_already [] text are there = cc there
+there_already (x ∷ xs) text are there = there_at (order text x) text x xs refl are.1 there (there_already xs text are.2)
+
+either : (b : Bool) (old new : List (List ℕ)) → new ≡ old → old ≡ cond b old new
+either true old new same = refl
+either false old new same = sym same
+
+pub noted_already : (texts : List (List ℕ)) (text : List ℕ) → AreTexts texts → list_any (bytes_eq text) texts ≡ true → texts ≡ with_text texts text
+noted_already texts text are there = either (is_none text) texts (insert_key order texts text) (there_already texts text are there)
+
+-- one more text is seen
+seen_at : (b : Bool) (texts : List (List ℕ)) (text other : List ℕ) (before : Bool) → bytes_eq text other ≡ b → (before ≡ true → has other texts ≡ true) → cond b true before ≡ true → has other (insert_key order texts text) ≡ true
+seen_at true texts text other before same was there = subst (λ (t : List ℕ). has t (insert_key order texts text) ≡ true) ((bytes_eq-Decides text other).0 same) (comes texts text)
+seen_at false texts text other before same was there = keeps other texts text (was there)
+
+pub seen_more : (texts : List (List ℕ)) (text other : List ℕ) (before : Bool) → (before ≡ true → list_any (bytes_eq other) texts ≡ true) → cond (bytes_eq text other) true before ≡ true → list_any (bytes_eq other) (insert_key order texts text) ≡ true
+unfolding has
+seen_more texts text other before was there = seen_at (bytes_eq text other) texts text other before refl was there
+
+pub seen_before : (texts : List (List ℕ)) (text other : List ℕ) → list_any (bytes_eq other) texts ≡ true → list_any (bytes_eq other) (insert_key order texts text) ≡ true
+unfolding has
+seen_before texts text other there = keeps other texts text there
 
 pub texts_noted : (texts literals literals2 : List (List ℕ)) (tables tables2 : List RawTable) (feed : RawFeed) → literals ≡ literals2 → tables ≡ tables2 → texts ≡ texts_of literals tables feed → AllByRecursion (IsAmong texts) (all_texts literals2 tables2 feed)
 texts_noted texts literals literals2 tables tables2 feed same_literals same_tables is =

@@ -15,6 +15,7 @@ mod fault;
 mod feeds;
 mod gathered;
 mod laws;
+mod noted;
 mod place;
 mod ranks;
 mod raw;

@@ -1,37 +1,25 @@
 //! The texts of a run, each once and in byte order.
 
 ghost use Rattle.std.specs.Prelude.{◌≡◌, OnOk, IfOk, flat_map};
-ghost use Rattle.feed_reader.specs.Coding.{with_text, with_texts, cell_texts, row_texts, rows_texts, table_texts, block_texts, batch_texts, texts_of as texts_of_run};
-ghost use Rattle.feed_reader.specs.Noted.{noted};
+ghost use Rattle.feed_reader.specs.Coding.{with_texts, cell_texts, row_texts, rows_texts, table_texts, block_texts, batch_texts, texts_of as texts_of_run};
 
+use crate::noted::Noted;
 use crate::raw::{RawBatch, RawBlock, RawCell, RawFeed, RawRow, RawTable};
 use std::alloc::{AllocError, Global};
-use std::collections::BTreeSet;
 use tick_model::items::Items;
 use tick_model::name::Name;
 
-/// Notes a text; it stays where it is, and one that is known takes no memory.
-fn note<'a>(texts: &mut BTreeSet<&'a str>, text: &'a str) -> Result<(), AllocError>
-    ensures { OnOk result (noted texts.new ≡ with_text (noted texts.old) text.now) }
-{
-    if text.is_empty() {
-        return Ok(());
-    }
-    texts.insert(text)?;
-    Ok(())
-}
-
-fn note_cell<'a>(texts: &mut BTreeSet<&'a str>, cell: &'a RawCell) -> Result<(), AllocError>
-    ensures { OnOk result (noted texts.new ≡ with_texts (noted texts.old) (cell_texts cell.now)) }
+fn note_cell<'a>(texts: &mut Noted<'a>, cell: &'a RawCell) -> Result<(), AllocError>
+    ensures { OnOk result (texts.new ≡ with_texts texts.old (cell_texts cell.now)) }
 {
     match cell {
-        RawCell::Text(text) => note(texts, text.as_str()),
+        RawCell::Text(text) => texts.note(text.as_str()),
         RawCell::Null | RawCell::Long(_) => Ok(()),
     }
 }
 
-fn note_row<'a>(texts: &mut BTreeSet<&'a str>, row: &'a RawRow) -> Result<(), AllocError>
-    ensures { OnOk result (noted texts.new ≡ with_texts (noted texts.old) (row_texts row.now)) }
+fn note_row<'a>(texts: &mut Noted<'a>, row: &'a RawRow) -> Result<(), AllocError>
+    ensures { OnOk result (texts.new ≡ with_texts texts.old (row_texts row.now)) }
 {
     let cells = row.cells.as_slice();
     for cell in cells {
@@ -40,8 +28,8 @@ fn note_row<'a>(texts: &mut BTreeSet<&'a str>, row: &'a RawRow) -> Result<(), Al
     Ok(())
 }
 
-fn note_rows<'a>(texts: &mut BTreeSet<&'a str>, rows: &'a [RawRow]) -> Result<(), AllocError>
-    ensures { OnOk result (noted texts.new ≡ with_texts (noted texts.old) (rows_texts rows.now)) }
+fn note_rows<'a>(texts: &mut Noted<'a>, rows: &'a [RawRow]) -> Result<(), AllocError>
+    ensures { OnOk result (texts.new ≡ with_texts texts.old (rows_texts rows.now)) }
 {
     for row in rows {
         note_row(texts, row)?;
@@ -49,8 +37,8 @@ fn note_rows<'a>(texts: &mut BTreeSet<&'a str>, rows: &'a [RawRow]) -> Result<()
     Ok(())
 }
 
-fn note_tables<'a>(texts: &mut BTreeSet<&'a str>, tables: &'a [RawTable]) -> Result<(), AllocError>
-    ensures { OnOk result (noted texts.new ≡ with_texts (noted texts.old) (flat_map table_texts tables.now)) }
+fn note_tables<'a>(texts: &mut Noted<'a>, tables: &'a [RawTable]) -> Result<(), AllocError>
+    ensures { OnOk result (texts.new ≡ with_texts texts.old (flat_map table_texts tables.now)) }
 {
     for table in tables {
         note_rows(texts, table.rows.as_slice())?;
@@ -58,15 +46,15 @@ fn note_tables<'a>(texts: &mut BTreeSet<&'a str>, tables: &'a [RawTable]) -> Res
     Ok(())
 }
 
-fn note_block<'a>(texts: &mut BTreeSet<&'a str>, block: &'a RawBlock) -> Result<(), AllocError>
-    ensures { OnOk result (noted texts.new ≡ with_texts (noted texts.old) (block_texts block.now)) }
+fn note_block<'a>(texts: &mut Noted<'a>, block: &'a RawBlock) -> Result<(), AllocError>
+    ensures { OnOk result (texts.new ≡ with_texts texts.old (block_texts block.now)) }
 {
     note_rows(texts, block.added.as_slice())?;
     note_rows(texts, block.modified.as_slice())
 }
 
-fn note_batch<'a>(texts: &mut BTreeSet<&'a str>, batch: &'a RawBatch) -> Result<(), AllocError>
-    ensures { OnOk result (noted texts.new ≡ with_texts (noted texts.old) (batch_texts batch.now)) }
+fn note_batch<'a>(texts: &mut Noted<'a>, batch: &'a RawBatch) -> Result<(), AllocError>
+    ensures { OnOk result (texts.new ≡ with_texts texts.old (batch_texts batch.now)) }
 {
     let blocks = batch.blocks.as_slice();
     for block in blocks {
@@ -75,11 +63,8 @@ fn note_batch<'a>(texts: &mut BTreeSet<&'a str>, batch: &'a RawBatch) -> Result<
     Ok(())
 }
 
-fn note_batches<'a>(
-    texts: &mut BTreeSet<&'a str>,
-    batches: &'a [RawBatch],
-) -> Result<(), AllocError>
-    ensures { OnOk result (noted texts.new ≡ with_texts (noted texts.old) (flat_map batch_texts batches.now)) }
+fn note_batches<'a>(texts: &mut Noted<'a>, batches: &'a [RawBatch]) -> Result<(), AllocError>
+    ensures { OnOk result (texts.new ≡ with_texts texts.old (flat_map batch_texts batches.now)) }
 {
     for batch in batches {
         note_batch(texts, batch)?;
@@ -87,24 +72,13 @@ fn note_batches<'a>(
     Ok(())
 }
 
-fn note_names<'a>(texts: &mut BTreeSet<&'a str>, names: &'a [Name]) -> Result<(), AllocError>
-    ensures { OnOk result (noted texts.new ≡ with_texts (noted texts.old) names.now) }
+fn note_names<'a>(texts: &mut Noted<'a>, names: &'a [Name]) -> Result<(), AllocError>
+    ensures { OnOk result (texts.new ≡ with_texts texts.old names.now) }
 {
     for name in names {
-        note(texts, name.as_str())?;
+        texts.note(name.as_str())?;
     }
     Ok(())
-}
-
-/// The noted texts as names.
-fn names_of(alloc: Global, texts: &BTreeSet<&str>) -> Result<Items<Name>, AllocError>
-    ensures { IfOk result (λ names. names ≡ noted texts.now) }
-{
-    let mut names = Items::new(alloc);
-    for text in texts {
-        names.push(Name::of(String::from_str(alloc, text)?))?;
-    }
-    Ok(names)
 }
 
 /// The distinct texts of a script, of table files and of a feed, in byte order.
@@ -116,9 +90,9 @@ pub(crate) fn texts_of(
 ) -> Result<Items<Name>, AllocError>
     ensures { IfOk result (λ texts. texts ≡ texts_of_run literals.now tables.now feed.now) }
 {
-    let mut texts = BTreeSet::new(alloc);
+    let mut texts = Noted::new(alloc);
     note_names(&mut texts, literals)?;
     note_tables(&mut texts, tables)?;
     note_batches(&mut texts, feed.batches.as_slice())?;
-    names_of(alloc, &texts)
+    texts.names(alloc)
 }

@@ -3,7 +3,7 @@ use Rattle.std.specs.Borrow.{Bor}
 use Rattle.std.specs.Map.Iter.{deref}
 use Rattle.std.proofs.lemmas.Map.Iter.{iter_end}
 use Rattle.key_lists.proofs.Every.{map_map}
-use Rattle.feed_reader.proofs.texts.names_of.Goals as goal
+use Rattle.feed_reader.proofs.noted.names_of.Goals as goal
 
 pub returns : goal.returns
 returns c =

@@ -1,0 +1,76 @@
+//! Texts that are noted, each once.
+
+ghost use Rattle.std.specs.Prelude.{◌≡◌, [], OnOk, IfOk};
+ghost use Rattle.feed_reader.specs.Coding.{with_text};
+ghost use Rattle.feed_reader.specs.Noted.{noted as noted_in};
+
+use std::alloc::{AllocError, Global};
+use std::collections::{BTreeSet, HashSet};
+use std::marker::Model;
+use tick_model::items::Items;
+use tick_model::name::Name;
+
+/// The distinct texts that are noted. Contracts see them in byte order.
+#[derive(Drop)]
+pub(crate) struct Noted<'a> {
+    ordered: BTreeSet<&'a str>,
+    /// The same texts: most texts come again, and are found here by one look.
+    seen: HashSet<&'a str>,
+}
+
+impl<'a> Model for Noted<'a> {
+    ghost use Rattle.std.specs.Prelude.{List, ℕ};
+    ghost use Rattle.tick_model.specs.LawfulRuns.{AreTexts};
+    ghost use Rattle.feed_reader.specs.Noted.{noted, AreAmong};
+
+    ghost Value = { List (List ℕ) };
+
+    ghost view = { λ a. noted a.ordered };
+
+    ghost invariant = { λ a. AreTexts (noted a.ordered) × AreAmong a.seen (noted a.ordered) };
+}
+
+/// The texts of a set as names.
+fn names_of(alloc: Global, texts: &BTreeSet<&str>) -> Result<Items<Name>, AllocError>
+    ensures { IfOk result (λ names. names ≡ noted_in texts.now) }
+{
+    let mut names = Items::new(alloc);
+    for text in texts {
+        names.push(Name::of(String::from_str(alloc, text)?))?;
+    }
+    Ok(names)
+}
+
+impl<'a> Noted<'a> {
+    /// No texts.
+    pub(crate) fn new(alloc: Global) -> Noted<'a>
+        ensures { result ≡ [] }
+    {
+        Noted {
+            ordered: BTreeSet::new(alloc),
+            seen: HashSet::new(alloc),
+        }
+    }
+
+    /// Notes a text; it stays where it is, and one that is known takes no memory.
+    pub(crate) fn note(&mut self, text: &'a str) -> Result<(), AllocError>
+        ensures { OnOk result (self.new ≡ with_text self.old text.now) }
+    {
+        if text.is_empty() {
+            return Ok(());
+        }
+        if self.seen.contains(text) {
+            return Ok(());
+        }
+        self.ordered.insert(text)?;
+        self.seen.insert(text)?;
+        Ok(())
+    }
+
+    /// The texts as names.
+    pub(crate) fn names(&self, alloc: Global) -> Result<Items<Name>, AllocError>
+        ensures { IfOk result (λ names. names ≡ self.now) }
+    {
+        names_of(alloc, &self.ordered)
+    }
+}
