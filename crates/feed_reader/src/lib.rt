@@ -27,6 +27,9 @@ pub use assembled::assemble;
 pub use coded::{Coded, code};
 pub use fault::{TextFault, TextKind};
 pub use feeds::read_feed;
-pub use laws::{assembled_runs_are_lawful, read_feeds_are_lawful, read_tables_are_openings};
+pub use laws::{
+    assembled_runs_are_lawful, read_feeds_are_lawful, read_runs_are_lawful,
+    read_tables_are_openings,
+};
 pub use raw::{RawBatch, RawBlock, RawCell, RawFeed, RawRow, RawTable};
 pub use tables::read_table;

@@ -1,4 +1,4 @@
-pub mod Evaluated
+pub mod TablesInTurn
 pub mod GroupCells
 pub mod Matches
 pub mod Numbering

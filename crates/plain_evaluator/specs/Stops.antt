@@ -1,7 +1,7 @@
 -- Why an evaluation has stopped.
 use Rattle.std.specs.Prelude.{◌≡◌, ℕ, List, Some}
-use Rattle.plain_evaluator.specs.declared.evaluate.EvalStop.{EvalStop}
-use Rattle.plain_evaluator.specs.declared.evaluate.EvalStop.TheVariants.{Memory, Node}
+use Rattle.plain_evaluator.specs.declared.evaluation.EvalStop.{EvalStop}
+use Rattle.plain_evaluator.specs.declared.evaluation.EvalStop.TheVariants.{Memory, Node}
 use Rattle.plain_evaluator.specs.declared.operators.NoTable.{NoTable}
 use Rattle.plain_evaluator.specs.declared.operators.NoTable.TheVariants.{Memory as NoMemory, Fault}
 use Rattle.tick_model.specs.Evaluation.{Outcome}

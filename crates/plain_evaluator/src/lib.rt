@@ -3,7 +3,7 @@
 //! It is slow and short. The engine never calls it: it shows that the definitions compute, and tests hold the engine to it.
 #![tactic(auto)]
 
-mod evaluate;
+mod evaluation;
 mod groups;
 mod joins;
 mod merges;
@@ -12,5 +12,5 @@ mod rows;
 mod sort;
 mod sums;
 
-pub use evaluate::{EvalStop, Evaluated, evaluate};
+pub use evaluation::{EvalStop, Evaluated, evaluate};
 pub use rows::rows_copied;

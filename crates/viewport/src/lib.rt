@@ -14,6 +14,7 @@ mod slice;
 mod touched;
 mod viewport;
 
+pub use laws::{mirrors_follow_subscriptions, mirrors_take_ticks, viewports_follow_runs};
 pub use mirror::{Mirror, MirrorFault};
 pub use slice::Slice;
 pub use viewport::Viewport;

@@ -32,7 +32,7 @@ pub enum EvalStop {
 
 impl From<AllocError> for EvalStop {
     ghost use Rattle.std.specs.Prelude.{◌≡◌};
-    ghost use Rattle.plain_evaluator.specs.declared.evaluate.EvalStop.TheVariants.{Memory};
+    ghost use Rattle.plain_evaluator.specs.declared.evaluation.EvalStop.TheVariants.{Memory};
 
     ghost from_gives = { λ _ e. e ≡ Memory };
 
@@ -43,7 +43,7 @@ impl From<AllocError> for EvalStop {
 
 impl<T: Drop> From<AllocFailed<T>> for EvalStop {
     ghost use Rattle.std.specs.Prelude.{◌≡◌};
-    ghost use Rattle.plain_evaluator.specs.declared.evaluate.EvalStop.TheVariants.{Memory};
+    ghost use Rattle.plain_evaluator.specs.declared.evaluation.EvalStop.TheVariants.{Memory};
 
     ghost from_gives = { λ _ e. e ≡ Memory };
 
