@@ -24,6 +24,10 @@ counts_to zero ls = refl
 counts_to (suc i) [] = refl
 counts_to (suc i) (l ∷ ls) = ap (λ ns. length l ∷ ns) (counts_to i ls)
 
+-- where a chunk begins
+pub start_summed : {X : Type 0} (ls : List (List X)) (counts : List ℕ) (i : ℕ) → counts ≡ map length ls → sum (take i counts) ≡ length (joined (take i ls))
+start_summed ls counts i e = ap (λ ns. sum (take i ns)) e ∙ ap sum (counts_to i ls) ∙ sym (length-joined (take i ls))
+
 pub joined_around : {X : Type 0} (ls : List (List X)) (i : ℕ) → i < length ls → joined ls ≡ joined (take i ls) ++ (list_at i ls ++ joined (drop (suc i) ls))
 joined_around [] i lt = absurd (omega arith)
 joined_around (l ∷ ls) zero lt = refl
@@ -38,7 +42,7 @@ joined_set (k ∷ ls) (suc i) l lt = ap (λ xs. k ++ xs) (joined_set ls i l (ome
 abbrev pub contents : {X : Type 0} → List (Vec X) → List (List X)
 contents chunks = map (λ chunk. chunk.items) chunks
 
-list_at-items : {X : Type 0} (chunks : List (Vec X)) (i : ℕ) (chunk : Vec X) → i < length chunks → list_at i (contents chunks) ≡ (get_or chunks i chunk).items
+pub list_at-items : {X : Type 0} (chunks : List (Vec X)) (i : ℕ) (chunk : Vec X) → i < length chunks → list_at i (contents chunks) ≡ (get_or chunks i chunk).items
 list_at-items [] i chunk lt = absurd (omega arith)
 list_at-items (c ∷ chunks) zero chunk lt = refl
 list_at-items (c ∷ chunks) (suc i) chunk lt = list_at-items chunks i chunk (omega arith)
@@ -81,7 +85,7 @@ drop_among [] (y ∷ ys) zs (suc n) (suc m) e le = drop_among [] ys zs n m (omeg
 drop_among (w ∷ xs) ys zs zero m e le = absurd (omega arith)
 drop_among (w ∷ xs) ys zs (suc n) m e le = drop_among xs ys zs n m (omega arith) le
 
-taken_front : {X : Type 0} (xs ys : List X) → take (length xs) (xs ++ ys) ≡ xs
+pub taken_front : {X : Type 0} (xs ys : List X) → take (length xs) (xs ++ ys) ≡ xs
 taken_front [] ys = refl
 taken_front (x ∷ xs) ys = ap (λ zs. x ∷ zs) (taken_front xs ys)
 

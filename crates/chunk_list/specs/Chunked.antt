@@ -3,7 +3,8 @@
 --     joined lists      the items of all of them
 --     items_in chunks      the items of all chunks
 --     list_at index lists      the items of the chunk at an index
-use Rattle.std.specs.Prelude.{ℕ, ◌≡◌, ◌+◌, ◌^◌, ◌<◌, ◌≤◌, List, [], length, map, take, slice_index_or}
+--     IsReplaced few most old new      one chunk is replaced by from `few` to `most` others, or these come where there was none
+use Rattle.std.specs.Prelude.{ℕ, suc, ◌≡◌, ◌+◌, ◌-◌, ◌^◌, ◌<◌, ◌≤◌, List, [], ◌++◌, drop, length, map, take, slice_index_or}
 use Rattle.std.specs.List.{AllByRecursion, flat_map}
 use Rattle.chunk_list.specs.declared.chunks.Chunks.{Chunks}
 use Rattle.chunk_list.specs.declared.counts.Place.{Place}
@@ -20,9 +21,21 @@ items_in chunks = joined (lists chunks)
 abbrev pub list_at : {T : Type 0} → ℕ → List (List T) → List T
 list_at index lists = slice_index_or lists index []
 
--- no chunk is empty, and the items of each are counted
+pub record IsChunk {T : Type 0} (chunk : List T) : Type 0 where
+  pub some : 1 ≤ length chunk
+  pub few : length chunk ≤ 512
+
+pub record IsReplaced {T : Type 0} (few most : ℕ) (old new : List (List T)) : Type 0 where
+  pub at : ℕ
+  pub parts : List (List T)
+  pub within : at ≤ length old - 1
+  pub some : few ≤ length parts
+  pub no_more : length parts ≤ most
+  pub list : new ≡ take at old ++ (parts ++ drop (suc at) old)
+
+-- no chunk is empty or too long, and the items of each are counted
 pub record AreChunks {T : Type 0} (lists : List (List T)) (counts : List ℕ) : Type 0 where
-  pub filled : AllByRecursion (λ list. 0 < length list) lists
+  pub sizes : AllByRecursion IsChunk lists
   pub counted : counts ≡ map length lists
   pub few : length (joined lists) ≤ 2 ^ 62
 

@@ -1,7 +1,11 @@
 //! Chunks of a list, and how many items each has.
-ghost use Rattle.std.specs.Prelude.{◌≡◌, ◌+◌, ◌-◌, ◌^◌, ◌<◌, ◌≤◌, ◌++◌, ◌∷◌, [], length, take, drop, insert, remove, slice_get, slice_set, slice_index_or, IfOk, OnOk, OnErr, Some};
-ghost use Rattle.chunk_list.specs.Chunked.{IsChunked, IsPlace, items_in, list_at, lists};
+ghost use Rattle.std.specs.Prelude.{◌≡◌, ◌+◌, ◌-◌, ◌^◌, ◌<◌, ◌≤◌, ◌++◌, ◌∷◌, [], Bool, true, false, length, map, take, drop, insert, remove, option_copied, slice_get, slice_set, slice_index_or, vec_capacity, vec_len, IfOk, OnOk, OnErr, Some};
+ghost use Rattle.std.specs.Fn.{ComputesKey};
+ghost use Rattle.std.specs.List.{AllByRecursion};
+ghost use Rattle.std.specs.List.Sorted.{IsPartitionedBy, IsPartitionPoint};
+ghost use Rattle.chunk_list.specs.Chunked.{IsChunk, IsChunked, IsPlace, IsReplaced, items_in, joined, list_at, lists};
 
+use crate::change::Change;
 use crate::counts::{Counts, Place, put_within};
 use std::alloc::{AllocError, Global};
 
@@ -19,10 +23,55 @@ pub(crate) struct Chunks<T> {
     pub(crate) counts: Counts,
 }
 
-impl<T: Copy + Drop> Chunks<T> {
+/// Takes the upper half of a full chunk out, into room for as many items as a chunk may have.
+fn upper_half<T: Drop>(items: &mut Vec<T>) -> Result<Vec<T>, AllocError>
+    requires { vec_len items.old ≡ 512 }
+    ensures lower { OnOk result (items.new.items ≡ take 256 items.old.items) }
+    ensures upper { IfOk result (λ upper. upper.items ≡ drop 256 items.old.items) }
+    ensures room { IfOk result (λ upper. 512 ≤ vec_capacity upper) }
+    ensures capacity { vec_capacity items.new ≡ vec_capacity items.old }
+    ensures err { OnErr result (items.new.items ≡ items.old.items) }
+{
+    let mut upper = Vec::with_capacity(*items.allocator(), CHUNK_LEN)?;
+    let mut tail = items.split_off(CHUNK_LEN / 2)?;
+    let _ = upper.append(&mut tail);
+    Ok(upper)
+}
+
+/// Puts an item into one of the halves of a chunk, at its place in both.
+fn put_into_half<T: Drop>(lower: &mut Vec<T>, upper: &mut Vec<T>, offset: usize, item: T)
+    requires lower { vec_len lower.old ≡ 256 }
+    requires upper { vec_len upper.old ≡ 256 }
+    requires lower_room { 512 ≤ vec_capacity lower.old }
+    requires upper_room { 512 ≤ vec_capacity upper.old }
+    requires within { offset ≤ 512 }
+    ensures items { lower.new.items ++ upper.new.items ≡ insert (lower.old.items ++ upper.old.items) offset item }
+    ensures lower_few { vec_len lower.new ≤ 512 }
+    ensures lower_some { 256 ≤ vec_len lower.new }
+    ensures upper_some { 256 ≤ vec_len upper.new }
+    ensures total { vec_len lower.new + vec_len upper.new ≡ 513 }
+{
+    if offset < CHUNK_LEN / 2 {
+        put_within(lower, offset, item);
+    } else {
+        put_within(upper, offset - CHUNK_LEN / 2, item);
+    }
+}
+
+/// Changes each item of a chunk in its place.
+fn change_items<T, C: Change<T>>(items: &mut [T], change: &C)
+    requires { AllByRecursion (C.ready change.now) items.old }
+    ensures { items.new ≡ map (C.changed change.now) items.old }
+{
+    for item in items.iter_mut() {
+        change.change(item);
+    }
+}
+
+impl<T: Drop> Chunks<T> {
     /// No chunks. They take no memory.
     pub(crate) fn new(alloc: Global) -> Chunks<T>
-        ensures items { items_in result ≡ [] }
+        ensures items { lists result ≡ [] }
         ensures chunked { IsChunked result }
     {
         Chunks {
@@ -48,16 +97,6 @@ impl<T: Copy + Drop> Chunks<T> {
         self.counts.find(position)
     }
 
-    /// The item at a position.
-    pub(crate) fn get(&self, position: usize) -> T
-        requires chunked { IsChunked self.now }
-        requires within { position < length (items_in self.now) }
-        ensures { slice_get (items_in self.now) position ≡ Some result }
-    {
-        let place = self.find(position);
-        self.chunks[place.index][place.offset]
-    }
-
     /// The items from a position to the end of the chunk in which it stands.
     pub(crate) fn run_at(&self, position: usize) -> &[T]
         requires chunked { IsChunked self.now }
@@ -69,11 +108,47 @@ impl<T: Copy + Drop> Chunks<T> {
         &self.chunks[place.index][place.offset..]
     }
 
-    /// Puts an item in at a place of a chunk.
+    /// The first item of a chunk.
+    fn first_of(&self, index: usize) -> &T
+        requires chunked { IsChunked self.now }
+        requires within { index < length (lists self.now) }
+        ensures { slice_get (list_at index (lists self.now)) 0 ≡ Some result.now }
+    {
+        &self.chunks[index][0]
+    }
+
+    /// How many items pass a test, where no item that passes it stands behind one that fails it: a binary search by the first
+    /// items of the chunks, and then one in a chunk.
+    pub(crate) fn partition_point<P: FnMut(&T) -> bool>(&self, mut pred: P) -> usize
+        requires chunked { IsChunked self.now }
+        requires callable { P.IsAlwaysCallable pred }
+        ensures within { result ≤ length (items_in self.now) }
+        ensures partitioned { (p : T → Bool) → ComputesKey P.FnMut p pred → IsPartitionedBy p (items_in self.now) → IsPartitionPoint (λ item. p item ≡ true) (λ item. p item ≡ false) (items_in self.now) result }
+    {
+        let mut size = self.chunks.len();
+        if size == 0 {
+            return 0;
+        }
+        let mut base = 0;
+        while size > 1 {
+            let half = size / 2;
+            let middle = base + half;
+            if pred(self.first_of(middle)) {
+                base = middle;
+                size -= half;
+            } else {
+                size -= half;
+            }
+        }
+        self.counts.before(base) + self.chunks[base].partition_point(pred)
+    }
+
+    /// Puts an item in at a place of a chunk that is not full.
     fn put(&mut self, place: Place, item: T) -> Result<(), AllocError>
         requires chunked { IsChunked self.old }
         requires room { length (items_in self.old) < 2 ^ 62 }
         requires index { place.index < length (lists self.old) }
+        requires few { length (list_at place.index (lists self.old)) < 512 }
         requires offset { place.offset ≤ length (list_at place.index (lists self.old)) }
         ensures ok { OnOk result (lists self.new ≡ slice_set (lists self.old) place.index (insert (list_at place.index (lists self.old)) place.offset item)) }
         ensures err { OnErr result (lists self.new ≡ lists self.old) }
@@ -88,7 +163,7 @@ impl<T: Copy + Drop> Chunks<T> {
     fn push_chunk(&mut self, item: T) -> Result<(), AllocError>
         requires chunked { IsChunked self.old }
         requires room { length (items_in self.old) < 2 ^ 62 }
-        ensures ok { OnOk result (lists self.new ≡ insert (lists self.old) (length (lists self.old)) (item ∷ [])) }
+        ensures ok { OnOk result (lists self.new ≡ lists self.old ++ (item ∷ []) ∷ []) }
         ensures err { OnErr result (lists self.new ≡ lists self.old) }
         ensures chunked { IsChunked self.new }
     {
@@ -106,7 +181,8 @@ impl<T: Copy + Drop> Chunks<T> {
         requires chunked { IsChunked self.old }
         requires room { length (items_in self.old) < 2 ^ 62 }
         ensures ok { OnOk result (items_in self.new ≡ items_in self.old ++ item ∷ []) }
-        ensures err { OnErr result (items_in self.new ≡ items_in self.old) }
+        ensures replaced { OnOk result (IsReplaced 1 2 (lists self.old) (lists self.new)) }
+        ensures err { OnErr result (lists self.new ≡ lists self.old) }
         ensures chunked { IsChunked self.new }
     {
         let count = self.chunks.len();
@@ -121,52 +197,51 @@ impl<T: Copy + Drop> Chunks<T> {
         self.put(Place { index, offset }, item)
     }
 
-    /// Makes two chunks of one.
-    fn split(&mut self, index: usize) -> Result<(), AllocError>
+    /// Puts an item in at a place of a full chunk, of which two are made.
+    fn split(&mut self, place: Place, item: T) -> Result<(), AllocError>
         requires chunked { IsChunked self.old }
-        requires index { index < length (lists self.old) }
-        requires two { 2 ≤ length (list_at index (lists self.old)) }
-        ensures items { items_in self.new ≡ items_in self.old }
+        requires room { length (items_in self.old) < 2 ^ 62 }
+        requires index { place.index < length (lists self.old) }
+        requires full { length (list_at place.index (lists self.old)) ≡ 512 }
+        requires offset { place.offset ≤ 512 }
+        ensures ok { OnOk result (items_in self.new ≡ joined (slice_set (lists self.old) place.index (insert (list_at place.index (lists self.old)) place.offset item))) }
+        ensures replaced { OnOk result (IsReplaced 1 2 (lists self.old) (lists self.new)) }
+        ensures err { OnErr result (lists self.new ≡ lists self.old) }
         ensures chunked { IsChunked self.new }
     {
-        let half = self.chunks[index].len() / 2;
-        let upper = upper_part(&self.chunks[index], half)?;
-        let count = upper.len();
         self.chunks.reserve(1)?;
-        self.counts.insert(index + 1, count)?;
-        self.counts.sub(index, count);
-        self.chunks[index].truncate(half);
-        put_within(&mut self.chunks, index + 1, upper);
+        self.counts.insert(place.index + 1, 0)?;
+        let lower = &mut self.chunks[place.index];
+        let mut upper = match upper_half(lower) {
+            Ok(upper) => upper,
+            Err(error) => {
+                self.counts.remove(place.index + 1);
+                return Err(error);
+            }
+        };
+        put_into_half(lower, &mut upper, place.offset, item);
+        let below = lower.len();
+        self.counts.add(place.index + 1, upper.len());
+        self.counts.sub(place.index, CHUNK_LEN - below);
+        put_within(&mut self.chunks, place.index + 1, upper);
         Ok(())
     }
 
-    /// Puts an item in before the one at a position. After a refusal the items are as before.
+    /// Puts an item in before the one at a position. After a refusal all is as before.
     pub(crate) fn insert(&mut self, position: usize, item: T) -> Result<(), AllocError>
         requires chunked { IsChunked self.old }
         requires room { length (items_in self.old) < 2 ^ 62 }
         requires within { position < length (items_in self.old) }
         ensures ok { OnOk result (items_in self.new ≡ insert (items_in self.old) position item) }
-        ensures err { OnErr result (items_in self.new ≡ items_in self.old) }
+        ensures replaced { OnOk result (IsReplaced 1 2 (lists self.old) (lists self.new)) }
+        ensures err { OnErr result (lists self.new ≡ lists self.old) }
         ensures chunked { IsChunked self.new }
     {
         let place = self.find(position);
         if self.chunks[place.index].len() < CHUNK_LEN {
             return self.put(place, item);
         }
-        self.split(place.index)?;
-        let place = self.find(position);
-        self.put(place, item)
-    }
-
-    /// Puts an item in the place of the one at a position.
-    pub(crate) fn set(&mut self, position: usize, item: T)
-        requires chunked { IsChunked self.old }
-        requires within { position < length (items_in self.old) }
-        ensures items { items_in self.new ≡ slice_set (items_in self.old) position item }
-        ensures chunked { IsChunked self.new }
-    {
-        let place = self.find(position);
-        self.chunks[place.index][place.offset] = item;
+        self.split(place, item)
     }
 
     /// Takes the item at a position out, and its chunk where no other item is there.
@@ -175,6 +250,7 @@ impl<T: Copy + Drop> Chunks<T> {
         requires within { position < length (items_in self.old) }
         ensures item { slice_get (items_in self.old) position ≡ Some result }
         ensures items { items_in self.new ≡ remove (items_in self.old) position }
+        ensures replaced { IsReplaced 0 1 (lists self.old) (lists self.new) }
         ensures chunked { IsChunked self.new }
     {
         let place = self.find(position);
@@ -188,14 +264,15 @@ impl<T: Copy + Drop> Chunks<T> {
         }
         item
     }
-}
 
-/// A copy of the items from a place on, with room for as many as a chunk may have.
-fn upper_part<T: Copy + Drop>(items: &Vec<T>, from: usize) -> Result<Vec<T>, AllocError>
-    requires { from ≤ length items.now.items }
-    ensures { IfOk result (λ upper. upper.items ≡ drop from items.now.items) }
-{
-    let mut upper = Vec::with_capacity(*items.allocator(), CHUNK_LEN)?;
-    upper.extend_from_slice(&items[from..])?;
-    Ok(upper)
+    /// Changes each item in its place.
+    pub(crate) fn change_all<C: Change<T>>(&mut self, change: &C)
+        requires { AllByRecursion (C.ready change.now) (items_in self.old) }
+        ensures lists { lists self.new ≡ map (map (C.changed change.now)) (lists self.old) }
+        ensures counts { self.new.counts ≡ self.old.counts }
+    {
+        for items in self.chunks.iter_mut() {
+            change_items(items, change);
+        }
+    }
 }

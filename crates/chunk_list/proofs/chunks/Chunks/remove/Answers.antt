@@ -1,8 +1,9 @@
 use Rattle.std.proofs.Common.{◌≡◌, ◌+◌, ap, arith, get_or, length, set, refl, subst, sym, vec_len, ◌∙◌}
 use Rattle.std.specs.Prelude.{remove, ◌==◌}
 use Rattle.std.proofs.lemmas.List.Edits.{length-remove}
-use Rattle.chunk_list.specs.Chunked.{AreChunks, joined, lists, list_at}
+use Rattle.chunk_list.specs.Chunked.{AreChunks, IsReplaced, joined, lists, list_at}
 use Rattle.chunk_list.proofs.Edits.{gone_kept, item_gone, item_taken, lists_gone, lists_set, no_items, some_items, taken_kept}
+use Rattle.chunk_list.proofs.Halves.{gone_replaced, set_replaced}
 use Rattle.chunk_list.proofs.Joined.{own_list, item_got}
 use Rattle.chunk_list.proofs.chunks.Chunks.remove.Goals as goal
 
@@ -57,3 +58,16 @@ returns-else-is_empty-clause-chunked g c =
     let some = some_items rest.items (c.if-is_empty.ensures ∙ ap (λ n. n == 0) len) in
     subst (λ ks. AreChunks ks c.sub.new.self) (sym (lists_set chunks i rest rest.items refl))
     (subst (λ ns. AreChunks (set ls i rest.items) ns) (sym c.sub.ensures) (taken_kept ls counts i rest.items c.requires.chunked c.find-place.ensures.index one some))
+
+pub returns-then-is_empty-clause-replaced : goal.returns-then-is_empty-clause-replaced
+returns-then-is_empty-clause-replaced g c =
+    let ls = lists c.args.self.now in
+    let i = c.find-place.result.index in
+    subst (λ ks. IsReplaced 0 1 ls ks) (sym (lists_gone c.args.self.now.chunks.items c.remove.new.self.items i c.remove-item.new.self c.remove.ensures.items)) (gone_replaced ls i c.find-place.ensures.index)
+
+pub returns-else-is_empty-clause-replaced : goal.returns-else-is_empty-clause-replaced
+returns-else-is_empty-clause-replaced g c =
+    let ls = lists c.args.self.now in
+    let i = c.find-place.result.index in
+    let rest = c.remove-item.new.self in
+    subst (λ ks. IsReplaced 0 1 ls ks) (sym (lists_set c.args.self.now.chunks.items i rest rest.items refl)) (set_replaced 0 1 ls i rest.items (omega arith) (omega arith) c.find-place.ensures.index)

@@ -1,33 +1,26 @@
-use Rattle.std.proofs.Common.{◌≡◌, ◌+◌, ◌-◌, ◌/◌, true, false, arith, refl, sym, ℕ}
+use Rattle.std.proofs.Common.{◌≡◌, true, false, refl, subst, sym}
+use Rattle.std.specs.List.Sorted.{IsPartitionPoint, IsPartitionedBy}
 use Rattle.std.proofs.lemmas.Fn.{called}
 use borrow.Author.Rules.{of_calls}
-use Rattle.chunk_list.proofs.Searches.{after_passing, answers_next, at_failing, failed, holds_at, passed}
+use Rattle.chunk_list.specs.Chunked.{joined}
+use Rattle.chunk_list.proofs.Searches.{answers_next, last_passes, none_passes}
 use Rattle.chunk_list.proofs.list.ChunkList.partition_point.Goals as goal
 
-pub loop-size-preserved-then-pred : goal.loop-size-preserved-then-pred
-loop-size-preserved-then-pred g c =
-    let base = c.loop-size.base in
-    let size = c.loop-size.size in
-    let middle : ℕ = base + size / 2 in
+pub returns-then-pred-clause-partitioned : goal.returns-then-pred-clause-partitioned
+returns-then-pred-clause-partitioned g c =
     let k = called g.P.FnMut c.if-pred.ensures refl in
-    (omega arith, omega arith, search of_calls, λ p h. let i = c.loop-size.invariant.3 p h in let n = answers_next g.P.FnMut _ _ _ _ _ k i.0 in (n.1, passed p c.args.self.now base size middle (size - size / 2) (omega arith) i.1 (holds_at (λ y. p y ≡ true) c.args.self.now middle c.get-item.result c.get-item.ensures (sym n.0))))
+    λ p h first. last_passes p (joined c.args.self.now) c.len.result c.in-Some.last.now c.len.ensures.count (sym c.in-Some.ensures) (sym (answers_next g.P.FnMut _ _ _ _ _ k h).0) first
 
-pub loop-size-preserved : goal.loop-size-preserved
-loop-size-preserved g c =
-    let base = c.loop-size.base in
-    let size = c.loop-size.size in
-    let middle : ℕ = base + size / 2 in
+pub partition_point-requires-clause-callable : goal.partition_point-requires-clause-callable
+partition_point-requires-clause-callable g c = search of_calls
+
+pub returns-else-pred-clause-partitioned : goal.returns-else-pred-clause-partitioned
+returns-else-pred-clause-partitioned g c =
     let k = called g.P.FnMut c.if-pred.ensures refl in
-    (omega arith, omega arith, search of_calls, λ p h. let i = c.loop-size.invariant.3 p h in let n = answers_next g.P.FnMut _ _ _ _ _ k i.0 in (n.1, failed p c.args.self.now base size middle (size - size / 2) (omega arith) i.1 (holds_at (λ y. p y ≡ false) c.args.self.now middle c.get-item.result c.get-item.ensures (sym n.0))))
+    λ p h first.
+    let n = answers_next g.P.FnMut _ _ _ _ _ k h in
+    subst (λ ls. IsPartitionPoint (λ y. p y ≡ true) (λ y. p y ≡ false) (joined ls) c.partition_point.result) c.self.view_is
+    (c.partition_point.ensures.partitioned p n.1 (subst (λ ls. IsPartitionedBy p (joined ls)) (sym c.self.view_is) first))
 
-pub returns-then-pred-2-clause-partitioned : goal.returns-then-pred-2-clause-partitioned
-returns-then-pred-2-clause-partitioned g c =
-    let base = c.loop-size.base in
-    let k = called g.P.FnMut c.if-pred-2.ensures refl in
-    λ p h. let i = c.loop-size.invariant.3 p h in let n = answers_next g.P.FnMut _ _ _ _ _ k i.0 in after_passing p c.args.self.now base c.loop-size.size (omega arith) (omega arith) i.1 (holds_at (λ y. p y ≡ true) c.args.self.now base c.get-item-2.result c.get-item-2.ensures (sym n.0))
-
-pub returns-clause-partitioned : goal.returns-clause-partitioned
-returns-clause-partitioned g c =
-    let base = c.loop-size.base in
-    let k = called g.P.FnMut c.if-pred-2.ensures refl in
-    λ p h. let i = c.loop-size.invariant.3 p h in let n = answers_next g.P.FnMut _ _ _ _ _ k i.0 in at_failing p c.args.self.now base c.loop-size.size i.1 (holds_at (λ y. p y ≡ false) c.args.self.now base c.get-item-2.result c.get-item-2.ensures (sym n.0))
+pub returns-in-None-clause-partitioned : goal.returns-in-None-clause-partitioned
+returns-in-None-clause-partitioned g c = λ p h first. none_passes p (joined c.args.self.now) (sym c.in-None.ensures)

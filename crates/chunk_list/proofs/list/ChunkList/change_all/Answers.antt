@@ -1,0 +1,15 @@
+use Rattle.std.proofs.Common.{map, subst, sym}
+use Rattle.std.specs.List.{AllByRecursion}
+use Rattle.chunk_list.specs.Chunked.{AreChunks, IsChunk, lists}
+use Rattle.chunk_list.proofs.Changing.{changed_kept}
+use Rattle.chunk_list.proofs.list.ChunkList.change_all.Goals as goal
+
+pub invariant_of-self : goal.invariant_of-self
+invariant_of-self g c =
+    subst (λ ls. AreChunks ls c.change_all.new.self.counts) (sym c.change_all.ensures.lists)
+    (subst (λ counts. AreChunks (map (map (g.C.Change.changed c.args.change.now)) (lists c.self.inside.chunks)) counts) (sym c.change_all.ensures.counts) (changed_kept (g.C.Change.changed c.args.change.now) (lists c.self.inside.chunks) c.self.inside.chunks.counts c.self.invariant))
+
+pub returns-clause-sizes : goal.returns-clause-sizes
+returns-clause-sizes g c =
+    subst (AllByRecursion IsChunk) (sym c.change_all.ensures.lists)
+    (changed_kept (g.C.Change.changed c.args.change.now) (lists c.self.inside.chunks) c.self.inside.chunks.counts c.self.invariant).sizes
