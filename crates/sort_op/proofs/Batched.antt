@@ -9,9 +9,12 @@ use Rattle.tick_model.specs.declared.plan.SortBy.{SortBy}
 use Rattle.sort_op.specs.declared.entry.Entry.{Entry}
 use Rattle.sort_op.specs.Entries.{comes_before, is_in, is_same, place_of, Rises}
 use Rattle.sort_op.proofs.Comparing.{is_same_own, other_behind, same_is}
-use Rattle.sort_op.proofs.Edits.{remove_between}
 use Rattle.sort_op.proofs.Rises.{rises_back}
 use Rattle.sort_op.proofs.Searches.{place_here, place_none}
+
+remove_between : {X : Type 0} (xs : List X) (x : X) (ys : List X) → remove (xs ++ x ∷ ys) (length xs) ≡ xs ++ ys
+remove_between [] x ys = refl
+remove_between (z ∷ xs) x ys = ap (λ zs. z ∷ zs) (remove_between xs x ys)
 
 pub same_flip : (a b : Entry) → is_same a b ≡ is_same b a
 same_flip a b = both (is_same a b) (is_same b a) (λ e. ap (λ z. is_same b z) (same_is a b e) ∙ is_same_own b) (λ e. ap (λ z. is_same a z) (same_is b a e) ∙ is_same_own a)

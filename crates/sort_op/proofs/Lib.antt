@@ -1,13 +1,9 @@
 pub mod CellOrders
 pub mod Comparing
 pub mod Rises
-pub mod Spots
 pub mod Searches
-pub mod Ends
-pub mod Edits
 pub mod Made
 pub mod Rekeying
-pub mod Kept
 pub mod Rekeyed
 pub mod SortedRows
 pub mod KeptPlaces

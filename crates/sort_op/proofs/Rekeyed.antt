@@ -7,8 +7,9 @@ use Rattle.std.specs.Ordering.{nat_cmp, ordering_then}
 use Rattle.std.specs.declared.cmp.Ordering.{Ordering}
 use Rattle.std.specs.declared.cmp.Ordering.TheVariants.{Less, Equal, Greater}
 use Rattle.std.proofs.lemmas.Int.{ints}
-use Rattle.std.proofs.lemmas.List.{length-map, map-append}
 use Rattle.std.proofs.lemmas.List.Sorted.{IsStrictWeakOrder-by_number}
+use Rattle.chunk_list.specs.Chunked.{joined, IsChunk}
+use Rattle.chunk_list.proofs.Changing.{joined-changed}
 use Rattle.key_lists.specs.Keys.{IsRising}
 use Rattle.key_lists.proofs.Every.{every, every_weaker, every-map, every_unmapped, map_own}
 use Rattle.tick_model.specs.declared.plan.SortBy.{SortBy}
@@ -20,11 +21,8 @@ use Rattle.tick_model.proofs.Stable.{IsInOrder, ordered_in_order}
 use Rattle.shift_data.specs.Moves.{IsLawful}
 use Rattle.shift_data.proofs.Lawful.{lawful}
 use Rattle.sort_op.specs.declared.entry.Entry.{Entry}
-use Rattle.sort_op.specs.declared.chunks.Chunks.{Chunks}
 use Rattle.sort_op.specs.Cells.{cells_cmp}
-use Rattle.sort_op.specs.Entries.{comes_before, joined, keys_in, rekeyed, rising_keys, IsChunk, IsWhole, Rises}
-use Rattle.sort_op.specs.Stored.{ends_of, lists, IsStored}
-use Rattle.sort_op.proofs.Ends.{Lists}
+use Rattle.sort_op.specs.Entries.{comes_before, keys_in, rekeyed, rising_keys, IsOrder, IsWhole, Rises}
 
 -- what holds of all in order holds of all
 unplaced : {X : Type 0} (P : X → Type 0) (less : X → X → Bool) (x : X) (xs : List X) → AllByRecursion P (place less x xs) → P x × AllByRecursion P xs
@@ -107,31 +105,13 @@ module _ (shifts : List ShiftRange) where
         both [] p q = tt
         both (other ∷ others) p q = (before_rekeyed entry other q.0 p.0, both others p.1 q.1)
 
-  pub joined-rekeyed : (lists : Lists) → joined (map (map (rekeyed shifts)) lists) ≡ map (rekeyed shifts) (joined lists)
-  joined-rekeyed [] = refl
-  joined-rekeyed (list ∷ lists) = ap (λ xs. map (rekeyed shifts) list ++ xs) (joined-rekeyed lists) ∙ sym (map-append (rekeyed shifts) list (joined lists))
-
-  ends-rekeyed : (n : ℕ) (lists : Lists) → ends_of n (map (map (rekeyed shifts)) lists) ≡ ends_of n lists
-  ends-rekeyed n [] = refl
-  ends-rekeyed n (list ∷ lists) = ap (λ m. (n + m) ∷ ends_of (n + m) (map (map (rekeyed shifts)) lists)) (length-map list (rekeyed shifts)) ∙ ap (λ ends. (n + length list) ∷ ends) (ends-rekeyed (n + length list) lists)
-
-  sizes-rekeyed : (lists : Lists) → AllByRecursion IsChunk lists → AllByRecursion IsChunk (map (map (rekeyed shifts)) lists)
-  sizes-rekeyed [] h = tt
-  sizes-rekeyed (list ∷ lists) h = (record { some = omega (arith, length-map list (rekeyed shifts), h.0.some); few = omega (arith, length-map list (rekeyed shifts), h.0.few) }, sizes-rekeyed lists h.1)
-
-  pub stored_rekeyed : (by : List SortBy) (old new : Chunks) → IsLawful shifts (rising_keys (joined (lists old.chunks.items))) → lists new.chunks.items ≡ map (map (rekeyed shifts)) (lists old.chunks.items) → new.ends.items ≡ old.ends.items → IsStored by old → IsStored by new
-  stored_rekeyed by old new law so ends h =
-      let are = ap joined so ∙ joined-rekeyed (lists old.chunks.items) in
+  pub order_rekeyed : (by : List SortBy) (old new : List (List Entry)) → IsLawful shifts (rising_keys (joined old)) → new ≡ map (map (rekeyed shifts)) old → AllByRecursion IsChunk new → IsOrder (record { by = by; chunks = old }) → IsOrder (record { by = by; chunks = new })
+  order_rekeyed by old new law so sizes h =
+      let are = ap joined so ∙ joined-changed (rekeyed shifts) old in
       record {
-        order = record {
-          rising = subst (Rises by) (sym are) (rises_rekeyed by (joined (lists old.chunks.items)) h.order.rising (all_keep (joined (lists old.chunks.items)) law));
-          whole = subst (AllByRecursion (IsWhole by)) (sym are) (every-map (IsWhole by) (rekeyed shifts) (joined (lists old.chunks.items)) h.order.whole);
-          chunks = subst (AllByRecursion IsChunk) (sym so) (sizes-rekeyed (lists old.chunks.items) h.order.chunks);
-        };
-        counted = record {
-          ends = ends ∙ h.counted.ends ∙ sym (ends-rekeyed 0 (lists old.chunks.items)) ∙ ap (ends_of 0) (sym so);
-          few = omega (arith, ap length are, length-map (joined (lists old.chunks.items)) (rekeyed shifts), h.counted.few);
-        };
+        rising = subst (Rises by) (sym are) (rises_rekeyed by (joined old) h.rising (all_keep (joined old) law));
+        whole = subst (AllByRecursion (IsWhole by)) (sym are) (every-map (IsWhole by) (rekeyed shifts) (joined old) h.whole);
+        chunks = sizes;
       }
 
 -- where no row moves, no key does
@@ -141,7 +121,7 @@ stays key = ap as_key (still key)
     still : (n : ℕ) → pos n +ℤ pos 0 ≡ pos n
     still n = omega (arith, ints)
 
-pub none_rekeyed : (lists : Lists) → map (map (rekeyed [])) lists ≡ lists
+pub none_rekeyed : (lists : List (List Entry)) → map (map (rekeyed [])) lists ≡ lists
 none_rekeyed lists = map_own (map (rekeyed [])) lists (every (λ list. map (rekeyed []) list ≡ list) lists (λ list. map_own (rekeyed []) list (every (λ entry. rekeyed [] entry ≡ entry) list own)))
   where
     own : (entry : Entry) → rekeyed [] entry ≡ entry

@@ -32,7 +32,9 @@ use Rattle.tick_laws.proofs.ResultTables.{length-in_order, table_count}
 use Rattle.tick_table.specs.Exact.{IsExact, tick_of}
 use Rattle.tick_table.specs.Ticking.{Ticking}
 use Rattle.sort_op.specs.declared.entry.Entry.{Entry}
-use Rattle.sort_op.specs.Entries.{AreDistinct, IsOrder, IsWhole, Order, Rises, entries, is_in, joined, keys_in, rekeyed, rising_keys}
+use Rattle.chunk_list.specs.Chunked.{joined}
+use Rattle.chunk_list.proofs.Changing.{joined-changed}
+use Rattle.sort_op.specs.Entries.{AreDistinct, IsOrder, IsWhole, Order, Rises, entries, is_in, keys_in, rekeyed, rising_keys}
 use Rattle.sort_op.specs.Places.{is_place, other_places}
 use Rattle.sort_op.specs.Reading.{coming, entries_under, entry_under, leaving, modified_pairs, moving_pairs, sort_cells_alike, staying_pairs}
 use Rattle.sort_op.specs.Sorted.{entries_of, entry_of, sort_cells}
@@ -41,7 +43,6 @@ use Rattle.sort_op.proofs.Halves.{left_apart, left_over, left_within, rest, some
 use Rattle.sort_op.proofs.KeptPlaces.{keys-numbered}
 use Rattle.sort_op.proofs.Members.{AreApart, among_same, any-ordered, apart-filter, apart_append, apart_rising, distinct_under, in_filter, in_map_same, in_rows, in_under, is_own, keys_under, rising-ordered}
 use Rattle.sort_op.proofs.PlacedPairs.{IsKept, apart_in_order, each_kept, new_place, old_place}
-use Rattle.sort_op.proofs.Rekeyed.{joined-rekeyed}
 use Rattle.sort_op.proofs.Sides.{cells_here, others_are, position_here, within_placed}
 use Rattle.sort_op.proofs.SortedChange.{sorted_tick}
 use Rattle.sort_op.proofs.SortedRows.{one_list, sorted_rises}
@@ -250,7 +251,7 @@ module _ (by : List SortBy) (t : Ticking) (e : IsExact t) where
   left_is left before after l b a = a ∙ ap₂ (λ (left entries : List Entry). filter (λ entry. not (is_in entry left)) entries) l b
 
   pub rekeyed_is : (shifts : List ShiftRange) (old new : Order) → shifts ≡ t.update.shifted → entries old ≡ staying → new.chunks ≡ map (map (rekeyed shifts)) old.chunks → entries new ≡ map (rekeyed t.update.shifted) staying
-  rekeyed_is shifts old new s o chunks = ap joined chunks ∙ joined-rekeyed shifts old.chunks ∙ ap₂ (λ (shifts : List ShiftRange) (entries : List Entry). map (rekeyed shifts) entries) s o
+  rekeyed_is shifts old new s o chunks = ap joined chunks ∙ joined-changed (rekeyed shifts) old.chunks ∙ ap₂ (λ (shifts : List ShiftRange) (entries : List Entry). map (rekeyed shifts) entries) s o
 
   pub coming_out : (old came : List Entry) → old ≡ map (rekeyed t.update.shifted) staying → came ≡ coming by t → AllByRecursion (λ entry. is_in entry old ≡ false) came
   coming_out old came o c =

@@ -7,11 +7,12 @@
 --     keys_in entries      their keys
 --     rekeyed shifts entry      the entry under the key to which its row moves
 --     Order, IsOrder order      what an order shows: chunks of 1 to 512 entries, which rise over all chunks
-use Rattle.std.specs.Prelude.{◌≡◌, ℕ, ◌-◌, ◌≤◌, ◌==◌, ◌&&◌, Bool, true, List, [], ◌∷◌, Option, Result, count_by, length, filter, map, position, nat_lt, slice_get}
-use Rattle.std.specs.List.{AllByRecursion, flat_map, list_any}
-use Rattle.std.specs.Option.{ok_or, option_map_or}
+use Rattle.std.specs.Prelude.{◌≡◌, ℕ, ◌≤◌, ◌==◌, ◌&&◌, Bool, true, List, [], ◌∷◌, Option, Result, count_by, length, filter, map, position, nat_lt}
+use Rattle.std.specs.List.{AllByRecursion, list_any}
+use Rattle.std.specs.Option.{ok_or}
 use Rattle.std.specs.Ordering.{is_lt, nat_cmp, ordering_then}
 use Rattle.std.specs.declared.cmp.Ordering.{Ordering}
+use Rattle.chunk_list.specs.Chunked.{joined, IsChunk}
 use Rattle.tick_model.specs.declared.plan.SortBy.{SortBy}
 use Rattle.tick_model.specs.declared.update.ShiftRange.{ShiftRange}
 use Rattle.tick_model.specs.Shifts.{as_key, moved}
@@ -29,10 +30,6 @@ comes_before by a b = is_lt (entry_cmp by a b)
 abbrev pub Rises : List SortBy → List Entry → Type 0
 Rises by [] = Unit {0}
 Rises by (entry ∷ entries) = AllByRecursion (λ other. comes_before by entry other ≡ true) entries × Rises by entries
-
--- whether the last of the entries, if there is one, stands before another
-abbrev pub last_before : List SortBy → Entry → List Entry → Bool
-last_before by entry entries = option_map_or (λ last. comes_before by last entry) (slice_get entries (length entries - 1)) true
 
 abbrev pub is_same : Entry → Entry → Bool
 is_same a b = (a.key == b.key) && same_cells a.cells b.cells
@@ -64,17 +61,9 @@ rising_keys entries = ordered nat_lt (keys_in entries)
 abbrev pub rekeyed : List ShiftRange → Entry → Entry
 rekeyed shifts entry = record entry { key = as_key (moved shifts entry.key) }
 
--- the entries of all chunks
-abbrev pub joined : List (List Entry) → List Entry
-joined = flat_map (λ chunk. chunk)
-
 -- an entry has a cell for each sort column
 abbrev pub IsWhole : List SortBy → Entry → Type 0
 IsWhole by entry = length entry.cells ≡ length by
-
-pub record IsChunk (chunk : List Entry) : Type 0 where
-  pub some : 1 ≤ length chunk
-  pub few : length chunk ≤ 512
 
 pub record Order : Type 0 where
   pub by : List SortBy

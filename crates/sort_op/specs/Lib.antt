@@ -5,4 +5,3 @@ pub mod Reading
 pub mod Sorted
 pub mod Sorter
 pub mod Steps
-pub mod Stored

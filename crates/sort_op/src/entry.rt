@@ -4,6 +4,8 @@ ghost use Rattle.tick_model.specs.Tables.{cell};
 ghost use Rattle.tick_model.specs.Sort.{column_cmp};
 ghost use Rattle.sort_op.specs.Cells.{cells_cmp};
 
+use chunk_list::Change;
+use shift_data::ShiftData;
 use std::cmp::Ordering;
 use tick_model::formula::NULL;
 use tick_model::items::Items;
@@ -70,4 +72,26 @@ fn cell_at(cells: &[i64], place: usize) -> i64
     ensures { result ≡ cell cells.now place }
 {
     cells.get(place).copied().unwrap_or(NULL)
+}
+
+/// Puts the key to which the row of an entry moves in the place of its key.
+#[derive(Drop)]
+pub(crate) struct Rekey<'a> {
+    pub shifts: &'a ShiftData,
+}
+
+impl Change<Entry> for Rekey<'_> {
+    ghost use Rattle.std.specs.Prelude.{◌≡◌, ◌^◌, false};
+    ghost use Rattle.shift_data.specs.ShiftLists.{IsShiftList};
+    ghost use Rattle.sort_op.specs.Entries.{rekeyed};
+    ghost use Rattle.tick_model.specs.Rules.{is_past};
+    ghost use Rattle.tick_model.specs.Shifts.{moved};
+
+    ghost ready = { λ rekey entry. IsShiftList rekey.shifts.now × (is_past (2 ^ 62) (moved rekey.shifts.now entry.key) ≡ false) };
+
+    ghost changed = { λ rekey. rekeyed rekey.shifts.now };
+
+    fn change(&self, entry: &mut Entry) {
+        entry.key = self.shifts.landing(entry.key);
+    }
 }

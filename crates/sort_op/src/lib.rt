@@ -6,8 +6,6 @@
 #![tactic(auto)]
 
 mod batch;
-mod chunk;
-mod chunks;
 mod entry;
 mod operator;
 mod order;

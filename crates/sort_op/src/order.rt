@@ -1,16 +1,18 @@
 //! The order of a sort.
 //!
-//! Entries are kept whole, since `get` shows them: each has its sort cells in a list of its own. A list of all cells of a
-//! chunk would save an allocation an entry, and could not be lent as entries.
-ghost use Rattle.std.specs.Prelude.{◌≡◌, [], None, length, insert, map, option_copied, remove, slice_get, IfNone, IfOk, IfSome, OnErr, OnOk, OnSome};
+//! Entries are kept whole, since `get` shows them: each has its sort cells in a list of its own.
+ghost use Rattle.std.specs.Prelude.{◌≡◌, ◌≤◌, [], None, true, false, drop, length, insert, map, option_copied, remove, slice_get, take, IfNone, IfOk, IfSome, OnErr, OnOk, OnSome};
+ghost use Rattle.std.specs.List.{AllByRecursion};
+ghost use Rattle.std.specs.Option.{option_map_or};
+ghost use Rattle.chunk_list.specs.Chunked.{IsReplaced};
 ghost use Rattle.shift_data.specs.Moves.{IsLawful};
-ghost use Rattle.sort_op.specs.Entries.{IsOrder, IsWhole, count_before, entries, found, place_of, rekeyed, rising_keys};
-ghost use Rattle.sort_op.specs.Stored.{IsReplaced};
+ghost use Rattle.sort_op.specs.Entries.{IsOrder, IsWhole, comes_before, count_before, entries, found, is_same, place_of, rekeyed, rising_keys};
 
-use crate::chunks::Chunks;
-use crate::entry::Entry;
+use crate::entry::{Entry, Rekey};
+use chunk_list::ChunkList;
 use shift_data::ShiftData;
 use std::alloc::{AllocError, Global};
+use std::cmp::Ordering;
 use std::marker::Model;
 use tick_model::items::Items;
 use tick_model::plan::SortBy;
@@ -21,18 +23,17 @@ use tick_model::plan::SortBy;
 #[derive(Drop)]
 pub struct SortOrder {
     by: Items<SortBy>,
-    chunks: Chunks,
+    entries: ChunkList<Entry>,
 }
 
 impl Model for SortOrder {
-    ghost use Rattle.sort_op.specs.Entries.{Order};
-    ghost use Rattle.sort_op.specs.Stored.{IsStored, lists};
+    ghost use Rattle.sort_op.specs.Entries.{IsOrder, Order};
 
     ghost Value = { Order };
 
-    ghost view = { λ order. record { by = order.by; chunks = lists order.chunks.chunks.items } };
+    ghost view = { λ order. record { by = order.by; chunks = order.entries } };
 
-    ghost invariant = { λ order. IsStored order.by order.chunks };
+    ghost invariant = { λ order. IsOrder (record { by = order.by; chunks = order.entries }) };
 }
 
 impl SortOrder {
@@ -43,7 +44,7 @@ impl SortOrder {
     {
         SortOrder {
             by,
-            chunks: Chunks::new(alloc),
+            entries: ChunkList::new(alloc),
         }
     }
 
@@ -60,7 +61,30 @@ impl SortOrder {
         ensures count { result ≡ length (entries self.now) }
         ensures order { IsOrder self.now }
     {
-        self.chunks.len()
+        self.entries.len() as u64
+    }
+
+    /// How many entries stand before one, by two binary searches.
+    fn count_before(&self, entry: &Entry) -> usize
+        ensures within { result ≤ length (entries self.now) }
+        ensures before { AllByRecursion (λ other. comes_before self.now.by other entry.now ≡ true) (take result (entries self.now)) }
+        ensures others { AllByRecursion (λ other. comes_before self.now.by other entry.now ≡ false) (drop result (entries self.now)) }
+        ensures order { IsOrder self.now }
+    {
+        let by = self.by.as_slice();
+        self.entries
+            .partition_point(|other| other.comes_before(entry, by))
+    }
+
+    /// Whether the entry at a position is this one.
+    fn holds(&self, position: usize, entry: &Entry) -> bool
+        requires { IsWhole self.now.by entry.now }
+        ensures { result ≡ option_map_or (λ other. is_same other entry.now) (slice_get (entries self.now) position) false }
+    {
+        match self.entries.get(position) {
+            Some(other) => other.compare(entry, self.by.as_slice()) == Ordering::Equal,
+            None => false,
+        }
     }
 
     /// Puts an entry in that is not there, and gives its position. One chunk is replaced by one or by two, or the entry is
@@ -75,7 +99,9 @@ impl SortOrder {
         ensures refused { OnErr result (self.new ≡ self.old) }
         ensures order { IsOrder self.new }
     {
-        self.chunks.insert(self.by.as_slice(), entry)
+        let position = self.count_before(&entry);
+        self.entries.insert(position, entry)?;
+        Ok(position as u64)
     }
 
     /// Takes an entry out, and gives the position that it had, or None where it is not there. One chunk is replaced by one or
@@ -89,7 +115,12 @@ impl SortOrder {
         ensures absent { IfNone result (self.new ≡ self.old) }
         ensures order { IsOrder self.new }
     {
-        self.chunks.remove(self.by.as_slice(), entry)
+        let position = self.count_before(entry);
+        if !self.holds(position, entry) {
+            return None;
+        }
+        let _ = self.entries.remove(position);
+        Some(position as u64)
     }
 
     /// The position of an entry, or else, as an error, how many stand before it. It is found by two binary searches.
@@ -98,7 +129,12 @@ impl SortOrder {
         ensures position { result ≡ found self.now.by entry.now (entries self.now) }
         ensures order { IsOrder self.now }
     {
-        self.chunks.find(self.by.as_slice(), entry)
+        let position = self.count_before(entry);
+        if self.holds(position, entry) {
+            Ok(position as u64)
+        } else {
+            Err(position as u64)
+        }
     }
 
     /// The entry at a position, or None past the end.
@@ -106,7 +142,7 @@ impl SortOrder {
         ensures entry { option_copied result ≡ slice_get (entries self.now) position }
         ensures order { IsOrder self.now }
     {
-        self.chunks.entry_at_position(position)
+        self.entries.get(position as usize)
     }
 
     /// Puts the key to which each row moves in the place of its key, where the moved keys rise as the keys do. It adds to
@@ -117,6 +153,10 @@ impl SortOrder {
         ensures by { self.new.by ≡ self.old.by }
         ensures order { IsOrder self.new }
     {
-        self.chunks.rekey(shifts);
+        let _ = &self.by;
+        if shifts.ranges().is_empty() {
+            return;
+        }
+        self.entries.change_all(&Rekey { shifts });
     }
 }

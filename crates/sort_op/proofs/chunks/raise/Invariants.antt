@@ -1,5 +1,0 @@
-use Rattle.std.proofs.Common.{◌≡◌, ◌+◌, ◌++◌, map, take, drop}
-use Rattle.sort_op.proofs.chunks.raise.Given as goal
-
-abbrev pub invariant-loop-end : goal.invariant-loop-end
-invariant-loop-end l = l.ends ≡ map (λ end. end + 1) (take l.end-index l.initial.ends) ++ drop l.end-index l.initial.ends
