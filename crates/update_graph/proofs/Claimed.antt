@@ -1,5 +1,5 @@
 -- What is known of claims for a step of a run.
-use Rattle.std.proofs.Common.{◌≡◌, ap, sym, ◌∙◌, subst, ℕ, ◌+◌, ◌^◌, ◌<◌, zero, suc, arith, Bool, true, false, true≢false, not, List, [], ◌∷◌, map, length, get_or, refl}
+use Rattle.std.proofs.Common.{◌≡◌, ap, sym, ◌∙◌, subst, ℕ, ◌+◌, ◌^◌, ◌<◌, zero, suc, arith, Bool, true, false, not, List, [], ◌∷◌, map, length, get_or, refl}
 use mathlib.Core.Option.{some}
 use lib.ListN.{get_elem?}
 use Rattle.graph_words.specs.declared.graph.Edge.{Edge}
@@ -97,17 +97,6 @@ module _ (run : Run) (plan : Plan Tag) (c : IsClaimed run plan) where
   ends_claimed e x there =
       let ends = ends_of_step run plan step_of_claims e x there in
       (ends.0, subst (λ k. x.to < k) (sym c.nodes) ends.1)
-
-  pub goes_claimed : (e : ℕ) (x : Edge) → get_elem? plan.edges.items e ≡ some x → is_operator run x.to ≡ true
-  goes_claimed = goes_of_step run plan step_of_claims
-
-  -- a node with an operator has input edges
-  pub input_claimed : (n : ℕ) → n < plan.nodes → is_operator run n ≡ true → 0 < inputs n plan.edges.items
-  input_claimed n within is = go (inputs n plan.edges.items) refl
-    where
-      go : (k : ℕ) → inputs n plan.edges.items ≡ k → 0 < inputs n plan.edges.items
-      go zero none = absurd (true≢false (sym is ∙ no_inputs run c.entered.lawful n (node_within n within) (sym (ap (inputs n) c.edges) ∙ none)))
-      go (suc k) some_in = omega (arith, some_in)
 
   pub source_claimed : (n : ℕ) → n < plan.nodes → inputs n plan.edges.items ≡ 0 → is_operator run n ≡ false
   source_claimed n within none = no_inputs run c.entered.lawful n (node_within n within) (sym (ap (inputs n) c.edges) ∙ none)

@@ -1,7 +1,8 @@
--- What a seat has while a crew's hand works a node, and before the crew begins.
-use Rattle.std.proofs.Common.{◌≡◌, ◌≢◌, ℕ, ◌+◌, ◌<◌, Bool, true, sym, refl, ap, ◌∙◌, subst, arith, inl, inr, Option, Some, None, List, [], ◌∷◌, ◌++◌, length, append-nil, eqb, false}
+-- What a seat has while a crew's hand works a node.
+use Rattle.std.proofs.Common.{◌≡◌, ◌≢◌, ℕ, ◌+◌, ◌<◌, sym, refl, ap, ◌∙◌, subst, arith, inl, inr, Option, Some, None, List, [], ◌++◌, length, append-nil, append_assoc, eqb}
 use Rattle.std.specs.Prelude.{◌⊎◌, option_to_list}
 use Rattle.std.specs.List.{list_any}
+use Rattle.std.proofs.lemmas.List.Folds.{list_any-append}
 use mathlib.Core.Logic.{dite}
 use mathlib.Core.Option.{some, some-injective}
 use native.Mathlib.Decide.{ℕ_discrete}
@@ -10,20 +11,20 @@ use Rattle.graph_words.specs.declared.graph.Edge.{Edge}
 use Rattle.graph_words.specs.declared.graph.Plan.{Plan}
 use Rattle.graph_words.specs.declared.table.Mark.TheVariants.{Unmarked, Untaken, PutBack, Delivered}
 use Rattle.graph_words.specs.declared.table.View.{View}
-use Rattle.graph_words.specs.Marks.{IsHadMark, at, inputs, put}
+use Rattle.graph_words.specs.Marks.{IsHadMark, at, put}
 use Rattle.graph_words.specs.Seats.{Has}
-use Rattle.graph_words.specs.Views.{IsUntouched, gets, mark_node}
 use Rattle.graph_words.proofs.Marks.{at_put, at_put_else, some_input}
-use Rattle.steal_workers.specs.Holdings.{IsHeld as IsHeldBy, IsReady, IsSettled as IsDone, KeepsOthers, SourcesBack as InputlessBack}
+use Rattle.steal_workers.specs.Holdings.{IsReady, IsSettled, KeepsOthers}
 use Rattle.steal_workers.specs.Lists.{IsListed}
-use Rattle.steal_workers.proofs.Listing.{listed_cases, listed_first, listed_last, true_false, unlisted}
-use Rattle.tick_model.specs.declared.feed.Run.{Run}
-use Rattle.update_graph.specs.Holdings.{IsClaimed, IsGoneOn, IsHeld, SourcesBack}
-use Rattle.update_graph.specs.Steps.{IsFound, IsHandedInto, IsHandedOver, IsListing, IsWorked, before, ready}
+use Rattle.steal_workers.proofs.Listing.{listed_cases, listed_first, listed_last, or_cases, true_false}
+use Rattle.update_graph.specs.Steps.{IsDelivered, IsHandedOver, IsHanding, IsListing, IsWorked}
 use Rattle.update_graph.specs.Tags.{Tag}
-use Rattle.update_graph.proofs.Claimed.{source_claimed}
 use Rattle.update_graph.proofs.Handing.{apart, had_marked, out_at, still_untaken, untouched_still}
 use Rattle.update_graph.proofs.Holding.{has_mark, inside, none_some, some_same}
+
+-- what is listed in either of two lists
+pub listed_either : (xs ys : List ℕ) (m : ℕ) → IsListed (xs ++ ys) m → IsListed xs m ⊎ IsListed ys m
+listed_either xs ys m is = or_cases (list_any (eqb m) xs) (list_any (eqb m) ys) (sym (list_any-append (eqb m) xs ys) ∙ is)
 
 -- a list that may have grown by one
 module _ (xs : List ℕ) where
@@ -40,40 +41,6 @@ module _ (xs : List ℕ) where
 
   pub grown_last : (found : Option ℕ) (m : ℕ) → found ≡ Some m → IsListed (xs ++ option_to_list found) m
   grown_last found m is = subst (λ o. IsListed (xs ++ option_to_list o) m) (sym is) (listed_last xs m)
-
--- a node that a delivery made ready, where none was kept
-module _ (plan : Plan Tag) (v w : View Tag) (edge to : ℕ) (found : Option ℕ) (o : IsHandedOver plan v w edge to None found) (m : ℕ) (is : found ≡ Some m) where
-  pub found_to : m ≡ to
-  found_to = go (o.finds m is)
-    where
-      go : IsFound plan v w to None m → m ≡ to
-      go (before none) = absurd (none_some m none)
-      go (ready same none made clean) = same
-
-  pub found_fresh : at v.nodes m ≡ Unmarked
-  found_fresh = go (o.finds m is)
-    where
-      go : IsFound plan v w to None m → at v.nodes m ≡ Unmarked
-      go (before none) = absurd (none_some m none)
-      go (ready same none made clean) = none
-
-  pub found_untaken : at w.nodes m ≡ Untaken
-  found_untaken = go (o.finds m is)
-    where
-      go : IsFound plan v w to None m → at w.nodes m ≡ Untaken
-      go (before none) = absurd (none_some m none)
-      go (ready same none made clean) = made
-
-  pub found_untouched : IsUntouched plan v m
-  found_untouched = go (o.finds m is)
-    where
-      go : IsFound plan v w to None m → IsUntouched plan v m
-      go (before none) = absurd (none_some m none)
-      go (ready same none made clean) = clean
-
-  -- it is not listed yet
-  pub found_unlisted : (xs : List ℕ) → ((n : ℕ) → IsListed xs n → Has v n) → list_any (eqb m) xs ≡ false
-  found_unlisted xs had = unlisted xs m (λ there. had_marked (at v.nodes m) (had m there) found_fresh)
 
 -- the edges of a node are delivered
 module _ (plan : Plan Tag) (u : View Tag) (node : ℕ) where
@@ -108,27 +75,27 @@ module _ (plan : Plan Tag) (u : View Tag) (node : ℕ) where
   }
 
   -- one more edge is delivered
-  module _ (v w : View Tag) (count to : ℕ) (x : Edge) (xs : List ℕ) (found : Option ℕ) (h : IsListing plan u v node count xs) (o : IsHandedOver plan v w count to None found)
+  module _ (v w : View Tag) (count to : ℕ) (x : Edge) (xs : List ℕ) (found : Option ℕ) (h : IsListing plan u v node count xs) (o : IsDelivered plan v w count to found)
       (there : get_elem? plan.edges.items count ≡ some x) (from_is : x.from ≡ node) (to_is : x.to ≡ to) (up : x.from < x.to) (below : x.to < plan.nodes) where
     abbrev ys : List ℕ
     ys = xs ++ option_to_list found
 
     outs_are : (e : ℕ) → at w.outs e ≡ at (put v.outs count Delivered) e
-    outs_are = out_at plan node v w count to x None found o there from_is
+    outs_are = out_at plan node v w count to x found o there from_is
 
     other_outs : (m : ℕ) → m ≢ node → (e : ℕ) (y : Edge) → get_elem? plan.edges.items e ≡ some y → y.from ≡ m → at w.outs e ≡ at v.outs e
-    other_outs = apart plan node v w count to x None found o there from_is
+    other_outs = apart plan node v w count to x found o there from_is
 
     above_more : (m : ℕ) → IsListed xs m ⊎ (found ≡ Some m) → node < m
     above_more m (inl is) = h.above m is
-    above_more m (inr is) = let same = found_to plan v w count to found o m is in omega (arith, same, from_is, to_is, up)
+    above_more m (inr is) = let same = (o.finds m is).same in omega (arith, same, from_is, to_is, up)
 
     fresh_more : (m : ℕ) → IsListed xs m ⊎ (found ≡ Some m) → at u.nodes m ≡ Unmarked
     fresh_more m (inl is) = h.fresh m is
     fresh_more m (inr is) = go (h.came m)
       where
         none : at v.nodes m ≡ Unmarked
-        none = found_fresh plan v w count to found o m is
+        none = (o.finds m is).fresh
 
         go : (at v.nodes m ≡ at u.nodes m) ⊎ IsListed xs m → at u.nodes m ≡ Unmarked
         go (inl same) = sym same ∙ none
@@ -141,16 +108,16 @@ module _ (plan : Plan Tag) (u : View Tag) (node : ℕ) where
         record {
           within = own.within;
           input = own.input;
-          untaken = still_untaken plan node v w count to x None found o there from_is m own.untaken;
-          untouched = untouched_still plan node v w count to x None found o there from_is m (λ c. omega (arith, c, less)) own.untouched;
+          untaken = still_untaken plan node v w count to x found o there from_is m own.untaken;
+          untouched = untouched_still plan node v w count to x found o there from_is m (λ c. omega (arith, c, less)) own.untouched;
         }
     ready_more m (inr is) =
-        let same = found_to plan v w count to found o m is in
+        let same = (o.finds m is).same in
         record {
           within = omega (arith, same, to_is, below);
           input = some_input m count plan.edges.items x there (to_is ∙ sym same);
-          untaken = found_untaken plan v w count to found o m is;
-          untouched = untouched_still plan node v w count to x None found o there from_is m (λ c. omega (arith, c, same, from_is, to_is, up)) (found_untouched plan v w count to found o m is);
+          untaken = (o.finds m is).untaken;
+          untouched = untouched_still plan node v w count to x found o there from_is m (λ c. omega (arith, c, same, from_is, to_is, up)) (o.finds m is).untouched;
         }
 
     came_through : (m : ℕ) → at w.nodes m ≡ at v.nodes m → (at w.nodes m ≡ at u.nodes m) ⊎ IsListed ys m
@@ -182,21 +149,43 @@ module _ (plan : Plan Tag) (u : View Tag) (node : ℕ) where
       ready = λ m is. ready_more m (grown_cases xs found m is);
     }
 
-  pub listing_more : (v w : View Tag) (count to : ℕ) (x : Edge) (xs more : List ℕ) → IsListing plan u v node count xs → IsHandedInto plan v w count to xs more
-      → get_elem? plan.edges.items count ≡ some x → x.from ≡ node → x.to ≡ to → x.from < x.to → x.to < plan.nodes → IsListing plan u w node (count + 1) more
-  listing_more v w count to x xs more h into there from_is to_is up below =
-      subst (IsListing plan u w node (count + 1)) (sym into.listed) (listing_over v w count to x xs into.found h into.over there from_is to_is up below)
-
   -- what is listed is had
   pub listing_had : (v : View Tag) (count : ℕ) (xs : List ℕ) → IsListing plan u v node count xs → (m : ℕ) → IsListed xs m → Has v m
   listing_had v count xs h m is = has_mark (at v.nodes m) Untaken (h.ready m is).untaken tt
+
+  -- and the nodes that this makes ready are added to a list
+  module _ (xs : List ℕ) where
+    pub handing_none : IsHanding plan u u node 0 xs xs
+    handing_none = record { found = []; listing = listing_none; listed = sym (append-nil xs) }
+
+    pub handing_skip : (v : View Tag) (count : ℕ) (x : Edge) (zs : List ℕ) → IsHanding plan u v node count xs zs → get_elem? plan.edges.items count ≡ some x → x.from ≢ node → IsHanding plan u v node (count + 1) xs zs
+    handing_skip v count x zs h there other_from = record { found = h.found; listing = listing_skip v count x h.found h.listing there other_from; listed = h.listed }
+
+    pub handing_more : (v w : View Tag) (count to : ℕ) (x : Edge) (zs more : List ℕ) → IsHanding plan u v node count xs zs → IsHandedOver plan v w count to zs more
+        → get_elem? plan.edges.items count ≡ some x → x.from ≡ node → x.to ≡ to → x.from < x.to → x.to < plan.nodes → IsHanding plan u w node (count + 1) xs more
+    handing_more v w count to x zs more h over there from_is to_is up below = record {
+      found = h.found ++ option_to_list over.found;
+      listing = listing_over v w count to x h.found over.found h.listing over.delivered there from_is to_is up below;
+      listed = over.listed ∙ ap (λ l. l ++ option_to_list over.found) h.listed ∙ append_assoc xs h.found (option_to_list over.found);
+    }
+
+    pub handing_had : (v : View Tag) (count : ℕ) (zs : List ℕ) → IsHanding plan u v node count xs zs → ((m : ℕ) → IsListed xs m → Has u m) → (m : ℕ) → IsListed zs m → Has v m
+    handing_had v count zs h had m is = go (listed_either xs h.found m (subst (λ l. IsListed l m) h.listed is))
+      where
+        go : IsListed xs m ⊎ IsListed h.found m → Has v m
+        go (inl there) = has_mark (at v.nodes m) (at u.nodes m) (h.listing.stays m (had m there)) (had m there)
+        go (inr own) = listing_had v count h.found h.listing m own
+
+    -- from the empty list on
+    pub handing_all : (v : View Tag) (count : ℕ) (zs : List ℕ) → IsHanding plan u v node count xs zs → xs ≡ [] → IsListing plan u v node count zs
+    handing_all v count zs h empty = subst (IsListing plan u v node count) (sym (h.listed ∙ ap (λ l. l ++ h.found) empty)) h.listing
 
 -- a node whose work is put back and whose edges are delivered
 module _ (plan : Plan Tag) (node : ℕ) (u c d : View Tag) (found : List ℕ) (own : IsReady plan u node) (w : IsWorked plan u c node) (l : IsListing plan c d node (length plan.edges.items) found) where
   pub listed_parts : d.parts ≡ u.parts
   listed_parts = l.parts ∙ w.parts
 
-  pub listed_settled : IsDone plan d node
+  pub listed_settled : IsSettled plan d node
   listed_settled = record {
     back = l.stays node (has_mark (at c.nodes node) PutBack w.back tt) ∙ w.back;
     delivered = λ e x there from. l.delivered e x there (inside plan.edges.items e x there) from;
@@ -221,49 +210,3 @@ module _ (plan : Plan Tag) (node : ℕ) (u c d : View Tag) (found : List ℕ) (o
       known : (m : ℕ) → Has d m → (at d.nodes m ≡ at c.nodes m) ⊎ IsListed found m → Has u m ⊎ IsListed found m
       known m has (inl same) = inl (had_before m (subst IsHadMark same has))
       known m has (inr is) = inr is
-
--- the first seat before the crew begins
-module _ (run : Run) (plan : Plan Tag) where
-  pub none_listed : (u : View Tag) → IsHeld run plan u None → IsHeldBy plan u (IsListed [])
-  none_listed u held = record {
-    settled = λ m below has. let own = held.settled m below has (none_some m) in inr (record { back = own.back; delivered = own.delivered });
-    ready = λ m is. absurd (true_false (sym is));
-  }
-
-  pub inputless_back : (u v : View Tag) → IsClaimed run plan → SourcesBack run plan u → IsGoneOn u v → InputlessBack plan v
-  inputless_back u v claimed sources on m below none = on.back m (sources m below (source_claimed run plan claimed m below none))
-
--- a node on offer is listed
-module _ (plan : Plan Tag) (u v : View Tag) (n : ℕ) (xs ys : List ℕ) (found : Bool) (held : IsHeldBy plan u (IsListed xs)) (eq : v ≡ gets found n u) (taken_is : found ≡ true) (fresh : at u.nodes n ≡ Unmarked) where
-  pub accepted_unlisted : list_any (eqb n) xs ≡ false
-  accepted_unlisted = unlisted xs n (λ is. had_marked (at u.nodes n) (has_mark (at u.nodes n) Untaken (held.ready n is).untaken tt) fresh)
-
-  abbrev now_had : View Tag
-  now_had = mark_node u n Untaken
-
-  pub accepted_listed : IsUntouched plan u n → n < plan.nodes → 0 < inputs n plan.edges.items → ys ≡ xs ++ n ∷ [] → IsHeldBy plan v (IsListed ys)
-  accepted_listed clean within input same =
-      subst (λ l. IsHeldBy plan v (IsListed l)) (sym same) (subst (λ z. IsHeldBy plan z (IsListed (xs ++ n ∷ []))) (sym (eq ∙ ap (λ b. gets b n u) taken_is)) record {
-        settled = λ m below has. dite (ℕ_discrete m n)
-            (λ e. inl (subst (IsListed (xs ++ n ∷ [])) (sym e) (listed_last xs n)))
-            (λ ne. let stays = at_put_else u.nodes n m Untaken ne in settle m stays (held.settled m below (subst IsHadMark stays has)));
-        ready = λ m is. ready_in m (listed_cases xs n m is);
-      })
-    where
-      settle : (m : ℕ) → at (put u.nodes n Untaken) m ≡ at u.nodes m → IsListed xs m ⊎ IsDone plan u m → IsListed (xs ++ n ∷ []) m ⊎ IsDone plan now_had m
-      settle m stays (inl is) = inl (listed_first xs (n ∷ []) m is)
-      settle m stays (inr own) = inr (record { back = stays ∙ own.back; delivered = own.delivered })
-
-      ready_in : (m : ℕ) → IsListed xs m ⊎ (m ≡ n) → IsReady plan now_had m
-      ready_in m (inl is) =
-          let own = held.ready m is in
-          let ne : m ≢ n = λ e. had_marked (at u.nodes m) (has_mark (at u.nodes m) Untaken own.untaken tt) (ap (λ k. at u.nodes k) e ∙ fresh) in
-          record { within = own.within; input = own.input; untaken = at_put_else u.nodes n m Untaken ne ∙ own.untaken; untouched = own.untouched }
-      ready_in m (inr e) = subst (IsReady plan now_had) (sym e) (record { within = within; input = input; untaken = at_put u.nodes n Untaken; untouched = clean })
-
-  pub accepted_goes_on : IsGoneOn u v
-  accepted_goes_on =
-      subst (IsGoneOn u) (sym (eq ∙ ap (λ b. gets b n u) taken_is)) record {
-        parts = refl;
-        back = λ m is. at_put_else u.nodes n m Untaken (λ e. had_marked (at u.nodes m) (has_mark (at u.nodes m) PutBack is tt) (ap (λ k. at u.nodes k) e ∙ fresh)) ∙ is;
-      }

@@ -2,11 +2,11 @@
 --     IsTaking edges old new node count      of the first so many edges those that go to the node have their shares taken
 --     IsBegun plan old new node      the node's shares are taken, and its work
 --     IsWorked plan old new node      and its work is put back
---     IsHandedOver plan old new edge to kept found      an edge is delivered; a node that this made ready is kept if no other was
---     IsHanding plan old new node count kept      of the first so many edges those from the node are delivered
---     IsHandedInto plan old new edge to xs ys      an edge is delivered; a node that this made ready is added to the list
---     IsListing plan old new node count found      of the first so many edges those from the node are delivered, and the nodes that this made ready are listed
-use Rattle.std.specs.Prelude.{◌≡◌, ◌≢◌, ◌⊎◌, ℕ, ◌<◌, ◌≤◌, List, ◌++◌, Option, None, Some, option_to_list}
+--     IsDelivered plan old new edge to found      an edge is delivered, and this made the node ready or none
+--     IsHandedOver plan old new edge to xs ys      and it is added to the list
+--     IsListing plan old new node count found      of the first so many edges those from the node are delivered, and this made these nodes ready
+--     IsHanding plan old new node count xs ys      and they are added to the list
+use Rattle.std.specs.Prelude.{◌≡◌, ◌≢◌, ◌⊎◌, ℕ, ◌<◌, ◌≤◌, List, ◌++◌, Option, Some, option_to_list}
 use mathlib.Core.Option.{some}
 use lib.ListN.{get_elem?}
 use Rattle.graph_words.specs.declared.graph.Edge.{Edge}
@@ -18,7 +18,6 @@ use Rattle.graph_words.specs.Seats.{Has}
 use Rattle.graph_words.specs.Views.{IsUntouched}
 use Rattle.steal_workers.specs.Holdings.{IsReady}
 use Rattle.steal_workers.specs.Lists.{IsListed}
-use Rattle.update_graph.specs.Holdings.{IsNew, IsWhole}
 use Rattle.update_graph.specs.Tags.{Tag}
 
 pub record IsTaking (edges : List Edge) (old new : View Tag) (node count : ℕ) : Type 0 where
@@ -41,36 +40,24 @@ pub record IsWorked (plan : Plan Tag) (old new : View Tag) (node : ℕ) : Type 0
   pub outs : new.outs ≡ old.outs
   pub ins : (e : ℕ) (x : Edge) → get_elem? plan.edges.items e ≡ some x → x.to ≢ node → at new.ins e ≡ at old.ins e
 
--- a node that was kept before, or that the delivery made ready
-pub data IsFound (plan : Plan Tag) (old new : View Tag) (to : ℕ) (kept : Option ℕ) (node : ℕ) : Type 0 where
-  before : kept ≡ Some node → IsFound plan old new to kept node
-  ready : node ≡ to → at old.nodes node ≡ Unmarked → at new.nodes node ≡ Untaken → IsUntouched plan old node → IsFound plan old new to kept node
+-- a node that the delivery made ready
+pub record IsFound (plan : Plan Tag) (old new : View Tag) (to node : ℕ) : Type 0 where
+  pub same : node ≡ to
+  pub fresh : at old.nodes node ≡ Unmarked
+  pub untaken : at new.nodes node ≡ Untaken
+  pub untouched : IsUntouched plan old node
 
-pub record IsHandedOver (plan : Plan Tag) (old new : View Tag) (edge to : ℕ) (kept found : Option ℕ) : Type 0 where
+pub record IsDelivered (plan : Plan Tag) (old new : View Tag) (edge to : ℕ) (found : Option ℕ) : Type 0 where
   pub outs : new.outs ≡ put old.outs edge Delivered
   pub ins : new.ins ≡ old.ins
   pub parts : new.parts ≡ old.parts
   pub stays : (m : ℕ) → Has old m → at new.nodes m ≡ at old.nodes m
   pub came : (m : ℕ) → found ≢ Some m → at new.nodes m ≡ at old.nodes m
-  pub keeps : (m : ℕ) → kept ≡ Some m → found ≡ Some m
-  pub finds : (m : ℕ) → found ≡ Some m → IsFound plan old new to kept m
+  pub finds : (m : ℕ) → found ≡ Some m → IsFound plan old new to m
 
-pub record IsHanding (plan : Plan Tag) (old new : View Tag) (node count : ℕ) (kept : Option ℕ) : Type 0 where
-  pub ins : new.ins ≡ old.ins
-  pub parts : new.parts ≡ old.parts
-  pub delivered : (e : ℕ) (x : Edge) → get_elem? plan.edges.items e ≡ some x → e < count → x.from ≡ node → at new.outs e ≡ Delivered
-  pub later : (e : ℕ) → count ≤ e → at new.outs e ≡ at old.outs e
-  pub others : (e : ℕ) (x : Edge) → get_elem? plan.edges.items e ≡ some x → x.from ≢ node → at new.outs e ≡ at old.outs e
-  pub whole : (e : ℕ) → IsWhole (at old.outs e) → IsWhole (at new.outs e)
-  pub stays : (m : ℕ) → Has old m → at new.nodes m ≡ at old.nodes m
-  pub came : (m : ℕ) → Has new m → kept ≢ Some m → at new.nodes m ≡ at old.nodes m
-  pub within : (m : ℕ) → kept ≡ Some m → (node < m) × (m < plan.nodes)
-  pub new_is : (m : ℕ) → kept ≡ Some m → IsNew plan new m
-  pub input : (m : ℕ) → kept ≡ Some m → (e : ℕ) × (x : Edge) × (get_elem? plan.edges.items e ≡ some x) × (x.to ≡ m)
-
-pub record IsHandedInto (plan : Plan Tag) (old new : View Tag) (edge to : ℕ) (xs ys : List ℕ) : Type 0 where
+pub record IsHandedOver (plan : Plan Tag) (old new : View Tag) (edge to : ℕ) (xs ys : List ℕ) : Type 0 where
   pub found : Option ℕ
-  pub over : IsHandedOver plan old new edge to None found
+  pub delivered : IsDelivered plan old new edge to found
   pub listed : ys ≡ xs ++ option_to_list found
 
 pub record IsListing (plan : Plan Tag) (old new : View Tag) (node count : ℕ) (found : List ℕ) : Type 0 where
@@ -84,3 +71,8 @@ pub record IsListing (plan : Plan Tag) (old new : View Tag) (node count : ℕ) (
   pub above : (m : ℕ) → IsListed found m → node < m
   pub fresh : (m : ℕ) → IsListed found m → at old.nodes m ≡ Unmarked
   pub ready : (m : ℕ) → IsListed found m → IsReady plan new m
+
+pub record IsHanding (plan : Plan Tag) (old new : View Tag) (node count : ℕ) (xs ys : List ℕ) : Type 0 where
+  pub found : List ℕ
+  pub listing : IsListing plan old new node count found
+  pub listed : ys ≡ xs ++ found

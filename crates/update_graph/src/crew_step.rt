@@ -1,15 +1,15 @@
 //! A step of all nodes, worked by a crew: claims are made on them, the first seat hands on the sources' tables, and the hands of
 //! the crew work the rest.
 
-ghost use Rattle.std.specs.Prelude.{◌≡◌, ◌+◌, ◌-◌, ◌<◌, ◌≤◌, IfOk, None, length};
+ghost use Rattle.std.specs.Prelude.{◌≡◌, ◌+◌, ◌-◌, ◌<◌, ◌≤◌, IfOk, length};
 ghost use Rattle.graph_words.specs.Seats.{IsSeatOf};
 ghost use Rattle.graph_words.specs.Views.{first_view};
-ghost use Rattle.steal_workers.specs.Holdings.{IsHeld as IsHeldBy, SourcesBack};
+ghost use Rattle.steal_workers.specs.Holdings.{AllBack, IsHeld, SourcesBack};
 ghost use Rattle.steal_workers.specs.Lists.{IsListed};
 ghost use Rattle.update_graph.specs.Edges.{edges_of};
 ghost use Rattle.update_graph.specs.Entered.{IsEntered};
 ghost use Rattle.update_graph.specs.Graphs.{AreSources};
-ghost use Rattle.update_graph.specs.Holdings.{AllBack, IsClaimed, IsGoneOn, IsHeld};
+ghost use Rattle.update_graph.specs.Holdings.{IsClaimed};
 ghost use Rattle.update_graph.specs.Tags.{tags};
 
 use crate::edges::copied_edges;
@@ -23,7 +23,6 @@ use std::thread::Threads;
 use steal_workers::{Crew, Ready};
 use tick_io::Gate;
 use tick_model::feed::Run;
-use tick_model::sources::is_source;
 use tick_table::Shared;
 
 /// The claims on all nodes for a step, and the first seat.
@@ -65,41 +64,6 @@ fn end_step(run: &Run, claims: StepClaims, seat: StepSeat) -> Result<Vec<Work>, 
     Ok(works)
 }
 
-/// Adds a node with an operator to the list where it is on offer. The seat has it then.
-fn accept_into(run: &Run, claims: &StepClaims, seat: &mut StepSeat, node: u32, ready: &mut Ready)
-    requires claimed { IsClaimed run.now claims.now.plan }
-    requires of { IsSeatOf claims.now seat.old }
-    requires node { node < claims.now.plan.nodes }
-    requires held { IsHeldBy claims.now.plan seat.old.view (IsListed ready.old.nodes.items) }
-    ensures of { IsSeatOf claims.now seat.new }
-    ensures held { IsHeldBy claims.now.plan seat.new.view (IsListed ready.new.nodes.items) }
-    ensures on { IsGoneOn seat.old.view seat.new.view }
-{
-    let nodes = run.plan.nodes.as_slice();
-    if is_source(&nodes[node as usize]) {
-        return;
-    }
-    if claims.accept(seat, node) {
-        ready.add(node);
-    }
-}
-
-/// The nodes on offer, all of which the seat then has.
-fn accept_all(run: &Run, claims: &StepClaims, seat: &mut StepSeat) -> Ready
-    requires claimed { IsClaimed run.now claims.now.plan }
-    requires of { IsSeatOf claims.now seat.old }
-    requires held { IsHeld run.now claims.now.plan seat.old.view None }
-    ensures of { IsSeatOf claims.now seat.new }
-    ensures held { IsHeldBy claims.now.plan seat.new.view (IsListed result.nodes.items) }
-    ensures on { IsGoneOn seat.old.view seat.new.view }
-{
-    let mut ready = Ready::new();
-    for node in 0..claims.nodes() {
-        accept_into(run, claims, seat, node, &mut ready);
-    }
-    ready
-}
-
 /// Works the nodes with operators by the hands of a crew, from those on the list.
 fn work_by<R: Threads + Sync, U: HasRun, G: Gate>(
     rt: &R,
@@ -118,7 +82,7 @@ fn work_by<R: Threads + Sync, U: HasRun, G: Gate>(
     requires of { IsSeatOf claims.now seat }
     requires edges { edges.now ≡ claims.now.plan.edges.items }
     requires alone { seat.view.parts ≡ 1024 }
-    requires held { IsHeldBy claims.now.plan seat.view (IsListed ready.nodes.items) }
+    requires held { IsHeld claims.now.plan seat.view (IsListed ready.nodes.items) }
     requires sources { SourcesBack claims.now.plan seat.view }
     ensures size { crew.new.size ≡ crew.old.size }
     ensures of { IfOk result (λ worked. IsSeatOf claims.now worked) }
@@ -152,8 +116,7 @@ fn work_claimed<R: Threads + Sync, G: Gate>(
     ensures all { IfOk result (λ worked. AllBack claims.now.plan worked.view) }
 {
     let mut seat = seat;
-    open_sources(run, step, claims, &mut seat, edges, sources)?;
-    let ready = accept_all(run, claims, &mut seat);
+    let ready = open_sources(run, step, claims, &mut seat, edges, sources)?;
     run_is_shared();
     work_by(rt, alloc, run, step, claims, seat, ready, edges, crew, gate)
 }

@@ -1,6 +1,6 @@
 //! What a crew's hand does to a node of a step.
 
-ghost use Rattle.std.specs.Prelude.{◌≡◌, ◌+◌, ◌<◌, ◌≤◌, ◌^◌, [], ℕ, IfOk, OnOk, length, map, true};
+ghost use Rattle.std.specs.Prelude.{◌≡◌, ◌+◌, ◌<◌, ◌≤◌, ◌^◌, ℕ, IfOk, OnOk, length, map, true};
 ghost use Rattle.std.specs.Thread.{IsSync};
 ghost use mathlib.Core.Option.{some};
 ghost use lib.ListN.{get_elem?};
@@ -14,12 +14,12 @@ ghost use Rattle.tick_model.specs.declared.feed.Run.{Run};
 ghost use Rattle.tick_model.specs.Evaluation.{inputs_of};
 ghost use Rattle.update_graph.specs.Edges.{edges_of};
 ghost use Rattle.update_graph.specs.Entered.{IsEntered};
-ghost use Rattle.update_graph.specs.Steps.{IsHandedInto, IsListing};
+ghost use Rattle.update_graph.specs.Steps.{IsHandedOver, IsHanding};
 ghost use Rattle.update_graph.specs.Tags.{is_operator, op_at, tag};
 
 use crate::shares::Share;
 use crate::work::Work;
-use crate::worker::{StepClaims, StepSeat, begin_node, hand_over, settle_node};
+use crate::worker::{StepClaims, StepSeat, begin_node, settle_node};
 use graph_words::Edge;
 use std::alloc::{AllocError, Global};
 use std::marker::{Brand, Model};
@@ -59,7 +59,7 @@ impl HasRun for Run {
 }
 
 /// Delivers a share along an edge. A node that this makes ready is added to the list.
-fn hand_into(
+fn hand_over(
     claims: &StepClaims,
     seat: &mut StepSeat,
     edge: u32,
@@ -76,16 +76,15 @@ fn hand_into(
     requires below { to < 256 }
     requires listed { (m : ℕ) → IsListed ready.old.nodes.items m → Has seat.old.view m }
     ensures of { IsSeatOf claims.now seat.new }
-    ensures into { IsHandedInto claims.now.plan seat.old.view seat.new.view edge to ready.old.nodes.items ready.new.nodes.items }
+    ensures over { IsHandedOver claims.now.plan seat.old.view seat.new.view edge to ready.old.nodes.items ready.new.nodes.items }
 {
-    match hand_over(claims, seat, edge, to, share, None) {
-        Some(found) => ready.add(found),
-        None => {}
+    if claims.deliver(seat, edge, share) {
+        ready.add(to);
     }
 }
 
 /// Delivers what a node hands on along each of its edges. All nodes that this makes ready are added to the list.
-fn hand_all(
+pub(crate) fn hand_all(
     claims: &StepClaims,
     seat: &mut StepSeat,
     run: &Run,
@@ -103,15 +102,15 @@ fn hand_all(
     requires untouched { (e : ℕ) (x : Edge) → get_elem? edges.now e ≡ some x → x.from ≡ node → at seat.old.view.outs e ≡ Unmarked }
     requires run { run.now ≡ claims.now.plan.first.value.run }
     requires share { share.now ≡ tag run.now (claims.now.plan.first.value.step + 1) node }
-    requires empty { ready.old.nodes.items ≡ [] }
+    requires listed { (m : ℕ) → IsListed ready.old.nodes.items m → Has seat.old.view m }
     ensures parts { seat.new.view.parts ≡ seat.old.view.parts }
     ensures of { OnOk result (IsSeatOf claims.now seat.new) }
-    ensures handed { OnOk result (IsListing claims.now.plan seat.old.view seat.new.view node (length edges.now) ready.new.nodes.items) }
+    ensures handed { OnOk result (IsHanding claims.now.plan seat.old.view seat.new.view node (length edges.now) ready.old.nodes.items ready.new.nodes.items) }
 {
     for (number, edge) in edges.iter().enumerate() {
         if edge.from == node {
             let copy = share.copy(run)?;
-            hand_into(claims, seat, number as u32, edge.to, copy, ready);
+            hand_over(claims, seat, number as u32, edge.to, copy, ready);
         }
     }
     Ok(())

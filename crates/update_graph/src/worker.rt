@@ -4,14 +4,14 @@ ghost use Rattle.std.specs.Prelude.{◌≡◌, ◌+◌, ◌<◌, ◌^◌, ℕ, I
 ghost use mathlib.Core.Option.{some};
 ghost use lib.ListN.{get_elem?};
 ghost use Rattle.graph_words.specs.declared.graph.Edge.{Edge};
-ghost use Rattle.graph_words.specs.declared.table.Mark.TheVariants.{Unmarked, Untaken, Taken, PutBack};
+ghost use Rattle.graph_words.specs.declared.table.Mark.TheVariants.{Unmarked, Taken, PutBack};
 ghost use Rattle.graph_words.specs.Marks.{at};
-ghost use Rattle.graph_words.specs.Seats.{AtEdge, Has, IsSeatOf};
+ghost use Rattle.graph_words.specs.Seats.{Has, IsSeatOf};
 ghost use Rattle.graph_words.specs.Views.{mark_node};
 ghost use Rattle.tick_model.specs.Evaluation.{inputs_of};
 ghost use Rattle.update_graph.specs.Edges.{froms_to};
 ghost use Rattle.update_graph.specs.Holdings.{IsForStep, IsNew};
-ghost use Rattle.update_graph.specs.Steps.{IsBegun, IsHanding, IsHandedOver, IsTaking};
+ghost use Rattle.update_graph.specs.Steps.{IsBegun, IsTaking};
 ghost use Rattle.update_graph.specs.Tags.{op_at, tag};
 
 use crate::shares::Share;
@@ -53,68 +53,6 @@ fn take_shares(
         }
     }
     Ok(shares)
-}
-
-/// Delivers a share along an edge. A node that this makes ready is kept where no other is, and else put on offer.
-pub(crate) fn hand_over(
-    claims: &StepClaims,
-    seat: &mut StepSeat,
-    edge: u32,
-    to: u32,
-    share: Share,
-    kept: Option<u32>,
-) -> Option<u32>
-    requires of { IsSeatOf claims.now seat.old }
-    requires edge { edge < length claims.now.plan.edges.items }
-    requires to { AtEdge claims.now.plan edge (λ x. (x.to ≡ to) × (x.from < x.to) × (x.to < claims.now.plan.nodes)) }
-    requires from { AtEdge claims.now.plan edge (λ x. Has seat.old.view x.from) }
-    requires fresh { at seat.old.view.outs edge ≡ Unmarked }
-    requires share { AtEdge claims.now.plan edge (λ x. share ≡ tag claims.now.plan.first.value.run (claims.now.plan.first.value.step + 1) x.from) }
-    ensures of { IsSeatOf claims.now seat.new }
-    ensures over { IsHandedOver claims.now.plan seat.old.view seat.new.view edge to kept result }
-{
-    if claims.deliver(seat, edge, share) {
-        match kept {
-            Some(least) => {
-                claims.offer(seat, to);
-                Some(least)
-            }
-            None => Some(to),
-        }
-    } else {
-        kept
-    }
-}
-
-/// Delivers what a node hands on along each of its edges. Of the nodes that this makes ready the least is kept, and the
-/// others are put on offer.
-pub(crate) fn hand_on(
-    claims: &StepClaims,
-    seat: &mut StepSeat,
-    run: &Run,
-    edges: &[Edge],
-    node: u32,
-    share: &Share,
-) -> Result<Option<u32>, AllocError>
-    requires of { IsSeatOf claims.now seat.old }
-    requires edges { edges.now ≡ claims.now.plan.edges.items }
-    requires few { length edges.now < 2 ^ 32 }
-    requires ends { (e : ℕ) (x : Edge) → get_elem? edges.now e ≡ some x → (x.from < x.to) × (x.to < claims.now.plan.nodes) }
-    requires has { Has seat.old.view node }
-    requires untouched { (e : ℕ) (x : Edge) → get_elem? edges.now e ≡ some x → x.from ≡ node → at seat.old.view.outs e ≡ Unmarked }
-    requires run { run.now ≡ claims.now.plan.first.value.run }
-    requires share { share.now ≡ tag run.now (claims.now.plan.first.value.step + 1) node }
-    ensures of { OnOk result (IsSeatOf claims.now seat.new) }
-    ensures handed { IfOk result (IsHanding claims.now.plan seat.old.view seat.new.view node (length edges.now)) }
-{
-    let mut kept = None;
-    for (number, edge) in edges.iter().enumerate() {
-        if edge.from == node {
-            let copy = share.copy(run)?;
-            kept = hand_over(claims, seat, number as u32, edge.to, copy, kept);
-        }
-    }
-    Ok(kept)
 }
 
 /// Takes the work of a node that the seat has, and what its inputs hand to it.

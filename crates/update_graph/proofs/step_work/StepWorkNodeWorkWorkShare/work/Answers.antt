@@ -7,7 +7,9 @@ use Rattle.update_graph.specs.Crews.{StepView}
 use Rattle.update_graph.specs.Steps.{IsListing, IsWorked}
 use Rattle.update_graph.specs.Tags.{Tag}
 use Rattle.update_graph.proofs.Claimed.{few_of_step, operator_of_step, small_of_step, step_of_view, within_of_step, work_operator, work_within}
-use Rattle.update_graph.proofs.CrewNodes.{listed_came, listed_others, listed_settled}
+use Rattle.steal_workers.specs.Lists.{IsListed}
+use Rattle.steal_workers.proofs.Listing.{true_false}
+use Rattle.update_graph.proofs.CrewNodes.{handing_all, listed_came, listed_others, listed_settled}
 use Rattle.update_graph.proofs.Handing.{begun_taken, worked_is}
 use Rattle.update_graph.proofs.Holding.{has_mark}
 use Rattle.update_graph.proofs.WorkSent.{sent}
@@ -65,12 +67,15 @@ hand_all-requires-clause-has g c =
     let worked = worked_is plan c.look.new.seat.view c.begin_node.new.seat.view c.settle_node.new.seat.view c.args.node c.in_ok-work.ensures.begun c.in_ok-share.ensures.view in
     has_mark (at c.settle_node.new.seat.view.nodes c.args.node) PutBack worked.back tt
 
+pub hand_all-requires-clause-listed : goal.hand_all-requires-clause-listed
+hand_all-requires-clause-listed g c m there = absurd (true_false (sym (subst (λ l. IsListed l m) c.requires.empty there)))
+
 pub returns-clause-settled : goal.returns-clause-settled
 returns-clause-settled g c =
     let plan = c.args.claims.now.plan in
     let edges = c.requires.meant.edges ∙ sym (ap (λ (v : StepView). v.edges) c.self.view_is) in
     let worked = subst (λ (s : SeatModel Tag). IsWorked plan s.view c.settle_node.new.seat.view c.args.node) c.look.ensures.same (worked_is plan c.look.new.seat.view c.begin_node.new.seat.view c.settle_node.new.seat.view c.args.node c.in_ok-work.ensures.begun c.in_ok-share.ensures.view) in
-    let listing = subst (λ l. IsListing plan c.settle_node.new.seat.view c.hand_all.new.seat.view c.args.node (length l) c.hand_all.new.ready.nodes.items) (sym edges) c.in_ok-hand_all.ensures.handed in
+    let listing = subst (λ l. IsListing plan c.settle_node.new.seat.view c.hand_all.new.seat.view c.args.node (length l) c.hand_all.new.ready.nodes.items) (sym edges) (handing_all plan c.settle_node.new.seat.view c.args.node c.args.ready.now.nodes.items c.hand_all.new.seat.view (length c.self.inside.edges.now) c.hand_all.new.ready.nodes.items c.in_ok-hand_all.ensures.handed c.requires.empty) in
     listed_settled plan c.args.node c.args.seat.now.view c.settle_node.new.seat.view c.hand_all.new.seat.view c.hand_all.new.ready.nodes.items c.requires.node worked listing
 
 pub returns-clause-came : goal.returns-clause-came
@@ -78,7 +83,7 @@ returns-clause-came g c =
     let plan = c.args.claims.now.plan in
     let edges = c.requires.meant.edges ∙ sym (ap (λ (v : StepView). v.edges) c.self.view_is) in
     let worked = subst (λ (s : SeatModel Tag). IsWorked plan s.view c.settle_node.new.seat.view c.args.node) c.look.ensures.same (worked_is plan c.look.new.seat.view c.begin_node.new.seat.view c.settle_node.new.seat.view c.args.node c.in_ok-work.ensures.begun c.in_ok-share.ensures.view) in
-    let listing = subst (λ l. IsListing plan c.settle_node.new.seat.view c.hand_all.new.seat.view c.args.node (length l) c.hand_all.new.ready.nodes.items) (sym edges) c.in_ok-hand_all.ensures.handed in
+    let listing = subst (λ l. IsListing plan c.settle_node.new.seat.view c.hand_all.new.seat.view c.args.node (length l) c.hand_all.new.ready.nodes.items) (sym edges) (handing_all plan c.settle_node.new.seat.view c.args.node c.args.ready.now.nodes.items c.hand_all.new.seat.view (length c.self.inside.edges.now) c.hand_all.new.ready.nodes.items c.in_ok-hand_all.ensures.handed c.requires.empty) in
     listed_came plan c.args.node c.args.seat.now.view c.settle_node.new.seat.view c.hand_all.new.seat.view c.hand_all.new.ready.nodes.items c.requires.node worked listing
 
 pub returns-clause-others : goal.returns-clause-others
@@ -86,7 +91,7 @@ returns-clause-others g c =
     let plan = c.args.claims.now.plan in
     let edges = c.requires.meant.edges ∙ sym (ap (λ (v : StepView). v.edges) c.self.view_is) in
     let worked = subst (λ (s : SeatModel Tag). IsWorked plan s.view c.settle_node.new.seat.view c.args.node) c.look.ensures.same (worked_is plan c.look.new.seat.view c.begin_node.new.seat.view c.settle_node.new.seat.view c.args.node c.in_ok-work.ensures.begun c.in_ok-share.ensures.view) in
-    let listing = subst (λ l. IsListing plan c.settle_node.new.seat.view c.hand_all.new.seat.view c.args.node (length l) c.hand_all.new.ready.nodes.items) (sym edges) c.in_ok-hand_all.ensures.handed in
+    let listing = subst (λ l. IsListing plan c.settle_node.new.seat.view c.hand_all.new.seat.view c.args.node (length l) c.hand_all.new.ready.nodes.items) (sym edges) (handing_all plan c.settle_node.new.seat.view c.args.node c.args.ready.now.nodes.items c.hand_all.new.seat.view (length c.self.inside.edges.now) c.hand_all.new.ready.nodes.items c.in_ok-hand_all.ensures.handed c.requires.empty) in
     listed_others plan c.args.node c.args.seat.now.view c.settle_node.new.seat.view c.hand_all.new.seat.view c.hand_all.new.ready.nodes.items c.requires.node worked listing
 
 pub look-requires-send-W : goal.look-requires-send-W

@@ -1,0 +1,70 @@
+use Rattle.std.proofs.Common.{◌≡◌, sym, ap, subst, get_or, Some, None, append-nil, ℕ, Bool}
+use Rattle.graph_words.specs.declared.graph.Edge.{Edge}
+use Rattle.graph_words.specs.declared.graph.Plan.{Plan}
+use Rattle.graph_words.specs.declared.table.Mark.TheVariants.{Delivered, Unmarked}
+use Rattle.graph_words.specs.declared.table.View.{View}
+use Rattle.graph_words.specs.Marks.{at}
+use Rattle.graph_words.specs.Views.{IsUntouched, gets, mark_out}
+use Rattle.steal_workers.proofs.Listing.{unlisted}
+use Rattle.update_graph.specs.Tags.{Tag}
+use Rattle.update_graph.proofs.Handing.{delivered_last, delivered_only, had_marked}
+use Rattle.update_graph.proofs.PlanEdges.{edge_there}
+use Rattle.update_graph.proofs.WorkSent.{sent}
+use Rattle.update_graph.proofs.step_work.hand_over.Goals as goal
+
+abbrev none_edge : Edge
+none_edge = record { from = 0; to = 0; port = 0 }
+
+-- the view after the delivery, where the edge goes to this node
+view_to : (u v : View Tag) (edge far to : ℕ) (made : Bool) → far ≡ to → v ≡ gets made far (mark_out u edge Delivered) → v ≡ gets made to (mark_out u edge Delivered)
+view_to u v edge far to made is eq = subst (λ m. v ≡ gets made m (mark_out u edge Delivered)) is eq
+
+fresh_to : (u : View Tag) (far to : ℕ) → far ≡ to → at u.nodes far ≡ Unmarked → at u.nodes to ≡ Unmarked
+fresh_to u far to is none = subst (λ m. at u.nodes m ≡ Unmarked) is none
+
+clean_to : (plan : Plan Tag) (u : View Tag) (far to : ℕ) → far ≡ to → IsUntouched plan u far → IsUntouched plan u to
+clean_to plan u far to is clean = subst (λ m. IsUntouched plan u m) is clean
+
+pub add-requires-clause-fresh : goal.add-requires-clause-fresh
+add-requires-clause-fresh c =
+    let plan = c.args.claims.now.plan in
+    let u = c.args.seat.now.view in
+    let x = get_or plan.edges.items c.args.edge none_edge in
+    let here = edge_there plan.edges.items c.args.edge none_edge c.requires.edge in
+    let goes = (c.requires.to x here).0 in
+    let fresh = fresh_to u x.to c.args.to goes (c.deliver.ensures.fresh x here).0 in
+    unlisted c.args.ready.now.nodes.items c.args.to (λ there. had_marked (at u.nodes c.args.to) (c.requires.listed c.args.to there) fresh)
+
+pub returns-then-deliver-clause-over : goal.returns-then-deliver-clause-over
+returns-then-deliver-clause-over c =
+    let plan = c.args.claims.now.plan in
+    let u = c.args.seat.now.view in
+    let v = c.deliver.new.seat.view in
+    let x = get_or plan.edges.items c.args.edge none_edge in
+    let here = edge_there plan.edges.items c.args.edge none_edge c.requires.edge in
+    let goes = (c.requires.to x here).0 in
+    let fresh = c.deliver.ensures.fresh x here in
+    record {
+      found = Some c.args.to;
+      delivered =
+          delivered_last plan u v c.args.edge c.args.to c.deliver.result (view_to u v c.args.edge x.to c.args.to c.deliver.result goes (c.deliver.ensures.view x here)) c.if-deliver.true
+          (fresh_to u x.to c.args.to goes fresh.0) (clean_to plan u x.to c.args.to goes fresh.1);
+      listed = c.add.ensures;
+    }
+
+pub returns-else-deliver-clause-over : goal.returns-else-deliver-clause-over
+returns-else-deliver-clause-over c =
+    let plan = c.args.claims.now.plan in
+    let u = c.args.seat.now.view in
+    let v = c.deliver.new.seat.view in
+    let x = get_or plan.edges.items c.args.edge none_edge in
+    let here = edge_there plan.edges.items c.args.edge none_edge c.requires.edge in
+    let goes = (c.requires.to x here).0 in
+    record {
+      found = None;
+      delivered = delivered_only plan u v c.args.edge c.args.to c.deliver.result (view_to u v c.args.edge x.to c.args.to c.deliver.result goes (c.deliver.ensures.view x here)) c.if-deliver.false;
+      listed = sym (append-nil c.args.ready.now.nodes.items);
+    }
+
+pub deliver-requires-send-W : goal.deliver-requires-send-W
+deliver-requires-send-W c κs = search sent depth 60 fits 20000
