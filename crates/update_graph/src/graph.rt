@@ -45,7 +45,6 @@ use tick_table::{Change, Shared, TickTable};
 
 /// The nodes of a lawful run, all of which stand at one step of it. A contract sees the run, the step, and the nodes with an
 /// operator that were worked for the step.
-#[derive(Drop)]
 pub struct Graph {
     run: Snapshot<Run>,
     step: u64,
@@ -75,6 +74,22 @@ impl Model for Graph {
     ghost view = { λ graph. record { run = graph.run.value; step = graph.step; ran = graph.ran.items } };
 
     ghost invariant = { λ graph. IsGraph graph.run.value graph.step graph.edges.items graph.keys graph.sources.items graph.works.items graph.tables.items };
+}
+
+// Written out, so that a crate which lets a graph go does not prove anew how each part of it is let go.
+impl Drop for Graph {
+    fn drop(self) {
+        let Self {
+            run: _,
+            step: _,
+            edges: _,
+            keys: _,
+            sources: _,
+            works: _,
+            tables: _,
+            ran: _,
+        } = self;
+    }
 }
 
 /// The changes of the sources at the next step, by its batch.

@@ -10,22 +10,22 @@ use Rattle.update_graph.specs.Tags.{tags}
 use Rattle.update_graph.proofs.graph.Graph.cycle.Goals as goal
 
 pub next-requires-clause-lawful : goal.next-requires-clause-lawful
-next-requires-clause-lawful g c κs within = subst IsLawfulRun (ap (λ (v : GraphView). v.run) c.self-2.view_is ∙ c.requires.run) c.self-2.invariant.lawful
+next-requires-clause-lawful g c κs within = subst IsLawfulRun (ap (λ (v : GraphView). v.run) c.self.view_is ∙ c.requires.run) c.self.invariant.lawful
 
 pub next-requires-clause-reached : goal.next-requires-clause-reached
-next-requires-clause-reached g c κs within = subst (λ run. IsReached run c.self-2.inside.step) (ap (λ (v : GraphView). v.run) c.self-2.view_is ∙ c.requires.run) c.self-2.invariant.reached
+next-requires-clause-reached g c κs within = subst (λ run. IsReached run c.self.inside.step) (ap (λ (v : GraphView). v.run) c.self.view_is ∙ c.requires.run) c.self.invariant.reached
 
 pub next-requires-clause-next : goal.next-requires-clause-next
-next-requires-clause-next g c κs within = subst (λ (v : GraphView). v.step < length c.args.run.now.batches) (sym c.self-2.view_is) c.requires.next
+next-requires-clause-next g c κs within = subst (λ (v : GraphView). v.step < length c.args.run.now.batches) (sym c.self.view_is) c.requires.next
 
 pub next-requires-clause-edges : goal.next-requires-clause-edges
-next-requires-clause-edges g c κs within = c.self-2.invariant.edges_are ∙ ap (λ run. edges_of run.plan) (ap (λ (v : GraphView). v.run) c.self-2.view_is ∙ c.requires.run)
+next-requires-clause-edges g c κs within = c.self.invariant.edges_are ∙ ap (λ run. edges_of run.plan) (ap (λ (v : GraphView). v.run) c.self.view_is ∙ c.requires.run)
 
 pub next-requires-clause-keys : goal.next-requires-clause-keys
-next-requires-clause-keys g c κs within = c.self-2.invariant.keys_are ∙ ap (λ run. map (λ (table : PlainTable). keys table.rows) (sources run c.self-2.inside.step)) (ap (λ (v : GraphView). v.run) c.self-2.view_is ∙ c.requires.run)
+next-requires-clause-keys g c κs within = c.self.invariant.keys_are ∙ ap (λ run. map (λ (table : PlainTable). keys table.rows) (sources run c.self.inside.step)) (ap (λ (v : GraphView). v.run) c.self.view_is ∙ c.requires.run)
 
 pub next-requires-clause-sources : goal.next-requires-clause-sources
-next-requires-clause-sources g c κs within = c.self-2.invariant.sources_are ∙ ap (λ run. sources_shown run c.self-2.inside.step) (ap (λ (v : GraphView). v.run) c.self-2.view_is ∙ c.requires.run)
+next-requires-clause-sources g c κs within = c.self.invariant.sources_are ∙ ap (λ run. sources_shown run c.self.inside.step) (ap (λ (v : GraphView). v.run) c.self.view_is ∙ c.requires.run)
 
 pub next-requires-clause-works : goal.next-requires-clause-works
-next-requires-clause-works g c κs within = c.self-2.invariant.works_are ∙ ap (λ run. tags run c.self-2.inside.step (length run.plan.nodes)) (ap (λ (v : GraphView). v.run) c.self-2.view_is ∙ c.requires.run)
+next-requires-clause-works g c κs within = c.self.invariant.works_are ∙ ap (λ run. tags run c.self.inside.step (length run.plan.nodes)) (ap (λ (v : GraphView). v.run) c.self.view_is ∙ c.requires.run)
