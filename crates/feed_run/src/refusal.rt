@@ -33,11 +33,12 @@ pub enum Refusal {
 
 /// Why there is no run.
 #[derive(Debug, Drop)]
-pub(crate) enum Stop {
+pub enum Stop {
     /// Memory ran out.
     Memory,
     /// The file of this name could not be read.
     Unread(Name),
+    /// The script, a table file or the feed is refused.
     Refused(Refusal),
 }
 

@@ -83,8 +83,9 @@ pub(crate) fn read_plan_run<I: Inputs>(
     read_feed_run(alloc, inputs, script, tables, feed_name)
 }
 
-/// The run of the script of a file over the feed of another, with the table files that the script names.
-pub(crate) fn read_run<I: Inputs>(
+/// The run of the script of a file over the feed of another, with the table files that the script names. It is lawful, so that a graph may be
+/// started on it.
+pub fn read_run<I: Inputs>(
     alloc: Global,
     inputs: &mut I,
     script_name: &str,
