@@ -87,6 +87,15 @@ def records(lines):
         before = reader.line_num
 
 
+def records_of(file):
+    """The records of a file, with their lines. It is UTF-8."""
+    try:
+        with opened(file) as lines:
+            yield from records(lines)
+    except (UnicodeDecodeError, csv.Error) as refused:
+        raise Ended(f"{file}: {'the file is not UTF-8' if isinstance(refused, UnicodeDecodeError) else refused}") from None
+
+
 def printed(fields):
     """A record as the program prints it."""
     texts = map(str, fields)
