@@ -1,0 +1,11 @@
+use Rattle.std.proofs.Common.{◌≡◌}
+use Rattle.tick_model.specs.Evaluation.{table_at}
+use Rattle.tick_model.specs.States.{state}
+use Rattle.embedded.proofs.stepping.print_steps.Given as goal
+
+abbrev pub invariant-loop-step : goal.invariant-loop-step
+invariant-loop-step g l = record {
+  run : l.stepping.graph.run ≡ l.run;
+  step : l.stepping.graph.step ≡ l._step;
+  seen : l.stepping.viewport.table ≡ table_at (state l.run l.stepping.graph.step) l.node;
+}
