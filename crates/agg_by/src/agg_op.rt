@@ -30,7 +30,6 @@ use tick_model::plan::Agg;
 use tick_table::{Change, Steps, TickTable};
 
 /// Shows a row for each group of its input's rows with equal key cells. It stands for the rows that it saw last.
-#[derive(Drop)]
 pub struct AggOp {
     width: u32,
     kept: Kept,
@@ -40,6 +39,18 @@ pub struct AggOp {
     buffer: RowBuffer,
     /// Room for the rows that are noted in a step.
     noted: Vec<i64>,
+}
+
+impl Drop for AggOp {
+    fn drop(self) {
+        let Self {
+            width: _,
+            kept: _,
+            shown: _,
+            buffer: _,
+            noted: _,
+        } = self;
+    }
 }
 
 impl Model for AggOp {

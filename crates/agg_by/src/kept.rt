@@ -24,7 +24,6 @@ use tick_model::plan::Agg;
 use tick_table::{Steps, TickTable};
 
 /// The rows of an input by their key cells, and what answers each aggregate.
-#[derive(Drop)]
 pub struct Kept {
     pub(crate) by: Items<u32>,
     pub(crate) aggs: Items<Agg>,
@@ -32,6 +31,17 @@ pub struct Kept {
     pub(crate) rows: Groups,
     /// The aggregates in their order; none before the first step.
     pub(crate) running: Vec<Running>,
+}
+
+impl Drop for Kept {
+    fn drop(self) {
+        let Self {
+            by: _,
+            aggs: _,
+            rows: _,
+            running: _,
+        } = self;
+    }
 }
 
 impl Kept {

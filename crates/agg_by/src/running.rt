@@ -24,7 +24,6 @@ use tick_model::plan::Agg;
 use tick_table::{Steps, TickTable};
 
 /// An aggregate with what is kept for it besides the rows by their groups.
-#[derive(Drop)]
 pub enum Running {
     Count,
     /// The sum of the column in each group.
@@ -34,6 +33,19 @@ pub enum Running {
     Max(u32, Groups),
     First(u32),
     Last(u32),
+}
+
+impl Drop for Running {
+    fn drop(self) {
+        match self {
+            Self::Count => {}
+            Self::Sum(_, _) => {}
+            Self::Min(_, _) => {}
+            Self::Max(_, _) => {}
+            Self::First(_) => {}
+            Self::Last(_) => {}
+        }
+    }
 }
 
 /// Sees the first cell of a group in order of its cells: none is less than null.

@@ -53,10 +53,18 @@ impl Total {
 }
 
 /// A total for each group, by the group's key cells. A group without a cell that holds something has none.
-#[derive(Drop)]
 pub struct Sums {
     alloc: Global,
     pub(crate) by_cells: HashMap<Vec<i64>, Total>,
+}
+
+impl Drop for Sums {
+    fn drop(self) {
+        let Self {
+            alloc: _,
+            by_cells: _,
+        } = self;
+    }
 }
 
 impl Sums {

@@ -24,7 +24,6 @@ use tick_table::{Change, Steps, TickTable};
 
 /// Puts cells of the latest right row that is not later behind each left row, of the right rows with its key cells. It stands
 /// for the rows of both inputs that it saw last.
-#[derive(Drop)]
 pub struct AsOfOp {
     on: Items<OnPair>,
     at: OnPair,
@@ -37,6 +36,21 @@ pub struct AsOfOp {
     right: Groups,
     /// A row that is read, and its key cells.
     buffers: Buffers,
+}
+
+impl Drop for AsOfOp {
+    fn drop(self) {
+        let Self {
+            on: _,
+            at: _,
+            take: _,
+            left_width: _,
+            right_width: _,
+            left: _,
+            right: _,
+            buffers: _,
+        } = self;
+    }
 }
 
 impl Model for AsOfOp {

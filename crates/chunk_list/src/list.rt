@@ -12,9 +12,14 @@ use std::marker::Model;
 
 /// Items in order. An item comes or leaves in their midst at the cost of one chunk and of the list of chunks. A contract sees
 /// the chunks, lists of 1 to 512 items; a position is a place among the items of all of them, which are joined.
-#[derive(Drop)]
 pub struct ChunkList<T> {
     chunks: Chunks<T>,
+}
+
+impl<T: Drop> Drop for ChunkList<T> {
+    fn drop(self) {
+        let Self { chunks: _ } = self;
+    }
 }
 
 impl<T> Model for ChunkList<T> {

@@ -14,11 +14,19 @@ use std::alloc::{AllocError, Global};
 use std::marker::Model;
 
 /// The cells of one column by row key: those of now, and those from before the step.
-#[derive(Drop)]
 pub struct Column {
     blocks: Blocks,
     /// What was under the keys, as they were before the step, of slots that the step has touched: a cell or none.
     notes: Notes,
+}
+
+impl Drop for Column {
+    fn drop(self) {
+        let Self {
+            blocks: _,
+            notes: _,
+        } = self;
+    }
 }
 
 impl Model for Column {

@@ -19,13 +19,23 @@ use std::sync::ledger::Ledger;
 use tick_table::{Change, Steps, TickTable};
 
 /// Shows the first rows of its input, or all where there are fewer. It stands for the rows that it saw last.
-#[derive(Debug, Drop)]
+#[derive(Debug)]
 pub struct HeadOp {
     /// How many rows it shows at most.
     count: u32,
     width: u32,
     /// The keys of the rows that it shows.
     shown: RowSet,
+}
+
+impl Drop for HeadOp {
+    fn drop(self) {
+        let Self {
+            count: _,
+            width: _,
+            shown: _,
+        } = self;
+    }
 }
 
 impl Model for HeadOp {

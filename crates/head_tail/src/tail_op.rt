@@ -19,13 +19,23 @@ use std::sync::ledger::Ledger;
 use tick_table::{Change, Steps, TickTable};
 
 /// Shows the last rows of its input, or all where there are fewer. It stands for the rows that it saw last.
-#[derive(Debug, Drop)]
+#[derive(Debug)]
 pub struct TailOp {
     /// How many rows it shows at most.
     count: u32,
     width: u32,
     /// The keys of the rows that it shows.
     shown: RowSet,
+}
+
+impl Drop for TailOp {
+    fn drop(self) {
+        let Self {
+            count: _,
+            width: _,
+            shown: _,
+        } = self;
+    }
 }
 
 impl Model for TailOp {

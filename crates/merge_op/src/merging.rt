@@ -19,12 +19,22 @@ use tick_model::limits::MOST_ROWS;
 use tick_table::{Change, Shared, Steps};
 
 /// Puts the rows of its inputs one after the other. It stands for the rows that it saw last.
-#[derive(Debug, Drop)]
+#[derive(Debug)]
 pub struct MergeOp {
     count: u32,
     width: u32,
     /// The keys of the merged rows.
     shown: RowSet,
+}
+
+impl Drop for MergeOp {
+    fn drop(self) {
+        let Self {
+            count: _,
+            width: _,
+            shown: _,
+        } = self;
+    }
 }
 
 impl Model for MergeOp {

@@ -54,7 +54,6 @@ impl From<AllocError> for JoinFault {
 }
 
 /// Puts cells of a matching right row behind each left row. It stands for the rows of both inputs that it saw last.
-#[derive(Drop)]
 pub struct JoinOp {
     on: Items<OnPair>,
     take: Items<u32>,
@@ -67,6 +66,21 @@ pub struct JoinOp {
     right: Groups,
     /// A row that is read, and its key cells.
     buffers: Buffers,
+}
+
+impl Drop for JoinOp {
+    fn drop(self) {
+        let Self {
+            on: _,
+            take: _,
+            choice: _,
+            left_width: _,
+            right_width: _,
+            left: _,
+            right: _,
+            buffers: _,
+        } = self;
+    }
 }
 
 impl Model for JoinOp {

@@ -21,7 +21,6 @@ use tick_model::plan::Op;
 use tick_table::{Change, Shared, Steps};
 
 /// An operator with what it keeps.
-#[derive(Drop)]
 pub enum Running {
     Where(WhereOp),
     View(ViewOp),
@@ -32,6 +31,22 @@ pub enum Running {
     Head(HeadOp),
     Tail(TailOp),
     AsOf(AsOfOp),
+}
+
+impl Drop for Running {
+    fn drop(self) {
+        match self {
+            Self::Where(_) => {}
+            Self::View(_) => {}
+            Self::Join(_) => {}
+            Self::Agg(_) => {}
+            Self::Merge(_) => {}
+            Self::Sort(_) => {}
+            Self::Head(_) => {}
+            Self::Tail(_) => {}
+            Self::AsOf(_) => {}
+        }
+    }
 }
 
 impl Running {

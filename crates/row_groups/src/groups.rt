@@ -12,9 +12,14 @@ use std::marker::Model;
 
 /// The rows of a table by their key cells. The rows with equal cells are a group, in which they stand by rising `at` and then by
 /// rising key. What is kept of a row is not read from the table again.
-#[derive(Drop)]
 pub struct Groups {
     index: Index,
+}
+
+impl Drop for Groups {
+    fn drop(self) {
+        let Self { index: _ } = self;
+    }
 }
 
 impl Model for Groups {

@@ -15,9 +15,14 @@ pub type Handle = usize;
 
 /// The rows of a table by their keys, each with a handle. A row keeps its handle while its key moves, so that lists of
 /// handles stand where lists of keys would have to be written anew; and the rows of two handles keep their order.
-#[derive(Drop)]
 pub struct Handles {
     index: Index,
+}
+
+impl Drop for Handles {
+    fn drop(self) {
+        let Self { index: _ } = self;
+    }
 }
 
 impl Model for Handles {

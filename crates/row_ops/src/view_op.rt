@@ -20,10 +20,16 @@ use tick_model::plan::Expr;
 use tick_table::{Change, Steps, TickTable};
 
 /// Puts computed columns behind those of its input. It keeps nothing of the rows that it saw.
-#[derive(Debug, Drop)]
+#[derive(Debug)]
 pub struct ViewOp {
     exprs: Items<Expr>,
     width: u32,
+}
+
+impl Drop for ViewOp {
+    fn drop(self) {
+        let Self { exprs: _, width: _ } = self;
+    }
 }
 
 impl Model for ViewOp {

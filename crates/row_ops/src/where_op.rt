@@ -21,7 +21,7 @@ use tick_model::plan::Pred;
 use tick_table::{Change, Steps, TickTable};
 
 /// Shows the rows of its input that pass a test. It stands for the rows that it saw last.
-#[derive(Debug, Drop)]
+#[derive(Debug)]
 pub struct WhereOp {
     test: Pred,
     width: u32,
@@ -29,6 +29,17 @@ pub struct WhereOp {
     shown: RowSet,
     /// A row that is tested.
     row: Vec<i64>,
+}
+
+impl Drop for WhereOp {
+    fn drop(self) {
+        let Self {
+            test: _,
+            width: _,
+            shown: _,
+            row: _,
+        } = self;
+    }
 }
 
 impl Model for WhereOp {

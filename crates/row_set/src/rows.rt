@@ -17,12 +17,21 @@ use std::alloc::{AllocError, Global};
 use std::marker::Model;
 
 /// An ordered set of row keys. A contract sees the rising list of the keys.
-#[derive(Debug, Drop)]
+#[derive(Debug)]
 pub struct RowSet {
     /// The longest ranges, rising.
     ranges: Vec<Range>,
     /// The position at which each of them begins.
     starts: Vec<u64>,
+}
+
+impl Drop for RowSet {
+    fn drop(self) {
+        let Self {
+            ranges: _,
+            starts: _,
+        } = self;
+    }
 }
 
 impl Model for RowSet {

@@ -42,9 +42,15 @@ pub enum ShiftFault {
 }
 
 /// How the rows of a table move. A contract sees the list of its ranges.
-#[derive(Debug, Drop)]
+#[derive(Debug)]
 pub struct ShiftData {
     ranges: Vec<ShiftRange>,
+}
+
+impl Drop for ShiftData {
+    fn drop(self) {
+        let Self { ranges: _ } = self;
+    }
 }
 
 impl Model for ShiftData {

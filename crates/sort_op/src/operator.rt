@@ -34,11 +34,20 @@ use tick_model::plan::SortBy;
 use tick_table::{Change, Steps, TickTable};
 
 /// Shows the rows of its input in order. It stands for the rows that it saw last.
-#[derive(Drop)]
 pub struct SortOp {
     order: SortOrder,
     width: u32,
     rows: RowPair,
+}
+
+impl Drop for SortOp {
+    fn drop(self) {
+        let Self {
+            order: _,
+            width: _,
+            rows: _,
+        } = self;
+    }
 }
 
 impl Model for SortOp {

@@ -28,9 +28,15 @@ use tick_model::table::PlainTable;
 use tick_table::{Change, TickTable};
 
 /// The keys of every source, in order of the sources. A contract sees a list of lists of keys.
-#[derive(Debug, Drop)]
+#[derive(Debug)]
 pub struct SourceKeys {
     sets: Vec<RowSet>,
+}
+
+impl Drop for SourceKeys {
+    fn drop(self) {
+        let Self { sets: _ } = self;
+    }
 }
 
 impl Model for SourceKeys {

@@ -22,7 +22,6 @@ use std::mem;
 use std::thread::Threads;
 
 /// Hands that work the nodes of each step of a run. Each has a deque of node numbers, which is kept through the steps.
-#[derive(Drop)]
 pub struct Crew {
     alloc: Global,
     pub(crate) size: u32,
@@ -31,6 +30,16 @@ pub struct Crew {
     ghost few: { size ≤ 64 },
     ghost crew: { IsCrewed nothing (hand_marks hands.items) },
     ghost rested: { AllRested hands.items },
+}
+
+impl Drop for Crew {
+    fn drop(self) {
+        let Self {
+            alloc: _,
+            size: _,
+            hands: _,
+        } = self;
+    }
 }
 
 impl Crew {

@@ -11,11 +11,16 @@ use arrayvec::ArrayVec;
 const MOST_NODES: usize = 256;
 
 /// A list of at most 256 nodes, all of them different. It takes no memory.
-#[derive(Drop)]
 pub struct Ready {
     pub(crate) nodes: ArrayVec<u32, MOST_NODES>,
     ghost distinct: { IsDistinct eqb nodes.items } by { Prim.hlevel props },
     ghost below: { (n : ℕ) → IsListed nodes.items n → n < 256 },
+}
+
+impl Drop for Ready {
+    fn drop(self) {
+        let Self { nodes: _ } = self;
+    }
 }
 
 impl Ready {

@@ -13,10 +13,16 @@ use std::marker::Model;
 /// Files in memory, of which the first of a name counts.
 ///
 /// A load fails where its number, from 1, is in a list, or where there is no file of its name.
-#[derive(Debug, Drop)]
+#[derive(Debug)]
 pub struct MemoryInputs {
     files: Vec<(String, Vec<u8>)>,
     calls: CallCounter,
+}
+
+impl Drop for MemoryInputs {
+    fn drop(self) {
+        let Self { files: _, calls: _ } = self;
+    }
 }
 
 impl Model for MemoryInputs {
@@ -99,10 +105,16 @@ fn content<'a>(files: &'a [(String, Vec<u8>)], name: &str) -> Option<&'a [u8]>
 }
 
 /// A sink in memory, which takes each piece whole. A write fails where its number, from 1, is in a list.
-#[derive(Debug, Drop)]
+#[derive(Debug)]
 pub struct MemorySink {
     bytes: Vec<u8>,
     calls: CallCounter,
+}
+
+impl Drop for MemorySink {
+    fn drop(self) {
+        let Self { bytes: _, calls: _ } = self;
+    }
 }
 
 impl Model for MemorySink {
@@ -161,9 +173,15 @@ impl Sink for MemorySink {
 }
 
 /// A sink in memory whose writes never fail but for memory. It takes each piece whole.
-#[derive(Debug, Drop)]
+#[derive(Debug)]
 pub struct SteadySink {
     bytes: Vec<u8>,
+}
+
+impl Drop for SteadySink {
+    fn drop(self) {
+        let Self { bytes: _ } = self;
+    }
 }
 
 impl Model for SteadySink {

@@ -28,7 +28,6 @@ pub type Shared = Arc<TickTable>;
 
 /// A table as it is and as it was before the last step, with the update between the two. A contract sees two plain tables
 /// of one width and the update.
-#[derive(Drop)]
 pub struct TickTable {
     /// The keys of the rows now.
     rows: RowSet,
@@ -38,6 +37,17 @@ pub struct TickTable {
     slot_rows: SlotRows,
     /// How the rows of before became those of now.
     update: Update,
+}
+
+impl Drop for TickTable {
+    fn drop(self) {
+        let Self {
+            rows: _,
+            prev_rows: _,
+            slot_rows: _,
+            update: _,
+        } = self;
+    }
 }
 
 impl Model for TickTable {

@@ -14,4 +14,4 @@ pub returns : goal.returns
 returns c =
     let survivors = c.args.survivors.now in
     let none : without c.new.result survivors ≡ survivors = ap (λ left_out. without left_out survivors) c.new.ensures ∙ filter_all survivors in
-    subst (λ asked. IfOk c.unapplied-2.result (λ keys. keys ≡ asked)) (ap₂ (λ shifts keys. unapplied shifts keys c.args.after.now) (c.deref.ensures.value ∙ c.self.view_is) none) c.unapplied-2.ensures
+    subst (λ asked. IfOk c.unapplied.result (λ keys. keys ≡ asked)) (ap₂ (λ shifts keys. unapplied shifts keys c.args.after.now) (c.deref.ensures.value ∙ c.self.view_is) none) c.unapplied.ensures

@@ -28,13 +28,13 @@ returns c =
     let gone : c.in_ok-gone.gone ≡ without first.added next.removed = c.in_ok-gone.ensures ∙ ap₂ without own_added c.removed.ensures.keys in
     let removed : c.in_ok-removed.removed ≡ removed_by_both old first next =
     c.in_ok-removed.ensures.keys ∙ ap₂ united gone own_removed ∙ still_removed old first next f n still next_still added_rise c.ranges-2.ensures.keys.rising removed_rise in
-    let carried : c.in_ok-carried.carried ≡ without next.removed first.added = c.in_ok-carried.ensures.keys ∙ ap₂ without c.removed-3.ensures.keys own_added in
-    let changed : c.in_ok-changed.changed ≡ without (without next.removed first.added) next.modified = c.in_ok-changed.ensures ∙ ap₂ without carried c.modified-2.ensures.keys in
-    let kept : c.in_ok-kept.kept ≡ without next.removed first.modified = c.in_ok-kept.ensures.keys ∙ ap₂ without c.removed-5.ensures.keys own_modified in
+    let carried : c.in_ok-carried.carried ≡ without next.removed first.added = c.in_ok-carried.ensures.keys ∙ ap₂ without c.removed-2.ensures.keys own_added in
+    let changed : c.in_ok-changed.changed ≡ without (without next.removed first.added) next.modified = c.in_ok-changed.ensures ∙ ap₂ without carried c.modified.ensures.keys in
+    let kept : c.in_ok-kept.kept ≡ without next.removed first.modified = c.in_ok-kept.ensures.keys ∙ ap₂ without c.removed-3.ensures.keys own_modified in
     let modified : c.in_ok-modified.modified ≡ modified_by_both old first next =
-    c.in_ok-modified.ensures.keys ∙ ap₂ united changed kept ∙ still_modified old first next f n still next_still added_rise modified_rise c.modified-2.ensures.set.rising in
+    c.in_ok-modified.ensures.keys ∙ ap₂ united changed kept ∙ still_modified old first next f n still next_still added_rise modified_rise c.modified.ensures.set.rising in
     let added : c.in_ok-added.added ≡ added_by_both old first next =
-    c.in_ok-added.ensures.keys ∙ ap₂ united c.added-2.ensures.keys carried ∙ still_added old first next f n still next_still added_rise c.added-2.ensures.set.rising in
+    c.in_ok-added.ensures.keys ∙ ap₂ united c.added.ensures.keys carried ∙ still_added old first next f n still next_still added_rise c.added.ensures.set.rising in
     let shift : c.self.inside.shifted ≡ shifted (kept_by_both old first next) = own_shifted ∙ still ∙ sym (still_shifted old first next f n still next_still) in
     let columns : c.columns_with-columns.result ≡ columns_where (modified_by_both old first next) first.columns next.columns =
     c.columns_with-columns.ensures ∙ ap₂ (λ keys columns. columns_where keys columns c.columns.result.now) modified own_columns ∙ ap (columns_where (modified_by_both old first next) first.columns) c.columns.ensures in
