@@ -9,3 +9,4 @@ pub mod Steps
 pub mod Stopped
 pub mod ToCome
 pub mod Wholes
+pub mod Working

@@ -4,6 +4,7 @@ ghost use Rattle.std.specs.Prelude.{◌≡◌, ◌+◌, ◌<◌, ◌≤◌, None
 ghost use Rattle.tick_model.specs.Sources.{batch_fault};
 ghost use Rattle.tick_model.specs.Spoiled.{node_fault};
 ghost use Rattle.tick_model.specs.States.{state};
+ghost use Rattle.replay.specs.Working.{workers_of};
 ghost use Rattle.update_graph.specs.Stops.{IsStop};
 
 use crate::light::seems_light;
@@ -29,6 +30,7 @@ impl Hands {
     pub fn new(alloc: Global, workers: u32) -> Result<Hands, AllocError>
         requires some { 1 ≤ workers }
         requires few { workers ≤ 64 }
+        ensures { IfOk result (λ hands. workers_of hands ≡ workers) }
     {
         if workers == 1 {
             return Ok(Hands::One);

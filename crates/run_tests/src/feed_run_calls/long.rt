@@ -74,7 +74,7 @@ const TOTALS: &str =
     "table t x:long from \"t.csv\"\ng = agg t do n = count, s = sum x, a = first x, z = last x\nbig = where t x >= 0\nprint g\nprint big\n";
 
 /// A thousand rows, each of its number.
-fn rows_file(alloc: Global) -> Result<String, AllocError> {
+pub(super) fn rows_file(alloc: Global) -> Result<String, AllocError> {
     let mut text = String::from_str(alloc, "x\n")?;
     for row in 0..1000_u64 {
         text.push_str(&format!(in alloc; "{row}\n")?)?;
