@@ -11,14 +11,14 @@ use Rattle.tick_model.specs.Tables.{same_cells}
 use Rattle.tick_model.specs.declared.update.ShiftRange.{ShiftRange}
 use Rattle.row_handles.specs.Entries.{AreHandled, Ascend, Entry, entry_of, handle_under, key_with, keys_of as entry_keys, left_rows, moved_rows, with_row as entries_with}
 use Rattle.row_groups.specs.declared.place.Slot.{Slot}
+use Rattle.row_groups.specs.declared.lists.Lists.{Lists}
 use Rattle.row_groups.specs.declared.table.Table.{Table}
 use Rattle.row_groups.specs.Members.{AreGrouped, Member, by_at, group_of, keys_of, left_members, member_of, member_under, moved_member, moved_members, placed, with_member}
 use Rattle.row_groups.specs.Slots.{AreKnown, AreRanked, IsGroup, IsParted, is_before, key_in, member_at, slots_with, slots_without}
-use Rattle.row_groups.specs.Rows.{AreListed, Becomes, ByCells, IsKept, IsSame, Row, at_in, cells_in, group_rows, members_of, row_of, row_placed, rows_by_at, rows_of, slot_of, slots_under}
+use Rattle.row_groups.specs.Rows.{AreListed, Becomes, ByNumber, IsKept, IsSame, Row, at_in, cells_in, group_rows, members_of, row_of, row_placed, rows_by_at, rows_of, slot_of, slots_under}
 use Rattle.row_groups.proofs.Order.{at_most, less, less_above, less_below, less_itself, less_through}
 use Rattle.row_groups.proofs.Ranks.{Ascends, Ranked, before, every-by_at, every-group, group_ranked, group_with, group_without, put_in, with_row}
 use Rattle.row_groups.proofs.Keys.{known_all, small_key}
-use Rattle.row_groups.proofs.Tables.{length-range}
 
 -- a group of rows has the members of the group
 placed_members : (row : Row) (rows : List Row) → members_of (row_placed row rows) ≡ placed row.member (members_of rows)
@@ -39,11 +39,11 @@ group_members cells rows =
     ∙ ap by_at (sym (filter-map (λ member. same_cells cells member.cells) (λ row. row.member) rows))
 
 -- rows that come, leave and move
-pub rows_with : (table : Table) (key handle : ℕ) (xs : List Entry) → rows_of table (entries_with key handle xs) ≡ with_row (row_of table (entry_of key handle)) (rows_of table xs)
-rows_with table key handle [] = refl
-rows_with table key handle (x ∷ xs) =
-    elim (ltb x.key key) as (λ b. rows_of table (if b then x ∷ entries_with key handle xs else entry_of key handle ∷ x ∷ xs) ≡ (if b then row_of table x ∷ with_row (row_of table (entry_of key handle)) (rows_of table xs) else row_of table (entry_of key handle) ∷ row_of table x ∷ rows_of table xs)) [
-      | true ↦ ap (λ rs. row_of table x ∷ rs) (rows_with table key handle xs)
+pub rows_with : (table : Table) (groups : ByNumber) (key handle : ℕ) (xs : List Entry) → rows_of table groups (entries_with key handle xs) ≡ with_row (row_of table groups (entry_of key handle)) (rows_of table groups xs)
+rows_with table groups key handle [] = refl
+rows_with table groups key handle (x ∷ xs) =
+    elim (ltb x.key key) as (λ b. rows_of table groups (if b then x ∷ entries_with key handle xs else entry_of key handle ∷ x ∷ xs) ≡ (if b then row_of table groups x ∷ with_row (row_of table groups (entry_of key handle)) (rows_of table groups xs) else row_of table groups (entry_of key handle) ∷ row_of table groups x ∷ rows_of table groups xs)) [
+      | true ↦ ap (λ rs. row_of table groups x ∷ rs) (rows_with table groups key handle xs)
       | false ↦ refl
     ]
 
@@ -55,34 +55,34 @@ members_with row (other ∷ others) =
       | false ↦ refl
     ]
 
-pub members_left : (table : Table) (gone : List ℕ) (xs : List Entry) → members_of (rows_of table (left_rows gone xs)) ≡ left_members gone (members_of (rows_of table xs))
-members_left table gone xs =
-    sym (ap members_of (filter-map (λ row. not (is_among row.member.key gone)) (row_of table) xs))
-    ∙ sym (filter-map (λ member. not (is_among member.key gone)) (λ row. row.member) (rows_of table xs))
+pub members_left : (table : Table) (groups : ByNumber) (gone : List ℕ) (xs : List Entry) → members_of (rows_of table groups (left_rows gone xs)) ≡ left_members gone (members_of (rows_of table groups xs))
+members_left table groups gone xs =
+    sym (ap members_of (filter-map (λ row. not (is_among row.member.key gone)) (row_of table groups) xs))
+    ∙ sym (filter-map (λ member. not (is_among member.key gone)) (λ row. row.member) (rows_of table groups xs))
 
-pub members_moved : (table : Table) (shifts : List ShiftRange) (xs : List Entry) → members_of (rows_of table (moved_rows shifts xs)) ≡ moved_members shifts (members_of (rows_of table xs))
-members_moved table shifts [] = refl
-members_moved table shifts (x ∷ xs) = ap (λ ms. moved_member shifts (row_of table x).member ∷ ms) (members_moved table shifts xs)
+pub members_moved : (table : Table) (groups : ByNumber) (shifts : List ShiftRange) (xs : List Entry) → members_of (rows_of table groups (moved_rows shifts xs)) ≡ moved_members shifts (members_of (rows_of table groups xs))
+members_moved table groups shifts [] = refl
+members_moved table groups shifts (x ∷ xs) = ap (λ ms. moved_member shifts (row_of table groups x).member ∷ ms) (members_moved table groups shifts xs)
 
 -- the rows of two tables that keep the same
-pub rows_same : (old new : Table) (xs : List Entry) → AllByRecursion (λ x. IsSame old new x.handle) xs → rows_of new xs ≡ rows_of old xs
-rows_same old new [] h = refl
-rows_same old new (x ∷ xs) h =
-    ap (λ rs. row_of new x ∷ rs) (rows_same old new xs h.1)
-    ∙ ap (λ cells. record { member = member_of x.key cells (at_in new x.handle); handle = x.handle } ∷ rows_of old xs) h.0.cells
-    ∙ ap (λ at. record { member = member_of x.key (cells_in old x.handle) at; handle = x.handle } ∷ rows_of old xs) h.0.at
+pub rows_same : (old : Table) (groups : ByNumber) (new : Table) (others : ByNumber) (xs : List Entry) → AllByRecursion (λ x. IsSame old groups new others x.handle) xs → rows_of new others xs ≡ rows_of old groups xs
+rows_same old groups new others [] h = refl
+rows_same old groups new others (x ∷ xs) h =
+    ap (λ rs. row_of new others x ∷ rs) (rows_same old groups new others xs h.1)
+    ∙ ap (λ (cells : Option (List ℤ)). record { member = member_of x.key (unwrap_or cells []) (at_in new x.handle); handle = x.handle } ∷ rows_of old groups xs) h.0.cells
+    ∙ ap (λ at. record { member = member_of x.key (cells_in old groups x.handle) at; handle = x.handle } ∷ rows_of old groups xs) h.0.at
 
 -- the rows ascend with their keys
-pub rows_ascend : (table : Table) (xs : List Entry) → Ascend xs → Ascends (rows_of table xs)
-rows_ascend table [] up = tt
-rows_ascend table (x ∷ xs) up = (every-map (λ row. x.key < row.member.key) (row_of table) xs up.0, rows_ascend table xs up.1)
+pub rows_ascend : (table : Table) (groups : ByNumber) (xs : List Entry) → Ascend xs → Ascends (rows_of table groups xs)
+rows_ascend table groups [] up = tt
+rows_ascend table groups (x ∷ xs) up = (every-map (λ row. x.key < row.member.key) (row_of table groups) xs up.0, rows_ascend table groups xs up.1)
 
 -- each row's handle leads to its key
 abbrev pub Knows : List Entry → Row → Type 0
 Knows entries row = key_with row.handle entries ≡ Some row.member.key
 
-pub rows_known : (entries : List Entry) (table : Table) (xs : List Entry) → AllByRecursion (λ x. key_with x.handle entries ≡ Some x.key) xs → AllByRecursion (Knows entries) (rows_of table xs)
-rows_known entries table xs h = every-map (Knows entries) (row_of table) xs h
+pub rows_known : (entries : List Entry) (table : Table) (groups : ByNumber) (xs : List Entry) → AllByRecursion (λ x. key_with x.handle entries ≡ Some x.key) xs → AllByRecursion (Knows entries) (rows_of table groups xs)
+rows_known entries table groups xs h = every-map (Knows entries) (row_of table groups) xs h
 
 own_key : (entries : List Entry) (row : Row) → Knows entries row → key_in entries row.handle ≡ row.member.key
 own_key entries row h = ap (λ (o : Option ℕ). unwrap_or o 0) h
@@ -153,7 +153,7 @@ pub group_cells : (cells : List ℤ) (rows : List Row) → AllByRecursion (λ ro
 group_cells cells rows = every-by_at (λ row. same_cells cells row.member.cells ≡ true) (filter (λ row. same_cells cells row.member.cells) rows) (filter_passes (λ row. same_cells cells row.member.cells) rows)
 
 -- the lists after a row came
-listed_at : (entries : List Entry) (row : Row) (rows : List Row) (old new : ByCells) → AllByRecursion (Knows entries) rows → Ascends rows → AllByRecursion (λ other. other.member.key ≢ row.member.key) rows → AreListed rows old
+listed_at : (entries : List Entry) (row : Row) (rows : List Row) (old new : Lists) → AllByRecursion (Knows entries) rows → Ascends rows → AllByRecursion (λ other. other.member.key ≢ row.member.key) rows → AreListed rows old
     → Becomes row.member.cells (slots_with entries row.member.at row.member.key (slot_of row) (slots_under row.member.cells old)) old new → (cells : List ℤ) (b : Bool) → same_cells row.member.cells cells ≡ b → slots_under cells new ≡ map slot_of (group_rows cells (with_row row rows))
 listed_at entries row rows old new known up apart listed becomes cells true e =
     let own : row.member.cells ≡ cells = (signed_items row.member.cells cells).0 e in
@@ -171,12 +171,12 @@ listed_at entries row rows old new known up apart listed becomes cells false e =
     ∙ listed cells
     ∙ ap (map slot_of) (sym (group_without cells row rows other))
 
-pub listed_with : (entries : List Entry) (row : Row) (rows : List Row) (old new : ByCells) → AllByRecursion (Knows entries) rows → Ascends rows → AllByRecursion (λ other. other.member.key ≢ row.member.key) rows → AreListed rows old
+pub listed_with : (entries : List Entry) (row : Row) (rows : List Row) (old new : Lists) → AllByRecursion (Knows entries) rows → Ascends rows → AllByRecursion (λ other. other.member.key ≢ row.member.key) rows → AreListed rows old
     → Becomes row.member.cells (slots_with entries row.member.at row.member.key (slot_of row) (slots_under row.member.cells old)) old new → AreListed (with_row row rows) new
 listed_with entries row rows old new known up apart listed becomes cells = listed_at entries row rows old new known up apart listed becomes cells (same_cells row.member.cells cells) refl
 
 -- the lists after a row left
-left_at : (entries : List Entry) (row : Row) (rows : List Row) (old new : ByCells) → Knows entries row → AllByRecursion (Knows entries) rows → Ascends rows → AllByRecursion (λ other. other.member.key ≢ row.member.key) rows → AreListed (with_row row rows) old
+left_at : (entries : List Entry) (row : Row) (rows : List Row) (old new : Lists) → Knows entries row → AllByRecursion (Knows entries) rows → Ascends rows → AllByRecursion (λ other. other.member.key ≢ row.member.key) rows → AreListed (with_row row rows) old
     → Becomes row.member.cells (slots_without entries row.member.at row.member.key (slots_under row.member.cells old)) old new → (cells : List ℤ) (b : Bool) → same_cells row.member.cells cells ≡ b → slots_under cells new ≡ map slot_of (group_rows cells rows)
 left_at entries row rows old new own known up apart listed becomes cells true e =
     let here : row.member.cells ≡ cells = (signed_items row.member.cells cells).0 e in
@@ -193,60 +193,60 @@ left_at entries row rows old new own known up apart listed becomes cells false e
     ∙ listed cells
     ∙ ap (map slot_of) (group_without cells row rows other)
 
-pub listed_without : (entries : List Entry) (row : Row) (rows : List Row) (old new : ByCells) → Knows entries row → AllByRecursion (Knows entries) rows → Ascends rows → AllByRecursion (λ other. other.member.key ≢ row.member.key) rows → AreListed (with_row row rows) old
+pub listed_without : (entries : List Entry) (row : Row) (rows : List Row) (old new : Lists) → Knows entries row → AllByRecursion (Knows entries) rows → Ascends rows → AllByRecursion (λ other. other.member.key ≢ row.member.key) rows → AreListed (with_row row rows) old
     → Becomes row.member.cells (slots_without entries row.member.at row.member.key (slots_under row.member.cells old)) old new → AreListed rows new
 listed_without entries row rows old new own known up apart listed becomes cells = left_at entries row rows old new own known up apart listed becomes cells (same_cells row.member.cells cells) refl
 
 -- the list of a group, for a search in it
-pub listed_group : (entries : List Entry) (table : Table) (xs : List Entry) (by_cells : ByCells) (cells : List ℤ) → AreListed (rows_of table xs) by_cells → AllByRecursion (λ x. key_with x.handle entries ≡ Some x.key) xs → Ascend xs → AreHandled entries → IsGroup entries (slots_under cells by_cells)
-listed_group entries table xs by_cells cells listed known up handled =
-    let rows = group_rows cells (rows_of table xs) in
-    let all = every-group (Knows entries) cells (rows_of table xs) (rows_known entries table xs known) in
+pub listed_group : (entries : List Entry) (table : Table) (groups : ByNumber) (xs : List Entry) (lists : Lists) (cells : List ℤ) → AreListed (rows_of table groups xs) lists → AllByRecursion (λ x. key_with x.handle entries ≡ Some x.key) xs → Ascend xs → AreHandled entries → IsGroup entries (slots_under cells lists)
+listed_group entries table groups xs lists cells listed known up handled =
+    let rows = group_rows cells (rows_of table groups xs) in
+    let all = every-group (Knows entries) cells (rows_of table groups xs) (rows_known entries table groups xs known) in
     record {
       handled = handled;
       known = subst (AreKnown entries) (sym (listed cells)) (slots_known entries rows all);
-      ranked = subst (AreRanked entries) (sym (listed cells)) (slots_ranked entries rows all (group_ranked cells (rows_of table xs) (rows_ascend table xs up)));
+      ranked = subst (AreRanked entries) (sym (listed cells)) (slots_ranked entries rows all (group_ranked cells (rows_of table groups xs) (rows_ascend table groups xs up)));
     }
 
-pub listed_members : (table : Table) (xs : List Entry) (by_cells : ByCells) (cells : List ℤ) → AreListed (rows_of table xs) by_cells → AreHandled xs → map (member_at xs cells) (slots_under cells by_cells) ≡ group_of cells (members_of (rows_of table xs))
-listed_members table xs by_cells cells listed handled =
-    let rows = group_rows cells (rows_of table xs) in
+pub listed_members : (table : Table) (groups : ByNumber) (xs : List Entry) (lists : Lists) (cells : List ℤ) → AreListed (rows_of table groups xs) lists → AreHandled xs → map (member_at xs cells) (slots_under cells lists) ≡ group_of cells (members_of (rows_of table groups xs))
+listed_members table groups xs lists cells listed handled =
+    let rows = group_rows cells (rows_of table groups xs) in
     ap (map (member_at xs cells)) (listed cells)
-    ∙ slots_members xs cells rows (every-group (Knows xs) cells (rows_of table xs) (rows_known xs table xs (known_all xs handled.handles))) (group_cells cells (rows_of table xs))
-    ∙ group_members cells (rows_of table xs)
+    ∙ slots_members xs cells rows (every-group (Knows xs) cells (rows_of table groups xs) (rows_known xs table groups xs (known_all xs handled.handles))) (group_cells cells (rows_of table groups xs))
+    ∙ group_members cells (rows_of table groups xs)
 
 -- the members as a whole
-member_keys : (table : Table) (xs : List Entry) → keys_of (members_of (rows_of table xs)) ≡ entry_keys xs
-member_keys table [] = refl
-member_keys table (x ∷ xs) = ap (λ keys. x.key ∷ keys) (member_keys table xs)
+member_keys : (table : Table) (groups : ByNumber) (xs : List Entry) → keys_of (members_of (rows_of table groups xs)) ≡ entry_keys xs
+member_keys table groups [] = refl
+member_keys table groups (x ∷ xs) = ap (λ keys. x.key ∷ keys) (member_keys table groups xs)
 
-pub are_grouped : (table : Table) (xs : List Entry) → AreHandled xs → AllByRecursion (λ x. IsKept table x.handle) xs → AreGrouped (record { width = table.width; members = members_of (rows_of table xs) })
-are_grouped table xs handled kept = record {
-  keys = subst IsKeySet (sym (member_keys table xs)) handled.keys;
-  cells = every-map (λ member. length member.cells ≡ table.width) (λ row. row.member) (rows_of table xs)
-      (every-map (λ row. length row.member.cells ≡ table.width) (row_of table) xs
-      (every_weaker (λ x. IsKept table x.handle) (λ x. length (cells_in table x.handle) ≡ table.width) xs (λ x is. length-range table.cells.items _ table.width is.cells) kept));
+pub are_grouped : (width : ℕ) (table : Table) (groups : ByNumber) (xs : List Entry) → AreHandled xs → AllByRecursion (λ x. IsKept width table groups x.handle) xs → AreGrouped (record { width = width; members = members_of (rows_of table groups xs) })
+are_grouped width table groups xs handled kept = record {
+  keys = subst IsKeySet (sym (member_keys table groups xs)) handled.keys;
+  cells = every-map (λ member. length member.cells ≡ width) (λ row. row.member) (rows_of table groups xs)
+      (every-map (λ row. length row.member.cells ≡ width) (row_of table groups) xs
+      (every_weaker (λ x. IsKept width table groups x.handle) (λ x. length (cells_in table groups x.handle) ≡ width) xs (λ x is. is.width) kept));
 }
 
-pub keys_same : (table : Table) (xs : List Entry) → keys_of (members_of (rows_of table xs)) ≡ entry_keys xs
-keys_same table xs = member_keys table xs
+pub keys_same : (table : Table) (groups : ByNumber) (xs : List Entry) → keys_of (members_of (rows_of table groups xs)) ≡ entry_keys xs
+keys_same table groups xs = member_keys table groups xs
 
 -- what is known of the member under a key
-pub under_same : {X : Type 0} (f : Member → X) (g : ℕ → X) (key : ℕ) (table : Table) (xs : List Entry) → ((x : Entry) → f (row_of table x).member ≡ g x.handle) → option_map f (member_under key (members_of (rows_of table xs))) ≡ option_map g (handle_under key xs)
-under_same f g key table [] same = refl
-under_same f g key table (x ∷ xs) same =
-    elim (eqb x.key key) as (λ b. option_map f (cond b (Some (row_of table x).member) (member_under key (members_of (rows_of table xs)))) ≡ option_map g (if b then Some x.handle else handle_under key xs)) [
+pub under_same : {X : Type 0} (f : Member → X) (g : ℕ → X) (key : ℕ) (table : Table) (groups : ByNumber) (xs : List Entry) → ((x : Entry) → f (row_of table groups x).member ≡ g x.handle) → option_map f (member_under key (members_of (rows_of table groups xs))) ≡ option_map g (handle_under key xs)
+under_same f g key table groups [] same = refl
+under_same f g key table groups (x ∷ xs) same =
+    elim (eqb x.key key) as (λ b. option_map f (cond b (Some (row_of table groups x).member) (member_under key (members_of (rows_of table groups xs)))) ≡ option_map g (if b then Some x.handle else handle_under key xs)) [
       | true ↦ ap Some (same x)
-      | false ↦ under_same f g key table xs same
+      | false ↦ under_same f g key table groups xs same
     ]
 
 none_of_map : {X Y : Type 0} (f : X → Y) (o : Option X) → ◌≡◌ {A = Option Y} None (option_map f o) → o ≡ None
 none_of_map f None e = refl
 none_of_map f (Some x) e = absurd (cc)
 
-pub absent_under : (key : ℕ) (table : Table) (xs : List Entry) → member_under key (members_of (rows_of table xs)) ≡ None → handle_under key xs ≡ None
-absent_under key table xs e =
-    none_of_map (cells_in table) (handle_under key xs) (sym (ap (option_map (λ member. member.cells)) e) ∙ under_same (λ member. member.cells) (cells_in table) key table xs (λ x. refl))
+pub absent_under : (key : ℕ) (table : Table) (groups : ByNumber) (xs : List Entry) → member_under key (members_of (rows_of table groups xs)) ≡ None → handle_under key xs ≡ None
+absent_under key table groups xs e =
+    none_of_map (cells_in table groups) (handle_under key xs) (sym (ap (option_map (λ member. member.cells)) e) ∙ under_same (λ member. member.cells) (cells_in table groups) key table groups xs (λ x. refl))
 
 -- how many rows stand before a place
 pub counted : (f : Member → Bool) (entries : List Entry) (cells : List ℤ) (slots : List Slot) (n : ℕ) → n ≤ length slots → AllByRecursion (λ s. f (member_at entries cells s) ≡ true) (take n slots) → AllByRecursion (λ s. f (member_at entries cells s) ≡ false) (drop n slots) → n ≡ count_by f (map (member_at entries cells) slots)

@@ -1,11 +1,11 @@
 -- The index as a whole: rows that move, come and leave.
-use Rattle.std.proofs.Common.{◌≡◌, ◌≢◌, refl, ap, sym, ◌∙◌, subst, Bool, true, false, not, cond, ◌||◌, ℕ, zero, suc, ◌+◌, ◌^◌, ◌<◌, ◌≤◌, arith, List, [], ◌∷◌, ◌++◌, map, filter, length, take, take_all, add-one, Option, Some, None, Result, Ok, Err, OnOk, OnErr, ℤ, int_lt, if◌then◌else◌}
+use Rattle.std.proofs.Common.{◌≡◌, ◌≢◌, refl, ap, sym, ◌∙◌, subst, Bool, true, false, not, cond, ◌||◌, ℕ, zero, suc, ◌+◌, ◌^◌, ◌<◌, ◌≤◌, arith, List, [], ◌∷◌, ◌++◌, map, filter, length, take, take_all, add-one, Option, Some, None, Result, Ok, Err, OnOk, OnErr, IsSome, unwrap_or, inl, inr, ℤ, int_lt, if◌then◌else◌}
 use Rattle.std.specs.Prelude.{slice_get}
 use Rattle.std.specs.List.{AllByRecursion}
-use Rattle.std.proofs.lemmas.Bool.{eq-eqb, ne_eqb}
+use Rattle.std.proofs.lemmas.Bool.{cases_eq, eq-eqb, ne_eqb}
 use Rattle.std.specs.Cmp.Rules.{signed_items}
 use Rattle.key_lists.specs.Keys.{is_among, IsRising}
-use Rattle.key_lists.proofs.Every.{every_both, every_weaker, every-filter, every-map, filter-map, filter_passes}
+use Rattle.key_lists.proofs.Every.{every, every_both, every_weaker, every_unmapped, every-filter, every-map, filter-map, filter_passes}
 use Rattle.tick_model.specs.Tables.{same_cells}
 use Rattle.tick_model.specs.declared.update.ShiftRange.{ShiftRange}
 use Rattle.tick_model.specs.Shifts.{moved, as_key}
@@ -15,12 +15,15 @@ use Rattle.row_handles.proofs.EntryLists.{ascend-filter}
 use Rattle.row_handles.proofs.Laws.{handle_under-left, key_under_handle}
 use Rattle.row_groups.specs.declared.table.Table.{Table}
 use Rattle.row_groups.specs.declared.index.Index.{Index}
+use Rattle.row_groups.specs.declared.lists.Lists.{Lists}
+use Rattle.row_groups.specs.declared.place.Slot.{Slot}
 use Rattle.row_groups.specs.Members.{Grouped, Member, left_members, member_of, moved_members, with_member}
 use Rattle.row_groups.specs.Slots.{IsGroup, slots_with, slots_without}
-use Rattle.row_groups.specs.Rows.{AreListed, Becomes, ByCells, IsKept, IsSame, Row, at_in, cells_in, group_rows, members_of, row_of, row_placed, rows_by_at, rows_of, slot_of, slots_under}
+use Rattle.row_groups.specs.Rows.{AreListed, AreNumbered, Becomes, ByNumber, IsKept, IsSame, Row, at_in, cells_in, group_rows, members_of, row_of, row_placed, rows_by_at, rows_of, slot_of, slots_numbered, slots_under, cells_with, kept_in}
 use Rattle.row_groups.specs.Indexes.{Holds, IsIndex}
 use Rattle.row_groups.proofs.Ranks.{with_row as row_among}
 use Rattle.row_groups.proofs.Keys.{ascending, every-with_row, handled_left, handled_moved, handled_with, known_all, left_again, left_missing, left_more, left_none, restored, under_has}
+use Rattle.row_groups.proofs.Listed.{under_number}
 use Rattle.row_groups.proofs.Groupings.{listed_group, listed_with, listed_without, members_left, members_moved, members_with, rows_ascend, rows_known, rows_same, rows_with}
 
 -- rows under other keys
@@ -48,34 +51,35 @@ slots_move : (f : ℕ → ℕ) (rows : List Row) → map slot_of (map (move f) r
 slots_move f [] = refl
 slots_move f (row ∷ rows) = ap (λ ss. slot_of row ∷ ss) (slots_move f rows)
 
-rows_move : (table : Table) (shifts : List ShiftRange) (xs : List Entry) → rows_of table (moved_rows shifts xs) ≡ map (move (λ key. as_key (moved shifts key))) (rows_of table xs)
-rows_move table shifts [] = refl
-rows_move table shifts (x ∷ xs) = ap (λ rs. row_of table (moved_row shifts x) ∷ rs) (rows_move table shifts xs)
+rows_move : (table : Table) (groups : ByNumber) (shifts : List ShiftRange) (xs : List Entry) → rows_of table groups (moved_rows shifts xs) ≡ map (move (λ key. as_key (moved shifts key))) (rows_of table groups xs)
+rows_move table groups shifts [] = refl
+rows_move table groups shifts (x ∷ xs) = ap (λ rs. row_of table groups (moved_row shifts x) ∷ rs) (rows_move table groups shifts xs)
 
-listed_move : (table : Table) (shifts : List ShiftRange) (xs : List Entry) (by_cells : ByCells) → AreListed (rows_of table xs) by_cells → AreListed (rows_of table (moved_rows shifts xs)) by_cells
-listed_move table shifts xs by_cells listed cells =
+listed_move : (table : Table) (shifts : List ShiftRange) (xs : List Entry) (lists : Lists) → AreListed (rows_of table lists.groups xs) lists → AreListed (rows_of table lists.groups (moved_rows shifts xs)) lists
+listed_move table shifts xs lists listed cells =
     let f = λ (key : ℕ). as_key (moved shifts key) in
     listed cells
-    ∙ sym (slots_move f (group_rows cells (rows_of table xs)))
-    ∙ ap (map slot_of) (group_move f cells (rows_of table xs) ∙ ap (group_rows cells) (sym (rows_move table shifts xs)))
+    ∙ sym (slots_move f (group_rows cells (rows_of table lists.groups xs)))
+    ∙ ap (map slot_of) (group_move f cells (rows_of table lists.groups xs) ∙ ap (group_rows cells) (sym (rows_move table lists.groups shifts xs)))
 
-kept_move : (table : Table) (shifts : List ShiftRange) (xs : List Entry) → AllByRecursion (λ x. IsKept table x.handle) xs → AllByRecursion (λ x. IsKept table x.handle) (moved_rows shifts xs)
-kept_move table shifts xs h = every-map (λ x. IsKept table x.handle) (moved_row shifts) xs h
+-- an index with other handles
+abbrev handled : Index → List Entry → Index
+handled index entries = record index { handles = entries }
 
-pub index_moved : {T E : Type 0} (result : Result T E) (shifts : List ShiftRange) (old new : Index) → IsIndex old → shift_fault (2 ^ 62) shifts (keys_of old.handles) ≡ None → new.table ≡ old.table → new.lists.by_cells ≡ old.lists.by_cells → OnOk result (new.handles ≡ moved_rows shifts old.handles) → OnErr result (new.handles ≡ old.handles) → IsIndex new
-index_moved (Ok x) shifts old new is lawful table lists ok err = record {
-  handled = subst AreHandled (sym ok) (handled_moved shifts old.handles is.handled lawful);
-  kept = subst (λ t. AllByRecursion (λ x. IsKept t x.handle) new.handles) (sym table) (subst (AllByRecursion (λ x. IsKept old.table x.handle)) (sym ok) (kept_move old.table shifts old.handles is.kept));
-  listed = subst (λ t. AreListed (rows_of t new.handles) new.lists.by_cells) (sym table) (subst (λ xs. AreListed (rows_of old.table xs) new.lists.by_cells) (sym ok) (subst (AreListed (rows_of old.table (moved_rows shifts old.handles))) (sym lists) (listed_move old.table shifts old.handles old.lists.by_cells is.listed)));
-}
-index_moved (Err e) shifts old new is lawful table lists ok err = record {
-  handled = subst AreHandled (sym err) is.handled;
-  kept = subst (λ t. AllByRecursion (λ x. IsKept t x.handle) new.handles) (sym table) (subst (AllByRecursion (λ x. IsKept old.table x.handle)) (sym err) is.kept);
-  listed = subst (λ t. AreListed (rows_of t new.handles) new.lists.by_cells) (sym table) (subst (λ xs. AreListed (rows_of old.table xs) new.lists.by_cells) (sym err) (subst (AreListed (rows_of old.table old.handles)) (sym lists) is.listed));
+moved_index : (shifts : List ShiftRange) (index : Index) → IsIndex index → shift_fault (2 ^ 62) shifts (keys_of index.handles) ≡ None → IsIndex (handled index (moved_rows shifts index.handles))
+moved_index shifts index is lawful = record {
+  handled = handled_moved shifts index.handles is.handled lawful;
+  kept = every-map (λ x. IsKept index.width index.table index.lists.groups x.handle) (moved_row shifts) index.handles is.kept;
+  listed = listed_move index.table shifts index.handles index.lists is.listed;
+  numbered = is.numbered;
 }
 
-pub members_shifted : (shifts : List ShiftRange) (table : Table) (xs new : List Entry) → new ≡ moved_rows shifts xs → members_of (rows_of table new) ≡ moved_members shifts (members_of (rows_of table xs))
-members_shifted shifts table xs new e = ap (λ es. members_of (rows_of table es)) e ∙ members_moved table shifts xs
+pub index_moved : {T E : Type 0} (result : Result T E) (shifts : List ShiftRange) (index : Index) (entries : List Entry) → IsIndex index → shift_fault (2 ^ 62) shifts (keys_of index.handles) ≡ None → OnOk result (entries ≡ moved_rows shifts index.handles) → OnErr result (entries ≡ index.handles) → IsIndex (handled index entries)
+index_moved (Ok x) shifts index entries is lawful ok err = subst (λ xs. IsIndex (handled index xs)) (sym ok) (moved_index shifts index is lawful)
+index_moved (Err e) shifts index entries is lawful ok err = subst (λ xs. IsIndex (handled index xs)) (sym err) is
+
+pub members_shifted : (shifts : List ShiftRange) (table : Table) (groups : ByNumber) (xs new : List Entry) → new ≡ moved_rows shifts xs → members_of (rows_of table groups new) ≡ moved_members shifts (members_of (rows_of table groups xs))
+members_shifted shifts table groups xs new e = ap (λ es. members_of (rows_of table groups es)) e ∙ members_moved table groups shifts xs
 
 -- the others of a row have other handles
 some_own : (m n : ℕ) → ◌≡◌ {A = Option ℕ} (Some m) (Some n) → m ≡ n
@@ -98,24 +102,41 @@ apart_handles key handle xs handled here =
     (filter_passes p xs) (every-filter (λ x. key_with x.handle xs ≡ Some x.key) p xs (known_all xs handled.handles))
 
 -- the others keep what is kept of them
-pub others_same : (key handle : ℕ) (xs : List Entry) (old new : Table) → AreHandled xs → handle_under key xs ≡ Some handle → AllByRecursion (λ x. IsKept old x.handle) (left_rows (key ∷ []) xs) → ((other : ℕ) → other ≢ handle → IsKept old other → IsSame old new other) → AllByRecursion (λ x. IsSame old new x.handle) (left_rows (key ∷ []) xs)
-others_same key handle xs old new handled here kept others =
-    every_both (λ x. x.handle ≢ handle) (λ x. IsKept old x.handle) (λ x. IsSame old new x.handle) (left_rows (key ∷ []) xs)
-    (λ x apart is. others x.handle apart is) (apart_handles key handle xs handled here) kept
+module _ (old : Table) (groups : ByNumber) (new : Table) (others : ByNumber) where
+  pub others_same : (width key handle : ℕ) (xs : List Entry) → AreHandled xs → handle_under key xs ≡ Some handle → AllByRecursion (λ x. IsKept width old groups x.handle) (left_rows (key ∷ []) xs) → ((other : ℕ) → other ≢ handle → IsKept width old groups other → IsSame old groups new others other) → AllByRecursion (λ x. IsSame old groups new others x.handle) (left_rows (key ∷ []) xs)
+  others_same width key handle xs handled here kept same =
+      every_both (λ x. x.handle ≢ handle) (λ x. IsKept width old groups x.handle) (λ x. IsSame old groups new others x.handle) (left_rows (key ∷ []) xs)
+      (λ x apart is. same x.handle apart is) (apart_handles key handle xs handled here) kept
 
-kept_same : (xs : List Entry) (old new : Table) → AllByRecursion (λ x. IsSame old new x.handle) xs → AllByRecursion (λ x. IsKept new x.handle) xs
-kept_same xs old new h = every_weaker (λ x. IsSame old new x.handle) (λ x. IsKept new x.handle) xs (λ x is. is.kept) h
+  pub kept_same : (width : ℕ) (xs : List Entry) → AllByRecursion (λ x. IsKept width old groups x.handle) xs → AllByRecursion (λ x. IsSame old groups new others x.handle) xs → AllByRecursion (λ x. IsKept width new others x.handle) xs
+  kept_same width xs kept same =
+      every_both (λ x. IsKept width old groups x.handle) (λ x. IsSame old groups new others x.handle) (λ x. IsKept width new others x.handle) xs
+      (λ x is stays. record {
+        within = stays.within;
+        there = subst (λ (cells : Option (List ℤ)). IsSome cells) (sym stays.cells) is.there;
+        width = ap (λ (cells : Option (List ℤ)). length (unwrap_or cells [])) stays.cells ∙ is.width;
+      }) kept same
+
+-- what is kept of the others of a handle stays where that under it changes
+pub kept_on : (width handle : ℕ) (old new : Table) (groups others : ByNumber) → ((other : ℕ) → other ≢ handle → other < length old.rows.items → (other < length new.rows.items) × (kept_in new other ≡ kept_in old other)) → ((n : ℕ) → IsSome (cells_with n groups) → cells_with n others ≡ cells_with n groups) → (other : ℕ) → other ≢ handle → IsKept width old groups other → IsSame old groups new others other
+kept_on width handle old new groups others stays cells other apart is =
+    let kept = stays other apart is.within in
+    record {
+      within = kept.0;
+      cells = ap (λ k. cells_with k.number others) kept.1 ∙ cells (kept_in old other).number is.there;
+      at = ap (λ k. k.at) kept.1;
+    }
 
 -- what is known in an index of some of the rows
-pub holds_group : (gone : List ℕ) (index : Index) (cells : List ℤ) → Holds (left_rows gone index.handles) index → IsGroup index.handles (slots_under cells index.lists.by_cells)
+pub holds_group : (gone : List ℕ) (index : Index) (cells : List ℤ) → Holds (left_rows gone index.handles) index → IsGroup index.handles (slots_under cells index.lists)
 holds_group gone index cells is =
     let p = λ (x : Entry). not (is_among x.key gone) in
-    listed_group index.handles index.table (left_rows gone index.handles) index.lists.by_cells cells is.listed
+    listed_group index.handles index.table index.lists.groups (left_rows gone index.handles) index.lists cells is.listed
     (every-filter (λ x. key_with x.handle index.handles ≡ Some x.key) p index.handles (known_all index.handles is.handled.handles))
     (ascend-filter p index.handles (ascending index.handles is.handled)) is.handled
 
 -- lists that stay as they are
-pub becomes_same : (cells : List ℤ) (rows : List Row) (old new : ByCells) → Becomes cells (slots_under cells old) old new → AreListed rows old → AreListed rows new
+pub becomes_same : (cells : List ℤ) (rows : List Row) (old new : Lists) → Becomes cells (slots_under cells old) old new → AreListed rows old → AreListed rows new
 becomes_same cells rows old new becomes listed other = by_test (same_cells cells other) refl
   where
     by_test : (b : Bool) → same_cells cells other ≡ b → slots_under other new ≡ map slot_of (group_rows other rows)
@@ -124,80 +145,79 @@ becomes_same cells rows old new becomes listed other = by_test (same_cells cells
         ∙ ap (λ cs. slots_under cs old) ((signed_items cells other).0 e) ∙ listed other
     by_test false e = becomes other ∙ ap (λ b. if b then slots_under cells old else slots_under other old) e ∙ listed other
 
--- an index of the others of a row, where what is kept of the row is another
-pub holds_others : (key handle : ℕ) (old new : Index) → Holds (left_rows (key ∷ []) old.handles) old → handle_under key old.handles ≡ Some handle → new.handles ≡ old.handles
-    → ((other : ℕ) → other ≢ handle → IsKept old.table other → IsSame old.table new.table other) → AreListed (rows_of old.table (left_rows (key ∷ []) old.handles)) new.lists.by_cells → Holds (left_rows (key ∷ []) new.handles) new
-holds_others key handle old new is here handles others listed =
-    let same = others_same key handle old.handles old.table new.table is.handled here is.kept others in
-    subst (λ xs. Holds (left_rows (key ∷ []) xs) new) (sym handles) (record {
-      handled = subst AreHandled (sym handles) is.handled;
-      kept = kept_same (left_rows (key ∷ []) old.handles) old.table new.table same;
-      listed = subst (λ rs. AreListed rs new.lists.by_cells) (sym (rows_same old.table new.table (left_rows (key ∷ []) old.handles) same)) listed;
-    })
+-- an index of some rows, of which it keeps the same
+pub holds_as : (xs : List Entry) (index : Index) (table : Table) (lists : Lists) → Holds xs index → AllByRecursion (λ x. IsSame index.table index.lists.groups table lists.groups x.handle) xs → AreListed (rows_of index.table index.lists.groups xs) lists → AreNumbered lists → Holds xs (record index { table = table; lists = lists })
+holds_as xs index table lists is same listed numbered = record {
+  handled = is.handled;
+  kept = kept_same index.table index.lists.groups table lists.groups index.width xs is.kept same;
+  listed = subst (λ rs. AreListed rs lists) (sym (rows_same index.table index.lists.groups table lists.groups xs same)) listed;
+  numbered = numbered;
+}
 
-pub rows_others : (key handle : ℕ) (xs : List Entry) (old new : Table) → AreHandled xs → handle_under key xs ≡ Some handle → AllByRecursion (λ x. IsKept old x.handle) (left_rows (key ∷ []) xs) → ((other : ℕ) → other ≢ handle → IsKept old other → IsSame old new other) → rows_of new (left_rows (key ∷ []) xs) ≡ rows_of old (left_rows (key ∷ []) xs)
-rows_others key handle xs old new handled here kept others = rows_same old new (left_rows (key ∷ []) xs) (others_same key handle xs old new handled here kept others)
-
--- a row that comes
-pub record Enters (key handle : ℕ) (cells : List ℤ) (at : ℤ) (old new : Index) : Type 0 where
-  pub others : Holds (left_rows (key ∷ []) old.handles) old
-  pub here : handle_under key old.handles ≡ Some handle
-  pub handles : new.handles ≡ old.handles
-  pub kept : IsKept new.table handle
-  pub cells_is : cells_in new.table handle ≡ cells
-  pub at_is : at_in new.table handle ≡ at
-  pub same : (other : ℕ) → other ≢ handle → IsKept old.table other → IsSame old.table new.table other
+-- a row that comes into an index of the others
+pub record Enters (key handle : ℕ) (cells : List ℤ) (at : ℤ) (index : Index) (table : Table) (lists : Lists) : Type 0 where
+  pub others : Holds (left_rows (key ∷ []) index.handles) index
+  pub here : handle_under key index.handles ≡ Some handle
+  pub within : handle < length table.rows.items
+  pub cells_is : cells_with (kept_in table handle).number lists.groups ≡ Some cells
+  pub at_is : at_in table handle ≡ at
+  pub width : length cells ≡ index.width
+  pub same : AllByRecursion (λ x. IsSame index.table index.lists.groups table lists.groups x.handle) (left_rows (key ∷ []) index.handles)
+  pub numbered : AreNumbered lists
 
 abbrev entered : ℕ → ℕ → List ℤ → ℤ → Row
 entered key handle cells at = record { member = member_of key cells at; handle = handle }
 
-pub rows_entered : (key handle : ℕ) (cells : List ℤ) (at : ℤ) (old new : Index) → Enters key handle cells at old new → rows_of new.table new.handles ≡ row_among (entered key handle cells at) (rows_of old.table (left_rows (key ∷ []) old.handles))
-rows_entered key handle cells at old new e =
-    let rest = left_rows (key ∷ []) old.handles in
-    ap (rows_of new.table) (e.handles ∙ restored key handle old.handles (ascending old.handles e.others.handled) e.here)
-    ∙ rows_with new.table key handle rest
-    ∙ ap (row_among (row_of new.table (entry_of key handle))) (rows_others key handle old.handles old.table new.table e.others.handled e.here e.others.kept e.same)
-    ∙ ap (λ cs. row_among (entered key handle cs (at_in new.table handle)) (rows_of old.table rest)) e.cells_is
-    ∙ ap (λ a. row_among (entered key handle cells a) (rows_of old.table rest)) e.at_is
+pub rows_entered : (key handle : ℕ) (cells : List ℤ) (at : ℤ) (index : Index) (table : Table) (lists : Lists) → Enters key handle cells at index table lists → rows_of table lists.groups index.handles ≡ row_among (entered key handle cells at) (rows_of index.table index.lists.groups (left_rows (key ∷ []) index.handles))
+rows_entered key handle cells at index table lists e =
+    let rest = left_rows (key ∷ []) index.handles in
+    let rows = rows_of index.table index.lists.groups rest in
+    ap (rows_of table lists.groups) (restored key handle index.handles (ascending index.handles e.others.handled) e.here)
+    ∙ rows_with table lists.groups key handle rest
+    ∙ ap (row_among (row_of table lists.groups (entry_of key handle))) (rows_same index.table index.lists.groups table lists.groups rest e.same)
+    ∙ ap (λ (cs : Option (List ℤ)). row_among (entered key handle (unwrap_or cs []) (at_in table handle)) rows) e.cells_is
+    ∙ ap (λ a. row_among (entered key handle cells a) rows) e.at_is
 
-pub index_entered : (key handle : ℕ) (cells : List ℤ) (at : ℤ) (old new : Index) → Enters key handle cells at old new → Becomes cells (slots_with old.handles at key (slot_of (entered key handle cells at)) (slots_under cells old.lists.by_cells)) old.lists.by_cells new.lists.by_cells → IsIndex new
-index_entered key handle cells at old new e becomes =
-    let rest = left_rows (key ∷ []) old.handles in
+pub index_entered : (key handle : ℕ) (cells : List ℤ) (at : ℤ) (index : Index) (table : Table) (lists : Lists) → Enters key handle cells at index table lists → Becomes cells (slots_with index.handles at key (slot_of (entered key handle cells at)) (slots_under cells index.lists)) index.lists lists → IsIndex (record index { table = table; lists = lists })
+index_entered key handle cells at index table lists e becomes =
+    let rest = left_rows (key ∷ []) index.handles in
     let p = λ (x : Entry). not (is_among x.key (key ∷ [])) in
-    let same = others_same key handle old.handles old.table new.table e.others.handled e.here e.others.kept e.same in
+    let kept = λ (x : Entry). IsKept index.width table lists.groups x.handle in
     record {
-      handled = subst AreHandled (sym e.handles) e.others.handled;
-      kept = subst (AllByRecursion (λ x. IsKept new.table x.handle)) (sym (e.handles ∙ restored key handle old.handles (ascending old.handles e.others.handled) e.here)) (every-with_row (λ x. IsKept new.table x.handle) key handle rest e.kept (kept_same rest old.table new.table same));
-      listed = subst (λ rs. AreListed rs new.lists.by_cells) (sym (rows_entered key handle cells at old new e))
-          (listed_with old.handles (entered key handle cells at) (rows_of old.table rest) old.lists.by_cells new.lists.by_cells
-          (rows_known old.handles old.table rest (every-filter (λ x. key_with x.handle old.handles ≡ Some x.key) p old.handles (known_all old.handles e.others.handled.handles)))
-          (rows_ascend old.table rest (ascend-filter p old.handles (ascending old.handles e.others.handled)))
-          (every-map (λ other. other.member.key ≢ key) (row_of old.table) rest (every_weaker (λ x. p x ≡ true) (λ x. x.key ≢ key) rest (λ x stays eq. gone_itself key x.key (sym eq) stays) (filter_passes p old.handles)))
+      handled = e.others.handled;
+      kept = subst (AllByRecursion kept) (sym (restored key handle index.handles (ascending index.handles e.others.handled) e.here)) (every-with_row kept key handle rest (record {
+        within = e.within;
+        there = subst (λ (cs : Option (List ℤ)). IsSome cs) (sym e.cells_is) refl;
+        width = ap (λ (cs : Option (List ℤ)). length (unwrap_or cs [])) e.cells_is ∙ e.width;
+      }) (kept_same index.table index.lists.groups table lists.groups index.width rest e.others.kept e.same));
+      listed = subst (λ rs. AreListed rs lists) (sym (rows_entered key handle cells at index table lists e))
+          (listed_with index.handles (entered key handle cells at) (rows_of index.table index.lists.groups rest) index.lists lists
+          (rows_known index.handles index.table index.lists.groups rest (every-filter (λ x. key_with x.handle index.handles ≡ Some x.key) p index.handles (known_all index.handles e.others.handled.handles)))
+          (rows_ascend index.table index.lists.groups rest (ascend-filter p index.handles (ascending index.handles e.others.handled)))
+          (every-map (λ other. other.member.key ≢ key) (row_of index.table index.lists.groups) rest (every_weaker (λ x. p x ≡ true) (λ x. x.key ≢ key) rest (λ x stays eq. gone_itself key x.key (sym eq) stays) (filter_passes p index.handles)))
           e.others.listed becomes);
+      numbered = e.numbered;
     }
 
-pub members_entered : (key handle : ℕ) (cells : List ℤ) (at : ℤ) (old new : Index) → Enters key handle cells at old new → members_of (rows_of new.table new.handles) ≡ with_member (member_of key cells at) (members_of (rows_of old.table (left_rows (key ∷ []) old.handles)))
-members_entered key handle cells at old new e =
-    ap members_of (rows_entered key handle cells at old new e) ∙ members_with (entered key handle cells at) (rows_of old.table (left_rows (key ∷ []) old.handles))
+pub members_entered : (key handle : ℕ) (cells : List ℤ) (at : ℤ) (index : Index) (table : Table) (lists : Lists) → Enters key handle cells at index table lists → members_of (rows_of table lists.groups index.handles) ≡ with_member (member_of key cells at) (members_of (rows_of index.table index.lists.groups (left_rows (key ∷ []) index.handles)))
+members_entered key handle cells at index table lists e =
+    ap members_of (rows_entered key handle cells at index table lists e) ∙ members_with (entered key handle cells at) (rows_of index.table index.lists.groups (left_rows (key ∷ []) index.handles))
 
 -- before a row is entered: its handle is there
-pub holds_before : (key handle : ℕ) (old new : Index) → IsIndex old → key < 2 ^ 62 → handle_under key old.handles ≡ None → key_with handle old.handles ≡ None → new.handles ≡ with_row key handle old.handles → new.table ≡ old.table → new.lists.by_cells ≡ old.lists.by_cells → Holds (left_rows (key ∷ []) new.handles) new
-holds_before key handle old new is small absent fresh handles table lists =
-    let back : left_rows (key ∷ []) new.handles ≡ old.handles = ap (left_rows (key ∷ [])) handles ∙ left_again key handle old.handles (ascending old.handles is.handled) absent in
-    subst (λ xs. Holds xs new) (sym back) (record {
-      handled = subst AreHandled (sym handles) (handled_with key handle old.handles is.handled small absent fresh);
-      kept = subst (λ t. AllByRecursion (λ x. IsKept t x.handle) old.handles) (sym table) is.kept;
-      listed = subst (λ t. AreListed (rows_of t old.handles) new.lists.by_cells) (sym table) (subst (AreListed (rows_of old.table old.handles)) (sym lists) is.listed);
+pub holds_before : (key handle : ℕ) (index : Index) (entries : List Entry) → IsIndex index → key < 2 ^ 62 → handle_under key index.handles ≡ None → key_with handle index.handles ≡ None → entries ≡ with_row key handle index.handles → Holds (left_rows (key ∷ []) entries) (handled index entries)
+holds_before key handle index entries is small absent fresh handles =
+    let back : left_rows (key ∷ []) entries ≡ index.handles = ap (left_rows (key ∷ [])) handles ∙ left_again key handle index.handles (ascending index.handles is.handled) absent in
+    subst (λ xs. Holds xs (handled index entries)) (sym back) (record {
+      handled = subst AreHandled (sym handles) (handled_with key handle index.handles is.handled small absent fresh);
+      kept = is.kept;
+      listed = is.listed;
+      numbered = is.numbered;
     })
 
 -- rows that left the groups leave the handles
-pub index_left : (gone : List ℕ) (old new : Index) → Holds (left_rows gone old.handles) old → new.handles ≡ left_rows gone old.handles → new.table ≡ old.table → new.lists.by_cells ≡ old.lists.by_cells → IsIndex new
-index_left gone old new is handles table lists =
-    subst (λ xs. Holds xs new) (sym handles) (record {
-      handled = subst AreHandled (sym handles) (handled_left gone old.handles is.handled);
-      kept = subst (λ t. AllByRecursion (λ x. IsKept t x.handle) (left_rows gone old.handles)) (sym table) is.kept;
-      listed = subst (λ t. AreListed (rows_of t (left_rows gone old.handles)) new.lists.by_cells) (sym table) (subst (AreListed (rows_of old.table (left_rows gone old.handles))) (sym lists) is.listed);
-    })
+pub index_left : (gone : List ℕ) (index : Index) (entries : List Entry) → Holds (left_rows gone index.handles) index → entries ≡ left_rows gone index.handles → IsIndex (handled index entries)
+index_left gone index entries is left =
+    subst (λ xs. IsIndex (handled index xs)) (sym left) (record { handled = handled_left gone index.handles is.handled; kept = is.kept; listed = is.listed; numbered = is.numbered })
 
 -- keys that come one by one
 pub new_key : (keys : List ℕ) (i key : ℕ) → IsRising keys → slice_get keys i ≡ Some key → is_among key (take i keys) ≡ false
@@ -224,80 +244,191 @@ there_is (x ∷ keys) (suc i) lt e = there_is keys i (omega arith) e
 pub still_under : (gone : List ℕ) (key : ℕ) (xs : List Entry) → is_among key gone ≡ false → handle_under key (left_rows gone xs) ≡ handle_under key xs
 still_under gone key xs e = handle_under-left key gone xs ∙ ap (λ b. cond b None (handle_under key xs)) e
 
--- a row without one
-pub holds_missing : (gone : List ℕ) (key : ℕ) (index : Index) → Holds (left_rows gone index.handles) index → is_among key gone ≡ false → handle_under key index.handles ≡ None → Holds (left_rows (gone ++ key ∷ []) index.handles) index
-holds_missing gone key index is new none =
-    subst (λ xs. Holds xs index) (sym (left_more gone key index.handles ∙ left_missing key (left_rows gone index.handles) (still_under gone key index.handles new ∙ none))) is
+-- none of the rows has the cells of a group without rows
+placed_some : (row : Row) (rows : List Row) → row_placed row rows ≡ [] → ⊥
+placed_some row [] e = cc
+placed_some row (other ∷ others) e = by_test (int_lt other.member.at row.member.at) e
+  where
+    by_test : (b : Bool) → ◌≡◌ {A = List Row} (if b then other ∷ row_placed row others else row ∷ other ∷ others) [] → ⊥
+    by_test true f = cc
+    by_test false f = cc
 
-pub holds_less : (gone : List ℕ) (key handle : ℕ) (old new : Index) → Holds (left_rows gone old.handles) old → is_among key gone ≡ false → handle_under key old.handles ≡ Some handle → new.handles ≡ old.handles → new.table ≡ old.table
-    → Becomes (cells_in old.table handle) (slots_without old.handles (at_in old.table handle) key (slots_under (cells_in old.table handle) old.lists.by_cells)) old.lists.by_cells new.lists.by_cells → Holds (left_rows (gone ++ key ∷ []) new.handles) new
-holds_less gone key handle old new is fresh here handles table becomes =
-    let all = left_rows gone old.handles in
+none_ordered : (rows : List Row) → rows_by_at rows ≡ [] → rows ≡ []
+none_ordered [] e = refl
+none_ordered (row ∷ rows) e = absurd (placed_some row (rows_by_at rows) e)
+
+none_alike : (cells : List ℤ) (rows : List Row) → filter (λ row. same_cells cells row.member.cells) rows ≡ [] → AllByRecursion (λ row. same_cells cells row.member.cells ≡ false) rows
+none_alike cells [] e = tt
+none_alike cells (row ∷ rows) e =
+    let both = by_test row (filter (λ row. same_cells cells row.member.cells) rows) (same_cells cells row.member.cells) e in
+    (both.0, none_alike cells rows both.1)
+  where
+    by_test : (row : Row) (rest : List Row) (b : Bool) → cond b (row ∷ rest) rest ≡ [] → (b ≡ false) × (rest ≡ [])
+    by_test row rest true f = absurd (cc)
+    by_test row rest false f = (refl, f)
+
+no_slots : (rows : List Row) → map slot_of rows ≡ [] → rows ≡ []
+no_slots [] e = refl
+no_slots (row ∷ rows) e = absurd (cc)
+
+-- what a group that loses a row leaves of the others
+module _ (table : Table) (old new : Lists) (number : ℕ) (cells : List ℤ) (own : cells_with number old.groups ≡ Some cells) where
+  own_rows : (x : Entry) → (kept_in table x.handle).number ≡ number → same_cells cells (row_of table old.groups x).member.cells ≡ true
+  own_rows x e =
+      (signed_items cells (row_of table old.groups x).member.cells).1 (sym (ap (λ n. unwrap_or (cells_with n old.groups) []) e ∙ ap (λ (cs : Option (List ℤ)). unwrap_or cs []) own))
+
+  stays_with : (xs : List Entry) (slots : List Slot) → slots ≡ map slot_of (group_rows cells (rows_of table old.groups xs)) → (slots ≢ [] → cells_with number new.groups ≡ cells_with number old.groups) → AllByRecursion (λ x. (kept_in table x.handle).number ≡ number → cells_with number new.groups ≡ cells_with number old.groups) xs
+  stays_with xs [] is stays =
+      every_weaker (λ x. same_cells cells (row_of table old.groups x).member.cells ≡ false) (λ x. (kept_in table x.handle).number ≡ number → cells_with number new.groups ≡ cells_with number old.groups) xs
+      (λ x differ e. absurd (true_not_false (sym (own_rows x e) ∙ differ)))
+      (every_unmapped (λ row. same_cells cells row.member.cells ≡ false) (row_of table old.groups) xs
+      (none_alike cells (rows_of table old.groups xs) (none_ordered (filter (λ row. same_cells cells row.member.cells) (rows_of table old.groups xs)) (no_slots (group_rows cells (rows_of table old.groups xs)) (sym is)))))
+  stays_with xs (slot ∷ slots) is stays = every (λ x. (kept_in table x.handle).number ≡ number → cells_with number new.groups ≡ cells_with number old.groups) xs (λ x e. stays (λ f. no_slot f))
+    where
+      no_slot : ◌≡◌ {A = List Slot} (slot ∷ slots) [] → ⊥
+      no_slot f = cc
+
+  pub rest_same : (width : ℕ) (xs : List Entry) (slots : List Slot) → slots ≡ map slot_of (group_rows cells (rows_of table old.groups xs)) → (slots ≢ [] → cells_with number new.groups ≡ cells_with number old.groups) → ((other : ℕ) → other ≢ number → cells_with other new.groups ≡ cells_with other old.groups)
+      → AllByRecursion (λ x. IsKept width table old.groups x.handle) xs → AllByRecursion (λ x. IsSame table old.groups table new.groups x.handle) xs
+  rest_same width xs slots is stays others kept =
+      every_both (λ x. IsKept width table old.groups x.handle) (λ x. (kept_in table x.handle).number ≡ number → cells_with number new.groups ≡ cells_with number old.groups) (λ x. IsSame table old.groups table new.groups x.handle) xs
+      (λ x k mine. record {
+        within = k.within;
+        at = refl;
+        cells = elim (cases_eq (kept_in table x.handle).number number) [
+          | inl same ↦ ap (λ n. cells_with n new.groups) same ∙ mine same ∙ ap (λ n. cells_with n old.groups) (sym same)
+          | inr differ ↦ others (kept_in table x.handle).number differ
+        ];
+      }) kept (stays_with xs slots is stays)
+
+-- a row that leaves its group
+pub record Leaves (key handle : ℕ) (index : Index) (lists : Lists) : Type 0 where
+  pub here : handle_under key index.handles ≡ Some handle
+  pub becomes : Becomes (cells_in index.table index.lists.groups handle) (slots_without index.handles (at_in index.table handle) key (slots_under (cells_in index.table index.lists.groups handle) index.lists)) index.lists lists
+  pub stays : slots_without index.handles (at_in index.table handle) key (slots_numbered (kept_in index.table handle).number index.lists.groups) ≢ [] → cells_with (kept_in index.table handle).number lists.groups ≡ cells_with (kept_in index.table handle).number index.lists.groups
+  pub others : (other : ℕ) → other ≢ (kept_in index.table handle).number → cells_with other lists.groups ≡ cells_with other index.lists.groups
+  pub numbered : AreNumbered lists
+
+pub some_cells : (cells : Option (List ℤ)) → IsSome cells → cells ≡ Some (unwrap_or cells [])
+some_cells None there = absurd (cc)
+some_cells (Some cells) there = refl
+
+pub left_same : (gone : List ℕ) (key handle : ℕ) (index : Index) (lists : Lists) → Holds (left_rows gone index.handles) index → is_among key gone ≡ false → Leaves key handle index lists
+    → AreListed (rows_of index.table index.lists.groups (left_rows (gone ++ key ∷ []) index.handles)) lists × AllByRecursion (λ x. IsSame index.table index.lists.groups index.table lists.groups x.handle) (left_rows (gone ++ key ∷ []) index.handles)
+left_same gone key handle index lists is fresh leaves =
+    let table = index.table in
+    let groups = index.lists.groups in
+    let number = (kept_in table handle).number in
+    let cells = cells_in table groups handle in
+    let all = left_rows gone index.handles in
     let rest = left_rows (key ∷ []) all in
     let p = λ (x : Entry). not (is_among x.key (key ∷ [])) in
     let q = λ (x : Entry). not (is_among x.key gone) in
-    let row = row_of old.table (entry_of key handle) in
-    let own : handle_under key all ≡ Some handle = still_under gone key old.handles fresh ∙ here in
-    let up = ascend-filter q old.handles (ascending old.handles is.handled) in
-    let known = every-filter (λ x. key_with x.handle old.handles ≡ Some x.key) q old.handles (known_all old.handles is.handled.handles) in
-    let back : rows_of old.table all ≡ row_among row (rows_of old.table rest) = ap (rows_of old.table) (restored key handle all up own) ∙ rows_with old.table key handle rest in
-    let left : left_rows (gone ++ key ∷ []) new.handles ≡ rest = ap (left_rows (gone ++ key ∷ [])) handles ∙ left_more gone key old.handles in
-    subst (λ xs. Holds xs new) (sym left) (record {
-      handled = subst AreHandled (sym handles) is.handled;
-      kept = subst (λ t. AllByRecursion (λ x. IsKept t x.handle) rest) (sym table) (every-filter (λ x. IsKept old.table x.handle) p all is.kept);
-      listed = subst (λ t. AreListed (rows_of t rest) new.lists.by_cells) (sym table)
-          (listed_without old.handles row (rows_of old.table rest) old.lists.by_cells new.lists.by_cells
-          (key_under_handle key handle old.handles is.handled here)
-          (rows_known old.handles old.table rest (every-filter (λ x. key_with x.handle old.handles ≡ Some x.key) p all known))
-          (rows_ascend old.table rest (ascend-filter p all up))
-          (every-map (λ other. other.member.key ≢ key) (row_of old.table) rest (every_weaker (λ x. p x ≡ true) (λ x. x.key ≢ key) rest (λ x stays eq. gone_itself key x.key (sym eq) stays) (filter_passes p all)))
-          (subst (λ rs. AreListed rs old.lists.by_cells) back is.listed) becomes);
-    })
-
--- an index that differs in nothing that counts
-pub holds_as : (xs : List Entry) (old new : Index) → Holds xs old → new.handles ≡ old.handles → new.table ≡ old.table → new.lists.by_cells ≡ old.lists.by_cells → Holds xs new
-holds_as xs old new is handles table lists = record {
-  handled = subst AreHandled (sym handles) is.handled;
-  kept = subst (λ t. AllByRecursion (λ x. IsKept t x.handle) xs) (sym table) is.kept;
-  listed = subst (λ t. AreListed (rows_of t xs) new.lists.by_cells) (sym table) (subst (AreListed (rows_of old.table xs)) (sym lists) is.listed);
-}
+    let row = row_of table groups (entry_of key handle) in
+    let without = slots_without index.handles (at_in table handle) key in
+    let here : handle_under key all ≡ Some handle = still_under gone key index.handles fresh ∙ leaves.here in
+    let up = ascend-filter q index.handles (ascending index.handles is.handled) in
+    let known = every-filter (λ x. key_with x.handle index.handles ≡ Some x.key) q index.handles (known_all index.handles is.handled.handles) in
+    let back : rows_of table groups all ≡ row_among row (rows_of table groups rest) = ap (rows_of table groups) (restored key handle all up here) ∙ rows_with table groups key handle rest in
+    let own : cells_with number groups ≡ Some cells = some_cells (cells_with number groups) (under_has (λ x. IsKept index.width table groups x.handle) key handle all is.kept here).there in
+    let listed : AreListed (rows_of table groups rest) lists =
+    listed_without index.handles row (rows_of table groups rest) index.lists lists
+    (key_under_handle key handle index.handles is.handled leaves.here)
+    (rows_known index.handles table groups rest (every-filter (λ x. key_with x.handle index.handles ≡ Some x.key) p all known))
+    (rows_ascend table groups rest (ascend-filter p all up))
+    (every-map (λ other. other.member.key ≢ key) (row_of table groups) rest (every_weaker (λ x. p x ≡ true) (λ x. x.key ≢ key) rest (λ x stays eq. gone_itself key x.key (sym eq) stays) (filter_passes p all)))
+    (subst (λ rs. AreListed rs index.lists) back is.listed) leaves.becomes in
+    let numbered : slots_under cells index.lists ≡ slots_numbered number groups = under_number cells number index.lists (is.numbered.cells cells number own) in
+    let slots : without (slots_numbered number groups) ≡ map slot_of (group_rows cells (rows_of table groups rest)) =
+    ap without (sym numbered)
+    ∙ sym (ap (λ b. if b then without (slots_under cells index.lists) else slots_under cells index.lists) ((signed_items cells cells).1 refl))
+    ∙ sym (leaves.becomes cells) ∙ listed cells in
+    subst (λ xs. AreListed (rows_of table groups xs) lists × AllByRecursion (λ x. IsSame table groups table lists.groups x.handle) xs) (sym (left_more gone key index.handles))
+    (listed, rest_same table index.lists lists number cells own index.width rest (without (slots_numbered number groups)) slots leaves.stays leaves.others (every-filter (λ x. IsKept index.width table groups x.handle) p all is.kept))
 
 -- one of several keys
 next_keys : (keys : List ℕ) (i key : ℕ) → slice_get keys i ≡ Some key → take (i + 1) keys ≡ take i keys ++ key ∷ []
 next_keys keys i key got = ap (λ n. take n keys) (add-one i) ∙ one_more keys i key got
 
-pub step_missing : (keys : List ℕ) (i key : ℕ) (old new : Index) → Holds (left_rows (take i keys) old.handles) old → IsRising keys → slice_get keys i ≡ Some key → handle_under key old.handles ≡ None → new.handles ≡ old.handles → new.table ≡ old.table → new.lists.by_cells ≡ old.lists.by_cells → Holds (left_rows (take (i + 1) keys) new.handles) new
-step_missing keys i key old new is up got none handles table lists =
-    subst (λ ks. Holds (left_rows ks new.handles) new) (sym (next_keys keys i key got))
-    (subst (λ hs. Holds (left_rows (take i keys ++ key ∷ []) hs) new) (sym handles)
-    (holds_as (left_rows (take i keys ++ key ∷ []) old.handles) old new (holds_missing (take i keys) key old is (new_key keys i key up got) none) handles table lists))
+-- an index from which the rows under some of the keys are gone
+pub record AreGone (keys : List ℕ) (old new : Index) : Type 0 where
+  pub holds : Holds (left_rows keys new.handles) new
+  pub handles : new.handles ≡ old.handles
+  pub table : new.table ≡ old.table
+  pub width : new.width ≡ old.width
+  pub same : AllByRecursion (λ x. IsSame old.table old.lists.groups new.table new.lists.groups x.handle) (left_rows keys new.handles)
 
-pub step_less : (keys : List ℕ) (i key handle : ℕ) (cells : List ℤ) (at : ℤ) (old new : Index) → Holds (left_rows (take i keys) old.handles) old → IsRising keys → slice_get keys i ≡ Some key → handle_under key old.handles ≡ Some handle → new.handles ≡ old.handles → new.table ≡ old.table
-    → cells ≡ cells_in old.table handle → at ≡ at_in old.table handle → Becomes cells (slots_without old.handles at key (slots_under cells old.lists.by_cells)) old.lists.by_cells new.lists.by_cells → Holds (left_rows (take (i + 1) keys) new.handles) new
-step_less keys i key handle cells at old new is up got here handles table cells_is at_is becomes =
-    let L = old.lists.by_cells in
-    subst (λ ks. Holds (left_rows ks new.handles) new) (sym (next_keys keys i key got))
-    (holds_less (take i keys) key handle old new is (new_key keys i key up got) here handles table
-    (subst (λ a. Becomes (cells_in old.table handle) (slots_without old.handles a key (slots_under (cells_in old.table handle) L)) L new.lists.by_cells) at_is
-    (subst (λ cs. Becomes cs (slots_without old.handles at key (slots_under cs L)) L new.lists.by_cells) cells_is becomes)))
+pub none_gone : (index : Index) → IsIndex index → AreGone [] index index
+none_gone index is = record {
+  holds = subst (λ xs. Holds xs index) (sym (left_none index.handles)) is;
+  handles = refl;
+  table = refl;
+  width = refl;
+  same = every-filter (λ x. IsSame index.table index.lists.groups index.table index.lists.groups x.handle) (λ x. not (is_among x.key [])) index.handles
+      (every_weaker (λ x. IsKept index.width index.table index.lists.groups x.handle) (λ x. IsSame index.table index.lists.groups index.table index.lists.groups x.handle) index.handles (λ x k. record { within = k.within; cells = refl; at = refl }) is.kept);
+}
+
+pub step_missing : (keys : List ℕ) (i key : ℕ) (old index : Index) → AreGone (take i keys) old index → IsRising keys → slice_get keys i ≡ Some key → handle_under key index.handles ≡ None → AreGone (take (i + 1) keys) old index
+step_missing keys i key old index is up got none =
+    let gone = take i keys in
+    let same : left_rows gone index.handles ≡ left_rows (take (i + 1) keys) index.handles =
+    sym (ap (λ ks. left_rows ks index.handles) (next_keys keys i key got) ∙ left_more gone key index.handles
+    ∙ left_missing key (left_rows gone index.handles) (still_under gone key index.handles (new_key keys i key up got) ∙ none)) in
+    record {
+      holds = subst (λ xs. Holds xs index) same is.holds;
+      handles = is.handles;
+      table = is.table;
+      width = is.width;
+      same = subst (AllByRecursion (λ x. IsSame old.table old.lists.groups index.table index.lists.groups x.handle)) same is.same;
+    }
+
+pub step_less : (keys : List ℕ) (i key handle : ℕ) (old index : Index) (lists : Lists) → AreGone (take i keys) old index → IsRising keys → slice_get keys i ≡ Some key → Leaves key handle index lists → AreGone (take (i + 1) keys) old (record index { lists = lists })
+step_less keys i key handle old index lists is up got leaves =
+    let gone = take i keys in
+    let all = left_rows gone index.handles in
+    let p = λ (x : Entry). not (is_among x.key (key ∷ [])) in
+    let left = left_same gone key handle index lists is.holds (new_key keys i key up got) leaves in
+    let next = sym (next_keys keys i key got) in
+    let before : left_rows (gone ++ key ∷ []) index.handles ≡ filter p all = left_more gone key index.handles in
+    let kept = subst (AllByRecursion (λ x. IsKept index.width index.table index.lists.groups x.handle)) (sym before) (every-filter (λ x. IsKept index.width index.table index.lists.groups x.handle) p all is.holds.kept) in
+    record {
+      holds = subst (λ ks. Holds (left_rows ks index.handles) (record index { lists = lists })) next (record {
+        handled = is.holds.handled;
+        kept = kept_same index.table index.lists.groups index.table lists.groups index.width (left_rows (gone ++ key ∷ []) index.handles) kept left.1;
+        listed = subst (λ rs. AreListed rs lists) (sym (rows_same index.table index.lists.groups index.table lists.groups (left_rows (gone ++ key ∷ []) index.handles) left.1)) left.0;
+        numbered = leaves.numbered;
+      });
+      handles = is.handles;
+      table = is.table;
+      width = is.width;
+      same = subst (λ ks. AllByRecursion (λ x. IsSame old.table old.lists.groups index.table lists.groups x.handle) (left_rows ks index.handles)) next
+          (every_both (λ x. IsSame old.table old.lists.groups index.table index.lists.groups x.handle) (λ x. IsSame index.table index.lists.groups index.table lists.groups x.handle) (λ x. IsSame old.table old.lists.groups index.table lists.groups x.handle) (left_rows (gone ++ key ∷ []) index.handles)
+          (λ x a b. record { within = b.within; cells = b.cells ∙ a.cells; at = b.at ∙ a.at })
+          (subst (AllByRecursion (λ x. IsSame old.table old.lists.groups index.table index.lists.groups x.handle)) (sym before) (every-filter (λ x. IsSame old.table old.lists.groups index.table index.lists.groups x.handle) p all is.same)) left.1);
+    }
 
 -- what is kept of the row of a key
-pub kept_of : (keys : List ℕ) (i key handle : ℕ) (index : Index) → Holds (left_rows (take i keys) index.handles) index → IsRising keys → slice_get keys i ≡ Some key → handle_under key index.handles ≡ Some handle → IsKept index.table handle
+pub kept_of : (keys : List ℕ) (i key handle : ℕ) (index : Index) → Holds (left_rows (take i keys) index.handles) index → IsRising keys → slice_get keys i ≡ Some key → handle_under key index.handles ≡ Some handle → IsKept index.width index.table index.lists.groups handle
 kept_of keys i key handle index is up got here =
-    under_has (λ x. IsKept index.table x.handle) key handle (left_rows (take i keys) index.handles) is.kept (still_under (take i keys) key index.handles (new_key keys i key up got) ∙ here)
+    under_has (λ x. IsKept index.width index.table index.lists.groups x.handle) key handle (left_rows (take i keys) index.handles) is.kept (still_under (take i keys) key index.handles (new_key keys i key up got) ∙ here)
 
-pub all_left : (keys : List ℕ) (i : ℕ) (index : Index) → length keys ≤ i → Holds (left_rows (take i keys) index.handles) index → Holds (left_rows keys index.handles) index
-all_left keys i index le is = subst (λ ks. Holds (left_rows ks index.handles) index) (take_all i keys le) is
+-- the group of the row of a key
+pub group_there : (keys : List ℕ) (i key handle : ℕ) (index : Index) → Holds (left_rows (take i keys) index.handles) index → IsRising keys → slice_get keys i ≡ Some key → handle_under key index.handles ≡ Some handle → IsGroup index.handles (slots_numbered (kept_in index.table handle).number index.lists.groups)
+group_there keys i key handle index is up got here =
+    let number = (kept_in index.table handle).number in
+    let cells = cells_in index.table index.lists.groups handle in
+    let own = some_cells (cells_with number index.lists.groups) (kept_of keys i key handle index is up got here).there in
+    subst (IsGroup index.handles) (under_number cells number index.lists (is.numbered.cells cells number own)) (holds_group (take i keys) index cells is)
 
-pub none_left_yet : (index : Index) → IsIndex index → Holds (left_rows [] index.handles) index
-none_left_yet index is = subst (λ xs. Holds xs index) (sym (left_none index.handles)) is
+pub all_gone : (keys : List ℕ) (i : ℕ) (old index : Index) → length keys ≤ i → AreGone (take i keys) old index → AreGone keys old index
+all_gone keys i old index le is = subst (λ ks. AreGone ks old index) (take_all i keys le) is
 
-pub members_removed : (keys : List ℕ) (old first : Index) (new : List Entry) → new ≡ left_rows keys old.handles → old.handles ≡ first.handles → old.table ≡ first.table → members_of (rows_of old.table new) ≡ left_members keys (members_of (rows_of first.table first.handles))
-members_removed keys old first new left handles table =
-    ap (λ xs. members_of (rows_of old.table xs)) left
-    ∙ members_left old.table keys old.handles
-    ∙ ap (λ xs. left_members keys (members_of (rows_of old.table xs))) handles
-    ∙ ap (λ t. left_members keys (members_of (rows_of t first.handles))) table
+pub members_removed : (keys : List ℕ) (old index : Index) (entries : List Entry) → AreGone keys old index → entries ≡ left_rows keys index.handles → members_of (rows_of index.table index.lists.groups entries) ≡ left_members keys (members_of (rows_of old.table old.lists.groups old.handles))
+members_removed keys old index entries gone left =
+    ap (λ xs. members_of (rows_of index.table index.lists.groups xs)) left
+    ∙ ap members_of (rows_same old.table old.lists.groups index.table index.lists.groups (left_rows keys index.handles) gone.same)
+    ∙ members_left old.table old.lists.groups keys index.handles
+    ∙ ap (λ xs. left_members keys (members_of (rows_of old.table old.lists.groups xs))) gone.handles
 
 pub grouped_same : (w v : ℕ) (ms ns : List Member) → w ≡ v → ms ≡ ns → ◌≡◌ {A = Grouped} (record { width = w; members = ms }) (record { width = v; members = ns })
 grouped_same w v ms ns e f = ap (λ x. record { width = x; members = ms }) e ∙ ap (λ xs. record { width = v; members = xs }) f

@@ -3,7 +3,6 @@ pub mod Ends
 pub mod Order
 pub mod Ranks
 pub mod Listed
-pub mod Tables
 pub mod Keys
 pub mod Groupings
 pub mod Indexed

@@ -1,17 +1,23 @@
 -- The lists of rows by their cells, where one of them becomes another.
-use Rattle.std.proofs.Common.{◌≡◌, refl, ap, sym, ◌∙◌, subst, Bool, true, false, List, [], ◌∷◌, ◌++◌, ℕ, zero, suc, ◌≤◌, ◌<◌, length, take, drop, arith, ℤ, Option, Some, None, unwrap_or, IsSome, if◌then◌else◌}
+use Rattle.std.proofs.Common.{◌≡◌, ◌≢◌, refl, ap, sym, ◌∙◌, subst, Bool, true, false, List, [], ◌∷◌, ◌++◌, ℕ, zero, suc, ◌≤◌, ◌<◌, length, take, drop, arith, ℤ, Option, Some, None, option_map, IsSome, inl, inr, if◌then◌else◌}
+use Rattle.std.specs.Option.{option_map_or}
 use Rattle.std.specs.List.{AllByRecursion}
 use Rattle.std.specs.Map.{KeepsOthers, lookup}
-use Rattle.std.specs.HashMap.{UpdatesBy, WritesThrough, get_by}
+use Rattle.std.specs.HashMap.{UpdatesBy}
 use Rattle.std.specs.Ordering.{int_eq}
 use Rattle.std.specs.Cmp.Lexicographic.{pointwise}
 use Rattle.std.specs.Cmp.Rules.{signed_items}
 use Rattle.std.specs.Global.{Vec}
+use Rattle.std.proofs.lemmas.Bool.{cases_eq}
+use Rattle.slab.specs.Slab.{get, with_value}
+use Rattle.slab.proofs.SlabLemmas.{Updates-with_value}
 use Rattle.tick_model.specs.Tables.{same_cells}
 use Rattle.row_handles.specs.Entries.{Entry}
+use Rattle.row_groups.specs.declared.lists.KeyedRows.{KeyedRows}
+use Rattle.row_groups.specs.declared.lists.Lists.{Lists}
 use Rattle.row_groups.specs.declared.place.Slot.{Slot}
 use Rattle.row_groups.specs.Slots.{is_before, slots_with, slots_without}
-use Rattle.row_groups.specs.Rows.{Becomes, ByCells, slots_under}
+use Rattle.row_groups.specs.Rows.{AreNumbered, Becomes, ByNumber, Numbers, cells_with, number_under, slots_numbered, slots_under}
 
 fails : (b : Bool) → (b ≡ true → ⊥) → b ≡ false
 fails true h = absurd (h refl)
@@ -20,46 +26,269 @@ fails false h = refl
 unlike : (b : Bool) → b ≡ true → b ≡ false → ⊥
 unlike b e f = cc
 
-abbrev same_key : Vec ℤ → Vec ℤ → Bool
+abbrev pub same_key : Vec ℤ → Vec ℤ → Bool
 same_key x y = pointwise int_eq x.items y.items
 
-abbrev has_cells : List ℤ → Vec ℤ → Bool
+abbrev pub has_cells : List ℤ → Vec ℤ → Bool
 has_cells cells key = same_cells cells key.items
 
 key_test : (cells : List ℤ) (x y : Vec ℤ) → has_cells cells x ≡ true → has_cells cells y ≡ same_key x y
 key_test cells x y h = ap (λ cs. same_cells cs y.items) ((signed_items cells x.items).0 h)
 
-apart : (cells other : List ℤ) → same_cells cells other ≡ false → (key : Vec ℤ) → has_cells cells key ≡ true → has_cells other key ≡ false
-apart cells other e key h =
+apart_keys : (cells other : List ℤ) → same_cells cells other ≡ false → (key : Vec ℤ) → has_cells cells key ≡ true → has_cells other key ≡ false
+apart_keys cells other e key h =
     fails (has_cells other key) (λ own. unlike (same_cells cells other) ((signed_items cells other).1 ((signed_items cells key.items).0 h ∙ sym ((signed_items other key.items).0 own))) e)
 
-becomes_at : (cells : List ℤ) (slots : List Slot) (old new : ByCells) (w : Option (List Slot)) → UpdatesBy same_key (has_cells cells) old new w → unwrap_or w [] ≡ slots → (other : List ℤ) (b : Bool) → same_cells cells other ≡ b → slots_under other new ≡ (if b then slots else slots_under other old)
+some_own : {X : Type 0} (x y : X) → ◌≡◌ {A = Option X} (Some x) (Some y) → x ≡ y
+some_own x y e = cc
+
+none_some : {X : Type 0} (x : X) → ◌≡◌ {A = Option X} None (Some x) → ⊥
+none_some x e = cc
+
+-- the number under other cells stays where that under some cells changes
+pub renumbered : (cells other : List ℤ) (old new : Numbers) (w : Option ℕ) → UpdatesBy same_key (has_cells cells) old new w → same_cells cells other ≡ false → number_under other new ≡ number_under other old
 unfolding KeepsOthers
-becomes_at cells slots old new w updates is other true e =
-    ap (λ cs. slots_under cs new) (sym ((signed_items cells other).0 e)) ∙ ap (λ o. unwrap_or o []) updates.1 ∙ is
-becomes_at cells slots old new w updates is other false e =
-    ap (λ o. unwrap_or o []) (updates.3 (has_cells other) (key_test other) (apart cells other e))
+renumbered cells other old new w updates e = updates.3 (has_cells other) (key_test other) (apart_keys cells other e)
 
-pub becomes : (cells : List ℤ) (slots : List Slot) (old new : ByCells) (w : Option (List Slot)) → UpdatesBy same_key (has_cells cells) old new w → unwrap_or w [] ≡ slots → Becomes cells slots old new
-becomes cells slots old new w updates is other = becomes_at cells slots old new w updates is other (same_cells cells other) refl
+pub numbered_as : (cells : List ℤ) (old new : Numbers) (w : Option ℕ) → UpdatesBy same_key (has_cells cells) old new w → number_under cells new ≡ w
+unfolding KeepsOthers
+numbered_as cells old new w updates = updates.1
 
-same_lists : (old new : ByCells) (other : List ℤ) → new.entries ≡ old.entries → slots_under other new ≡ slots_under other old
-same_lists old new other e = ap (λ es. unwrap_or (lookup (has_cells other) es) []) e
+-- the group with a number changes, which has these cells or is new
+pub record IsChange (cells : List ℤ) (number : ℕ) (old new : Lists) : Type 0 where
+  pub sound : AreNumbered old
+  pub mine : (other : List ℤ) → cells_with number old.groups ≡ Some other → other ≡ cells
+  pub before : (other : ℕ) → number_under cells old.numbers ≡ Some other → other ≡ number
+  pub numbers : (other : List ℤ) → same_cells cells other ≡ false → number_under other new.numbers ≡ number_under other old.numbers
+  pub groups : (other : ℕ) → other ≢ number → get new.groups other ≡ get old.groups other
 
-same_at : (cells : List ℤ) (old new : ByCells) → new.entries ≡ old.entries → (other : List ℤ) (b : Bool) → same_cells cells other ≡ b → slots_under other new ≡ (if b then slots_under cells old else slots_under other old)
-same_at cells old new e other true own =
-    same_lists old new other e ∙ ap (λ cs. slots_under cs old) (sym ((signed_items cells other).0 own))
-same_at cells old new e other false own = same_lists old new other e
+apart : (cells : List ℤ) (number : ℕ) (old new : Lists) → IsChange cells number old new → (other : List ℤ) (n : ℕ) → same_cells cells other ≡ false → number_under other old.numbers ≡ Some n → n ≢ number
+apart cells number old new change other n differ under same =
+    unlike (same_cells cells other) ((signed_items cells other).1 (sym (change.mine other (ap (λ m. cells_with m old.groups) (sym same) ∙ change.sound.numbers other n under)))) differ
 
-pub unchanged : (cells : List ℤ) (old new : ByCells) → new.entries ≡ old.entries → Becomes cells (slots_under cells old) old new
-unchanged cells old new e other = same_at cells old new e other (same_cells cells other) refl
+pub becomes : (cells : List ℤ) (number : ℕ) (slots : List Slot) (old new : Lists) → IsChange cells number old new → slots_under cells new ≡ slots → Becomes cells slots old new
+becomes cells number slots old new change own other = by_test (same_cells cells other) refl
+  where
+    by_number : (found : Option ℕ) → number_under other old.numbers ≡ found → same_cells cells other ≡ false → option_map_or (λ n. slots_numbered n new.groups) found [] ≡ option_map_or (λ n. slots_numbered n old.groups) found []
+    by_number None e differ = refl
+    by_number (Some n) e differ = ap (λ (group : Option KeyedRows). option_map_or (λ g. g.rows) group []) (change.groups n (apart cells number old new change other n differ e))
 
-pub becomes_after : (cells : List ℤ) (slots others : List Slot) (old mid new : ByCells) → Becomes cells others old mid → Becomes cells slots mid new → Becomes cells slots old new
+    by_test : (b : Bool) → same_cells cells other ≡ b → slots_under other new ≡ (if b then slots else slots_under other old)
+    by_test true e = ap (λ cs. slots_under cs new) (sym ((signed_items cells other).0 e)) ∙ own
+    by_test false e =
+        ap (λ n. option_map_or (λ m. slots_numbered m new.groups) n []) (change.numbers other e) ∙ by_number (number_under other old.numbers) refl e
+
+pub numbered : (cells : List ℤ) (number : ℕ) (old new : Lists) → IsChange cells number old new → ((other : ℕ) → number_under cells new.numbers ≡ Some other → (other ≡ number) × (cells_with number new.groups ≡ Some cells)) → ((other : List ℤ) → cells_with number new.groups ≡ Some other → (other ≡ cells) × (number_under cells new.numbers ≡ Some number)) → AreNumbered new
+numbered cells number old new change under with = record { numbers = λ other n e. by_cells other n e (same_cells cells other) refl; cells = by_number }
+  where
+    stays : (n : ℕ) → n ≢ number → cells_with n new.groups ≡ cells_with n old.groups
+    stays n ne = ap (λ (group : Option KeyedRows). option_map (λ g. g.cells.items) group) (change.groups n ne)
+
+    by_cells : (other : List ℤ) (n : ℕ) → number_under other new.numbers ≡ Some n → (b : Bool) → same_cells cells other ≡ b → cells_with n new.groups ≡ Some other
+    by_cells other n e true same =
+        let own = (signed_items cells other).0 same in
+        let is = under n (ap (λ cs. number_under cs new.numbers) own ∙ e) in
+        ap (λ m. cells_with m new.groups) is.0 ∙ is.1 ∙ ap Some own
+    by_cells other n e false differ =
+        let was = sym (change.numbers other differ) ∙ e in
+        stays n (apart cells number old new change other n differ was) ∙ change.sound.numbers other n was
+
+    by_test : (other : List ℤ) (n : ℕ) → n ≢ number → number_under other old.numbers ≡ Some n → (b : Bool) → same_cells cells other ≡ b → number_under other new.numbers ≡ Some n
+    by_test other n ne was true same = absurd (ne (change.before n (ap (λ cs. number_under cs old.numbers) ((signed_items cells other).0 same) ∙ was)))
+    by_test other n ne was false differ = change.numbers other differ ∙ was
+
+    by_number : (other : List ℤ) (n : ℕ) → cells_with n new.groups ≡ Some other → number_under other new.numbers ≡ Some n
+    by_number other n e =
+        elim (cases_eq n number) [
+          | inl same ↦
+              let is = with other (ap (λ m. cells_with m new.groups) (sym same) ∙ e) in
+              ap (λ cs. number_under cs new.numbers) is.0 ∙ is.1 ∙ ap Some (sym same)
+          | inr ne ↦ by_test other n ne (change.sound.cells other n (sym (stays n ne) ∙ e)) (same_cells cells other) refl
+        ]
+
+-- the group with a number, and what it has
+pub with_group : (number : ℕ) (groups : ByNumber) (group : KeyedRows) → get groups number ≡ Some group → cells_with number groups ≡ Some group.cells.items
+with_group number groups group e = ap (λ (g : Option KeyedRows). option_map (λ k. k.cells.items) g) e
+
+pub with_rows : (number : ℕ) (groups : ByNumber) (group : KeyedRows) → get groups number ≡ Some group → slots_numbered number groups ≡ group.rows
+with_rows number groups group e = ap (λ (g : Option KeyedRows). option_map_or (λ k. k.rows) g []) e
+
+pub under_number : (cells : List ℤ) (number : ℕ) (lists : Lists) → number_under cells lists.numbers ≡ Some number → slots_under cells lists ≡ slots_numbered number lists.groups
+under_number cells number lists e = ap (λ n. option_map_or (λ m. slots_numbered m lists.groups) n []) e
+
+pub numbered_under : (cells : List ℤ) (number : ℕ) (lists : Lists) → AreNumbered lists → cells_with number lists.groups ≡ Some cells → slots_numbered number lists.groups ≡ slots_under cells lists
+numbered_under cells number lists numbered with = sym (under_number cells number lists (numbered.cells cells number with))
+
+pub under_none : (cells : List ℤ) (lists : Lists) → number_under cells lists.numbers ≡ None → slots_under cells lists ≡ []
+under_none cells lists e = ap (λ n. option_map_or (λ m. slots_numbered m lists.groups) n []) e
+
+pub there_is_group : (cells : List ℤ) (number : ℕ) (lists : Lists) → AreNumbered lists → number_under cells lists.numbers ≡ Some number → IsSome (get lists.groups number)
+there_is_group cells number lists numbered under = has (get lists.groups number) (numbered.numbers cells number under)
+  where
+    has : (group : Option KeyedRows) → option_map (λ g. g.cells.items) group ≡ Some cells → IsSome group
+    has None e = absurd (cc)
+    has (Some group) e = refl
+
+-- a group that begins
+pub record Begins (cells : List ℤ) (number : ℕ) (group : KeyedRows) (old new : Lists) : Type 0 where
+  pub sound : AreNumbered old
+  pub absent : number_under cells old.numbers ≡ None
+  pub updates : UpdatesBy same_key (has_cells cells) old.numbers new.numbers (Some number)
+  pub vacant : get old.groups number ≡ None
+  pub put : get new.groups number ≡ Some group
+  pub others : (n : ℕ) → n ≢ number → get new.groups n ≡ get old.groups n
+  pub same : group.cells.items ≡ cells
+
+module _ (cells : List ℤ) (number : ℕ) (group : KeyedRows) (old new : Lists) (begins : Begins cells number group old new) where
+  begins_change : IsChange cells number old new
+  begins_change = record {
+    sound = begins.sound;
+    mine = λ other e. absurd (none_some other (sym (ap (λ (g : Option KeyedRows). option_map (λ k. k.cells.items) g) begins.vacant) ∙ e));
+    before = λ other e. absurd (none_some other (sym begins.absent ∙ e));
+    numbers = λ other differ. renumbered cells other old.numbers new.numbers (Some number) begins.updates differ;
+    groups = begins.others;
+  }
+
+  pub begins_cells : cells_with number new.groups ≡ Some cells
+  begins_cells = with_group number new.groups group begins.put ∙ ap Some begins.same
+
+  pub begins_rows : Becomes cells group.rows old new
+  begins_rows =
+      becomes cells number group.rows old new begins_change
+      (under_number cells number new (numbered_as cells old.numbers new.numbers (Some number) begins.updates) ∙ with_rows number new.groups group begins.put)
+
+  pub begins_numbered : AreNumbered new
+  begins_numbered =
+      let under = numbered_as cells old.numbers new.numbers (Some number) begins.updates in
+      numbered cells number old new begins_change
+      (λ other e. (sym (some_own number other (sym under ∙ e)), begins_cells))
+      (λ other e. (sym (some_own cells other (sym begins_cells ∙ e)), under))
+
+  pub begins_others : (other : ℕ) → IsSome (cells_with other old.groups) → cells_with other new.groups ≡ cells_with other old.groups
+  begins_others other there =
+      elim (cases_eq other number) [
+        | inl same ↦ absurd (not_some (cells_with other old.groups) (ap (λ (g : Option KeyedRows). option_map (λ k. k.cells.items) g) (ap (get old.groups) same ∙ begins.vacant)) there)
+        | inr differ ↦ ap (λ (g : Option KeyedRows). option_map (λ k. k.cells.items) g) (begins.others other differ)
+      ]
+    where
+      not_some : (cells : Option (List ℤ)) → cells ≡ None → IsSome cells → ⊥
+      not_some None e there = cc
+      not_some (Some cells) e there = cc
+
+-- a group whose rows become others
+pub record Changes (number : ℕ) (group : KeyedRows) (rows : List Slot) (old new : Lists) : Type 0 where
+  pub sound : AreNumbered old
+  pub was : get old.groups number ≡ Some group
+  pub numbers : new.numbers ≡ old.numbers
+  pub put : get new.groups number ≡ Some (record group { rows = rows })
+  pub others : (n : ℕ) → n ≢ number → get new.groups n ≡ get old.groups n
+
+module _ (number : ℕ) (group : KeyedRows) (rows : List Slot) (old new : Lists) (changes : Changes number group rows old new) where
+  changes_own : cells_with number old.groups ≡ Some group.cells.items
+  changes_own = with_group number old.groups group changes.was
+
+  pub changes_under : number_under group.cells.items old.numbers ≡ Some number
+  changes_under = changes.sound.cells group.cells.items number changes_own
+
+  changes_change : IsChange group.cells.items number old new
+  changes_change = record {
+    sound = changes.sound;
+    mine = λ other e. sym (some_own group.cells.items other (sym changes_own ∙ e));
+    before = λ other e. sym (some_own number other (sym changes_under ∙ e));
+    numbers = λ other differ. ap (number_under other) changes.numbers;
+    groups = changes.others;
+  }
+
+  pub changes_rows : Becomes group.cells.items rows old new
+  changes_rows =
+      becomes group.cells.items number rows old new changes_change
+      (under_number group.cells.items number new (ap (number_under group.cells.items) changes.numbers ∙ changes_under) ∙ with_rows number new.groups (record group { rows = rows }) changes.put)
+
+  pub changes_cells : (other : ℕ) → cells_with other new.groups ≡ cells_with other old.groups
+  changes_cells other =
+      elim (cases_eq other number) [
+        | inl same ↦ ap (λ n. cells_with n new.groups) same ∙ with_group number new.groups (record group { rows = rows }) changes.put ∙ sym changes_own ∙ ap (λ n. cells_with n old.groups) (sym same)
+        | inr differ ↦ ap (λ (g : Option KeyedRows). option_map (λ k. k.cells.items) g) (changes.others other differ)
+      ]
+
+  pub changes_numbered : AreNumbered new
+  changes_numbered = record {
+    numbers = λ cells n e. changes_cells n ∙ changes.sound.numbers cells n (sym (ap (number_under cells) changes.numbers) ∙ e);
+    cells = λ cells n e. ap (number_under cells) changes.numbers ∙ changes.sound.cells cells n (sym (changes_cells n) ∙ e);
+  }
+
+pub changed : (number : ℕ) (group : KeyedRows) (rows : List Slot) (old new : Lists) → AreNumbered old → get old.groups number ≡ Some group → new.numbers ≡ old.numbers → new.groups ≡ with_value old.groups number (record group { rows = rows }) → Changes number group rows old new
+changed number group rows old new sound was numbers groups =
+    let updates = Updates-with_value old.groups number (record group { rows = rows }) (subst (λ (g : Option KeyedRows). IsSome g) (sym was) refl) in
+    record {
+      sound = sound;
+      was = was;
+      numbers = numbers;
+      put = ap (λ (g : ByNumber). get g number) groups ∙ updates.changed;
+      others = λ n ne. ap (λ (g : ByNumber). get g n) groups ∙ updates.others n ne;
+    }
+
+-- a group that is given up
+pub record GivesUp (number : ℕ) (group : KeyedRows) (old new : Lists) : Type 0 where
+  pub sound : AreNumbered old
+  pub was : get old.groups number ≡ Some group
+  pub updates : UpdatesBy same_key (has_cells group.cells.items) old.numbers new.numbers None
+  pub gone : get new.groups number ≡ None
+  pub others : (n : ℕ) → n ≢ number → get new.groups n ≡ get old.groups n
+
+module _ (number : ℕ) (group : KeyedRows) (old new : Lists) (gives : GivesUp number group old new) where
+  gives_own : cells_with number old.groups ≡ Some group.cells.items
+  gives_own = with_group number old.groups group gives.was
+
+  gives_change : IsChange group.cells.items number old new
+  gives_change = record {
+    sound = gives.sound;
+    mine = λ other e. sym (some_own group.cells.items other (sym gives_own ∙ e));
+    before = λ other e. sym (some_own number other (sym (gives.sound.cells group.cells.items number gives_own) ∙ e));
+    numbers = λ other differ. renumbered group.cells.items other old.numbers new.numbers None gives.updates differ;
+    groups = gives.others;
+  }
+
+  gives_none : number_under group.cells.items new.numbers ≡ None
+  gives_none = numbered_as group.cells.items old.numbers new.numbers None gives.updates
+
+  pub gives_rows : (cells : List ℤ) → cells_with number old.groups ≡ Some cells → Becomes cells [] old new
+  gives_rows cells e =
+      subst (λ cs. Becomes cs [] old new) (some_own group.cells.items cells (sym gives_own ∙ e))
+      (becomes group.cells.items number [] old new gives_change (under_none group.cells.items new gives_none))
+
+  pub gives_others : (other : ℕ) → other ≢ number → cells_with other new.groups ≡ cells_with other old.groups
+  gives_others other differ = ap (λ (g : Option KeyedRows). option_map (λ k. k.cells.items) g) (gives.others other differ)
+
+  pub gives_numbered : AreNumbered new
+  gives_numbered =
+      numbered group.cells.items number old new gives_change
+      (λ other e. absurd (none_some other (sym gives_none ∙ e)))
+      (λ other e. absurd (none_some other (sym (ap (λ (g : Option KeyedRows). option_map (λ k. k.cells.items) g) gives.gone) ∙ e)))
+
+pub same_numbers : (old new : Numbers) (other : List ℤ) → new.entries ≡ old.entries → number_under other new ≡ number_under other old
+same_numbers old new other e = ap (lookup (has_cells other)) e
+
+pub with_same_cells : (cells : List ℤ) (number : ℕ) (group : KeyedRows) (lists : Lists) → AreNumbered lists → number_under cells lists.numbers ≡ Some number → get lists.groups number ≡ Some group → group.cells.items ≡ cells
+with_same_cells cells number group lists numbered under is = some_own group.cells.items cells (sym (with_group number lists.groups group is) ∙ numbered.numbers cells number under)
+
+-- a group that does not begin
+pub unbegun : (cells : List ℤ) (old new : Lists) → number_under cells old.numbers ≡ None → ((other : List ℤ) → slots_under other new ≡ slots_under other old) → Becomes cells [] old new
+unbegun cells old new absent same other = by_test (same_cells cells other) refl
+  where
+    by_test : (b : Bool) → same_cells cells other ≡ b → slots_under other new ≡ (if b then [] else slots_under other old)
+    by_test true e = same other ∙ ap (λ cs. slots_under cs old) (sym ((signed_items cells other).0 e)) ∙ under_none cells old absent
+    by_test false e = same other
+
+pub becomes_after : (cells : List ℤ) (slots others : List Slot) (old mid new : Lists) → Becomes cells others old mid → Becomes cells slots mid new → Becomes cells slots old new
 becomes_after cells slots others old mid new first second other = by_test (same_cells cells other) (first other) (second other)
   where
     by_test : (b : Bool) → slots_under other mid ≡ (if b then others else slots_under other old) → slots_under other new ≡ (if b then slots else slots_under other mid) → slots_under other new ≡ (if b then slots else slots_under other old)
     by_test true e f = f
     by_test false e f = f ∙ e
+
+pub same_items : (cells : List ℤ) (number : ℕ) (group : KeyedRows) (groups : ByNumber) → get groups number ≡ Some group → cells_with number groups ≡ Some cells → group.cells.items ≡ cells
+same_items cells number group groups was own = some_own group.cells.items cells (sym (with_group number groups group was) ∙ own)
 
 -- a place in a list
 pub placed_with : (entries : List Entry) (at : ℤ) (key : ℕ) (slot : Slot) (slots : List Slot) (n : ℕ) → n ≤ length slots → AllByRecursion (λ s. is_before entries at key s ≡ true) (take n slots) → AllByRecursion (λ s. is_before entries at key s ≡ false) (drop n slots) → take n slots ++ slot ∷ drop n slots ≡ slots_with entries at key slot slots
@@ -84,14 +313,3 @@ none_there entries at key (s ∷ slots) zero le h = absurd (omega arith)
 none_there entries at key (s ∷ slots) (suc n) le h =
     ap (λ ss. s ∷ ss) (none_there entries at key slots n (omega arith) h.1)
     ∙ sym (ap (λ b. if b then s ∷ slots_without entries at key slots else slots) h.0)
-
--- a list that is written through what a map lent
-pub written : (cells : List ℤ) (rows new slots : List Slot) (old lent : ByCells) → WritesThrough same_key (has_cells cells) old new lent → Some rows ≡ get_by (has_cells cells) old → new ≡ slots → Becomes cells slots old lent
-written cells rows new slots old lent writes there is =
-    becomes cells slots old lent (Some new) (writes.3 (subst (λ (o : Option (List Slot)). IsSome o) there refl)) is
-
-pub held_rows : (cells : List ℤ) (rows : List Slot) (old : ByCells) → Some rows ≡ get_by (has_cells cells) old → rows ≡ slots_under cells old
-held_rows cells rows old there = ap (λ (o : Option (List Slot)). unwrap_or o []) there
-
-pub nothing_held : (cells : List ℤ) (old : ByCells) → None ≡ get_by (has_cells cells) old → [] ≡ slots_under cells old
-nothing_held cells old there = ap (λ (o : Option (List Slot)). unwrap_or o []) there

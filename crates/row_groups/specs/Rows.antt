@@ -1,35 +1,62 @@
 -- What is kept of each row by its handle, and the rows of a group in order.
---     cells_in table handle, at_in table handle      what is kept under a handle
---     rows_of table entries      the rows, each with what is kept of it
+--     kept_in table handle      what is kept under a handle
+--     cells_with number groups, slots_numbered number groups      the key cells of the group with a number, and its list
+--     number_under cells numbers      the number of the group with these key cells
+--     rows_of table groups entries      the rows, each with what is kept of it
 --     group_rows cells rows      the rows of a group in order
---     slots_under cells by_cells      the list that is kept of a group
-use Rattle.std.specs.Prelude.{ℕ, ◌+◌, ◌*◌, ◌<◌, ◌≤◌, ◌≡◌, int_lt, List, [], ◌∷◌, filter, length, map, slice_range, slice_index_or, unwrap_or, ℤ, pos, if◌then◌else◌}
+--     slots_under cells lists      the list that is kept of a group
+use Rattle.std.specs.Prelude.{ℕ, ◌<◌, ◌≡◌, int_lt, List, [], ◌∷◌, Option, Some, IsSome, filter, length, map, option_map, slice_index_or, unwrap_or, ℤ, pos, if◌then◌else◌}
+use Rattle.std.specs.Option.{option_map_or}
 use Rattle.std.specs.HashMap.{HashMap, get_by}
 use Rattle.std.specs.declared.hash.FoldHasher.{FoldHasher}
 use Rattle.std.specs.declared.hash.BuildHasherDefault.{BuildHasherDefault}
 use Rattle.std.specs.Global.{Vec}
+use Rattle.slab.specs.Slab.{Slab, get}
 use Rattle.tick_model.specs.Tables.{same_cells}
 use Rattle.row_handles.specs.Entries.{Entry}
+use Rattle.row_groups.specs.declared.lists.KeyedRows.{KeyedRows}
+use Rattle.row_groups.specs.declared.lists.Lists.{Lists}
 use Rattle.row_groups.specs.declared.place.Slot.{Slot}
+use Rattle.row_groups.specs.declared.table.Kept.{Kept}
 use Rattle.row_groups.specs.declared.table.Table.{Table}
-use Rattle.row_groups.specs.declared.table.Span.{Span}
 use Rattle.row_groups.specs.Members.{Member, member_of}
 
-abbrev pub cells_in : Table → ℕ → List ℤ
-cells_in table handle = slice_range table.cells.items (handle * table.width) (handle * table.width + table.width)
+abbrev pub ByNumber : Type 0
+ByNumber = Slab KeyedRows
+
+-- the numbers of the groups by their cells
+abbrev pub Numbers : Type 0
+Numbers = HashMap (Vec ℤ) ℕ (BuildHasherDefault FoldHasher)
+
+abbrev pub kept_in : Table → ℕ → Kept
+kept_in table handle = slice_index_or table.rows.items handle (record { number = 0; at = pos 0 })
 
 abbrev pub at_in : Table → ℕ → ℤ
-at_in table handle = slice_index_or table.ats.items handle (pos 0)
+at_in table handle = (kept_in table handle).at
 
--- the table has room for what is kept under the handle
-pub record IsKept (table : Table) (handle : ℕ) : Type 0 where
-  pub cells : handle * table.width + table.width ≤ length table.cells.items
-  pub at : handle < length table.ats.items
+abbrev pub cells_with : ℕ → ByNumber → Option (List ℤ)
+cells_with number groups = option_map (λ group. group.cells.items) (get groups number)
+
+abbrev pub slots_numbered : ℕ → ByNumber → List Slot
+slots_numbered number groups = option_map_or (λ group. group.rows) (get groups number) []
+
+abbrev pub number_under : List ℤ → Numbers → Option ℕ
+number_under cells numbers = get_by (λ key. same_cells cells key.items) numbers
+
+-- the key cells of the group of a row
+abbrev pub cells_in : Table → ByNumber → ℕ → List ℤ
+cells_in table groups handle = unwrap_or (cells_with (kept_in table handle).number groups) []
+
+-- what is kept under the handle names a group, whose cells are so many
+pub record IsKept (count : ℕ) (table : Table) (groups : ByNumber) (handle : ℕ) : Type 0 where
+  pub within : handle < length table.rows.items
+  pub there : IsSome (cells_with (kept_in table handle).number groups)
+  pub width : length (cells_in table groups handle) ≡ count
 
 -- what is kept under the handle stays
-pub record IsSame (old new : Table) (handle : ℕ) : Type 0 where
-  pub kept : IsKept new handle
-  pub cells : cells_in new handle ≡ cells_in old handle
+pub record IsSame (old : Table) (groups : ByNumber) (new : Table) (others : ByNumber) (handle : ℕ) : Type 0 where
+  pub within : handle < length new.rows.items
+  pub cells : cells_with (kept_in new handle).number others ≡ cells_with (kept_in old handle).number groups
   pub at : at_in new handle ≡ at_in old handle
 
 -- a row with its handle
@@ -37,11 +64,11 @@ pub record Row : Type 0 where
   pub member : Member
   pub handle : ℕ
 
-abbrev pub row_of : Table → Entry → Row
-row_of table entry = record { member = member_of entry.key (cells_in table entry.handle) (at_in table entry.handle); handle = entry.handle }
+abbrev pub row_of : Table → ByNumber → Entry → Row
+row_of table groups entry = record { member = member_of entry.key (cells_in table groups entry.handle) (at_in table entry.handle); handle = entry.handle }
 
-abbrev pub rows_of : Table → List Entry → List Row
-rows_of table = map (row_of table)
+abbrev pub rows_of : Table → ByNumber → List Entry → List Row
+rows_of table groups = map (row_of table groups)
 
 abbrev pub members_of : List Row → List Member
 members_of = map (λ row. row.member)
@@ -60,22 +87,18 @@ group_rows cells rows = rows_by_at (filter (λ row. same_cells cells row.member.
 abbrev pub slot_of : Row → Slot
 slot_of row = record { at = row.member.at; handle = row.handle }
 
--- the lists of rows by their cells
-abbrev pub ByCells : Type 0
-ByCells = HashMap (Vec ℤ) (List Slot) (BuildHasherDefault FoldHasher)
+abbrev pub slots_under : List ℤ → Lists → List Slot
+slots_under cells lists = option_map_or (λ number. slots_numbered number lists.groups) (number_under cells lists.numbers) []
 
-abbrev pub slots_under : List ℤ → ByCells → List Slot
-slots_under cells by_cells = unwrap_or (get_by (λ key. same_cells cells key.items) by_cells) []
+-- the cells lead to the numbers of the groups that have them
+pub record AreNumbered (lists : Lists) : Type 0 where
+  pub numbers : (cells : List ℤ) (number : ℕ) → number_under cells lists.numbers ≡ Some number → cells_with number lists.groups ≡ Some cells
+  pub cells : (cells : List ℤ) (number : ℕ) → cells_with number lists.groups ≡ Some cells → number_under cells lists.numbers ≡ Some number
 
 -- only the list under these cells is another
-abbrev pub Becomes : List ℤ → List Slot → ByCells → ByCells → Type 0
+abbrev pub Becomes : List ℤ → List Slot → Lists → Lists → Type 0
 Becomes cells slots old new = (other : List ℤ) → slots_under other new ≡ (if same_cells cells other then slots else slots_under other old)
 
 -- the lists are those of the groups
-abbrev pub AreListed : List Row → ByCells → Type 0
-AreListed rows by_cells = (cells : List ℤ) → slots_under cells by_cells ≡ map slot_of (group_rows cells rows)
-
--- the part of the list of cells that is kept under a handle
-pub record IsSpan (table : Table) (handle : ℕ) (span : Span) : Type 0 where
-  pub from : span.from ≡ handle * table.width
-  pub to : span.to ≡ handle * table.width + table.width
+abbrev pub AreListed : List Row → Lists → Type 0
+AreListed rows lists = (cells : List ℤ) → slots_under cells lists ≡ map slot_of (group_rows cells rows)

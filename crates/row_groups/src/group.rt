@@ -1,6 +1,6 @@
 //! The rows with the same key cells.
 ghost use Rattle.std.specs.Prelude.{◌≡◌, ◌-◌, ◌<◌, ◌==◌, Some, length, map, slice_get, int_le, int_lt};
-ghost use Rattle.std.specs.List.{count_by};
+ghost use Rattle.std.specs.List.{AllByRecursion, count_by};
 ghost use Rattle.row_handles.specs.Entries.{AreHandled};
 ghost use Rattle.row_groups.specs.Members.{keys_of};
 ghost use Rattle.row_groups.specs.Slots.{AreKnown, AreRanked};
@@ -48,6 +48,13 @@ impl<'a> Group<'a> {
             cells,
             rows,
         }
+    }
+
+    /// The key cells that the rows have.
+    pub fn cells(&self) -> &'a [i64]
+        ensures { AllByRecursion (λ member. member.cells ≡ result.now) self.now }
+    {
+        self.cells
     }
 
     /// How many rows there are.

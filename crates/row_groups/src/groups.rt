@@ -84,13 +84,29 @@ impl Groups {
         )
     }
 
+    /// The rows with the cells of the row under a key, or None where there is none. It takes no hash.
+    pub fn group_of(&self, key: u64) -> Option<Group<'_>>
+        ensures group { result ≡ option_map (λ member. group_of member.cells self.now.members) (member_under key self.now.members) }
+        ensures members { AreGrouped self.now }
+    {
+        let handle = self.index.handles.handle_of(key)?;
+        let kept = self.index.table.get(handle);
+        let lists = &self.index.lists;
+        Some(Group::new(
+            &self.index.handles,
+            lists.cells_of(kept.number),
+            lists.rows_of(kept.number),
+        ))
+    }
+
     /// The key cells of the row under a key, or None where there is none.
     pub fn cells_of(&self, key: u64) -> Option<&[i64]>
         ensures cells { option_map (λ cells. cells.now) result ≡ option_map (λ member. member.cells) (member_under key self.now.members) }
         ensures members { AreGrouped self.now }
     {
         let handle = self.index.handles.handle_of(key)?;
-        Some(self.index.table.cells_of(handle))
+        let kept = self.index.table.get(handle);
+        Some(self.index.lists.cells_of(kept.number))
     }
 
     /// The `at` of the row under a key, or None where there is none.
@@ -99,6 +115,6 @@ impl Groups {
         ensures members { AreGrouped self.now }
     {
         let handle = self.index.handles.handle_of(key)?;
-        Some(self.index.table.at_of(handle))
+        Some(self.index.table.get(handle).at)
     }
 }

@@ -7,7 +7,7 @@ ghost use Rattle.row_groups.specs.Rows.{members_of, rows_of};
 
 use crate::lists::Lists;
 use crate::place::{Place, Slot};
-use crate::table::Table;
+use crate::table::{Kept, Table};
 use row_handles::{Handle, Handles};
 use row_set::RowSet;
 use shift_data::ShiftData;
@@ -16,6 +16,8 @@ use std::alloc::{AllocError, Global};
 /// The rows of a table in groups.
 #[derive(Drop)]
 pub(crate) struct Index {
+    /// How many key cells each row has.
+    pub(crate) width: usize,
     pub(crate) handles: Handles,
     pub(crate) table: Table,
     pub(crate) lists: Lists,
@@ -30,8 +32,9 @@ impl Index {
         ensures members { grouped_of result ≡ record { width = width; members = [] } }
     {
         Index {
+            width,
             handles: Handles::new(alloc),
-            table: Table::new(alloc, width),
+            table: Table::new(alloc),
             lists: Lists::new(alloc),
         }
     }
@@ -40,21 +43,23 @@ impl Index {
     fn enter(&mut self, handle: Handle, key: u64, cells: &[i64], at: i64) -> Result<(), AllocError>
         requires others { Holds (left_rows (key ∷ []) self.old.handles) self.old }
         requires handle { handle_under key self.old.handles ≡ Some handle }
-        requires width { length cells.now ≡ self.old.table.width }
+        requires width { length cells.now ≡ self.old.width }
         ensures ok { OnOk result (IsIndex self.new) }
-        ensures row { OnOk result (grouped_of self.new ≡ record { width = self.old.table.width; members = with_member (member_of key cells.now at) (members_of (rows_of self.old.table (left_rows (key ∷ []) self.old.handles))) }) }
+        ensures row { OnOk result (grouped_of self.new ≡ record { width = self.old.width; members = with_member (member_of key cells.now at) (members_of (rows_of self.old.table self.old.lists.groups (left_rows (key ∷ []) self.old.handles))) }) }
         ensures err { OnErr result (Holds (left_rows (key ∷ []) self.new.handles) self.new) }
-        ensures others { rows_of self.new.table (left_rows (key ∷ []) self.new.handles) ≡ rows_of self.old.table (left_rows (key ∷ []) self.old.handles) }
+        ensures others { rows_of self.new.table self.new.lists.groups (left_rows (key ∷ []) self.new.handles) ≡ rows_of self.old.table self.old.lists.groups (left_rows (key ∷ []) self.old.handles) }
         ensures handles { self.new.handles ≡ self.old.handles }
-        ensures width { self.new.table.width ≡ self.old.table.width }
+        ensures width { self.new.width ≡ self.old.width }
     {
-        self.table.keep(handle, cells, at)?;
+        self.table.make_room(handle)?;
         let place = Place {
             handles: &self.handles,
             at,
             key,
         };
-        self.lists.put(cells, &place, Slot { at, handle })
+        let number = self.lists.put(cells, &place, Slot { at, handle })?;
+        self.table.keep(handle, Kept { number, at });
+        Ok(())
     }
 
     /// Puts a row in under a key that has none.
@@ -62,7 +67,7 @@ impl Index {
         requires sound { IsIndex self.old }
         requires small { key < 2 ^ 62 }
         requires absent { handle_under key self.old.handles ≡ None }
-        requires width { length cells.now ≡ self.old.table.width }
+        requires width { length cells.now ≡ self.old.width }
         ensures sound { IsIndex self.new }
         ensures ok { OnOk result (grouped_of self.new ≡ record (grouped_of self.old) { members = with_member (member_of key cells.now at) (grouped_of self.old).members }) }
         ensures err { OnErr result (grouped_of self.new ≡ grouped_of self.old) }
@@ -88,12 +93,13 @@ impl Index {
             let Some(handle) = self.handles.handle_of(key) else {
                 continue;
             };
+            let kept = self.table.get(handle);
             let place = Place {
                 handles: &self.handles,
-                at: self.table.at_of(handle),
+                at: kept.at,
                 key,
             };
-            self.lists.take(self.table.cells_of(handle), &place);
+            self.lists.take(kept.number, &place);
         }
         self.handles.remove(keys);
     }

@@ -1,92 +1,150 @@
-//! The rows of each group, in order, by the key cells of the group.
-ghost use Rattle.std.specs.Prelude.{◌≡◌, ◌∷◌, [], None, OnOk, OnErr};
-ghost use Rattle.std.specs.HashMap.{get_by};
-ghost use Rattle.tick_model.specs.Tables.{same_cells};
+//! The rows of each group, in order, by the number of the group.
+ghost use Rattle.std.specs.Prelude.{◌≡◌, ◌≢◌, ◌∷◌, ℕ, List, ℤ, [], None, Some, IfOk, IsSome, OnErr};
 ghost use Rattle.row_groups.specs.Slots.{AreKnown, is_before, IsParted, slots_with, slots_without};
 
 use crate::place::{Place, Slot};
 use crate::sequence::Sequence;
+use slab::Slab;
 use std::alloc::{AllocError, Global};
 use std::collections::HashMap;
 
-/// A sequence of rows for each group. A group has its key cells once, and leaves with its last row.
+/// The rows of a group, and the key cells that they have.
+#[derive(Drop)]
+pub(crate) struct KeyedRows {
+    pub(crate) cells: Vec<i64>,
+    pub(crate) rows: Sequence,
+}
+
+/// The groups. A group comes with its first row and leaves with its last, and its number is then free for another.
 #[derive(Drop)]
 pub(crate) struct Lists {
     alloc: Global,
-    pub(crate) by_cells: HashMap<Vec<i64>, Sequence>,
+    /// The number of each group, by its key cells.
+    pub(crate) numbers: HashMap<Vec<i64>, usize>,
+    pub(crate) groups: Slab<KeyedRows>,
     /// What stands for the groups that are not there.
     none: Sequence,
     ghost nothing: { none ≡ [] },
 }
 
 impl Lists {
-    ghost use Rattle.row_groups.specs.Rows.{Becomes, slots_under};
+    ghost use Rattle.row_groups.specs.Rows.{AreNumbered, Becomes, cells_with, number_under, slots_numbered, slots_under};
 
     /// No groups.
     pub(crate) fn new(alloc: Global) -> Lists
-        ensures { result.by_cells.entries ≡ [] }
+        ensures numbers { result.numbers.entries ≡ [] }
+        ensures groups { result.groups.slots ≡ [] }
     {
         Lists {
             alloc,
-            by_cells: HashMap::new(alloc),
+            numbers: HashMap::new(alloc),
+            groups: Slab::new(alloc),
             none: Sequence::new(alloc),
         }
     }
 
     /// The rows with these cells.
     pub(crate) fn rows_with(&self, cells: &[i64]) -> &Sequence
-        ensures { result.now ≡ slots_under cells.now self.now.by_cells }
+        requires { AreNumbered self.now }
+        ensures { result.now ≡ slots_under cells.now self.now }
     {
-        self.by_cells.get(cells).unwrap_or(&self.none)
+        match self.numbers.get(cells) {
+            Some(number) => &self.groups[*number].rows,
+            None => &self.none,
+        }
     }
 
-    /// Begins the group of these cells with its first row.
-    fn begin(&mut self, cells: &[i64], slot: Slot) -> Result<(), AllocError>
-        requires { get_by (λ key. same_cells cells.now key.items) self.old.by_cells ≡ None }
-        ensures ok { OnOk result (Becomes cells.now (slot ∷ []) self.old.by_cells self.new.by_cells) }
-        ensures err { OnErr result (self.new.by_cells.entries ≡ self.old.by_cells.entries) }
+    /// The key cells of a group.
+    pub(crate) fn cells_of(&self, number: usize) -> &[i64]
+        requires { IsSome (cells_with number self.now.groups) }
+        ensures { Some result.now ≡ cells_with number self.now.groups }
+    {
+        &self.groups[number].cells
+    }
+
+    /// The rows of a group.
+    pub(crate) fn rows_of(&self, number: usize) -> &Sequence
+        requires { IsSome (cells_with number self.now.groups) }
+        ensures { result.now ≡ slots_numbered number self.now.groups }
+    {
+        &self.groups[number].rows
+    }
+
+    /// Begins the group of these cells with its first row, and gives it a number.
+    fn begin(&mut self, cells: &[i64], slot: Slot) -> Result<usize, AllocError>
+        requires sound { AreNumbered self.old }
+        requires absent { number_under cells.now self.old.numbers ≡ None }
+        ensures ok { IfOk result (λ number. Becomes cells.now (slot ∷ []) self.old self.new) }
+        ensures number { IfOk result (λ number. cells_with number self.new.groups ≡ Some cells.now) }
+        ensures others { (other : ℕ) → IsSome (cells_with other self.old.groups) → cells_with other self.new.groups ≡ cells_with other self.old.groups }
+        ensures err { OnErr result (Becomes cells.now [] self.old self.new) }
+        ensures sound { AreNumbered self.new }
     {
         let mut rows = Sequence::new(self.alloc);
         rows.insert(0, slot)?;
         let key = Vec::from_slice(self.alloc, cells)?;
-        self.by_cells.insert(key, rows)?;
-        Ok(())
+        let kept = Vec::from_slice(self.alloc, cells)?;
+        self.groups.reserve(1)?;
+        self.numbers.insert(key, self.groups.vacant_key())?;
+        Ok(self.groups.insert_reserved(KeyedRows { cells: kept, rows }))
     }
 
-    /// Puts a row in at its place among the rows with these cells. After a refusal all is as it was.
+    /// Puts a row in at its place among the rows with these cells. Returns the number of their group. After a refusal all is as
+    /// it was.
     pub(crate) fn put(
         &mut self,
         cells: &[i64],
         place: &Place<'_>,
         slot: Slot,
-    ) -> Result<(), AllocError>
-        requires known { AreKnown place.now.handles.now (slots_under cells.now self.old.by_cells) }
-        requires parted { IsParted (is_before place.now.handles.now place.now.at place.now.key) (slots_under cells.now self.old.by_cells) }
-        ensures ok { OnOk result (Becomes cells.now (slots_with place.now.handles.now place.now.at place.now.key slot (slots_under cells.now self.old.by_cells)) self.old.by_cells self.new.by_cells) }
-        ensures err { OnErr result (Becomes cells.now (slots_under cells.now self.old.by_cells) self.old.by_cells self.new.by_cells) }
+    ) -> Result<usize, AllocError>
+        requires sound { AreNumbered self.old }
+        requires known { AreKnown place.now.handles.now (slots_under cells.now self.old) }
+        requires parted { IsParted (is_before place.now.handles.now place.now.at place.now.key) (slots_under cells.now self.old) }
+        ensures ok { IfOk result (λ number. Becomes cells.now (slots_with place.now.handles.now place.now.at place.now.key slot (slots_under cells.now self.old)) self.old self.new) }
+        ensures number { IfOk result (λ number. cells_with number self.new.groups ≡ Some cells.now) }
+        ensures others { (other : ℕ) → IsSome (cells_with other self.old.groups) → cells_with other self.new.groups ≡ cells_with other self.old.groups }
+        ensures err { OnErr result (Becomes cells.now (slots_under cells.now self.old) self.old self.new) }
+        ensures sound { AreNumbered self.new }
     {
-        let Some(rows) = self.by_cells.get_mut(cells) else {
+        let Some(number) = self.numbers.get(cells).copied() else {
             return self.begin(cells, slot);
         };
+        let rows = &mut self.groups[number].rows;
         let position = rows.count_before(place);
-        rows.insert(position, slot)
+        rows.insert(position, slot)?;
+        Ok(number)
     }
 
-    /// Takes out the row at a place among the rows with these cells.
-    pub(crate) fn take(&mut self, cells: &[i64], place: &Place<'_>)
-        requires known { AreKnown place.now.handles.now (slots_under cells.now self.old.by_cells) }
-        requires parted { IsParted (is_before place.now.handles.now place.now.at place.now.key) (slots_under cells.now self.old.by_cells) }
-        ensures { Becomes cells.now (slots_without place.now.handles.now place.now.at place.now.key (slots_under cells.now self.old.by_cells)) self.old.by_cells self.new.by_cells }
+    /// Gives up a group.
+    fn give_up(&mut self, number: usize)
+        requires { AreNumbered self.old }
+        ensures rows { (cells : List ℤ) → cells_with number self.old.groups ≡ Some cells → Becomes cells [] self.old self.new }
+        ensures others { (other : ℕ) → other ≢ number → cells_with other self.new.groups ≡ cells_with other self.old.groups }
+        ensures sound { AreNumbered self.new }
     {
-        let Some(rows) = self.by_cells.get_mut(cells) else {
-            return;
-        };
+        if let Some(group) = self.groups.try_remove(number) {
+            self.numbers.remove(group.cells.as_slice());
+        }
+    }
+
+    /// Takes out the row at a place of a group, and gives up the group if it has no other.
+    pub(crate) fn take(&mut self, number: usize, place: &Place<'_>)
+        requires sound { AreNumbered self.old }
+        requires there { IsSome (cells_with number self.old.groups) }
+        requires known { AreKnown place.now.handles.now (slots_numbered number self.old.groups) }
+        requires parted { IsParted (is_before place.now.handles.now place.now.at place.now.key) (slots_numbered number self.old.groups) }
+        ensures rows { (cells : List ℤ) → cells_with number self.old.groups ≡ Some cells → Becomes cells (slots_without place.now.handles.now place.now.at place.now.key (slots_under cells self.old)) self.old self.new }
+        ensures own { slots_without place.now.handles.now place.now.at place.now.key (slots_numbered number self.old.groups) ≢ [] → cells_with number self.new.groups ≡ cells_with number self.old.groups }
+        ensures others { (other : ℕ) → other ≢ number → cells_with other self.new.groups ≡ cells_with other self.old.groups }
+        ensures sound { AreNumbered self.new }
+    {
+        let rows = &mut self.groups[number].rows;
         let position = rows.count_before(place);
         if position < rows.len() {
             rows.remove(position);
         }
         if rows.is_empty() {
-            self.by_cells.remove(cells);
+            self.give_up(number);
         }
     }
 }

@@ -12,29 +12,29 @@ returns-in_err-handle-clause-at c =
     rw c.from_residual.ensures
     (sym (
     ap (λ grouped. option_map (λ member. member.at) (member_under c.args.key grouped.members)) (sym c.self.view_is)
-    ∙ under_same (λ member. member.at) (at_in index.table) c.args.key index.table index.handles (λ x. refl)
+    ∙ under_same (λ member. member.at) (at_in index.table) c.args.key index.table index.lists.groups index.handles (λ x. refl)
     ∙ ap (option_map (at_in index.table)) (sym c.handle_of.ensures.handle ∙ c.in_err-handle.was)
     ))
 
 pub returns-in_err-handle-clause-members : goal.returns-in_err-handle-clause-members
 returns-in_err-handle-clause-members c =
-    subst AreGrouped c.self.view_is (are_grouped c.self.inside.index.table c.self.inside.index.handles c.self.invariant.handled c.self.invariant.kept)
+    subst AreGrouped c.self.view_is (are_grouped c.self.inside.index.width c.self.inside.index.table c.self.inside.index.lists.groups c.self.inside.index.handles c.self.invariant.handled c.self.invariant.kept)
 
-pub at_of-requires : goal.at_of-requires
-at_of-requires c =
+pub get-requires : goal.get-requires
+get-requires c =
     let index = c.self.inside.index in
-    under_has (λ x. IsKept index.table x.handle) c.args.key c.in_ok-handle.handle index.handles c.self.invariant.kept (sym c.handle_of.ensures.handle ∙ c.in_ok-handle.was)
+    (under_has (λ x. IsKept index.width index.table index.lists.groups x.handle) c.args.key c.in_ok-handle.handle index.handles c.self.invariant.kept (sym c.handle_of.ensures.handle ∙ c.in_ok-handle.was)).within
 
 pub returns-clause-at : goal.returns-clause-at
 returns-clause-at c =
     let index = c.self.inside.index in
-    ap Some (to_z-of_z w64 c.at_of.result (search rules) ∙ c.at_of.ensures)
+    ap Some (to_z-of_z w64 c.get.result.at (search rules) ∙ ap (λ kept. kept.at) c.get.ensures)
     ∙ sym (
     ap (λ grouped. option_map (λ member. member.at) (member_under c.args.key grouped.members)) (sym c.self.view_is)
-    ∙ under_same (λ member. member.at) (at_in index.table) c.args.key index.table index.handles (λ x. refl)
+    ∙ under_same (λ member. member.at) (at_in index.table) c.args.key index.table index.lists.groups index.handles (λ x. refl)
     ∙ ap (option_map (at_in index.table)) (sym c.handle_of.ensures.handle ∙ c.in_ok-handle.was)
     )
 
 pub returns-clause-members : goal.returns-clause-members
 returns-clause-members c =
-    subst AreGrouped c.self.view_is (are_grouped c.self.inside.index.table c.self.inside.index.handles c.self.invariant.handled c.self.invariant.kept)
+    subst AreGrouped c.self.view_is (are_grouped c.self.inside.index.width c.self.inside.index.table c.self.inside.index.lists.groups c.self.inside.index.handles c.self.invariant.handled c.self.invariant.kept)

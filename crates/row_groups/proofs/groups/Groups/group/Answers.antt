@@ -9,23 +9,23 @@ pub new-requires-clause-known : goal.new-requires-clause-known
 new-requires-clause-known c =
     let index = c.self.inside.index in
     let is = c.self.invariant in
-    subst (AreKnown index.handles) (sym c.rows_with.ensures) (listed_group index.handles index.table index.handles index.lists.by_cells c.args.cells.now is.listed (known_all index.handles is.handled.handles) (ascending index.handles is.handled) is.handled).known
+    subst (AreKnown index.handles) (sym c.rows_with.ensures) (listed_group index.handles index.table index.lists.groups index.handles index.lists c.args.cells.now is.listed (known_all index.handles is.handled.handles) (ascending index.handles is.handled) is.handled).known
 
 pub new-requires-clause-ranked : goal.new-requires-clause-ranked
 new-requires-clause-ranked c =
     let index = c.self.inside.index in
     let is = c.self.invariant in
-    subst (AreRanked index.handles) (sym c.rows_with.ensures) (listed_group index.handles index.table index.handles index.lists.by_cells c.args.cells.now is.listed (known_all index.handles is.handled.handles) (ascending index.handles is.handled) is.handled).ranked
+    subst (AreRanked index.handles) (sym c.rows_with.ensures) (listed_group index.handles index.table index.lists.groups index.handles index.lists c.args.cells.now is.listed (known_all index.handles is.handled.handles) (ascending index.handles is.handled) is.handled).ranked
 
 pub returns-clause-group : goal.returns-clause-group
 returns-clause-group c =
     let index = c.self.inside.index in
     c.new.ensures
     ∙ ap (map (member_at index.handles c.args.cells.now)) c.rows_with.ensures
-    ∙ listed_members index.table index.handles index.lists.by_cells c.args.cells.now c.self.invariant.listed c.self.invariant.handled
+    ∙ listed_members index.table index.lists.groups index.handles index.lists c.args.cells.now c.self.invariant.listed c.self.invariant.handled
     ∙ ap (λ grouped. group_of c.args.cells.now grouped.members) c.self.view_is
 
 pub returns-clause-members : goal.returns-clause-members
 returns-clause-members c =
     let index = c.self.inside.index in
-    subst AreGrouped c.self.view_is (are_grouped index.table index.handles c.self.invariant.handled c.self.invariant.kept)
+    subst AreGrouped c.self.view_is (are_grouped index.width index.table index.lists.groups index.handles c.self.invariant.handled c.self.invariant.kept)

@@ -1,32 +1,58 @@
-use Rattle.std.proofs.Common.{ap, ◌∙◌}
-use Rattle.std.proofs.lemmas.Result.{on_ok_weaker, on_err_weaker}
+use Rattle.std.proofs.Common.{ap, sym, ◌∙◌, subst, refl, Some}
+use Rattle.row_handles.proofs.Inserting.{on_err}
+use Rattle.slab.specs.Slab.{with_value}
+use Rattle.row_groups.specs.declared.lists.Lists.{Lists}
 use Rattle.row_groups.specs.Slots.{slots_with}
-use Rattle.row_groups.specs.Rows.{slots_under}
-use Rattle.row_groups.proofs.Listed.{held_rows, placed_with, unchanged, written}
+use Rattle.row_groups.specs.Rows.{Becomes}
+use Rattle.row_groups.proofs.Listed.{changed, changes_cells, changes_numbered, changes_rows, placed_with, there_is_group, under_number, with_group, with_rows, with_same_cells}
 use Rattle.row_groups.proofs.lists.Lists.put.Goals as goal
 
-pub returns-in_default-clause-err : goal.returns-in_default-clause-err
-returns-in_default-clause-err c =
-    on_err_weaker c.begin.result (λ same. unchanged c.args.cells.now c.args.self.now.by_cells c.begin.new.self.by_cells (same ∙ ap (λ m. m.entries) c.get_mut.follows.holds-at-none)) c.begin.ensures.err
+pub index_mut-requires : goal.index_mut-requires
+index_mut-requires c = there_is_group c.args.cells.now c.in-Some.number c.args.self.now c.requires.sound (sym c.get.ensures.value ∙ sym c.copied.ensures ∙ c.in-Some.is)
+
+pub returns-in_err-insert-clause-err : goal.returns-in_err-insert-clause-err
+returns-in_err-insert-clause-err c =
+    let old = c.args.self.now in
+    let cells = c.args.cells.now in
+    let number = c.in-Some.number in
+    let group = c.index_mut.result.now in
+    let new : Lists = record old { groups = with_value old.groups number (record group { rows = c.insert.new.self }) } in
+    let was = c.index_mut.ensures.value in
+    let under = sym c.get.ensures.value ∙ sym c.copied.ensures ∙ c.in-Some.is in
+    let own = with_same_cells cells number group old c.requires.sound under was in
+    let rows = under_number cells number old under ∙ with_rows number old.groups group was in
+    on_err c.from_residual.result _
+    (subst (λ slots. Becomes cells slots old new) (c.in_err-insert.ensures.err ∙ sym rows) (subst (λ cs. Becomes cs c.insert.new.self old new) own (changes_rows number group c.insert.new.self old new (changed number group c.insert.new.self old new c.requires.sound was refl refl))))
 
 pub returns-clause-ok : goal.returns-clause-ok
 returns-clause-ok c =
+    let old = c.args.self.now in
     let cells = c.args.cells.now in
-    let entries = c.args.place.now.handles.now in
-    let at = c.args.place.now.at in
-    let key = c.args.place.now.key in
-    let old = c.args.self.now.by_cells in
-    let rows = c.in-Some.rows.now in
+    let number = c.in-Some.number in
+    let group = c.index_mut.result.now in
+    let new : Lists = record old { groups = with_value old.groups number (record group { rows = c.insert.new.self }) } in
+    let with = slots_with c.args.place.now.handles.now c.args.place.now.at c.args.place.now.key c.args.slot in
     let count = c.count_before-position in
-    on_ok_weaker c.insert.result (λ is.
-    written cells rows c.insert.new.self (slots_with entries at key c.args.slot (slots_under cells old)) old (c.get_mut.follows.lender c.insert.new.self) (c.get_mut.follows.holds c.insert.new.self) c.in-Some.ensures.value
-    (is ∙ placed_with entries at key c.args.slot rows count.result count.ensures.within count.ensures.before count.ensures.others ∙ ap (slots_with entries at key c.args.slot) (held_rows cells rows old c.in-Some.ensures.value))) c.insert.ensures.ok
+    let was = c.index_mut.ensures.value in
+    let under = sym c.get.ensures.value ∙ sym c.copied.ensures ∙ c.in-Some.is in
+    let own = with_same_cells cells number group old c.requires.sound under was in
+    let rows = under_number cells number old under ∙ with_rows number old.groups group was in
+    let is = c.in_ok-insert.ensures.ok ∙ placed_with c.args.place.now.handles.now c.args.place.now.at c.args.place.now.key c.args.slot group.rows count.result count.ensures.within count.ensures.before count.ensures.others ∙ ap with (sym rows) in
+    subst (λ slots. Becomes cells slots old new) is (subst (λ cs. Becomes cs c.insert.new.self old new) own (changes_rows number group c.insert.new.self old new (changed number group c.insert.new.self old new c.requires.sound was refl refl)))
 
-pub returns-clause-err : goal.returns-clause-err
-returns-clause-err c =
-    let cells = c.args.cells.now in
-    let old = c.args.self.now.by_cells in
-    let rows = c.in-Some.rows.now in
-    on_err_weaker c.insert.result (λ is.
-    written cells rows c.insert.new.self (slots_under cells old) old (c.get_mut.follows.lender c.insert.new.self) (c.get_mut.follows.holds c.insert.new.self) c.in-Some.ensures.value
-    (is ∙ held_rows cells rows old c.in-Some.ensures.value)) c.insert.ensures.err
+pub returns-clause-number : goal.returns-clause-number
+returns-clause-number c =
+    let old = c.args.self.now in
+    let number = c.in-Some.number in
+    let group = c.index_mut.result.now in
+    let new : Lists = record old { groups = with_value old.groups number (record group { rows = c.insert.new.self }) } in
+    let was = c.index_mut.ensures.value in
+    let own = with_same_cells c.args.cells.now number group old c.requires.sound (sym c.get.ensures.value ∙ sym c.copied.ensures ∙ c.in-Some.is) was in
+    changes_cells number group c.insert.new.self old new (changed number group c.insert.new.self old new c.requires.sound was refl refl) number ∙ with_group number old.groups group was ∙ ap Some own
+
+pub returns-clause-sound : goal.returns-clause-sound
+returns-clause-sound c =
+    let old = c.args.self.now in
+    let number = c.in-Some.number in
+    let group = c.index_mut.result.now in
+    changes_numbered number group c.insert.new.self old _ (changed number group c.insert.new.self old _ c.requires.sound c.index_mut.ensures.value refl refl)

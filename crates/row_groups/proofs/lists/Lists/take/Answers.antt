@@ -1,28 +1,23 @@
-use Rattle.std.proofs.Common.{◌≡◌, ◌+◌, ◌<◌, ◌≤◌, ◌++◌, ap, sym, ◌∙◌, subst, refl, suc, take, drop, length, arith, None}
+use Rattle.std.proofs.Common.{◌≡◌, ◌+◌, ◌<◌, ◌≤◌, ◌++◌, ap, sym, ◌∙◌, subst, refl, suc, take, drop, length, arith, []}
 use Rattle.row_handles.proofs.Leaving.{no_items}
+use Rattle.row_groups.specs.declared.lists.Lists.{Lists}
 use Rattle.row_groups.specs.Slots.{slots_without}
-use Rattle.row_groups.specs.Rows.{Becomes, slots_under}
-use Rattle.row_groups.proofs.Listed.{becomes, becomes_after, held_rows, none_there, nothing_held, placed_without, unchanged, written}
+use Rattle.row_groups.specs.Rows.{Becomes}
+use Rattle.slab.specs.Slab.{with_value}
+use Rattle.row_groups.proofs.Listed.{becomes_after, changed, changes_cells, changes_rows, none_there, placed_without, same_items, under_number, with_rows}
 use Rattle.row_groups.proofs.lists.Lists.take.Goals as goal
 use Rattle.row_groups.proofs.lists.Lists.take.Goals.{then-position-len, else-position-len}
 
-pub returns-in_default : goal.returns-in_default
-returns-in_default c =
-    let cells = c.args.cells.now in
-    let old = c.args.self.now.by_cells in
-    let none = nothing_held cells old c.in_default.ensures.value in
-    subst (λ slots. Becomes cells slots old c.get_mut.follows.lender-at-none)
-    (sym none ∙ ap (slots_without c.args.place.now.handles.now c.args.place.now.at c.args.place.now.key) none)
-    (unchanged cells old c.get_mut.follows.lender-at-none (ap (λ m. m.entries) c.get_mut.follows.holds-at-none))
-
-pub returns-then-is_empty : goal.returns-then-is_empty
-returns-then-is_empty c =
-    let cells = c.args.cells.now in
-    let old = c.args.self.now.by_cells in
-    let rows = c.in-Some.rows.now in
+pub returns-then-is_empty-clause-rows : goal.returns-then-is_empty-clause-rows
+returns-then-is_empty-clause-rows c = λ cells own.
+    let old = c.args.self.now in
+    let number = c.args.number in
+    let group = c.index_mut.result.now in
     let left = c.if-position-len.rows in
-    let mid = c.get_mut.follows.lender left in
+    let mid : Lists = record old { groups = with_value old.groups number (record group { rows = left }) } in
     let without = slots_without c.args.place.now.handles.now c.args.place.now.at c.args.place.now.key in
+    let was = c.index_mut.ensures.value in
+    let rows = group.rows in
     let count = c.count_before-position in
     let rest : left ≡ without rows = elim c.if-position-len.branch [
       | then-position-len w ↦
@@ -34,19 +29,23 @@ returns-then-is_empty c =
           let le : length rows ≤ count.result = omega arith in
           w.rows-is ∙ none_there c.args.place.now.handles.now c.args.place.now.at c.args.place.now.key rows count.result le count.ensures.before
     ] in
-    let is = rest ∙ ap without (held_rows cells rows old c.in-Some.ensures.value) in
+    let changes = changed number group left old mid c.requires.sound was refl refl in
+    let same = same_items cells number group old.groups was own in
+    let held = under_number cells number old (c.requires.sound.cells cells number own) ∙ with_rows number old.groups group was in
     let none = no_items left c.if-is_empty.ensures in
-    becomes_after cells (without (slots_under cells old)) left old mid c.remove-then-is_empty.new.self
-    (written cells rows left left old mid (c.get_mut.follows.holds left) c.in-Some.ensures.value refl)
-    (becomes cells (without (slots_under cells old)) mid c.remove-then-is_empty.new.self None c.remove-then-is_empty.ensures.updates (sym none ∙ is))
+    subst (λ slots. Becomes cells slots old c.give_up.new.self) (sym none ∙ rest ∙ ap without (sym held))
+    (becomes_after cells [] left old mid c.give_up.new.self (subst (λ cs. Becomes cs left old mid) same (changes_rows number group left old mid changes)) (c.give_up.ensures.rows cells (changes_cells number group left old mid changes number ∙ own)))
 
-pub returns-else-is_empty : goal.returns-else-is_empty
-returns-else-is_empty c =
-    let cells = c.args.cells.now in
-    let old = c.args.self.now.by_cells in
-    let rows = c.in-Some.rows.now in
+pub returns-else-is_empty-clause-rows : goal.returns-else-is_empty-clause-rows
+returns-else-is_empty-clause-rows c = λ cells own.
+    let old = c.args.self.now in
+    let number = c.args.number in
+    let group = c.index_mut.result.now in
     let left = c.if-position-len.rows in
+    let mid : Lists = record old { groups = with_value old.groups number (record group { rows = left }) } in
     let without = slots_without c.args.place.now.handles.now c.args.place.now.at c.args.place.now.key in
+    let was = c.index_mut.ensures.value in
+    let rows = group.rows in
     let count = c.count_before-position in
     let rest : left ≡ without rows = elim c.if-position-len.branch [
       | then-position-len w ↦
@@ -58,5 +57,7 @@ returns-else-is_empty c =
           let le : length rows ≤ count.result = omega arith in
           w.rows-is ∙ none_there c.args.place.now.handles.now c.args.place.now.at c.args.place.now.key rows count.result le count.ensures.before
     ] in
-    written cells rows left (without (slots_under cells old)) old (c.get_mut.follows.lender left) (c.get_mut.follows.holds left) c.in-Some.ensures.value
-    (rest ∙ ap without (held_rows cells rows old c.in-Some.ensures.value))
+    let same = same_items cells number group old.groups was own in
+    let held = under_number cells number old (c.requires.sound.cells cells number own) ∙ with_rows number old.groups group was in
+    subst (λ slots. Becomes cells slots old mid) (rest ∙ ap without (sym held))
+    (subst (λ cs. Becomes cs left old mid) same (changes_rows number group left old mid (changed number group left old mid c.requires.sound was refl refl)))
