@@ -1,17 +1,19 @@
 -- What is kept for an aggregate says of a group what the aggregate of its rows is.
 use Rattle.std.proofs.Common.{◌≡◌, refl, ap, ap₂, sym, ◌∙◌, subst, Bool, true, false, not, cond, ◌==◌, ◌||◌, ℕ, zero, suc, ◌+◌, ◌-◌, ◌^◌, ◌<◌, ◌≤◌, arith, List, [], ◌∷◌, ◌++◌, map, filter, length, get_or, Option, Some, None, ℤ, pos, ◌+ℤ◌, w64, fold, count_by, int_le, int_lt, option_map, true≢false, append_assoc, is_some, is_ok, OnOk, Result, Ok, Err, if◌then◌else◌}
 use Rattle.std.specs.Cmp.{signed_Decides}
+use Rattle.std.specs.Cmp.Rules.{signed_items}
 use Rattle.std.specs.Int.{int_min, int_max}
 use Rattle.std.specs.List.{AllByRecursion}
 use Rattle.std.specs.Option.{option_map_or}
 use Rattle.std.specs.Ordering.{int_eq}
 use Rattle.std.specs.Prelude.{find, slice_get, unwrap_or}
+use Rattle.std.proofs.lemmas.Bool.{and_parts}
 use Rattle.std.proofs.lemmas.Int.{int_wrap_fits, ints}
 use Rattle.std.proofs.lemmas.List.{length-map}
 use Rattle.std.proofs.lemmas.List.Sums.{sum_by-cons}
 use Rattle.key_lists.specs.Keys.{is_among, IsRising}
 use Rattle.std.proofs.lemmas.Option.{none-some}
-use Rattle.key_lists.proofs.Every.{every-filter, every-map, every_both, every_weaker, filter-map, map_map, map_same}
+use Rattle.key_lists.proofs.Every.{every-filter, every-map, every_both, every_weaker, filter-map, filter_passes, map_map, map_same}
 use Rattle.row_changes.specs.Sums.{added_up}
 use Rattle.row_groups.specs.Members.{Grouped, Member, by_at, group_of, keys_of, member_under, placed as member_placed}
 use Rattle.tick_laws.proofs.ResultCells.{length-filter_most}
@@ -27,10 +29,10 @@ use Rattle.agg_by.specs.declared.running.Running.{Running}
 use Rattle.agg_by.specs.declared.running.Running.TheVariants.{Count, Sum, Min, Max, First, Last}
 use Rattle.agg_by.specs.Answers.{AreNumbers, IsFloored, answer, cell_of, greatest, least, places, sum_or_null}
 use Rattle.agg_by.specs.Kept.{AnswerAll, Answers, agg_of, group_rows, indexed, member_by}
-use Rattle.agg_by.specs.Steps.{first_keys, key_at}
+use Rattle.agg_by.specs.Steps.{first_keys, kept_cells, key_at}
 use Rattle.agg_by.specs.Sums.{count_of, total_of, value_of}
 use Rattle.agg_by.proofs.Bringing.{keys-members, members}
-use Rattle.agg_by.proofs.GroupRows.{cells-agg, group_cells}
+use Rattle.agg_by.proofs.GroupRows.{cells-agg, first_at, group_cells}
 use Rattle.agg_by.proofs.Ordered.{AreAbove, all_above, greatest_is, least_is, placed, sorted, sorted_ascends}
 
 -- the places of members in order are these numbers in order
@@ -235,6 +237,16 @@ pub both_ok : {X E : Type 0} (r : Result X E) (P Q R : Type 0) → (P → Q → 
 both_ok (Ok x) P Q R f p q = f p q
 both_ok (Err e) P Q R f p q = tt
 
+mapped : {X Y Z : Type 0} (f : X → Y) (g : Y → Z) (o : Option X) (y : Y) → option_map f o ≡ Some y → option_map (λ x. g (f x)) o ≡ Some (g y)
+mapped f g None y e = absurd (none-some y e)
+mapped f g (Some x) y e = ap (option_map g) e
+
+-- the cells that the members of a group have, which a row leads
+head_cells : (by : List ℕ) (first : ℕ) (rows : List PlainRow) (cells own : List ℤ) → option_map_or (λ (row : PlainRow). row.key == first) (slice_get rows 0) false ≡ true
+    → AllByRecursion (λ (row : PlainRow). same_cells cells (key_cells by row.cells) ≡ true) rows → AllByRecursion (λ (member : Member). member.cells ≡ own) (members by None rows) → own ≡ cells
+head_cells by first [] cells own e h k = absurd (true≢false (sym e))
+head_cells by first (row ∷ rows) cells own e h k = sym k.0 ∙ sym ((signed_items cells (key_cells by row.cells)).0 h.0)
+
 -- what is kept of the rows of a table
 module _ (by : List ℕ) (table : PlainTable) (t : IsTable table) (kept : Grouped) (are : kept ≡ indexed by None table.rows) where
   members_are : kept.members ≡ members by None table.rows
@@ -242,6 +254,32 @@ module _ (by : List ℕ) (table : PlainTable) (t : IsTable table) (kept : Groupe
 
   pub known_at : (key : ℕ) → is_among key (keys table.rows) ≡ true → option_map (λ (member : Member). member.cells) (member_under key kept.members) ≡ Some (key_at by table.rows key)
   known_at key own = ap (λ ms. option_map (λ (member : Member). member.cells) (member_under key ms)) members_are ∙ cells_known by None table.rows key own
+
+  pub group_at : (key : ℕ) → is_among key (keys table.rows) ≡ true → option_map (λ (member : Member). group_of member.cells kept.members) (member_under key kept.members) ≡ Some (group_of (key_at by table.rows key) kept.members)
+  group_at key own = mapped (λ (member : Member). member.cells) (λ cells. group_of cells kept.members) (member_under key kept.members) (key_at by table.rows key) (known_at key own)
+
+  -- rows that are kept
+  pub own_there : (ks : List ℕ) → AllByRecursion (λ key. is_among key (keys table.rows) ≡ true) ks → AllByRecursion (λ key. is_some (member_under key kept.members) ≡ true) ks
+  own_there ks there =
+      every_weaker (λ key. is_among key (keys table.rows) ≡ true) (λ key. is_some (member_under key kept.members) ≡ true) ks
+      (λ key own. some_of (λ (member : Member). member.cells) (member_under key kept.members) (key_at by table.rows key) (known_at key own)) there
+
+  pub own_cells : (ks : List ℕ) → AllByRecursion (λ key. is_among key (keys table.rows) ≡ true) ks → map (kept_cells kept.members) ks ≡ map (key_at by table.rows) ks
+  own_cells ks there =
+      map_same (kept_cells kept.members) (key_at by table.rows) ks
+      (every_weaker (λ key. is_among key (keys table.rows) ≡ true) (λ key. kept_cells kept.members key ≡ key_at by table.rows key) ks
+      (λ key own. ap (λ (cells : Option (List ℤ)). unwrap_or cells []) (known_at key own)) there)
+
+  -- the group of its first row
+  pub led_group : (first : ℕ) → is_among first (first_keys by table.rows) ≡ true → option_map (λ (member : Member). group_of member.cells kept.members) (member_under first kept.members) ≡ Some (group_of (key_at by table.rows first) kept.members)
+  led_group first own = group_at first (and_parts _ _ (sym (first_at by table first t) ∙ own)).1
+
+  pub led_cells : (first : ℕ) (rows : List Member) (cells : List ℤ) → is_among first (first_keys by table.rows) ≡ true → rows ≡ group_of (key_at by table.rows first) kept.members → AllByRecursion (λ member. member.cells ≡ cells) rows → cells ≡ key_at by table.rows first
+  led_cells first rows cells own is all =
+      let at = key_at by table.rows first in
+      head_cells by first (group by table.rows at) at cells (and_parts _ _ (sym (first_at by table first t) ∙ own)).0
+      (filter_passes (λ (row : PlainRow). same_cells at (key_cells by row.cells)) table.rows)
+      (subst (AllByRecursion (λ (member : Member). member.cells ≡ cells)) (is ∙ ap (group_of at) members_are ∙ group_is by table.rows at) all)
 
   few_of : (cells : List ℤ) → length (group by table.rows cells) ≤ 2 ^ 62
   few_of cells = omega (arith, length-filter_most (λ row. same_cells cells (key_cells by row.cells)) table.rows, table_count table t)

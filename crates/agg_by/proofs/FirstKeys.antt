@@ -1,5 +1,5 @@
 -- The first rows of touched groups, found by the key cells of touched rows.
-use Rattle.std.proofs.Common.{◌≡◌, refl, ap, ap₂, sym, ◌∙◌, subst, Bool, true, false, ◌&&◌, ◌||◌, ◌==◌, ℕ, zero, suc, ◌+◌, ◌-◌, ◌^◌, ◌<◌, ◌≤◌, nat_lt, arith, List, [], ◌∷◌, ◌++◌, filter, get_or, length, take, Some, None, ℤ, int_lt, true≢false, if◌then◌else◌}
+use Rattle.std.proofs.Common.{◌≡◌, refl, ap, ap₂, sym, ◌∙◌, subst, Bool, true, false, ◌&&◌, ◌||◌, ◌==◌, ℕ, zero, suc, ◌+◌, ◌-◌, ◌^◌, ◌<◌, ◌≤◌, nat_lt, arith, List, [], ◌∷◌, ◌++◌, filter, get_or, length, take, Option, Some, None, option_map, unwrap_or, is_some, ℤ, int_lt, true≢false, if◌then◌else◌}
 use Rattle.std.specs.Cmp.Rules.{signed_items}
 use Rattle.std.specs.List.{AllByRecursion, list_any, range_with_len}
 use Rattle.std.specs.List.Sorted.{IsPermutation}
@@ -11,7 +11,7 @@ use Rattle.key_lists.specs.Keys.{is_among, IsRising}
 use Rattle.key_lists.proofs.Among.{among-append, among-filter, each_among, of_among}
 use Rattle.key_lists.proofs.Every.{every_both, every_weaker, every-filter, every-map, every_unmapped, filter_passes}
 use Rattle.key_lists.proofs.Rising.{rising-filter, rising_same, rising_some}
-use Rattle.row_groups.specs.Members.{AreGrouped, Grouped, Member, by_at, group_of, keys_of, placed}
+use Rattle.row_groups.specs.Members.{AreGrouped, Grouped, Member, by_at, group_of, keys_of, member_under, placed}
 use Rattle.row_set.specs.Ranges.{keys_from}
 use Rattle.row_set.specs.Sets.{united, with_key}
 use Rattle.row_set.proofs.United.{among-with_key, with_key_rises}
@@ -22,7 +22,7 @@ use Rattle.tick_model.specs.declared.table.PlainRow.{PlainRow}
 use Rattle.tick_model.specs.declared.table.PlainTable.{PlainTable}
 use Rattle.tick_model.specs.Tables.{keys, same_cells, IsTable}
 use Rattle.agg_by.specs.Kept.{group_rows}
-use Rattle.agg_by.specs.Steps.{first_keys, key_at, starts}
+use Rattle.agg_by.specs.Steps.{first_keys, kept_cells, key_at, starts}
 use Rattle.agg_by.proofs.Answering.{keys_group}
 use Rattle.agg_by.proofs.Bringing.{members}
 use Rattle.agg_by.proofs.GroupRows.{first_at, leads, leads_own}
@@ -48,6 +48,14 @@ group_small grouped cells are =
     (every-by_at (λ member. member.key < 2 ^ 62) (filter (λ (member : Member). same_cells cells member.cells) grouped.members)
     (every-filter (λ member. member.key < 2 ^ 62) (λ (member : Member). same_cells cells member.cells) grouped.members
     (every_unmapped (λ key. key < 2 ^ 62) (λ (member : Member). member.key) grouped.members are.keys.small)))
+
+-- the group of a row that is kept
+pub kept_group : (ms : List Member) (key : ℕ) → is_some (member_under key ms) ≡ true → option_map (λ (member : Member). group_of member.cells ms) (member_under key ms) ≡ Some (group_of (kept_cells ms key) ms)
+kept_group ms key there = by (member_under key ms) there
+  where
+    by : (o : Option Member) → is_some o ≡ true → option_map (λ (member : Member). group_of member.cells ms) o ≡ Some (group_of (unwrap_or (option_map (λ (member : Member). member.cells) o) []) ms)
+    by None e = absurd (true≢false (sym e))
+    by (Some member) e = refl
 
 -- one key more behind others
 pub found_one : (first key : ℕ) (keys : List ℕ) (group : List ℕ) → slice_get group 0 ≡ Some key → is_among first (keys ++ key ∷ []) ≡ (is_among first keys || option_map_or (λ k. k == first) (slice_get group 0) false)

@@ -1,9 +1,9 @@
 -- The totals of the groups, where one of them becomes another.
-use Rattle.std.proofs.Common.{◌≡◌, refl, ap, ap₂, sym, ◌∙◌, Bool, true, false, ◌&&◌, List, [], ◌∷◌, ℤ, pos, Option, unwrap_or, if◌then◌else◌}
+use Rattle.std.proofs.Common.{◌≡◌, refl, ap, ap₂, sym, ◌∙◌, Bool, true, false, ◌&&◌, List, [], ◌∷◌, ℤ, pos, Option, Some, IsSome, subst, unwrap_or, if◌then◌else◌}
 use Rattle.std.specs.Prelude.{slice_index_or}
 use Rattle.std.proofs.lemmas.Bool.{and_parts}
 use Rattle.std.specs.Map.{KeepsOthers}
-use Rattle.std.specs.HashMap.{UpdatesBy}
+use Rattle.std.specs.HashMap.{UpdatesBy, WritesThrough, get_by}
 use Rattle.std.specs.Ordering.{int_eq}
 use Rattle.std.specs.Cmp.Lexicographic.{pointwise}
 use Rattle.std.specs.Cmp.Rules.{signed_items}
@@ -48,3 +48,8 @@ zero_total total h =
 -- a map that is updated at some key cells
 pub becomes : (cells : List ℤ) (total : Total) (old new : ByCells) (w : Option Total) → UpdatesBy same_key (has_cells cells) old new w → unwrap_or w no_total ≡ total → Becomes cells total old new
 becomes cells total old new w updates is other = becomes_at cells total old new w updates is other (same_cells cells other) refl
+
+-- a total that is written through what a map lent
+pub written : (cells : List ℤ) (held total : Total) (old lent : ByCells) → WritesThrough same_key (has_cells cells) old total lent → Some held ≡ get_by (has_cells cells) old → Becomes cells total old lent
+written cells held total old lent writes there =
+    becomes cells total old lent (Some total) (writes.3 (subst (λ (o : Option Total). IsSome o) there refl)) refl

@@ -28,10 +28,12 @@ use Rattle.agg_by.specs.declared.running.Running.{Running}
 use Rattle.agg_by.specs.declared.running.Running.TheVariants.{Count, Sum, Min, Max, First, Last}
 use Rattle.agg_by.specs.Answers.{IsWithin}
 use Rattle.agg_by.specs.Kept.{AnswerAll, Are, IsMade, Keeps, agg_of, indexed}
-use Rattle.agg_by.specs.Steps.{come, first_keys, gone, is_touched, key_at, starts, staying, stays, touched_cells, touched_firsts}
+use Rattle.agg_by.specs.Steps.{come, first_keys, gone, is_touched, kept_cells, key_at, starts, staying, stays, touched_cells, touched_firsts}
+use Rattle.agg_by.proofs.Answering.{own_cells}
 use Rattle.agg_by.proofs.FirstKeys.{first_keys_rise, firsts_are, length-with_key}
 use Rattle.agg_by.proofs.GroupParts.{is_tick, staying_is, tick, touched}
 use Rattle.agg_by.proofs.GroupRows.{keys-agg}
+use Rattle.agg_by.proofs.Touching.{any_swap, come_there, gone_there}
 
 within_one : (width : ℕ) (running : Running) → IsColumn width (agg_of running) → IsWithin width running
 within_one width Count h = tt
@@ -64,6 +66,10 @@ pub touched_count : (t : Ticking) → IsExact t → length (gone t) + length (co
 touched_count t e =
     omega (arith, length-united t.update.removed (old_modified (keys t.old.rows) t.update), length-united t.update.added t.update.modified, modified_even t e)
 
+-- the reads of some rows are no more than those of more
+pub more_reads : (width some more first second : ℕ) → second ≤ first + width * some → some ≤ more → second ≤ first + width * more
+more_reads width some more first second h few = omega (arith, h, mul-le-mul_left width few)
+
 -- the reads of noting, and of a whole step
 pub noted_reads : (width aggs first second third touched firsts : ℕ) → second ≤ first + width * touched → third ≤ second + aggs * firsts → firsts ≤ touched → third ≤ first + (width + aggs) * touched
 noted_reads width aggs first second third touched firsts h k few = omega (arith, h, k, mul-le-mul_left aggs few)
@@ -77,7 +83,7 @@ pub wider_reads : (width by aggs first last all out : ℕ) → last ≤ first + 
 wider_reads width by aggs first last all out h = omega (arith, h)
 
 -- what is found among the rows by what is kept of them
-pub found_firsts : (by : List ℕ) (t : Ticking) (table : PlainTable) → IsTable table → (index : Grouped) (went came firsts : List ℕ) → index ≡ indexed by None table.rows → went ≡ gone t → came ≡ come t → IsRising firsts
+found_firsts : (by : List ℕ) (t : Ticking) (table : PlainTable) → IsTable table → (index : Grouped) (went came firsts : List ℕ) → index ≡ indexed by None table.rows → went ≡ gone t → came ≡ come t → IsRising firsts
     → ((first : ℕ) → is_among first firsts ≡ list_any (starts index.members first) (map (key_at by t.old.rows) went ++ map (key_at by t.new.rows) came)) → firsts ≡ touched_firsts by t table.rows
 found_firsts by t table is index went came firsts are w c rising found =
     firsts_are by table is (touched_cells by t) firsts rising
@@ -85,6 +91,21 @@ found_firsts by t table is index went came firsts are w c rising found =
     found first
     ∙ ap₂ (λ (members : List Member) (cells : List (List ℤ)). list_any (starts members first) cells) (ap (λ (index : Grouped). index.members) are)
     (ap₂ (λ (went came : List ℕ). map (key_at by t.old.rows) went ++ map (key_at by t.new.rows) came) w c))
+
+pub found_before : (by : List ℕ) (t : Ticking) (e : IsExact t) (index : Grouped) (went came firsts : List ℕ) → index ≡ indexed by None t.old.rows → went ≡ gone t → came ≡ come t → IsRising firsts
+    → ((first : ℕ) → is_among first firsts ≡ list_any (starts index.members first) (map (kept_cells index.members) went ++ map (key_at by t.new.rows) came)) → firsts ≡ touched_firsts by t t.old.rows
+found_before by t e index went came firsts are w c rising found =
+    found_firsts by t t.old e.tick.old_table index went came firsts are w c rising
+    (λ first. found first ∙ ap (λ (cells : List (List ℤ)). list_any (starts index.members first) (cells ++ map (key_at by t.new.rows) came))
+    (own_cells by t.old e.tick.old_table index are went (subst (AllByRecursion (λ key. is_among key (keys t.old.rows) ≡ true)) (sym w) (gone_there t e))))
+
+pub found_now : (by : List ℕ) (t : Ticking) (e : IsExact t) (index : Grouped) (went came firsts : List ℕ) → index ≡ indexed by None t.new.rows → went ≡ gone t → came ≡ come t → IsRising firsts
+    → ((first : ℕ) → is_among first firsts ≡ list_any (starts index.members first) (map (kept_cells index.members) came ++ map (key_at by t.old.rows) went)) → firsts ≡ touched_firsts by t t.new.rows
+found_now by t e index went came firsts are w c rising found =
+    found_firsts by t t.new e.tick.new_table index went came firsts are w c rising
+    (λ first. found first ∙ any_swap (starts index.members first) (map (kept_cells index.members) came) (map (key_at by t.old.rows) went)
+    ∙ ap (λ (cells : List (List ℤ)). list_any (starts index.members first) (map (key_at by t.old.rows) went ++ cells))
+    (own_cells by t.new e.tick.new_table index are came (subst (AllByRecursion (λ key. is_among key (keys t.new.rows) ≡ true)) (sym c) (come_there t e))))
 
 pub touched_there : (by : List ℕ) (t : Ticking) (rows : List PlainRow) → AllByRecursion (λ key. is_among key (first_keys by rows) ≡ true) (touched_firsts by t rows)
 touched_there by t rows = every-filter (λ key. is_among key (first_keys by rows) ≡ true) (λ key. is_touched by t (key_at by rows key)) (first_keys by rows) (each_among (first_keys by rows))

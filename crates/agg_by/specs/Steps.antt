@@ -5,12 +5,13 @@
 --     is_touched by input cells      whether a group is touched
 --     first_keys by rows      the keys of the first rows of the groups
 --     touched_firsts by input rows      those of the touched groups
+--     kept_cells members key      the key cells that are kept under a key
 --     stays by input pair      whether both rows of a pair are first rows of one touched group
-use Rattle.std.specs.Prelude.{ℕ, ◌==◌, ◌&&◌, Bool, false, List, ◌++◌, filter, map, slice_get, ℤ}
+use Rattle.std.specs.Prelude.{ℕ, ◌==◌, ◌&&◌, Bool, false, List, [], ◌++◌, filter, map, option_map, slice_get, unwrap_or, ℤ}
 use Rattle.std.specs.List.{list_any}
 use Rattle.std.specs.Option.{option_map_or}
 use Rattle.key_lists.specs.Keys.{is_among, without}
-use Rattle.row_groups.specs.Members.{Member, group_of, keys_of}
+use Rattle.row_groups.specs.Members.{Member, group_of, keys_of, member_under}
 use Rattle.row_set.specs.Sets.{united}
 use Rattle.table_update.specs.Kept.{old_modified}
 use Rattle.tick_model.specs.Agg.{is_first, key_cells}
@@ -46,9 +47,16 @@ first_keys by rows = keys (filter (is_first by rows) rows)
 abbrev pub touched_firsts : List ℕ → Ticking → List PlainRow → List ℕ
 touched_firsts by input rows = filter (λ key. is_touched by input (key_at by rows key)) (first_keys by rows)
 
--- whether the group with these key cells has its first row under the key
+-- whether the group has its first row under the key, and whether that with these key cells has
+abbrev pub is_led : List Member → ℕ → Bool
+is_led group key = option_map_or (λ first. first == key) (slice_get (keys_of group) 0) false
+
 abbrev pub starts : List Member → ℕ → List ℤ → Bool
-starts members key cells = option_map_or (λ first. first == key) (slice_get (keys_of (group_of cells members)) 0) false
+starts members key cells = is_led (group_of cells members) key
+
+-- the key cells of the member under a key
+abbrev pub kept_cells : List Member → ℕ → List ℤ
+kept_cells members key = unwrap_or (option_map (λ member. member.cells) (member_under key members)) []
 
 -- whether both rows of a pair are first rows of one touched group
 abbrev pub stays : List ℕ → Ticking → KeyPair → Bool

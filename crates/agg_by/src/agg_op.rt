@@ -15,7 +15,7 @@ ghost use Rattle.tick_table.specs.Ticking.{no_rows};
 
 use crate::firsts::firsts_of;
 use crate::kept::Kept;
-use crate::moment::RowBuffer;
+use crate::moment::{Moment, RowBuffer};
 use crate::notes::Notes;
 use crate::rows::GroupRows;
 use crate::staying::staying_firsts;
@@ -193,9 +193,10 @@ fn grouped_step<L: Ledger>(
     let firsts = firsts_of(
         alloc,
         kept,
+        &moving.come,
+        Moment::Before,
         input,
         &moving.gone,
-        &moving.come,
         buffer,
         reads,
     )?;
@@ -232,8 +233,9 @@ fn noted_groups<L: Ledger>(
     let before = firsts_of(
         alloc,
         kept,
-        input,
         &moving.gone,
+        Moment::Now,
+        input,
         &moving.come,
         buffer,
         reads,

@@ -176,8 +176,8 @@ impl Kept {
         ensures cells { OnOk result (cells.new.items ≡ cells.old.items ++ cells_at first (agg_table self.now.by self.now.aggs (table_at moment input.now)).rows) }
         ensures reads { OnOk result (reads.new ≤ reads.old + length self.now.aggs) }
     {
-        let key_cells = self.rows.cells_of(first).unwrap();
-        let group = self.rows.group(key_cells);
+        let group = self.rows.group_of(first).unwrap();
+        let key_cells = group.cells();
         cells.extend_from_slice(key_cells)?;
         put_values(
             &self.running,

@@ -93,6 +93,10 @@ impl Sums {
             self.by_cells.remove(cells);
             return Ok(());
         }
+        if let Some(kept) = self.by_cells.get_mut(cells) {
+            *kept = total;
+            return Ok(());
+        }
         let key = Vec::from_slice(self.alloc, cells)?;
         self.by_cells.insert(key, total)?;
         Ok(())

@@ -1,4 +1,4 @@
-use Rattle.std.proofs.Common.{◌≡◌, ap, ap₂, sym, ◌∙◌, subst, true, ◌+◌, ◌*◌, ◌≤◌, List, ℕ, length}
+use Rattle.std.proofs.Common.{◌≡◌, ap, ap₂, sym, ◌∙◌, subst, true, arith, ◌+◌, ◌*◌, ◌≤◌, List, ℕ, length}
 use Rattle.std.specs.List.{AllByRecursion}
 use Rattle.key_lists.specs.Keys.{is_among}
 use Rattle.tick_laws.specs.Checked.{keys_after}
@@ -11,9 +11,10 @@ use Rattle.tick_table.specs.Exact.{counted, tick_of}
 use Rattle.agg_by.specs.Aggregator.{IsColumn, grouped}
 use Rattle.agg_by.specs.Notes.{IsNoted}
 use Rattle.agg_by.specs.Steps.{first_keys, touched_firsts}
+use Rattle.agg_by.proofs.Answering.{own_there}
 use Rattle.agg_by.proofs.Touching.{come_there, gone_there}
 use Rattle.agg_by.proofs.GroupParts.{tick}
-use Rattle.agg_by.proofs.Whole.{begun_keeps, found_firsts, shown_after, shown_lawful, step_reads, touched_count, within_all}
+use Rattle.agg_by.proofs.Whole.{begun_keeps, found_now, more_reads, shown_after, shown_lawful, step_reads, touched_count, within_all}
 use Rattle.agg_by.proofs.agg_op.grouped_step.Goals as goal
 
 pub noted_groups-requires-clause-keeps : goal.noted_groups-requires-clause-keeps
@@ -31,11 +32,14 @@ pub bring_on-requires-clause-keeps : goal.bring_on-requires-clause-keeps
 bring_on-requires-clause-keeps g c =
     begun_keeps c.args.kept.now c.begin.new.self c.args.input.now.old.rows c.in_ok-begin.ensures.made c.in_ok-begin.ensures.rows c.in_ok-begin.ensures.running c.requires.rows c.requires.running
 
-pub firsts_of-requires-clause-gone : goal.firsts_of-requires-clause-gone
-firsts_of-requires-clause-gone g c = subst (AllByRecursion (λ key. is_among key (keys c.args.input.now.old.rows) ≡ true)) (sym c.in_ok-moving.ensures.gone) (gone_there c.args.input.now c.requires.exact)
+pub firsts_of-requires-clause-others : goal.firsts_of-requires-clause-others
+firsts_of-requires-clause-others g c = subst (AllByRecursion (λ key. is_among key (keys c.args.input.now.old.rows) ≡ true)) (sym c.in_ok-moving.ensures.gone) (gone_there c.args.input.now c.requires.exact)
 
-pub firsts_of-requires-clause-come : goal.firsts_of-requires-clause-come
-firsts_of-requires-clause-come g c = subst (AllByRecursion (λ key. is_among key (keys c.args.input.now.new.rows) ≡ true)) (sym c.in_ok-moving.ensures.come) (come_there c.args.input.now c.requires.exact)
+pub firsts_of-requires-clause-own : goal.firsts_of-requires-clause-own
+firsts_of-requires-clause-own g c =
+    let t = c.args.input.now in
+    own_there c.bring_on.new.self.by t.new c.requires.exact.tick.new_table c.bring_on.new.self.rows c.in_ok-bring_on.ensures.keeps.rows c.in_ok-moving.moving.come
+    (subst (AllByRecursion (λ key. is_among key (keys t.new.rows) ≡ true)) (sym c.in_ok-moving.ensures.come) (come_there t c.requires.exact))
 
 pub group_change-requires-clause-ready : goal.group_change-requires-clause-ready
 group_change-requires-clause-ready g c =
@@ -53,7 +57,7 @@ group_change-requires-clause-ready g c =
 pub group_change-requires-clause-firsts : goal.group_change-requires-clause-firsts
 group_change-requires-clause-firsts g c =
     let t = c.args.input.now in
-    found_firsts c.bring_on.new.self.by t t.new c.requires.exact.tick.new_table c.bring_on.new.self.rows _ _ c.in_ok-firsts.firsts c.in_ok-bring_on.ensures.keeps.rows c.in_ok-moving.ensures.gone c.in_ok-moving.ensures.come c.in_ok-firsts.ensures.rising c.in_ok-firsts.ensures.firsts
+    found_now c.bring_on.new.self.by t c.requires.exact c.bring_on.new.self.rows _ _ c.in_ok-firsts.firsts c.in_ok-bring_on.ensures.keeps.rows c.in_ok-moving.ensures.gone c.in_ok-moving.ensures.come c.in_ok-firsts.ensures.rising c.in_ok-firsts.ensures.firsts
 
 pub apply_to_keys-requires : goal.apply_to_keys-requires
 apply_to_keys-requires g c =
@@ -94,4 +98,9 @@ returns-clause-reads g c =
     let last : c.group_change.new.reads ≤ c.firsts_of.new.reads + 2 * length aggs * length c.in_ok-firsts.firsts =
     subst (λ (aggs : List Agg). c.group_change.new.reads ≤ c.firsts_of.new.reads + 2 * length aggs * length c.in_ok-firsts.firsts) (brought.aggs ∙ made.aggs) c.in_ok-change.ensures.reads in
     let most : touched ≤ counted t.update = subst (λ (n : ℕ). n ≤ counted t.update) (sym (ap₂ (λ (gone come : List ℕ). length gone + length come) c.in_ok-moving.ensures.gone c.in_ok-moving.ensures.come)) (touched_count t c.requires.exact) in
-    step_reads width (length aggs) c.args.reads.now c.noted_groups.new.reads c.bring_on.new.reads c.firsts_of.new.reads c.group_change.new.reads touched (length c.in_ok-firsts.firsts) (counted t.update) first c.in_ok-bring_on.ensures.reads c.in_ok-firsts.ensures.reads last c.in_ok-firsts.ensures.few most
+    let most_gone : length c.in_ok-moving.moving.gone ≤ touched = omega arith in
+    let found : c.firsts_of.new.reads ≤ c.bring_on.new.reads + width * touched =
+    more_reads width (length c.in_ok-moving.moving.gone) touched c.bring_on.new.reads c.firsts_of.new.reads
+    (subst (λ (width : ℕ). c.firsts_of.new.reads ≤ c.bring_on.new.reads + width * length c.in_ok-moving.moving.gone) (sym c.requires.exact.tick.one_width) c.in_ok-firsts.ensures.reads) most_gone in
+    let few : length c.in_ok-firsts.firsts ≤ touched = omega (arith, c.in_ok-firsts.ensures.few) in
+    step_reads width (length aggs) c.args.reads.now c.noted_groups.new.reads c.bring_on.new.reads c.firsts_of.new.reads c.group_change.new.reads touched (length c.in_ok-firsts.firsts) (counted t.update) first c.in_ok-bring_on.ensures.reads found last few most
