@@ -94,7 +94,7 @@ module _ (by : List SortBy) where
   none_any (entry ∷ some) = none_any some
 
   -- one of some entries stands at a place where the entry there is one of them
-  place_is : (entries some : List Entry) (i : ℕ) → Rises by entries → is_place entries some i ≡ option_map_or (λ entry. is_in entry some) (slice_get entries i) false
+  pub place_is : (entries some : List Entry) (i : ℕ) → Rises by entries → is_place entries some i ≡ option_map_or (λ entry. is_in entry some) (slice_get entries i) false
   place_is entries some i r =
       any_as (λ entry. is_at i (place_of entry entries)) (λ entry. is_here entry (slice_get entries i)) some (λ entry. at_place entry entries i r)
       ∙ go (slice_get entries i)

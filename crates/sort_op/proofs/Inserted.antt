@@ -70,6 +70,11 @@ others_than_last entries entry h =
     count_none (λ other. is_same other entry) entries
     (omega (arith, h entry, sum_by-append (λ other. cond (is_same other entry) 1 0) entries (entry ∷ []), count_own entry))
 
+pub others_than_first : (front : List Entry) (entry : Entry) (entries : List Entry) → AreDistinct (front ++ entry ∷ entries) → AllByRecursion (λ other. is_same other entry ≡ false) entries
+others_than_first front entry entries h =
+    count_none (λ other. is_same other entry) entries
+    (omega (arith, h entry, sum_by-append (λ other. cond (is_same other entry) 1 0) front (entry ∷ entries), sum_by-append (λ other. cond (is_same other entry) 1 0) (entry ∷ []) entries, count_own entry))
+
 pub distinct_front : (entries : List Entry) (entry : Entry) → AreDistinct (entries ++ entry ∷ []) → AreDistinct entries
 distinct_front entries entry h x = omega (arith, h x, sum_by-append (λ other. cond (is_same other x) 1 0) entries (entry ∷ []))
 

@@ -20,3 +20,5 @@ pub mod Stepped
 pub mod StepParts
 pub mod Batched
 pub mod Inserted
+pub mod LeftOut
+pub mod Arrived

@@ -8,7 +8,7 @@ use Rattle.key_lists.proofs.Every.{every-append}
 use Rattle.tick_model.specs.declared.plan.SortBy.{SortBy}
 use Rattle.sort_op.specs.declared.entry.Entry.{Entry}
 use Rattle.sort_op.specs.Entries.{comes_before, count_before, entries, found, is_same, place_of, IsOrder, IsWhole, Order, Rises}
-use Rattle.sort_op.proofs.Rises.{every_back, every_front, rises_back, rises_with, rises_without}
+use Rattle.sort_op.proofs.Rises.{every_back, every_front, every_without, rises_back, rises_with, rises_without}
 use Rattle.sort_op.proofs.Searches.{count_is, each_other, others_before, others_behind, others_past, place_here, place_none, FirstIsOther}
 
 -- the first of those from a place on
@@ -17,12 +17,6 @@ first_from [] zero = refl
 first_from [] (suc n) = refl
 first_from (x ∷ xs) zero = refl
 first_from (x ∷ xs) (suc n) = first_from xs n
-
-rest_from : (xs : List Entry) (n : ℕ) (x : Entry) (rest : List Entry) → drop n xs ≡ x ∷ rest → drop (suc n) xs ≡ rest
-rest_from [] zero x rest e = absurd (cc)
-rest_from [] (suc n) x rest e = absurd (cc)
-rest_from (y ∷ xs) zero x rest e = cc
-rest_from (y ∷ xs) (suc n) x rest e = rest_from xs n x rest e
 
 -- what passes a test at a place is there
 pub held_within : (p : Entry → Bool) (xs : List Entry) (i : ℕ) → option_map_or p (slice_get xs i) false ≡ true → i < length xs
@@ -95,32 +89,19 @@ module _ (by : List SortBy) (entry : Entry) (xs : List Entry) (n : ℕ) (within 
       pub found_nowhere : here ≡ false → found by entry xs ≡ Err n
       found_nowhere e = ap (λ place. ok_or place (count_before by entry xs)) (place_absent e) ∙ ap Err count_at
 
-      pub rises_less : here ≡ true → Rises by (remove xs n)
-      rises_less e =
-          let t = first_is (drop n xs) (said ∙ e) in
-          subst (λ ys. Rises by (take n xs ++ ys)) (sym (rest_from xs n t.0 t.1.0 t.1.1.0))
-          (rises_without by t.0 (take n xs) t.1.0 (subst (λ ys. Rises by (take n xs ++ ys)) t.1.1.0 rises_at))
-
-      pub wholes_less : here ≡ true → AllByRecursion (IsWhole by) (remove xs n)
-      wholes_less e =
-          let t = first_is (drop n xs) (said ∙ e) in
-          let parts = subst (λ ys. AllByRecursion (IsWhole by) (take n xs ++ ys)) t.1.1.0 wholes_at in
-          subst (λ ys. AllByRecursion (IsWhole by) (take n xs ++ ys)) (sym (rest_from xs n t.0 t.1.0 t.1.1.0))
-          (every-append (IsWhole by) (take n xs) t.1.0 (every_front (IsWhole by) (take n xs) (t.0 ∷ t.1.0) parts) (every_back (IsWhole by) (take n xs) (t.0 ∷ t.1.0) parts).1)
-
 -- an order with an entry more, and with one less
-module _ (order : Order) (is : IsOrder order) (entry : Entry) (own : IsWhole order.by entry) (n : ℕ) (within : n ≤ length (entries order))
-    (less : AllByRecursion (λ x. comes_before order.by x entry ≡ true) (take n (entries order))) (more : AllByRecursion (λ y. comes_before order.by y entry ≡ false) (drop n (entries order))) (new : List (List Entry)) (sizes : AllByRecursion IsChunk new) where
-  pub order_more : place_of entry (entries order) ≡ None → joined new ≡ insert (entries order) n entry → IsOrder (record { by = order.by; chunks = new })
-  order_more absent so = record {
-    rising = subst (Rises order.by) (sym so) (rises_more order.by entry (entries order) n within less more is.rising is.whole own absent);
-    whole = subst (AllByRecursion (IsWhole order.by)) (sym so) (wholes_more order.by entry (entries order) n within less more is.rising is.whole own);
-    chunks = sizes;
-  }
+pub order_more : (order : Order) → IsOrder order → (entry : Entry) → IsWhole order.by entry → (n : ℕ) → n ≤ length (entries order)
+    → AllByRecursion (λ x. comes_before order.by x entry ≡ true) (take n (entries order)) → AllByRecursion (λ y. comes_before order.by y entry ≡ false) (drop n (entries order))
+    → (new : List (List Entry)) → AllByRecursion IsChunk new → place_of entry (entries order) ≡ None → joined new ≡ insert (entries order) n entry → IsOrder (record { by = order.by; chunks = new })
+order_more order is entry own n within less more new sizes absent so = record {
+  rising = subst (Rises order.by) (sym so) (rises_more order.by entry (entries order) n within less more is.rising is.whole own absent);
+  whole = subst (AllByRecursion (IsWhole order.by)) (sym so) (wholes_more order.by entry (entries order) n within less more is.rising is.whole own);
+  chunks = sizes;
+}
 
-  pub order_less : option_map_or (λ other. is_same other entry) (slice_get (entries order) n) false ≡ true → joined new ≡ remove (entries order) n → IsOrder (record { by = order.by; chunks = new })
-  order_less tested so = record {
-    rising = subst (Rises order.by) (sym so) (rises_less order.by entry (entries order) n within less more is.rising is.whole own true tested refl);
-    whole = subst (AllByRecursion (IsWhole order.by)) (sym so) (wholes_less order.by entry (entries order) n within less more is.rising is.whole own true tested refl);
-    chunks = sizes;
-  }
+pub order_less : (order : Order) → IsOrder order → (n : ℕ) (new : List (List Entry)) → AllByRecursion IsChunk new → joined new ≡ remove (entries order) n → IsOrder (record { by = order.by; chunks = new })
+order_less order is n new sizes so = record {
+  rising = subst (Rises order.by) (sym so) (rises_without order.by (entries order) n is.rising);
+  whole = subst (AllByRecursion (IsWhole order.by)) (sym so) (every_without (IsWhole order.by) (entries order) n is.whole);
+  chunks = sizes;
+}

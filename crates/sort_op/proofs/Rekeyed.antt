@@ -1,5 +1,5 @@
 -- An order whose keys move as the keys of its rows do.
-use Rattle.std.proofs.Common.{◌≡◌, refl, ap, sym, ◌∙◌, subst, Bool, true, false, cond, ℕ, ◌+◌, ◌<◌, ◌^◌, arith, List, [], ◌∷◌, ◌++◌, ◌==◌, map, length, true≢false, pos, ◌+ℤ◌, is_lt, ltb-true, lt-ltb}
+use Rattle.std.proofs.Common.{◌≡◌, refl, ap, sym, ◌∙◌, subst, Bool, true, false, cond, ℕ, ◌<◌, ◌^◌, arith, List, [], ◌∷◌, ◌==◌, map, true≢false, pos, ◌+ℤ◌, is_lt, ltb-true, lt-ltb}
 use Rattle.std.specs.Prelude.{nat_lt}
 use Rattle.std.specs.List.{AllByRecursion}
 use Rattle.std.specs.Cmp.{IsStrictWeakOrder}

@@ -1,6 +1,6 @@
 -- Lists of entries that rise: their parts, an entry more and an entry less.
 use Rattle.std.proofs.Common.{◌≡◌, subst, true, ℕ, zero, suc, arith, List, [], ◌∷◌, ◌++◌, get_or, Option, Some, None}
-use Rattle.std.specs.Prelude.{slice_get}
+use Rattle.std.specs.Prelude.{remove, slice_get}
 use Rattle.std.specs.List.{AllByRecursion}
 use Rattle.std.specs.List.Sorted.{IsPartitionedBy}
 use Rattle.key_lists.proofs.Every.{every-append, all_from}
@@ -17,10 +17,16 @@ pub every_back : {X : Type 0} (P : X → Type 0) (xs ys : List X) → AllByRecur
 every_back P [] ys h = h
 every_back P (x ∷ xs) ys h = every_back P xs ys h.1
 
-none_some : {X A : Type 0} (x : X) → ◌≡◌ {A = Option X} None (Some x) → A
+pub every_without : {X : Type 0} (P : X → Type 0) (xs : List X) (i : ℕ) → AllByRecursion P xs → AllByRecursion P (remove xs i)
+every_without P [] zero h = tt
+every_without P [] (suc i) h = tt
+every_without P (x ∷ xs) zero h = h.1
+every_without P (x ∷ xs) (suc i) h = (h.0, every_without P xs i h.1)
+
+pub none_some : {X A : Type 0} (x : X) → ◌≡◌ {A = Option X} None (Some x) → A
 none_some x e = absurd (cc)
 
-some_same : {X : Type 0} (x y : X) → Some x ≡ Some y → x ≡ y
+pub some_same : {X : Type 0} (x y : X) → Some x ≡ Some y → x ≡ y
 some_same x y e = cc
 
 -- what holds of all holds of the one at a place
@@ -39,10 +45,11 @@ module _ (by : List SortBy) where
   rises_with entry (x ∷ xs) ys r h k =
       (every-append (λ y. comes_before by x y ≡ true) xs (entry ∷ ys) (every_front (λ y. comes_before by x y ≡ true) xs ys r.0) (h.0, every_back (λ y. comes_before by x y ≡ true) xs ys r.0), rises_with entry xs ys r.1 h.1 k)
 
-  pub rises_without : (entry : Entry) (xs ys : List Entry) → Rises by (xs ++ entry ∷ ys) → Rises by (xs ++ ys)
-  rises_without entry [] ys r = r.1
-  rises_without entry (x ∷ xs) ys r =
-      (every-append (λ y. comes_before by x y ≡ true) xs ys (every_front (λ y. comes_before by x y ≡ true) xs (entry ∷ ys) r.0) (every_back (λ y. comes_before by x y ≡ true) xs (entry ∷ ys) r.0).1, rises_without entry xs ys r.1)
+  pub rises_without : (xs : List Entry) (i : ℕ) → Rises by xs → Rises by (remove xs i)
+  rises_without [] zero r = tt
+  rises_without [] (suc i) r = tt
+  rises_without (x ∷ xs) zero r = r.1
+  rises_without (x ∷ xs) (suc i) r = (every_without (λ y. comes_before by x y ≡ true) xs i r.0, rises_without xs i r.1)
 
   module _ (entry : Entry) where
     -- the entries before another come first

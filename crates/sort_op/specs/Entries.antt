@@ -1,13 +1,14 @@
 -- Entries in the order of a sort.
 --     comes_before by a b      whether an entry stands before another: by the sort columns, and then by key
 --     Rises by entries      each stands before those after it
+--     Falls by entries      none stands before one after it
 --     is_in entry entries      whether an entry is one of some
 --     place_of entry entries      the place of an entry
 --     found by entry entries      the place of an entry, or else how many stand before it
 --     keys_in entries      their keys
 --     rekeyed shifts entry      the entry under the key to which its row moves
 --     Order, IsOrder order      what an order shows: chunks of 1 to 512 entries, which rise over all chunks
-use Rattle.std.specs.Prelude.{◌≡◌, ℕ, ◌≤◌, ◌==◌, ◌&&◌, Bool, true, List, [], ◌∷◌, Option, Result, count_by, length, filter, map, position, nat_lt}
+use Rattle.std.specs.Prelude.{◌≡◌, ℕ, ◌≤◌, ◌==◌, ◌&&◌, Bool, true, false, List, [], ◌∷◌, Option, Result, count_by, length, filter, map, position, nat_lt}
 use Rattle.std.specs.List.{AllByRecursion, list_any}
 use Rattle.std.specs.Option.{ok_or}
 use Rattle.std.specs.Ordering.{is_lt, nat_cmp, ordering_then}
@@ -30,6 +31,10 @@ comes_before by a b = is_lt (entry_cmp by a b)
 abbrev pub Rises : List SortBy → List Entry → Type 0
 Rises by [] = Unit {0}
 Rises by (entry ∷ entries) = AllByRecursion (λ other. comes_before by entry other ≡ true) entries × Rises by entries
+
+abbrev pub Falls : List SortBy → List Entry → Type 0
+Falls by [] = Unit {0}
+Falls by (entry ∷ entries) = AllByRecursion (λ other. comes_before by entry other ≡ false) entries × Falls by entries
 
 abbrev pub is_same : Entry → Entry → Bool
 is_same a b = (a.key == b.key) && same_cells a.cells b.cells

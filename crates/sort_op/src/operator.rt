@@ -1,7 +1,8 @@
 //! `sort`: the rows of the input in stable order, under the keys 0, 1, 2 and so on.
 //!
 //! The result's keys are positions. A step finds the old positions of the rows that leave the order or may differ while the
-//! order is the one before, edits the order, and finds the new positions. What lies between them moves by ranges.
+//! order is the one before, takes out what stands there and puts in what comes, each entry by one search. What lies between
+//! the positions moves by ranges.
 ghost use Rattle.std.specs.Prelude.{◌≡◌, ◌+◌, ◌*◌, ◌^◌, ◌≤◌, [], length, IfOk, OnOk};
 ghost use Rattle.std.specs.List.{AllByRecursion};
 ghost use Rattle.key_lists.specs.Keys.{without};
@@ -20,7 +21,7 @@ ghost use Rattle.sort_op.specs.Sorter.{sorted};
 
 use crate::entry::Entry;
 use crate::order::SortOrder;
-use crate::positions::{keys_of, others, positions_of};
+use crate::positions::{keys_of, others, positions_of, rising_set};
 use crate::reading::{Edits, RowPair, read_edits};
 use crate::rows::SortedRows;
 use row_changes::{Touched, change_of_touched};
@@ -135,7 +136,7 @@ fn step_order<L: Ledger>(
     ensures reads { IfOk result (λ change. reads.new ≤ reads.old + 4 * (input.now.new.width + input.now.new.width) * (counted input.now.update + counted change.update)) }
 {
     let edits = read_edits(alloc, order.by(), input, rows, reads)?;
-    edited(alloc, input, order, &edits, reads)
+    edited(alloc, input, order, edits, reads)
 }
 
 /// The change of the rows that are shown, where these are the entries that the step touches.
@@ -143,23 +144,23 @@ fn edited<L: Ledger>(
     alloc: Global,
     input: &TickTable,
     order: &mut SortOrder,
-    edits: &Edits,
+    edits: Edits,
     reads: &mut Steps<L>,
 ) -> Result<Change, AllocError>
     requires exact { IsExact input.now }
     requires stands { entries order.old ≡ entries_of order.old.by input.now.old.rows }
-    requires leaving { edits.now.leaving.items ≡ leaving order.old.by input.now }
-    requires coming { edits.now.coming.items ≡ coming order.old.by input.now }
-    requires changed_before { edits.now.staying_before.items ≡ changed_before order.old.by input.now }
-    requires changed_now { edits.now.staying_now.items ≡ changed_now order.old.by input.now }
+    requires leaving { edits.leaving.items ≡ leaving order.old.by input.now }
+    requires coming { edits.coming.items ≡ coming order.old.by input.now }
+    requires changed_before { edits.staying_before.items ≡ changed_before order.old.by input.now }
+    requires changed_now { edits.staying_now.items ≡ changed_now order.old.by input.now }
     ensures by { OnOk result (order.new.by ≡ order.old.by) }
     ensures stands { OnOk result (entries order.new ≡ entries_of order.old.by input.now.new.rows) }
     ensures change { IfOk result (λ change. change ≡ change_of (sorted order.old.by (tick_of input.now))) }
     ensures reads { IfOk result (λ change. reads.new ≤ reads.old + input.now.new.width * (2 * length input.now.update.modified + length change.update.added)) }
 {
-    let before = before_edits(alloc, order, edits)?;
-    bring_on(alloc, order, input, edits)?;
-    let now = places_of(alloc, order, &edits.coming, &edits.staying_now)?;
+    let before = before_edits(alloc, order, &edits)?;
+    let crossing = bring_on(alloc, order, input, &before.places.crossing, edits.coming)?;
+    let now = places_of(alloc, order, crossing, &edits.staying_now)?;
     sorted_change(alloc, input, order, before, now, reads)
 }
 
@@ -176,7 +177,8 @@ fn before_edits(alloc: Global, order: &SortOrder, edits: &Edits) -> Result<Befor
     ensures touched { IfOk result (λ before. before.touched ≡ united before.places.crossing before.places.compared) }
     ensures touched_keys { IfOk result (λ before. before.touched_keys.items ≡ keys_at (entries order.now) before.touched) }
 {
-    let places = places_of(alloc, order, &edits.leaving, &edits.staying_before)?;
+    let crossing = positions_of(alloc, order, &edits.leaving)?;
+    let places = places_of(alloc, order, crossing, &edits.staying_before)?;
     let touched = places.crossing.union(&places.compared)?;
     let touched_keys = keys_of(alloc, order, &touched)?;
     Ok(Before {
@@ -186,44 +188,45 @@ fn before_edits(alloc: Global, order: &SortOrder, edits: &Edits) -> Result<Befor
     })
 }
 
-/// Edits an order of the rows before the step so that it is that of the rows now.
+/// Edits an order of the rows before the step so that it is that of the rows now, by the positions of the entries that leave.
+/// Gives the positions of those that come.
 fn bring_on(
     alloc: Global,
     order: &mut SortOrder,
     input: &TickTable,
-    edits: &Edits,
-) -> Result<(), AllocError>
+    gone: &RowSet,
+    came: Vec<Entry>,
+) -> Result<RowSet, AllocError>
     requires exact { IsExact input.now }
     requires stands { entries order.old ≡ entries_of order.old.by input.now.old.rows }
-    requires leaving { edits.now.leaving.items ≡ leaving order.old.by input.now }
-    requires coming { edits.now.coming.items ≡ coming order.old.by input.now }
+    requires gone { AreFound (entries order.old) (leaving order.old.by input.now) gone.now }
+    requires came { came.items ≡ coming order.old.by input.now }
     ensures by { order.new.by ≡ order.old.by }
     ensures stands { OnOk result (entries order.new ≡ entries_of order.old.by input.now.new.rows) }
+    ensures places { IfOk result (λ positions. AreFound (entries order.new) (coming order.old.by input.now) positions) }
+    ensures set { IfOk result (λ positions. IsKeySet positions) }
 {
-    let coming = copied(alloc, &edits.coming)?;
-    order.remove_all(&edits.leaving);
+    order.remove_found(gone);
     order.rekey(input.update().shifted());
-    order.insert_all(coming)
+    let positions = order.insert_found(came)?;
+    rising_set(alloc, &positions)
 }
 
 /// The positions of the rows that leave or come, of those that stay and may differ, and of all that stay.
 fn places_of(
     alloc: Global,
     order: &SortOrder,
-    crossing: &[Entry],
+    crossing: RowSet,
     compared: &[Entry],
 ) -> Result<Places, AllocError>
-    requires crossing { AllByRecursion (IsWhole order.now.by) crossing.now }
     requires compared { AllByRecursion (IsWhole order.now.by) compared.now }
     requires few { length (entries order.now) ≤ 2 ^ 62 }
-    ensures crossing { IfOk result (λ places. AreFound (entries order.now) crossing.now places.crossing) }
+    ensures crossing { IfOk result (λ places. places.crossing ≡ crossing) }
     ensures compared { IfOk result (λ places. AreFound (entries order.now) compared.now places.compared) }
-    ensures crossing_set { IfOk result (λ places. IsKeySet places.crossing) }
     ensures compared_set { IfOk result (λ places. IsKeySet places.compared) }
     ensures no_more { IfOk result (λ places. length places.compared ≤ length compared.now) }
     ensures staying { IfOk result (λ places. places.staying ≡ other_places (length (entries order.now)) places.crossing) }
 {
-    let crossing = positions_of(alloc, order, crossing)?;
     let compared = positions_of(alloc, order, compared)?;
     let staying = others(alloc, order.len(), &crossing)?;
     Ok(Places {
@@ -276,18 +279,4 @@ fn sorted_change<L: Ledger>(
         compared_now: now.compared,
     };
     change_of_touched(alloc, &rows, input.width(), parts, reads)
-}
-
-/// The same entries once more.
-fn copied(alloc: Global, entries: &[Entry]) -> Result<Vec<Entry>, AllocError>
-    ensures { IfOk result (λ copied. copied.items ≡ entries.now) }
-{
-    let mut copied = Vec::with_capacity(alloc, entries.len())?;
-    for entry in entries {
-        copied.push(Entry {
-            cells: Items::of(Vec::from_slice(alloc, entry.cells.as_slice())?),
-            key: entry.key,
-        })?;
-    }
-    Ok(copied)
 }

@@ -1,7 +1,7 @@
 //! The order of a sort.
 //!
 //! Entries are kept whole, since `get` shows them: each has its sort cells in a list of its own.
-ghost use Rattle.std.specs.Prelude.{◌≡◌, ◌≤◌, [], None, true, false, drop, length, insert, map, option_copied, remove, slice_get, take, IfNone, IfOk, IfSome, OnErr, OnOk, OnSome};
+ghost use Rattle.std.specs.Prelude.{◌≡◌, ◌<◌, ◌≤◌, [], None, true, false, drop, length, insert, map, option_copied, remove, slice_get, take, IfNone, IfOk, IfSome, OnErr, OnOk, OnSome};
 ghost use Rattle.std.specs.List.{AllByRecursion};
 ghost use Rattle.std.specs.Option.{option_map_or};
 ghost use Rattle.chunk_list.specs.Chunked.{IsReplaced};
@@ -124,8 +124,20 @@ impl SortOrder {
         if !self.holds(position, entry) {
             return None;
         }
-        let _ = self.entries.remove(position);
+        self.remove_at(position);
         Some(position as u64)
+    }
+
+    /// Takes the entry at a position out. It takes no memory.
+    pub(crate) fn remove_at(&mut self, position: usize)
+        requires { position < length (entries self.old) }
+        ensures entries { entries self.new ≡ remove (entries self.old) position }
+        ensures chunks { IsReplaced 0 1 self.old.chunks self.new.chunks }
+        ensures by { self.new.by ≡ self.old.by }
+        ensures order { IsOrder self.new }
+    {
+        let _ = &self.by;
+        let _ = self.entries.remove(position);
     }
 
     /// The position of an entry, or else, as an error, how many stand before it. It is found by two binary searches.

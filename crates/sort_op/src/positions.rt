@@ -43,7 +43,7 @@ fn put_position(order: &SortOrder, entry: &Entry, found: &mut Vec<u64>) -> Resul
 }
 
 /// The set of these keys, which come in order.
-fn rising_set(alloc: Global, keys: &[u64]) -> Result<RowSet, AllocError>
+pub(crate) fn rising_set(alloc: Global, keys: &[u64]) -> Result<RowSet, AllocError>
     requires { AllByRecursion (λ key. key < 2 ^ 62) keys.now }
     ensures keys { IfOk result (λ set. (key : ℕ) → is_among key set ≡ is_among key keys.now) }
     ensures set { IfOk result (λ set. IsKeySet set) }

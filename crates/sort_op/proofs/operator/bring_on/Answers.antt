@@ -1,51 +1,56 @@
-use Rattle.std.proofs.Common.{◌∙◌, ap, subst, sym, List}
+use Rattle.std.proofs.Common.{◌≡◌, ◌∙◌, ◌^◌, ◌<◌, ℕ, ap, subst, sym, List}
 use Rattle.std.specs.List.{AllByRecursion}
-use Rattle.std.proofs.lemmas.Result.{on_ok_weaker}
-use Rattle.shift_data.specs.Moves.{IsLawful}
-use Rattle.tick_model.specs.declared.update.ShiftRange.{ShiftRange}
+use Rattle.std.proofs.lemmas.Result.{IfOk-weaker}
+use Rattle.key_lists.specs.Keys.{is_among}
 use Rattle.tick_model.specs.Updates.{Update}
 use Rattle.sort_op.specs.declared.entry.Entry.{Entry}
-use Rattle.sort_op.specs.Entries.{AreDistinct, IsWhole, entries, rising_keys}
-use Rattle.sort_op.proofs.Stepped.{brought, coming_distinct, coming_out, coming_whole, leaving_whole, left_is, rekeyed_is, shift_lawful}
+use Rattle.sort_op.specs.Entries.{AreDistinct, IsWhole, entries}
+use Rattle.sort_op.specs.Places.{is_place}
+use Rattle.sort_op.specs.Reading.{coming}
+use Rattle.sort_op.specs.Sorted.{entries_of}
+use Rattle.sort_op.proofs.StepParts.{brought_on, came_absent, gone_within, keys_lawful, arrived_small}
+use Rattle.sort_op.proofs.Stepped.{coming_distinct, coming_whole}
 use Rattle.sort_op.proofs.operator.bring_on.Goals as goal
 
-pub remove_all-requires : goal.remove_all-requires
-remove_all-requires c = subst (AllByRecursion (IsWhole c.args.order.now.by)) (sym (c.deref-2.ensures.value ∙ c.requires.leaving)) (leaving_whole c.args.order.now.by c.args.input.now c.requires.exact)
+pub remove_found-requires : goal.remove_found-requires
+remove_found-requires c = gone_within c.args.order.now.by c.args.input.now c.requires.exact (entries c.args.order.now) c.args.gone.now c.requires.stands c.requires.gone
 
 pub rekey-requires : goal.rekey-requires
-rekey-requires c =
-    let by = c.args.order.now.by in
-    let t = c.args.input.now in
-    let shifts = c.shifted.ensures ∙ ap (λ (update : Update). update.shifted) c.update.ensures in
-    let left = left_is by t c.requires.exact c.deref-2.result.now (entries c.args.order.now) (entries c.remove_all.new.self) (c.deref-2.ensures.value ∙ c.requires.leaving) c.requires.stands c.remove_all.ensures.entries in
-    subst (λ (shifts : List ShiftRange). IsLawful shifts (rising_keys (entries c.remove_all.new.self))) (sym shifts)
-    (subst (λ (entries : List Entry). IsLawful t.update.shifted (rising_keys entries)) (sym left) (shift_lawful by t c.requires.exact))
+rekey-requires c = keys_lawful c.args.order.now.by c.args.input.now c.requires.exact (entries c.args.order.now) c.args.gone.now c.requires.stands c.requires.gone (entries c.remove_found.new.self) c.shifted.result.now c.remove_found.ensures.entries (c.shifted.ensures ∙ ap (λ (update : Update). update.shifted) c.update.ensures)
 
-pub insert_all-requires-clause-whole : goal.insert_all-requires-clause-whole
-insert_all-requires-clause-whole c =
-    subst (λ by. AllByRecursion (IsWhole by) c.in_ok-coming.coming.items) (sym (c.rekey.ensures.by ∙ c.remove_all.ensures.by))
-    (subst (AllByRecursion (IsWhole c.args.order.now.by)) (sym (c.in_ok-coming.ensures ∙ c.deref.ensures.value ∙ c.requires.coming)) (coming_whole c.args.order.now.by c.args.input.now c.requires.exact))
+pub insert_found-requires-clause-whole : goal.insert_found-requires-clause-whole
+insert_found-requires-clause-whole c =
+    subst (λ by. AllByRecursion (IsWhole by) c.args.came.items) (sym (c.rekey.ensures.by ∙ c.remove_found.ensures.by))
+    (subst (AllByRecursion (IsWhole c.args.order.now.by)) (sym c.requires.came) (coming_whole c.args.order.now.by c.args.input.now c.requires.exact))
 
-pub insert_all-requires-clause-absent : goal.insert_all-requires-clause-absent
-insert_all-requires-clause-absent c =
-    let by = c.args.order.now.by in
-    let t = c.args.input.now in
-    let shifts = c.shifted.ensures ∙ ap (λ (update : Update). update.shifted) c.update.ensures in
-    let left = left_is by t c.requires.exact c.deref-2.result.now (entries c.args.order.now) (entries c.remove_all.new.self) (c.deref-2.ensures.value ∙ c.requires.leaving) c.requires.stands c.remove_all.ensures.entries in
-    let moved = rekeyed_is by t c.requires.exact c.shifted.result.now c.remove_all.new.self c.rekey.new.self shifts left c.rekey.ensures.chunks in
-    coming_out by t c.requires.exact (entries c.rekey.new.self) c.in_ok-coming.coming.items moved (c.in_ok-coming.ensures ∙ c.deref.ensures.value ∙ c.requires.coming)
+pub insert_found-requires-clause-absent : goal.insert_found-requires-clause-absent
+insert_found-requires-clause-absent c =
+    came_absent c.args.order.now.by c.args.input.now c.requires.exact (entries c.args.order.now) c.args.gone.now c.requires.stands c.requires.gone
+    c.remove_found.new.self c.rekey.new.self c.shifted.result.now c.args.came.items c.remove_found.ensures.entries (c.shifted.ensures ∙ ap (λ (update : Update). update.shifted) c.update.ensures) c.rekey.ensures.chunks c.requires.came
 
-pub insert_all-requires-clause-distinct : goal.insert_all-requires-clause-distinct
-insert_all-requires-clause-distinct c =
-    subst AreDistinct (sym (c.in_ok-coming.ensures ∙ c.deref.ensures.value ∙ c.requires.coming)) (coming_distinct c.args.order.now.by c.args.input.now c.requires.exact)
+pub insert_found-requires-clause-distinct : goal.insert_found-requires-clause-distinct
+insert_found-requires-clause-distinct c = subst AreDistinct (sym c.requires.came) (coming_distinct c.args.order.now.by c.args.input.now c.requires.exact)
+
+pub rising_set-requires : goal.rising_set-requires
+rising_set-requires c =
+    let now_is =
+    brought_on c.args.order.now.by c.args.input.now c.requires.exact (entries c.args.order.now) c.args.gone.now c.requires.stands c.requires.gone
+    c.remove_found.new.self c.rekey.new.self c.shifted.result.now c.args.came.items c.remove_found.ensures.entries (c.shifted.ensures ∙ ap (λ (update : Update). update.shifted) c.update.ensures) c.rekey.ensures.chunks c.requires.came
+    c.insert_found.new.self c.insert_found.ensures.order (c.insert_found.ensures.by ∙ c.rekey.ensures.by ∙ c.remove_found.ensures.by) c.in_ok-positions.ensures.entries in
+    subst (AllByRecursion (λ key. key < 2 ^ 62)) (sym c.deref.ensures.value)
+    (arrived_small c.args.order.now.by c.args.input.now c.requires.exact c.insert_found.new.self c.args.came.items c.in_ok-positions.positions.items c.insert_found.ensures.order now_is c.in_ok-positions.ensures.positions)
 
 pub returns-clause-stands : goal.returns-clause-stands
 returns-clause-stands c =
-    let by = c.args.order.now.by in
-    let t = c.args.input.now in
-    let shifts = c.shifted.ensures ∙ ap (λ (update : Update). update.shifted) c.update.ensures in
-    let left = left_is by t c.requires.exact c.deref-2.result.now (entries c.args.order.now) (entries c.remove_all.new.self) (c.deref-2.ensures.value ∙ c.requires.leaving) c.requires.stands c.remove_all.ensures.entries in
-    let moved = rekeyed_is by t c.requires.exact c.shifted.result.now c.remove_all.new.self c.rekey.new.self shifts left c.rekey.ensures.chunks in
-    on_ok_weaker c.insert_all.result
-    (brought by t c.requires.exact (entries c.rekey.new.self) c.in_ok-coming.coming.items c.insert_all.new.self moved (c.in_ok-coming.ensures ∙ c.deref.ensures.value ∙ c.requires.coming) c.insert_all.ensures.order (c.insert_all.ensures.by ∙ c.rekey.ensures.by ∙ c.remove_all.ensures.by))
-    c.insert_all.ensures.entries
+    let now_is =
+    brought_on c.args.order.now.by c.args.input.now c.requires.exact (entries c.args.order.now) c.args.gone.now c.requires.stands c.requires.gone
+    c.remove_found.new.self c.rekey.new.self c.shifted.result.now c.args.came.items c.remove_found.ensures.entries (c.shifted.ensures ∙ ap (λ (update : Update). update.shifted) c.update.ensures) c.rekey.ensures.chunks c.requires.came
+    c.insert_found.new.self c.insert_found.ensures.order (c.insert_found.ensures.by ∙ c.rekey.ensures.by ∙ c.remove_found.ensures.by) c.in_ok-positions.ensures.entries in
+    IfOk-weaker c.rising_set.result (λ set. (key : ℕ) → is_among key set ≡ is_among key c.deref.result.now) (λ _. entries c.insert_found.new.self ≡ entries_of c.args.order.now.by c.args.input.now.new.rows) (λ set are. now_is) c.rising_set.ensures.keys
+
+pub returns-clause-places : goal.returns-clause-places
+returns-clause-places c =
+    let now = entries c.insert_found.new.self in
+    let came = coming c.args.order.now.by c.args.input.now in
+    IfOk-weaker c.rising_set.result (λ set. (key : ℕ) → is_among key set ≡ is_among key c.deref.result.now) (λ positions. (position : ℕ) → is_among position positions ≡ is_place now came position)
+    (λ set are position. are position ∙ ap (is_among position) c.deref.ensures.value ∙ c.in_ok-positions.ensures.positions position ∙ ap (λ (some : List Entry). is_place now some position) c.requires.came) c.rising_set.ensures.keys

@@ -1,6 +1,5 @@
-use Rattle.std.proofs.Common.{◌≡◌, ◌∙◌, rules, subst, sym, true, false, take, drop}
+use Rattle.std.proofs.Common.{◌≡◌, rules, subst, sym, true, false, take, drop}
 use Rattle.std.specs.List.{AllByRecursion}
-use Rattle.std.specs.List.Sorted.{IsPartitionPoint}
 use Rattle.std.proofs.lemmas.List.Sorted.{IsPartitionPoint-from_clause}
 use Rattle.chunk_list.specs.Chunked.{joined}
 use Rattle.row_set.proofs.Places.{front_part, back_part}

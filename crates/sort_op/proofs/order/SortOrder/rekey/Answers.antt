@@ -1,5 +1,4 @@
 use Rattle.std.proofs.Common.{◌≡◌, ◌∙◌, ◌^◌, ap, false, length, map, subst, sym}
-use Rattle.std.specs.List.{AllByRecursion}
 use Rattle.std.proofs.lemmas.Bool.{eqb-true}
 use Rattle.std.proofs.lemmas.List.{nil_from_length}
 use Rattle.chunk_list.specs.Chunked.{joined}
@@ -9,7 +8,7 @@ use Rattle.shift_data.specs.ShiftLists.{IsShiftList}
 use Rattle.tick_model.specs.Rules.{is_past}
 use Rattle.tick_model.specs.Shifts.{moved}
 use Rattle.sort_op.specs.declared.entry.Entry.{Entry}
-use Rattle.sort_op.specs.Entries.{entries, rekeyed, rising_keys, IsOrder, Order}
+use Rattle.sort_op.specs.Entries.{entries, rekeyed, rising_keys, Order}
 use Rattle.sort_op.proofs.Rekeyed.{all_inside, none_rekeyed, order_rekeyed}
 use Rattle.sort_op.proofs.order.SortOrder.rekey.Goals as goal
 

@@ -2,7 +2,8 @@ use Rattle.std.proofs.Common.{◌≡◌, ◌||◌, false, vec_len}
 use Rattle.std.specs.List.{AllByRecursion}
 use Rattle.sort_op.specs.declared.entry.Entry.{Entry}
 use Rattle.sort_op.specs.Entries.{entries, is_in, AreDistinct, IsOrder, IsWhole}
-use Rattle.sort_op.proofs.order.SortOrder.insert_all.Given as goal
+use Rattle.sort_op.proofs.Arrived.{HaveArrived}
+use Rattle.sort_op.proofs.order.SortOrder.insert_found.Given as goal
 
 abbrev pub invariant-loop-entry : goal.invariant-loop-entry
 invariant-loop-entry l = record {
@@ -12,6 +13,7 @@ invariant-loop-entry l = record {
   whole : AllByRecursion (IsWhole l.self.by) l.coming.items;
   by : l.self.by ≡ l.initial.self.by;
   order : IsOrder l.self;
+  arrived : HaveArrived l.self.by l.initial.coming.items l.coming.items (entries l.self) l.positions.items;
 }
 
 abbrev pub decreases-loop-entry : goal.decreases-loop-entry

@@ -1,0 +1,140 @@
+-- Where entries stand that were put in one behind the other.
+use Rattle.std.proofs.Common.{◌≡◌, refl, ap, ap₂, sym, ◌∙◌, subst, Bool, true, false, ◌||◌, ◌==◌, ℕ, zero, suc, ◌<◌, ◌≤◌, arith, List, [], ◌∷◌, ◌++◌, take, drop, length, get_or, append_assoc, take-append-drop, length-take-le, None, inl, inr}
+use Rattle.std.specs.Prelude.{insert, slice_get}
+use Rattle.std.specs.Cmp.{IsStrictWeakOrder}
+use Rattle.std.specs.List.{AllByRecursion}
+use Rattle.std.specs.List.Sorted.{IsPermutation, IsSortedBy}
+use Rattle.std.specs.Option.{option_map_or}
+use Rattle.std.proofs.lemmas.Bool.{cases_eq, eq-eqb, ne_eqb}
+use Rattle.std.proofs.lemmas.Cmp.{back_total}
+use Rattle.std.proofs.lemmas.List.{append-nil}
+use Rattle.std.proofs.lemmas.List.Elements.{recursion_from_All}
+use Rattle.std.proofs.lemmas.List.MinMax.{ranks_by}
+use Rattle.std.proofs.lemmas.List.Sorted.{list_any-IsPermutation, sorted_far}
+use Rattle.key_lists.specs.Keys.{is_among}
+use Rattle.key_lists.proofs.Among.{among-append}
+use Rattle.key_lists.proofs.Every.{every_both, every_weaker}
+use Rattle.tick_model.specs.declared.plan.SortBy.{SortBy}
+use Rattle.sort_op.specs.declared.entry.Entry.{Entry}
+use Rattle.sort_op.specs.Entries.{comes_before, is_in, is_same, place_of, AreDistinct, Falls, IsWhole, Rises}
+use Rattle.sort_op.specs.Places.{AreFound, is_place}
+use Rattle.sort_op.proofs.Batched.{same_flip}
+use Rattle.sort_op.proofs.Comparing.{before_trans, behind, entries_total, is_same_own, other_before}
+use Rattle.sort_op.proofs.EntryPlaces.{place_is}
+use Rattle.sort_op.proofs.Inserted.{or_none, others_than_first}
+use Rattle.sort_op.proofs.Members.{or_true}
+use Rattle.sort_op.proofs.Rises.{every_back, every_front, rises_back}
+use Rattle.sort_op.proofs.Searches.{each_other}
+
+-- the entry at a place is one of some
+abbrev is_one : List Entry → List Entry → ℕ → Bool
+is_one some entries at = option_map_or (λ entry. is_in entry some) (slice_get entries at) false
+
+none_one : (some entries : List Entry) (at : ℕ) → AllByRecursion (λ entry. is_in entry some ≡ false) entries → is_one some entries at ≡ false
+none_one some [] at h = refl
+none_one some (entry ∷ entries) zero h = h.0
+none_one some (entry ∷ entries) (suc at) h = none_one some entries at h.1
+
+none_in : (entry : Entry) (some : List Entry) → AllByRecursion (λ other. is_same other entry ≡ false) some → is_in entry some ≡ false
+none_in entry [] h = refl
+none_in entry (other ∷ some) h = ap₂ (λ a b. a || b) h.0 (none_in entry some h.1)
+
+module _ (entry : Entry) (came : List Entry) where
+  other_of : (other : Entry) → is_same entry other ≡ false → is_in other (entry ∷ came) ≡ is_in other came
+  other_of other e = ap (λ b. b || is_in other came) e
+
+  -- one entry more among others of which it is none
+  one_more : (front back : List Entry) (at : ℕ) → AllByRecursion (λ other. is_same entry other ≡ false) front → AllByRecursion (λ other. is_same entry other ≡ false) back → AllByRecursion (λ other. is_in other came ≡ false) back
+      → is_one (entry ∷ came) (front ++ entry ∷ back) at ≡ (is_one came (front ++ back) at || (length front == at))
+  one_more [] back zero f b none = ap (λ t. t || is_in entry came) (is_same_own entry) ∙ sym (or_true (is_one came back 0))
+  one_more [] back (suc at) f b none =
+      none_one (entry ∷ came) back at (every_both (λ other. is_same entry other ≡ false) (λ other. is_in other came ≡ false) (λ other. is_in other (entry ∷ came) ≡ false) back (λ other e h. other_of other e ∙ h) b none)
+      ∙ sym (ap₂ (λ a b. a || b) (none_one came back (suc at) none) (ne_eqb 0 (suc at) (λ e. omega (arith, e))))
+  one_more (other ∷ front) back zero f b none =
+      other_of other f.0 ∙ sym (ap (λ t. is_in other came || t) (ne_eqb (suc (length front)) 0 (λ e. omega (arith, e))) ∙ or_none (is_in other came))
+  one_more (other ∷ front) back (suc at) f b none = one_more front back at f.1 b none ∙ ap (λ t. is_one came (front ++ back) at || t) (later (length front) at)
+    where
+      later : (m n : ℕ) → (m == n) ≡ (suc m == suc n)
+      later m n =
+          elim (cases_eq m n) [
+            | inl e ↦ eq-eqb m n e ∙ sym (eq-eqb (suc m) (suc n) (omega (arith, e)))
+            | inr e ↦ ne_eqb m n e ∙ sym (ne_eqb (suc m) (suc n) (λ same. e (omega (arith, same))))
+          ]
+
+module _ (by : List SortBy) where
+  -- what a sort by the order backward leaves
+  pub backward_weak : IsStrictWeakOrder (λ a b. comes_before by b a)
+  backward_weak = ranks_by (back_total (entries_total by)) (λ (entry : Entry). entry)
+
+  falls_at : (xs : List Entry) → ((i j : ℕ) (d : Entry) → i < j → j < length xs → comes_before by (get_or xs i d) (get_or xs j d) ≡ false) → Falls by xs
+  falls_at [] h = tt
+  falls_at (x ∷ xs) h = (
+    recursion_from_All (λ y. comes_before by x y ≡ false) xs (λ k d within. h 0 (suc k) d (omega arith) (omega (arith, within))),
+    falls_at xs (λ i j d less within. h (suc i) (suc j) d (omega (arith, less)) (omega (arith, within))),
+  )
+
+  pub falls : (xs : List Entry) → IsSortedBy (λ a b. comes_before by b a) xs → Falls by xs
+  falls xs sorted = falls_at xs (λ i j d less within. sorted_far (λ a b. comes_before by b a) backward_weak xs sorted i j d (omega (arith, less)) within)
+
+  falls_back : (xs ys : List Entry) → Falls by (xs ++ ys) → Falls by ys
+  falls_back [] ys h = h
+  falls_back (x ∷ xs) ys h = falls_back xs ys h.1
+
+  -- those of the entries that were put in, and the positions at which they stand
+  pub record HaveArrived (all rest now : List Entry) (positions : List ℕ) : Type 0 where
+    pub came : List Entry
+    pub split : all ≡ rest ++ came
+    pub found : AreFound now came positions
+
+  pub one_arrived : (all rest old now : List Entry) (entry : Entry) (place : ℕ) (positions : List ℕ) → Falls by all → AreDistinct all → AllByRecursion (IsWhole by) all → Rises by old → Rises by now → place_of entry old ≡ None → place ≤ length old → now ≡ insert old place entry
+      → HaveArrived all (rest ++ entry ∷ []) old positions → HaveArrived all rest now (positions ++ place ∷ [])
+  one_arrived all rest old now entry place positions falls distinct whole rises rises_now absent within is h = record {
+    came = entry ∷ h.came;
+    split = apart;
+    found = λ at.
+        among-append at positions (place ∷ [])
+        ∙ ap₂ (λ a b. a || b) (h.found at ∙ place_is by old h.came at rises ∙ ap (λ xs. is_one h.came xs at) (sym parts)) (or_none (place == at) ∙ ap (λ n. n == at) (sym (length-take-le place old within)))
+        ∙ sym (one_more entry h.came (take place old) (drop place old) at front back none)
+        ∙ ap (λ xs. is_one (entry ∷ h.came) xs at) (sym is)
+        ∙ sym (place_is by now (entry ∷ h.came) at rises_now);
+  }
+    where
+      apart : all ≡ rest ++ entry ∷ h.came
+      apart = h.split ∙ append_assoc rest (entry ∷ []) h.came
+
+      parts : take place old ++ drop place old ≡ old
+      parts = take-append-drop place old
+
+      others : AllByRecursion (λ other. is_same entry other ≡ false) (take place old ++ drop place old)
+      others = every_weaker (λ other. is_same other entry ≡ false) (λ other. is_same entry other ≡ false) (take place old ++ drop place old) (λ other e. same_flip entry other ∙ e) (subst (AllByRecursion (λ other. is_same other entry ≡ false)) (sym parts) (each_other entry old absent))
+
+      front : AllByRecursion (λ other. is_same entry other ≡ false) (take place old)
+      front = every_front (λ other. is_same entry other ≡ false) (take place old) (drop place old) others
+
+      back : AllByRecursion (λ other. is_same entry other ≡ false) (drop place old)
+      back = every_back (λ other. is_same entry other ≡ false) (take place old) (drop place old) others
+
+      -- those that came before stand before the entry
+      before : AllByRecursion (λ other. comes_before by other entry ≡ true) h.came
+      before =
+          let own = every_back (IsWhole by) rest (entry ∷ h.came) (subst (AllByRecursion (IsWhole by)) apart whole) in
+          every_both (λ other. IsWhole by other) (λ other. (comes_before by entry other ≡ false) × (is_same other entry ≡ false)) (λ other. comes_before by other entry ≡ true) h.came
+          (λ other w e. behind by entry other own.0 w e.0 (same_flip entry other ∙ e.1)) own.1
+          (every_both (λ other. comes_before by entry other ≡ false) (λ other. is_same other entry ≡ false) (λ other. (comes_before by entry other ≡ false) × (is_same other entry ≡ false)) h.came (λ other a b. (a, b))
+          (falls_back rest (entry ∷ h.came) (subst (Falls by) apart falls)).0 (others_than_first rest entry h.came (subst AreDistinct apart distinct)))
+
+      -- and none of them among those behind it
+      none : AllByRecursion (λ other. is_in other h.came ≡ false) (drop place old)
+      none =
+          every_weaker (λ other. comes_before by entry other ≡ true) (λ other. is_in other h.came ≡ false) (drop place old)
+          (λ other later. none_in other h.came (every_weaker (λ first. comes_before by first entry ≡ true) (λ first. is_same first other ≡ false) h.came (λ first less. other_before by first other (before_trans by first entry other less later)) before))
+          (rises_back by (take place old) (entry ∷ drop place old) (subst (Rises by) is rises_now)).0
+
+  pub none_arrived : (all now : List Entry) (positions : List ℕ) → positions ≡ [] → HaveArrived all all now positions
+  none_arrived all now positions is = record { came = []; split = sym (append-nil all); found = λ at. ap (is_among at) is }
+
+  pub all_arrived : (some all now : List Entry) (positions : List ℕ) → IsPermutation some all → HaveArrived all [] now positions → AreFound now some positions
+  all_arrived some all now positions same h at =
+      h.found at
+      ∙ ap (λ came. is_place now came at) (sym h.split)
+      ∙ sym (list_any-IsPermutation (λ entry. option_map_or (λ place. place == at) (place_of entry now) false) some all same)

@@ -1,0 +1,103 @@
+-- Entries without those at some positions.
+use Rattle.std.proofs.Common.{◌≡◌, refl, ap, sym, ◌∙◌, subst, Bool, true, false, cond, not, ◌||◌, ℕ, zero, suc, ◌+◌, ◌<◌, ◌≤◌, arith, List, [], ◌∷◌, drop, length, Some}
+use Rattle.std.specs.Prelude.{filter, remove, slice_get}
+use Rattle.std.specs.List.{AllByRecursion}
+use Rattle.std.specs.Option.{option_map_or}
+use Rattle.std.proofs.lemmas.Bool.{eq-eqb, ne_eqb}
+use Rattle.std.proofs.lemmas.List.{drop_all}
+use Rattle.key_lists.specs.Keys.{is_among, IsRising}
+use Rattle.key_lists.proofs.Among.{among_below, among_past, each_among}
+use Rattle.key_lists.proofs.Every.{every_weaker}
+use Rattle.row_set.proofs.Windows.{rising-drop}
+use Rattle.tick_model.specs.declared.plan.SortBy.{SortBy}
+use Rattle.sort_op.specs.declared.entry.Entry.{Entry}
+use Rattle.sort_op.specs.Entries.{is_in, Rises}
+use Rattle.sort_op.specs.Places.{AreFound, left_from}
+use Rattle.sort_op.proofs.EntryPlaces.{place_is}
+use Rattle.sort_op.proofs.Made.{held_within}
+use Rattle.sort_op.proofs.Rises.{every_got, none_some, some_same}
+
+-- where none is left out
+left_none : (first : ℕ) (entries : List Entry) → left_from first [] entries ≡ entries
+left_none first [] = refl
+left_none first (entry ∷ entries) = ap (λ others. entry ∷ others) (left_none (suc first) entries)
+
+pub left_all : (entries : List Entry) (positions : List ℕ) (n : ℕ) → n ≡ length positions → entries ≡ left_from 0 (drop n positions) entries
+left_all entries positions n is = sym (ap (λ some. left_from 0 some entries) (drop_all n positions (omega (arith, is))) ∙ left_none 0 entries)
+
+-- a position before the first entry leaves none out
+left_past : (first position : ℕ) (later : List ℕ) (entries : List Entry) → position < first → left_from first (position ∷ later) entries ≡ left_from first later entries
+left_past first position later [] past = refl
+left_past first position later (entry ∷ entries) past =
+    ap (λ b. cond b (left_from (suc first) (position ∷ later) entries) (entry ∷ left_from (suc first) (position ∷ later) entries)) (among_past first position later past)
+    ∙ ap (λ others. cond (is_among first later) others (entry ∷ others)) (left_past (suc first) position later entries (omega (arith, past)))
+
+none_here : (first position : ℕ) (later : List ℕ) → first ≤ position → AllByRecursion (λ other. position < other) later → is_among first later ≡ false
+none_here first position later le above = among_below first later (every_weaker (λ other. position < other) (λ other. first < other) later (λ other less. omega (arith, less, le)) above)
+
+-- a position before all others leaves one entry more out
+left_one : (entries : List Entry) (at first position : ℕ) (later : List ℕ) → position ≡ first + at → at < length entries → AllByRecursion (λ other. position < other) later
+    → (at < length (left_from first later entries)) × (left_from first (position ∷ later) entries ≡ remove (left_from first later entries) at)
+left_one [] at first position later is within above = absurd (omega (arith, within))
+left_one (entry ∷ entries) zero first position later is within above =
+    let others = left_from (suc first) later entries in
+    let none = none_here first position later (omega (arith, is)) above in
+    let kept : cond (is_among first later) others (entry ∷ others) ≡ entry ∷ others = ap (λ b. cond b others (entry ∷ others)) none in
+    let count = ap length kept in (
+      omega (arith, count),
+      ap (λ b. cond (b || is_among first later) (left_from (suc first) (position ∷ later) entries) (entry ∷ left_from (suc first) (position ∷ later) entries)) (eq-eqb position first (omega (arith, is)))
+          ∙ left_past (suc first) position later entries (omega (arith, is))
+          ∙ sym (ap (λ xs. remove xs 0) kept),
+    )
+left_one (entry ∷ entries) (suc at) first position later is within above =
+    let others = left_from (suc first) later entries in
+    let none = none_here first position later (omega (arith, is)) above in
+    let kept : cond (is_among first later) others (entry ∷ others) ≡ entry ∷ others = ap (λ b. cond b others (entry ∷ others)) none in
+    let count = ap length kept in
+    let rest = left_one entries at (suc first) position later (omega (arith, is)) (omega (arith, within)) above in
+    let other : is_among first (position ∷ later) ≡ false = ap (λ b. b || is_among first later) (ne_eqb position first (λ e. omega (arith, is, e))) ∙ none in (
+      omega (arith, rest.0, count),
+      ap (λ b. cond b (left_from (suc first) (position ∷ later) entries) (entry ∷ left_from (suc first) (position ∷ later) entries)) other
+          ∙ ap (λ xs. entry ∷ xs) rest.1
+          ∙ sym (ap (λ xs. remove xs (suc at)) kept),
+    )
+
+-- what is left out from one place of the positions on
+drop_got : (xs : List ℕ) (n x : ℕ) → slice_get xs n ≡ Some x → drop n xs ≡ x ∷ drop (suc n) xs
+drop_got [] n x at = none_some x at
+drop_got (y ∷ xs) zero x at = ap (λ z. z ∷ xs) (some_same y x at)
+drop_got (y ∷ xs) (suc n) x at = drop_got xs n x at
+
+pub left_more : (entries : List Entry) (positions : List ℕ) (n next position : ℕ) → next ≡ suc n → IsRising positions → AllByRecursion (λ position. position < length entries) positions → slice_get positions n ≡ Some position
+    → (position < length (left_from 0 (drop next positions) entries)) × (left_from 0 (drop n positions) entries ≡ remove (left_from 0 (drop next positions) entries) position)
+left_more entries positions n next position is rising within at =
+    let split = drop_got positions n position at in
+    let above = (subst IsRising split (rising-drop n positions rising)).0 in
+    let one = left_one entries position 0 position (drop (suc n) positions) (omega arith) (every_got (λ position. position < length entries) positions n position at within) above in
+    let same : drop next positions ≡ drop (suc n) positions = ap (λ k. drop k positions) is in (
+      subst (λ later. position < length (left_from 0 later entries)) (sym same) one.0,
+      ap (λ some. left_from 0 some entries) split ∙ one.1 ∙ ap (λ later. remove (left_from 0 later entries) position) (sym same),
+    )
+
+-- where the positions are those that pass a test
+left_passed : (p : Entry → Bool) (positions : List ℕ) (first : ℕ) (entries : List Entry) → ((position at : ℕ) → position ≡ first + at → is_among position positions ≡ option_map_or p (slice_get entries at) false) → left_from first positions entries ≡ filter (λ entry. not (p entry)) entries
+left_passed p positions first [] h = refl
+left_passed p positions first (entry ∷ entries) h =
+    ap (λ b. cond b (left_from (suc first) positions entries) (entry ∷ left_from (suc first) positions entries)) (h first 0 (omega arith))
+    ∙ turned (p entry) (left_passed p positions (suc first) entries (λ position at is. h position (suc at) (omega (arith, is))))
+  where
+    turned : (b : Bool) {xs ys : List Entry} → xs ≡ ys → cond b xs (entry ∷ xs) ≡ cond (not b) (entry ∷ ys) ys
+    turned true e = e
+    turned false e = ap (λ xs. entry ∷ xs) e
+
+module _ (by : List SortBy) (entries some : List Entry) (rises : Rises by entries) (positions : List ℕ) (found : AreFound entries some positions) where
+  here : (position : ℕ) → is_among position positions ≡ option_map_or (λ entry. is_in entry some) (slice_get entries position) false
+  here position = found position ∙ place_is by entries some position rises
+
+  pub found_within : AllByRecursion (λ position. position < length entries) positions
+  found_within =
+      every_weaker (λ position. is_among position positions ≡ true) (λ position. position < length entries) positions
+      (λ position own. held_within (λ entry. is_in entry some) entries position (sym (here position) ∙ own)) (each_among positions)
+
+  pub found_left : left_from 0 positions entries ≡ filter (λ entry. not (is_in entry some)) entries
+  found_left = left_passed (λ entry. is_in entry some) positions 0 entries (λ position at is. here position ∙ ap (λ n. option_map_or (λ entry. is_in entry some) (slice_get entries n) false) (let same : position ≡ at = omega (arith, is) in same))
