@@ -1,52 +1,51 @@
 -- What the tests of numbers come to.
-use Rattle.std.proofs.Common.{◌≡◌, ℕ, ◌<◌, ◌≤◌, List, [], ◌∷◌, true, false, Some, None, pos, neg_ℤ, refl, sym, ap, ◌∙◌, subst, length, eqb, ltb, leb, arith}
+use Rattle.std.proofs.Common.{◌≡◌, ℕ, zero, suc, ◌+◌, ◌-◌, ◌*◌, ◌^◌, ◌<◌, ◌≤◌, List, [], ◌∷◌, ◌++◌, take, get_or, true, false, Some, None, pos, neg_ℤ, refl, sym, ap, ◌∙◌, subst, length, length-take-le, eqb, ltb, leb, arith}
 use Rattle.std.specs.Prelude.{option_map, ◌&&◌, if◌then◌else◌}
-use Rattle.std.specs.Char.{is_ascii_digit}
-use Rattle.std.specs.List.{list_all}
+use Rattle.std.specs.Char.{is_ascii_digit, digit_value}
 use Rattle.std.specs.Str.{all_ascii_digits}
 use Rattle.std.specs.Str.Parse.{digits_value}
-use Rattle.std.proofs.lemmas.Bool.{cond-false, le-leb, lt-leb, lt-ltb, ltb-true, ne_eqb, and_from, and_left, and_right, false_from_ne_true}
-use Rattle.std.proofs.lemmas.Str.Parse.{IsNumeralModel, numerals_by_value, tells_all_ascii_digits}
+use Rattle.std.proofs.lemmas.Bool.{cond-false, ne_eqb, and_from, and_parts, and_left, and_right}
+use Rattle.std.proofs.lemmas.Bool.Decides.{nat_tests}
+use Rattle.std.proofs.lemmas.Int.Digits.{digits_value_more}
+use Rattle.std.proofs.lemmas.List.{take_more}
+use Rattle.std.proofs.lemmas.Str.Parse.{numerals_by_value, tells_all_ascii_digits, digits_value_short}
 use Rattle.feed_reader.specs.Cells.{number_below, signed_below}
 
-pub list_all-digits : (bytes : List ℕ) → list_all is_ascii_digit bytes ≡ all_ascii_digits bytes
-list_all-digits [] = refl
-list_all-digits (byte ∷ bytes) = ap (λ all. is_ascii_digit byte && all) (list_all-digits bytes)
+-- one more digit
+digits_onto : (digits : List ℕ) (digit : ℕ) → all_ascii_digits digits ≡ true → is_ascii_digit digit ≡ true → all_ascii_digits (digits ++ digit ∷ []) ≡ true
+digits_onto [] digit all is = and_from (is_ascii_digit digit) true is refl
+digits_onto (first ∷ others) digit all is =
+    let both = and_parts (is_ascii_digit first) (all_ascii_digits others) all in
+    and_from (is_ascii_digit first) (all_ascii_digits (others ++ digit ∷ [])) both.0 (digits_onto others digit both.1 is)
 
-pub own_digits : IsNumeralModel (λ ds. all_ascii_digits ds ≡ true) (digits_value 10)
-own_digits = numerals_by_value _ tells_all_ascii_digits
+pub digits_more : (digits : List ℕ) (i : ℕ) → i < length digits → all_ascii_digits (take i digits) ≡ true → is_ascii_digit (get_or digits i 0) ≡ true → all_ascii_digits (take (i + 1) digits) ≡ true
+digits_more digits i within all is = ap all_ascii_digits (take_more digits i 0 within) ∙ digits_onto (take i digits) (get_or digits i 0) all is
 
--- the number of digits that are few, and below the limit
-pub number_there : (limit value : ℕ) (text : List ℕ) → length text ≤ 19 → all_ascii_digits text ≡ true → 0 < length text → value ≡ digits_value 10 text → value < limit → number_below limit text ≡ Some value
-number_there limit value [] few digits some is fits = absurd (omega arith)
-number_there limit value (x ∷ xs) few digits some is fits =
-    let own = digits_value 10 (x ∷ xs) in
-    let low : own < limit = subst (λ n. n < limit) is fits in
-    ap (λ b. if b then Some own else None)
-    (and_from (leb (length (x ∷ xs)) 19 && all_ascii_digits (x ∷ xs)) (ltb own limit)
-    (and_from (leb (length (x ∷ xs)) 19) (all_ascii_digits (x ∷ xs)) (le-leb (length (x ∷ xs)) 19 few) digits) (lt-ltb own limit low))
-    ∙ ap Some (sym is)
+pub number_more : (digits : List ℕ) (i number : ℕ) → i < length digits → is_ascii_digit (get_or digits i 0) ≡ true → number ≡ digits_value 10 (take i digits) → number * 10 + (get_or digits i 0 - 48) ≡ digits_value 10 (take (i + 1) digits)
+number_more digits i number within is value =
+    let worth : digit_value (get_or digits i 0) ≡ get_or digits i 0 - 48 = grind (arith, nat_tests) in
+    rw (digits_value_more 10 digits i within, worth, value) refl
 
-pub number_not_there : (limit : ℕ) (text : List ℕ) → ¬ ((0 < length text) × (digits_value 10 text < limit)) → number_below limit text ≡ None
-number_not_there limit [] not = refl
-number_not_there limit (x ∷ xs) not =
-    let own = digits_value 10 (x ∷ xs) in
-    ap (λ b. if b then Some own else None)
-    (and_right (leb (length (x ∷ xs)) 19 && all_ascii_digits (x ∷ xs)) (ltb own limit) (false_from_ne_true (ltb own limit) (λ e. not (omega arith, ltb-true own limit e))))
+-- fewer than 19 digits leave room for one more
+pub number_small : (digits : List ℕ) (i number : ℕ) → i < length digits → length digits ≤ 19 → all_ascii_digits (take i digits) ≡ true → number ≡ digits_value 10 (take i digits) → number < 10 ^ 18
+number_small digits i number within few all value =
+    rw value (digits_value_short (numerals_by_value _ tells_all_ascii_digits) (take i digits) 18 all (omega (arith, length-take-le i digits)))
 
-pub number_long : (limit : ℕ) (text : List ℕ) → 19 < length text → number_below limit text ≡ None
-number_long limit [] many = refl
-number_long limit (x ∷ xs) many =
-    let own = digits_value 10 (x ∷ xs) in
-    ap (λ b. if b then Some own else None)
-    (and_left (leb (length (x ∷ xs)) 19 && all_ascii_digits (x ∷ xs)) (ltb own limit) (and_left (leb (length (x ∷ xs)) 19) (all_ascii_digits (x ∷ xs)) (lt-leb (length (x ∷ xs)) 19 many)))
+-- a byte that is no digit
+not_all_digits : (digits : List ℕ) (i : ℕ) → i < length digits → is_ascii_digit (get_or digits i 0) ≡ false → all_ascii_digits digits ≡ false
+not_all_digits [] i within not = absurd (omega arith)
+not_all_digits (first ∷ others) zero within not = and_left (is_ascii_digit first) (all_ascii_digits others) not
+not_all_digits (first ∷ others) (suc i) within not = and_right (is_ascii_digit first) (all_ascii_digits others) (not_all_digits others i (omega arith) not)
 
-pub number_not_digits : (limit : ℕ) (text : List ℕ) → all_ascii_digits text ≡ false → number_below limit text ≡ None
+number_not_digits : (limit : ℕ) (text : List ℕ) → all_ascii_digits text ≡ false → number_below limit text ≡ None
 number_not_digits limit [] digits = refl
 number_not_digits limit (x ∷ xs) digits =
     let own = digits_value 10 (x ∷ xs) in
     ap (λ b. if b then Some own else None)
     (and_left (leb (length (x ∷ xs)) 19 && all_ascii_digits (x ∷ xs)) (ltb own limit) (and_right (leb (length (x ∷ xs)) 19) (all_ascii_digits (x ∷ xs)) digits))
+
+pub number_stops : (limit : ℕ) (text digits : List ℕ) (i : ℕ) → digits ≡ text → i < length digits → is_ascii_digit (get_or digits i 0) ≡ false → number_below limit text ≡ None
+number_stops limit text digits i same within not = number_not_digits limit text (subst (λ (of : List ℕ). all_ascii_digits of ≡ false) same (not_all_digits digits i within not))
 
 -- a text that does not begin with a minus sign
 pub signed_plain : (limit : ℕ) (text : List ℕ) → ((rest : List ℕ) → text ≡ 45 ∷ rest → ⊥) → option_map pos (number_below limit text) ≡ signed_below limit text

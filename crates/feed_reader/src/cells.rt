@@ -1,7 +1,6 @@
 //! What a field spells: numbers, keys and cells.
 
 ghost use Rattle.std.specs.Prelude.{◌≡◌, ◌^◌, ◌<◌, ◌≤◌, ◌==◌, ◌+◌, IfOk, drop, length, pos, option_map};
-ghost use Rattle.std.specs.Str.{all_ascii_digits};
 ghost use Rattle.csv.specs.Records.{fields_of};
 ghost use Rattle.feed_reader.specs.Cells.{number_below, signed_below, long_of, key_of, delta_of, cell_of, cells_of};
 
@@ -17,23 +16,22 @@ use tick_model::plan::{ColumnSpec, Kind};
 /// The most digits of a number.
 const MOST_DIGITS: usize = 19;
 
-fn is_digits(text: &str) -> bool
-    ensures { result ≡ all_ascii_digits text.now }
-{
-    text.as_bytes().iter().all(|byte| byte.is_ascii_digit())
-}
-
-/// The number that 1 to 19 digits spell, where it is below the limit.
+/// The number that 1 to 19 digits spell, where it is below the limit. So few digits always fit: they are added up without a test.
 fn number(text: &str, limit: u64) -> Option<u64>
     ensures { result ≡ number_below limit text.now }
 {
-    if text.len() > MOST_DIGITS || !is_digits(text) {
+    let digits = text.as_bytes();
+    if digits.is_empty() || digits.len() > MOST_DIGITS {
         return None;
     }
-    match text.parse::<u64>() {
-        Ok(number) if number < limit => Some(number),
-        _ => None,
+    let mut number = 0;
+    for &digit in digits {
+        if !digit.is_ascii_digit() {
+            return None;
+        }
+        number = number * 10 + u64::from(digit - b'0');
     }
+    if number < limit { Some(number) } else { None }
 }
 
 /// The same as a signed number.

@@ -1,19 +1,30 @@
-use Rattle.std.proofs.Common.{◌≡◌, true, sym, arith, rules}
-use Rattle.std.specs.Str.{all_ascii_digits}
-use Rattle.std.proofs.lemmas.Result.{OkIff-at_ok, OkIff-at_err}
-use Rattle.std.proofs.lemmas.Str.Parse.{parse_digits}
-use Rattle.feed_reader.proofs.NumberLemmas.{own_digits, number_there, number_not_there}
+use Rattle.std.proofs.Common.{◌≡◌, ◌+◌, ◌*◌, ◌-◌, get_or, true, false, sym, ap, ◌∙◌, arith, rules}
+use Rattle.std.specs.Char.{is_ascii_digit}
+use Rattle.feed_reader.proofs.NumberLemmas.{digits_more, number_more, number_small, number_stops}
 use Rattle.feed_reader.proofs.cells.number.Goals as goal
 
-pub returns-in_default-2 : goal.returns-in_default-2
-returns-in_default-2 c =
-    let text = c.args.text.now in
-    let parsed = OkIff-at_err c.parse.result _ _ c.in_default.field-0 (parse_digits own_digits 64 text c.parse.result c.parse.ensures.value.0 (sym (search rules))) c.in_default.is in
-    sym (number_not_there c.args.limit text (λ there. parsed (there.0, omega (arith, there.1))))
+pub returns-then-not-is_ascii_digit : goal.returns-then-not-is_ascii_digit
+returns-then-not-is_ascii_digit c =
+    let digits = c.as_bytes-digits.result.now in
+    let not : is_ascii_digit (get_or digits c.loop-digit.digit-index 0) ≡ false = search rules in
+    sym (number_stops c.args.limit c.args.text.now digits c.loop-digit.digit-index c.as_bytes-digits.ensures.value c.loop-digit-test.true not)
 
-pub returns-in-Ok : goal.returns-in-Ok
-returns-in-Ok c =
-    let text = c.args.text.now in
-    let digits : all_ascii_digits text ≡ true = sym (c.if-not-is_digits.ensures) in
-    let parsed = OkIff-at_ok c.parse.result _ _ c.in-Ok.number (parse_digits own_digits 64 text c.parse.result c.parse.ensures.value.0 digits) c.in-Ok.is in
-    sym (number_there c.args.limit c.in-Ok.number text (omega arith) digits parsed.0.0 parsed.1 (omega arith))
+pub overflow_mul-number : goal.overflow_mul-number
+overflow_mul-number c =
+    let small = number_small c.as_bytes-digits.result.now c.loop-digit.digit-index c.loop-digit.number c.loop-digit-test.true (omega arith) c.loop-digit.invariant.0 c.loop-digit.invariant.1 in
+    record { fits = omega (arith, small) }
+
+pub overflow_add-number : goal.overflow_add-number
+overflow_add-number c =
+    let small = number_small c.as_bytes-digits.result.now c.loop-digit.digit-index c.loop-digit.number c.loop-digit-test.true (omega arith) c.loop-digit.invariant.0 c.loop-digit.invariant.1 in
+    record { fits = omega (arith, small, c.from.ensures) }
+
+pub loop-digit-preserved : goal.loop-digit-preserved
+loop-digit-preserved c =
+    let digits = c.as_bytes-digits.result.now in
+    let i = c.loop-digit.digit-index in
+    let is : is_ascii_digit (get_or digits i 0) ≡ true = search rules in
+    let worth : c.from.result ≡ get_or digits i 0 - 48 = search rules in (
+      digits_more digits i c.loop-digit-test.true c.loop-digit.invariant.0 is,
+      ap (λ n. c.loop-digit.number * 10 + n) worth ∙ number_more digits i c.loop-digit.number c.loop-digit-test.true is c.loop-digit.invariant.1,
+    )
