@@ -1,6 +1,7 @@
 pub mod NumberLemmas
 pub mod FieldLemmas
 pub mod CellLemmas
+pub mod RowCellLemmas
 pub mod RecordLemmas
 pub mod FeedLemmas
 pub mod TableLemmas

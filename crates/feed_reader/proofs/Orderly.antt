@@ -92,7 +92,7 @@ number_fits limit text =
     (λ e. ltb-true (digits_value 10 text) limit (and_parts (not (is_none text) && leb (length text) 19 && all_ascii_digits text) (ltb (digits_value 10 text) limit) e).1) (λ _. tt)
 
 -- of a size
-abbrev IsWithin : ℕ → ℤ → Type 0
+abbrev pub IsWithin : ℕ → ℤ → Type 0
 IsWithin limit x = unsigned_abs x < limit
 
 negated_within : (limit n : ℕ) → n < limit → IsWithin limit (neg_ℤ (pos n))
@@ -107,7 +107,7 @@ plain_fits : (limit : ℕ) (o : Option ℕ) → IfSome o (λ n. n < limit) → I
 plain_fits limit None low = tt
 plain_fits limit (Some n) low = low
 
-signed_fits : (limit : ℕ) (text : List ℕ) → IfSome (signed_below limit text) (IsWithin limit)
+pub signed_fits : (limit : ℕ) (text : List ℕ) → IfSome (signed_below limit text) (IsWithin limit)
 signed_fits limit [] = tt
 signed_fits limit (first ∷ others) =
     cond_both (eqb first 45) (option_map neg_ℤ (option_map pos (number_below limit others))) (option_map pos (number_below limit (first ∷ others))) (λ o. IfSome o (IsWithin limit))

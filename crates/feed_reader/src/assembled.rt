@@ -21,7 +21,7 @@ pub fn assemble(
     requires { All (λ node. length node.columns < 2 ^ 32) script.plan.nodes }
     ensures { IfOk result (λ run. plain_run run ≡ run_of script tables feed) }
 {
-    let coded = code(alloc, &script.plan, &script.literals, &tables, feed)?;
+    let coded = code(alloc, &script.plan, &script.literals, tables, feed)?;
     let plan = script.bind(alloc, &coded.texts)?;
     Ok(Run {
         plan,

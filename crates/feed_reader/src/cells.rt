@@ -6,9 +6,9 @@ ghost use Rattle.feed_reader.specs.Cells.{number_below, signed_below, long_of, k
 
 use crate::raw::RawCell;
 use crate::records::field;
+use crate::row_cells::RowCells;
 use csv::StringRecord;
 use std::alloc::{AllocError, Global};
-use tick_model::items::Items;
 use tick_model::limits::SOURCE_KEYS;
 use tick_model::name::Name;
 use tick_model::plan::{ColumnSpec, Kind};
@@ -96,17 +96,17 @@ pub(crate) fn cells(
     columns: &[ColumnSpec],
     fields: &StringRecord,
     first: usize,
-) -> Result<Option<Items<RawCell>>, AllocError>
+) -> Result<Option<RowCells>, AllocError>
     requires whole { length (fields_of fields.now) ≡ length columns.now + first }
     requires few { first ≤ 2 }
     ensures { IfOk result (λ cells. cells ≡ cells_of columns.now (drop first (fields_of fields.now))) }
 {
-    let mut cells = Vec::with_capacity(alloc, columns.len())?;
+    let mut cells = RowCells::with_capacity(alloc, columns.len())?;
     for (place, column) in columns.iter().enumerate() {
         match cell(alloc, column.kind, field(fields, first + place))? {
             Some(cell) => cells.push(cell)?,
             None => return Ok(None),
         }
     }
-    Ok(Some(Items::of(cells)))
+    Ok(Some(cells))
 }

@@ -1,7 +1,8 @@
 //! Opening tables and batches whose texts have ranks.
 
-ghost use Rattle.std.specs.Prelude.{◌≡◌, ◌++◌, ◌∷◌, ◌<◌, ◌^◌, All, List, IfOk, length};
+ghost use Rattle.std.specs.Prelude.{◌≡◌, ◌++◌, ◌∷◌, ◌<◌, ◌^◌, All, List, IfOk, OnOk, length};
 ghost use Rattle.std.specs.List.{AllByRecursion};
+ghost use Rattle.std.specs.Vec.Iter.{into_iter_items, into_iter_len};
 ghost use Rattle.tick_model.specs.declared.plan.Node.{Node};
 ghost use Rattle.tick_model.specs.LawfulRuns.{AreTexts, sources_of};
 ghost use Rattle.feed_reader.specs.Coding.{all_texts, texts_of as texts_of_run, coded_feed as feed_with};
@@ -12,6 +13,7 @@ use crate::ranks::Ranks;
 use crate::raw::{RawFeed, RawTable};
 use crate::texts::texts_of;
 use std::alloc::{AllocError, Global};
+use std::vec::IntoIter;
 use tick_model::feed::Batch;
 use tick_model::items::Items;
 use tick_model::name::Name;
@@ -29,27 +31,29 @@ pub struct Coded {
     pub texts: Items<Name>,
 }
 
-/// Opens a node where it is a source, with the first of the tables, and answers the tables that are left.
-fn open_node<'a>(
+/// Opens a node where it is a source, with the next of the tables.
+fn open_node(
     alloc: Global,
     ranks: &Ranks,
     node: &Node,
-    tables: &'a [RawTable],
+    tables: &mut IntoIter<RawTable>,
     opening: &mut Items<PlainTable>,
-) -> Result<&'a [RawTable], AllocError>
-    requires { length node.now.columns < 2 ^ 32 }
-    ensures { IfOk result (λ left. (later : List Node) → opening.old ++ opening_of ranks.now (sources_of (node.now ∷ later)) tables.now ≡ opening.new ++ opening_of ranks.now (sources_of later) left.now) }
+) -> Result<(), AllocError>
+    requires columns { length node.now.columns < 2 ^ 32 }
+    requires whole { into_iter_len tables.old ≡ length (into_iter_items tables.old) }
+    ensures whole { into_iter_len tables.new ≡ length (into_iter_items tables.new) }
+    ensures opens { OnOk result ((later : List Node) → opening.old ++ opening_of ranks.now (sources_of (node.now ∷ later)) (into_iter_items tables.old)
+        ≡ opening.new ++ opening_of ranks.now (sources_of later) (into_iter_items tables.new)) }
 {
     if !is_source(node) {
-        return Ok(tables);
+        return Ok(());
     }
-    match tables {
-        [] => Ok(tables),
-        [table, left @ ..] => {
+    match tables.next() {
+        Some(table) => {
             let width = node.columns.len() as u32;
-            opening.push(coded_table(alloc, ranks, width, table)?)?;
-            Ok(left)
+            opening.push(coded_table(alloc, ranks, width, table)?)
         }
+        None => Ok(()),
     }
 }
 
@@ -58,15 +62,15 @@ fn opened(
     alloc: Global,
     ranks: &Ranks,
     nodes: &[Node],
-    tables: &[RawTable],
+    tables: Items<RawTable>,
 ) -> Result<Items<PlainTable>, AllocError>
     requires { All (λ node. length node.columns < 2 ^ 32) nodes.now }
-    ensures { IfOk result (λ opening. opening ≡ opening_of ranks.now (sources_of nodes.now) tables.now) }
+    ensures { IfOk result (λ opening. opening ≡ opening_of ranks.now (sources_of nodes.now) tables) }
 {
     let mut opening = Items::new(alloc);
-    let mut left = tables;
+    let mut tables = tables.into_vec().into_iter();
     for node in nodes {
-        left = open_node(alloc, ranks, node, left, &mut opening)?;
+        open_node(alloc, ranks, node, &mut tables, &mut opening)?;
     }
     Ok(opening)
 }
@@ -76,11 +80,11 @@ fn coded_by(
     alloc: Global,
     texts: &[Name],
     nodes: &[Node],
-    tables: &[RawTable],
+    tables: Items<RawTable>,
     feed: RawFeed,
 ) -> Result<(Items<PlainTable>, Items<Batch>), AllocError>
     requires { All (λ node. length node.columns < 2 ^ 32) nodes.now }
-    ensures opening { IfOk result (λ coded. coded.0 ≡ opening_of texts.now (sources_of nodes.now) tables.now) }
+    ensures opening { IfOk result (λ coded. coded.0 ≡ opening_of texts.now (sources_of nodes.now) tables) }
     ensures batches { IfOk result (λ coded. coded.1 ≡ feed_with texts.now feed) }
 {
     let ranks = Ranks::of(alloc, texts)?;
@@ -95,19 +99,18 @@ pub fn code(
     alloc: Global,
     plan: &Plan,
     literals: &Items<Name>,
-    tables: &Items<RawTable>,
+    tables: Items<RawTable>,
     feed: RawFeed,
 ) -> Result<Coded, AllocError>
     requires { All (λ node. length node.columns < 2 ^ 32) plan.now.nodes }
-    ensures texts { IfOk result (λ coded. coded.texts ≡ texts_of_run literals.now tables.now feed) }
+    ensures texts { IfOk result (λ coded. coded.texts ≡ texts_of_run literals.now tables feed) }
     // The texts stand each once and in byte order, and none is missing.
     ensures ordered { IfOk result (λ coded. AreTexts coded.texts) }
-    ensures noted { IfOk result (λ coded. AllByRecursion (IsAmong coded.texts) (all_texts literals.now tables.now feed)) }
-    ensures opening { IfOk result (λ coded. coded.opening ≡ opening_of coded.texts (sources_of plan.now.nodes) tables.now) }
+    ensures noted { IfOk result (λ coded. AllByRecursion (IsAmong coded.texts) (all_texts literals.now tables feed)) }
+    ensures opening { IfOk result (λ coded. coded.opening ≡ opening_of coded.texts (sources_of plan.now.nodes) tables) }
     ensures batches { IfOk result (λ coded. coded.batches ≡ feed_with coded.texts feed) }
 {
-    let tables = tables.as_slice();
-    let texts = texts_of(alloc, literals.as_slice(), tables, &feed)?;
+    let texts = texts_of(alloc, literals.as_slice(), tables.as_slice(), &feed)?;
     let nodes = plan.nodes.as_slice();
     let (opening, batches) = coded_by(alloc, texts.as_slice(), nodes, tables, feed)?;
     Ok(Coded {

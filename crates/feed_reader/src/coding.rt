@@ -1,46 +1,35 @@
 //! Rows with each text in the place of its rank.
 
-ghost use Rattle.std.specs.Prelude.{◌≡◌, IfOk, map};
-ghost use Rattle.feed_reader.specs.Coding.{coded_cell as cell_with, coded_row as row_with, coded_rows as rows_with, coded_table as table_with, coded_block as block_with, coded_batch as batch_with, coded_feed as feed_with};
+ghost use Rattle.std.specs.Prelude.{◌≡◌, IfOk};
+ghost use Rattle.feed_reader.specs.Coding.{coded_row as row_with, coded_rows as rows_with, coded_table as table_with, coded_block as block_with, coded_batch as batch_with, coded_feed as feed_with};
 
 use crate::ranks::Ranks;
-use crate::raw::{RawBatch, RawBlock, RawCell, RawFeed, RawRow, RawTable};
+use crate::raw::{RawBatch, RawBlock, RawFeed, RawRow, RawTable};
 use std::alloc::{AllocError, Global};
 use tick_model::feed::{Batch, Block};
-use tick_model::formula::NULL;
 use tick_model::items::Items;
 use tick_model::table::{PlainRow, PlainTable};
 
-fn coded_cell(ranks: &Ranks, cell: &RawCell) -> i64
-    ensures { result ≡ cell_with ranks.now cell.now }
+fn coded_row(ranks: &Ranks, row: RawRow) -> PlainRow
+    ensures { result ≡ row_with ranks.now row }
 {
-    match cell {
-        RawCell::Null => NULL,
-        RawCell::Long(number) => *number,
-        RawCell::Text(text) => ranks.rank(text.as_str()) as i64,
-    }
-}
-
-fn coded_row(alloc: Global, ranks: &Ranks, row: &RawRow) -> Result<PlainRow, AllocError>
-    ensures { IfOk result (λ coded. coded ≡ row_with ranks.now row.now) }
-{
-    let cells = row.cells.as_slice();
-    let mut coded = Vec::with_capacity(alloc, cells.len())?;
-    for cell in cells {
-        coded.push(coded_cell(ranks, cell))?;
-    }
-    Ok(PlainRow {
+    PlainRow {
         key: row.key,
-        cells: Items::of(coded),
-    })
+        cells: row.cells.coded(ranks),
+    }
 }
 
-fn coded_rows(alloc: Global, ranks: &Ranks, rows: &[RawRow]) -> Result<Items<PlainRow>, AllocError>
-    ensures { IfOk result (λ coded. coded ≡ rows_with ranks.now rows.now) }
+fn coded_rows(
+    alloc: Global,
+    ranks: &Ranks,
+    rows: Items<RawRow>,
+) -> Result<Items<PlainRow>, AllocError>
+    ensures { IfOk result (λ coded. coded ≡ rows_with ranks.now rows) }
 {
+    let rows = rows.into_vec();
     let mut coded = Vec::with_capacity(alloc, rows.len())?;
     for row in rows {
-        coded.push(coded_row(alloc, ranks, row)?)?;
+        coded.push(coded_row(ranks, row))?;
     }
     Ok(Items::of(coded))
 }
@@ -50,22 +39,21 @@ pub(crate) fn coded_table(
     alloc: Global,
     ranks: &Ranks,
     width: u32,
-    table: &RawTable,
+    table: RawTable,
 ) -> Result<PlainTable, AllocError>
-    ensures { IfOk result (λ coded. coded ≡ table_with ranks.now width table.now) }
+    ensures { IfOk result (λ coded. coded ≡ table_with ranks.now width table) }
 {
     Ok(PlainTable {
         width,
-        rows: coded_rows(alloc, ranks, table.rows.as_slice())?,
+        rows: coded_rows(alloc, ranks, table.rows)?,
     })
 }
 
-/// A block, which gives its ranges away.
 fn coded_block(alloc: Global, ranks: &Ranks, block: RawBlock) -> Result<Block, AllocError>
     ensures { IfOk result (λ coded. coded ≡ block_with ranks.now block) }
 {
-    let added = coded_rows(alloc, ranks, block.added.as_slice())?;
-    let modified = coded_rows(alloc, ranks, block.modified.as_slice())?;
+    let added = coded_rows(alloc, ranks, block.added)?;
+    let modified = coded_rows(alloc, ranks, block.modified)?;
     Ok(Block {
         table: block.table,
         number: block.number,

@@ -20,6 +20,7 @@ mod place;
 mod ranks;
 mod raw;
 mod records;
+mod row_cells;
 mod tables;
 mod texts;
 
@@ -32,4 +33,5 @@ pub use laws::{
     read_tables_are_openings,
 };
 pub use raw::{RawBatch, RawBlock, RawCell, RawFeed, RawRow, RawTable};
+pub use row_cells::RowCells;
 pub use tables::read_table;

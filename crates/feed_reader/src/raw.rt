@@ -1,5 +1,6 @@
 //! What a table file and a feed say, before texts have ranks.
 
+use crate::row_cells::RowCells;
 use tick_model::items::Items;
 use tick_model::name::Name;
 use tick_model::update::{KeyRange, ShiftRange};
@@ -16,7 +17,7 @@ pub enum RawCell {
 #[derive(Debug, Drop)]
 pub struct RawRow {
     pub key: u64,
-    pub cells: Items<RawCell>,
+    pub cells: RowCells,
 }
 
 /// The rows of a table file.

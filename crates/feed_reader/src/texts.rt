@@ -1,38 +1,19 @@
 //! The texts of a run, each once and in byte order.
 
 ghost use Rattle.std.specs.Prelude.{◌≡◌, OnOk, IfOk, flat_map};
-ghost use Rattle.feed_reader.specs.Coding.{with_texts, cell_texts, row_texts, rows_texts, table_texts, block_texts, batch_texts, texts_of as texts_of_run};
+ghost use Rattle.feed_reader.specs.Coding.{with_texts, rows_texts, table_texts, block_texts, batch_texts, texts_of as texts_of_run};
 
 use crate::noted::Noted;
-use crate::raw::{RawBatch, RawBlock, RawCell, RawFeed, RawRow, RawTable};
+use crate::raw::{RawBatch, RawBlock, RawFeed, RawRow, RawTable};
 use std::alloc::{AllocError, Global};
 use tick_model::items::Items;
 use tick_model::name::Name;
-
-fn note_cell<'a>(texts: &mut Noted<'a>, cell: &'a RawCell) -> Result<(), AllocError>
-    ensures { OnOk result (texts.new ≡ with_texts texts.old (cell_texts cell.now)) }
-{
-    match cell {
-        RawCell::Text(text) => texts.note(text.as_str()),
-        RawCell::Null | RawCell::Long(_) => Ok(()),
-    }
-}
-
-fn note_row<'a>(texts: &mut Noted<'a>, row: &'a RawRow) -> Result<(), AllocError>
-    ensures { OnOk result (texts.new ≡ with_texts texts.old (row_texts row.now)) }
-{
-    let cells = row.cells.as_slice();
-    for cell in cells {
-        note_cell(texts, cell)?;
-    }
-    Ok(())
-}
 
 fn note_rows<'a>(texts: &mut Noted<'a>, rows: &'a [RawRow]) -> Result<(), AllocError>
     ensures { OnOk result (texts.new ≡ with_texts texts.old (rows_texts rows.now)) }
 {
     for row in rows {
-        note_row(texts, row)?;
+        row.cells.note(texts)?;
     }
     Ok(())
 }

@@ -5,4 +5,4 @@ use Rattle.feed_reader.specs.Cells.{all_some, cell_in}
 use Rattle.feed_reader.proofs.cells.cells.Given as goal
 
 abbrev pub invariant-loop-place : goal.invariant-loop-place
-invariant-loop-place l = all_some (map cell_in (take l.place (zip l.columns (drop l.first (fields_of l.fields))))) ≡ Some l.cells.items
+invariant-loop-place l = all_some (map cell_in (take l.place (zip l.columns (drop l.first (fields_of l.fields))))) ≡ Some l.cells
