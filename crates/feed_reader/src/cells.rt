@@ -101,7 +101,11 @@ pub(crate) fn cells(
     requires few { first ≤ 2 }
     ensures { IfOk result (λ cells. cells ≡ cells_of columns.now (drop first (fields_of fields.now))) }
 {
-    let mut cells = RowCells::with_capacity(alloc, columns.len())?;
+    let texts = columns
+        .iter()
+        .filter(|column| matches!(column.kind, Kind::Text))
+        .count();
+    let mut cells = RowCells::with_capacity(alloc, columns.len(), texts)?;
     for (place, column) in columns.iter().enumerate() {
         match cell(alloc, column.kind, field(fields, first + place))? {
             Some(cell) => cells.push(cell)?,

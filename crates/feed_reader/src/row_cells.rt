@@ -42,13 +42,17 @@ impl Model for RowCells {
 }
 
 impl RowCells {
-    /// No cells, with room for so many.
-    pub(crate) fn with_capacity(alloc: Global, count: usize) -> Result<RowCells, AllocError>
+    /// No cells, with room for so many, and for so many texts among them.
+    pub(crate) fn with_capacity(
+        alloc: Global,
+        count: usize,
+        texts: usize,
+    ) -> Result<RowCells, AllocError>
         ensures { IfOk result (λ cells. cells ≡ []) }
     {
         Ok(RowCells {
             numbers: Vec::with_capacity(alloc, count)?,
-            texts: Vec::new(alloc),
+            texts: Vec::with_capacity(alloc, texts)?,
         })
     }
 
