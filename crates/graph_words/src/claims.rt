@@ -12,6 +12,8 @@ use std::marker::Model;
 pub struct Claims<W: Tagged, H: Tagged> {
     pub(crate) nodes: u32,
     pub(crate) edges: Vec<Edge>,
+    /// How many of the edges go to each node.
+    pub(crate) inputs: Vec<u64>,
     pub(crate) alloc: Global,
     pub(crate) table: Table<Slot<W, H>, View<W>, Plan<W>, ClaimRule, Global>,
 }
@@ -23,7 +25,7 @@ impl<W: Tagged, H: Tagged> Model for Claims<W, H> {
 
     ghost view = { λ c. record { table = c.table.shared.table_id; plan = c.table.shared.key } };
 
-    ghost invariant = { λ c. IsSound c.nodes c.edges.items c.table.shared.table_id c.table.shared.key };
+    ghost invariant = { λ c. IsSound c.nodes c.edges.items c.inputs.items c.table.shared.table_id c.table.shared.key };
 }
 
 /// A seat: a worker's token, which has no bytes. It may work the nodes that it has. Contracts see what it knows.

@@ -25,6 +25,7 @@ impl<W: Tagged, H: Tagged> Claims<W, H> {
         let Claims {
             nodes,
             edges: _,
+            inputs: _,
             alloc,
             table,
         } = self;

@@ -18,20 +18,15 @@ use atomic_table::Table;
 use std::alloc::{AllocError, Global};
 use std::snapshot::Snapshot;
 
-// How many of the edges go to the node.
-fn count_inputs(edges: &[Edge], node: u32) -> u64
-    ensures { result ≡ count_by (λ x. x.to == node) edges.now }
-{
-    edges.iter().filter(|edge| edge.to == node).count() as u64
-}
-
 // How many of the edges go to each node.
-fn count_all(alloc: Global, edges: &[Edge], nodes: u32) -> Result<Vec<u64>, AllocError>
+fn count_inputs(alloc: Global, edges: &[Edge], nodes: u32) -> Result<Vec<u64>, AllocError>
+    requires few { length edges.now < 2 ^ 32 }
+    requires ends { (e : ℕ) (x : Edge) → get_elem? edges.now e ≡ some x → x.to < nodes }
     ensures { IfOk result (λ v. (length v.items ≡ nodes) × ((n : ℕ) → n < nodes → slice_index v.items n ≡ count_by (λ x. x.to == n) edges.now)) }
 {
-    let mut counts = Vec::with_capacity(alloc, nodes as usize)?;
-    for node in 0..nodes {
-        counts.push_reserved(count_inputs(edges, node));
+    let mut counts = vec![in alloc; 0u64; nodes as usize]?;
+    for edge in edges {
+        counts[edge.to as usize] += 1;
     }
     Ok(counts)
 }
@@ -74,7 +69,7 @@ impl<W: Tagged, H: Tagged> Claims<W, H> {
         ensures seat { IfOk result (λ t. IsSeatOf t.0 t.1 × (t.1.view ≡ first_view t.0.plan)) }
     {
         let first = Snapshot::of(&work[0]);
-        let words = count_all(alloc, edges.as_slice(), nodes)?;
+        let words = count_inputs(alloc, edges.as_slice(), nodes)?;
         let slots = lay_slots(alloc, work, edges.len())?;
         let plan = Plan {
             first,
@@ -92,6 +87,7 @@ impl<W: Tagged, H: Tagged> Claims<W, H> {
         let claims = Claims {
             nodes,
             edges,
+            inputs: words,
             alloc,
             table,
         };
@@ -103,6 +99,6 @@ impl<W: Tagged, H: Tagged> Claims<W, H> {
         requires { node < self.now.plan.nodes }
         ensures { result ≡ list_any (λ x. x.to == node) self.now.plan.edges.items }
     {
-        self.edges.iter().any(|edge| edge.to == node)
+        self.inputs[node as usize] > 0
     }
 }
