@@ -1,7 +1,8 @@
 -- What a seat has while a crew's hand works a node.
-use Rattle.std.proofs.Common.{◌≡◌, ◌≢◌, ℕ, ◌+◌, ◌<◌, sym, refl, ap, ◌∙◌, subst, arith, inl, inr, Option, Some, None, List, [], ◌++◌, length, append-nil, append_assoc, eqb}
+use Rattle.std.proofs.Common.{◌≡◌, ◌≢◌, ℕ, ◌+◌, ◌<◌, sym, refl, ap, ◌∙◌, subst, arith, inl, inr, Option, Some, None, List, [], ◌++◌, length, append-nil, append_assoc, eqb, false, get_or}
 use Rattle.std.specs.Prelude.{◌⊎◌, option_to_list}
 use Rattle.std.specs.List.{list_any}
+use Rattle.std.proofs.lemmas.Bool.{eqb-false}
 use Rattle.std.proofs.lemmas.List.Folds.{list_any-append}
 use mathlib.Core.Logic.{dite}
 use mathlib.Core.Option.{some, some-injective}
@@ -17,10 +18,13 @@ use Rattle.graph_words.proofs.Marks.{at_put, at_put_else, some_input}
 use Rattle.steal_workers.specs.Holdings.{IsReady, IsSettled, KeepsOthers}
 use Rattle.steal_workers.specs.Lists.{IsListed}
 use Rattle.steal_workers.proofs.Listing.{listed_cases, listed_first, listed_last, or_cases, true_false}
+use Rattle.update_graph.specs.Edges.{comes_from}
 use Rattle.update_graph.specs.Steps.{IsDelivered, IsHandedOver, IsHanding, IsListing, IsWorked}
 use Rattle.update_graph.specs.Tags.{Tag}
 use Rattle.update_graph.proofs.Handing.{apart, had_marked, out_at, still_untaken, untouched_still}
 use Rattle.update_graph.proofs.Holding.{has_mark, inside, none_some, some_same}
+use Rattle.update_graph.proofs.PlanEdges.{edge_there}
+use Rattle.update_graph.proofs.Walking.{no_edge}
 
 -- what is listed in either of two lists
 pub listed_either : (xs ys : List ℕ) (m : ℕ) → IsListed (xs ++ ys) m → IsListed xs m ⊎ IsListed ys m
@@ -158,8 +162,10 @@ module _ (plan : Plan Tag) (u : View Tag) (node : ℕ) where
     pub handing_none : IsHanding plan u u node 0 xs xs
     handing_none = record { found = []; listing = listing_none; listed = sym (append-nil xs) }
 
-    pub handing_skip : (v : View Tag) (count : ℕ) (x : Edge) (zs : List ℕ) → IsHanding plan u v node count xs zs → get_elem? plan.edges.items count ≡ some x → x.from ≢ node → IsHanding plan u v node (count + 1) xs zs
-    handing_skip v count x zs h there other_from = record { found = h.found; listing = listing_skip v count x h.found h.listing there other_from; listed = h.listed }
+    pub handing_past : (v : View Tag) (zs : List ℕ) (e : ℕ) → e < length plan.edges.items → comes_from node (get_or plan.edges.items e no_edge) ≡ false → IsHanding plan u v node e xs zs → IsHanding plan u v node (e + 1) xs zs
+    handing_past v zs e within other h =
+        let edge = get_or plan.edges.items e no_edge in
+        record { found = h.found; listing = listing_skip v e edge h.found h.listing (edge_there plan.edges.items e no_edge within) (eqb-false edge.from node other); listed = h.listed }
 
     pub handing_more : (v w : View Tag) (count to : ℕ) (x : Edge) (zs more : List ℕ) → IsHanding plan u v node count xs zs → IsHandedOver plan v w count to zs more
         → get_elem? plan.edges.items count ≡ some x → x.from ≡ node → x.to ≡ to → x.from < x.to → x.to < plan.nodes → IsHanding plan u w node (count + 1) xs more

@@ -1,5 +1,6 @@
 -- The view of a seat while it works a node, one edge at a time.
-use Rattle.std.proofs.Common.{◌≡◌, ◌≢◌, ℕ, ◌+◌, Bool, true, false, sym, refl, ap, ◌∙◌, subst, arith, Option, Some, None, List}
+use Rattle.std.proofs.Common.{◌≡◌, ◌≢◌, ℕ, ◌+◌, ◌<◌, Bool, true, false, sym, refl, ap, ap₂, ◌∙◌, subst, arith, Option, Some, None, List, [], ◌∷◌, ◌++◌, length, map, take, get_or}
+use Rattle.std.proofs.lemmas.Bool.{eqb-false, eqb-true}
 use mathlib.Core.Option.{some, some-injective}
 use lib.ListN.{get_elem?}
 use Rattle.graph_words.specs.declared.graph.Edge.{Edge}
@@ -10,9 +11,13 @@ use Rattle.graph_words.specs.declared.table.View.{View}
 use Rattle.graph_words.specs.Marks.{IsHadMark, at, put}
 use Rattle.graph_words.specs.Views.{IsUntouched, gets, mark_in, mark_node, mark_out}
 use Rattle.graph_words.proofs.Marks.{at_put, at_put_else}
+use Rattle.update_graph.specs.Edges.{froms_to, goes_to}
 use Rattle.update_graph.specs.Steps.{IsBegun, IsDelivered, IsTaking, IsWorked}
 use Rattle.update_graph.specs.Tags.{Tag}
+use Rattle.update_graph.proofs.ClaimedWorks.{map_snoc}
 use Rattle.update_graph.proofs.Holding.{none_some, some_same}
+use Rattle.update_graph.proofs.PlanEdges.{edge_there, froms_more, froms_same}
+use Rattle.update_graph.proofs.Walking.{no_edge}
 
 -- shares are taken
 module _ (edges : List Edge) (u : View Tag) (node : ℕ) where
@@ -33,6 +38,22 @@ module _ (edges : List Edge) (u : View Tag) (node : ℕ) where
 
   pub taking_skip : (v : View Tag) (count : ℕ) → IsTaking edges u v node count → IsTaking edges u v node (count + 1)
   taking_skip v count t = record { nodes = t.nodes; outs = t.outs; parts = t.parts; later = λ e more. t.later e (omega arith); others = t.others }
+
+  -- and these shares were taken
+  module _ (named : ℕ → Tag) where
+    abbrev pub HasTaken : View Tag → List Tag → ℕ → Type 0
+    HasTaken v shares place = IsTaking edges u v node place × (shares ≡ map named (froms_to node (take place edges)))
+
+    pub taken_past : (v : View Tag) (shares : List Tag) (e : ℕ) → e < length edges → goes_to node (get_or edges e no_edge) ≡ false → HasTaken v shares e → HasTaken v shares (e + 1)
+    taken_past v shares e within other h = (taking_skip v e h.0, h.1 ∙ ap (map named) (sym (froms_same node e edges no_edge within (eqb-false (get_or edges e no_edge).to node other))))
+
+    pub taken_more : (v w : View Tag) (shares more : List Tag) (share : Tag) (e : ℕ) → e < length edges → goes_to node (get_or edges e no_edge) ≡ true → HasTaken v shares e
+        → w ≡ mark_in v e Taken → share ≡ named (get_or edges e no_edge).from → more ≡ shares ++ share ∷ [] → HasTaken w more (e + 1)
+    taken_more v w shares more share e within goes h marked share_is more_is =
+        let to_is = eqb-true (get_or edges e no_edge).to node goes in (
+          taking_more v w e (get_or edges e no_edge) h.0 (edge_there edges e no_edge within) to_is marked,
+          more_is ∙ ap₂ (λ these (t : Tag). these ++ t ∷ []) h.1 share_is ∙ sym (ap (map named) (froms_more node e edges no_edge within to_is) ∙ map_snoc named (froms_to node (take e edges)) (get_or edges e no_edge).from),
+        )
 
 -- a node whose shares are taken, and then its work
 pub begun_is : (plan : Plan Tag) (edges : List Edge) (u a b : View Tag) (node count : ℕ) → edges ≡ plan.edges.items → IsTaking edges u a node count → b ≡ mark_node a node Taken → IsBegun plan u b node

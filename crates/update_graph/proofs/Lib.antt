@@ -10,10 +10,12 @@ mod ExampleRuns
 mod FirstSeat
 mod Handing
 mod Holding
+mod Numbered
 mod Numbering
 mod OperatorLaws
 mod PlanEdges
 mod PlanLimits
 mod StepInputs
 mod Sweeping
+mod Walking
 mod WorkSent

@@ -12,12 +12,11 @@ ghost use Rattle.update_graph.specs.Graphs.{AreSources};
 ghost use Rattle.update_graph.specs.Holdings.{IsClaimed};
 ghost use Rattle.update_graph.specs.Tags.{tags};
 
-use crate::edges::copied_edges;
+use crate::edges::Edges;
 use crate::first_seat::open_sources;
 use crate::step_work::{HasRun, StepWork, run_is_shared};
 use crate::work::Work;
 use crate::worker::{StepClaims, StepSeat};
-use graph_words::Edge;
 use std::alloc::{AllocError, Global};
 use std::thread::Threads;
 use steal_workers::{Crew, Ready};
@@ -31,7 +30,7 @@ fn begin_step(
     run: &Run,
     works: Vec<Work>,
     step: u64,
-    edges: &[Edge],
+    edges: &Edges,
 ) -> Result<(StepClaims, StepSeat), AllocError>
     requires entered { IsEntered run.now step }
     requires later { 1 ≤ step }
@@ -47,7 +46,7 @@ fn begin_step(
     let _ = run;
     let _ = step;
     let nodes = works.len() as u32;
-    let own = copied_edges(alloc, edges)?;
+    let own = edges.copied(alloc)?;
     let (claims, seat) = StepClaims::start(alloc, nodes, own, works)?;
     Ok((claims, seat))
 }
@@ -73,7 +72,7 @@ fn work_by<R: Threads + Sync, U: HasRun, G: Gate>(
     claims: &StepClaims,
     seat: StepSeat,
     ready: Ready,
-    edges: &[Edge],
+    edges: &Edges,
     crew: &mut Crew,
     gate: &G,
 ) -> Result<StepSeat, AllocError>
@@ -100,7 +99,7 @@ fn work_claimed<R: Threads + Sync, G: Gate>(
     claims: &StepClaims,
     seat: StepSeat,
     step: u64,
-    edges: &[Edge],
+    edges: &Edges,
     sources: &[Shared],
     crew: &mut Crew,
     gate: &G,
@@ -128,7 +127,7 @@ pub(crate) fn crew_step<R: Threads + Sync, G: Gate>(
     run: &Run,
     works: Vec<Work>,
     step: u64,
-    edges: &[Edge],
+    edges: &Edges,
     sources: &[Shared],
     crew: &mut Crew,
     gate: &G,

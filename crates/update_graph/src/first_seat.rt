@@ -9,12 +9,12 @@ ghost use Rattle.update_graph.specs.Graphs.{AreSources};
 ghost use Rattle.update_graph.specs.Holdings.{IsClaimed, IsOpened};
 ghost use Rattle.update_graph.specs.Tags.{is_operator, tag};
 
+use crate::edges::Edges;
 use crate::shares::Share;
 use crate::step_work::hand_all;
 use crate::sweep::source_at;
 use crate::work::Work;
 use crate::worker::{StepClaims, StepSeat};
-use graph_words::Edge;
 use std::alloc::AllocError;
 use steal_workers::Ready;
 use tick_model::feed::Run;
@@ -26,7 +26,7 @@ fn open_source(
     run: &Run,
     claims: &StepClaims,
     seat: &mut StepSeat,
-    edges: &[Edge],
+    edges: &Edges,
     node: u32,
     work: Work,
     share: &Share,
@@ -55,7 +55,7 @@ pub(crate) fn open_sources(
     step: u64,
     claims: &StepClaims,
     seat: &mut StepSeat,
-    edges: &[Edge],
+    edges: &Edges,
     sources: &[Shared],
 ) -> Result<Ready, AllocError>
     requires claimed { IsClaimed run.now claims.now.plan }

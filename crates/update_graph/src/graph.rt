@@ -21,7 +21,7 @@ ghost use Rattle.update_graph.specs.Sweeps.{IsSwept};
 ghost use Rattle.update_graph.specs.Tags.{tags};
 
 use crate::crew_step::crew_step;
-use crate::edges::all_edges;
+use crate::edges::Edges;
 use crate::in_order::advance_all;
 use crate::opening::open_all;
 use crate::shares::tables_of;
@@ -29,7 +29,6 @@ use crate::sources::{changed_sources, opened_sources, referred};
 use crate::stop::{Stop, refused};
 use crate::sweep::{Sweep, swept};
 use crate::work::Work;
-use graph_words::Edge;
 use source_changes::SourceKeys;
 use std::alloc::{AllocError, Global};
 use std::marker::{Brand, Model};
@@ -49,7 +48,7 @@ pub struct Graph {
     run: Snapshot<Run>,
     step: u64,
     /// The edges of the plan.
-    edges: Vec<Edge>,
+    edges: Edges,
     /// The keys of the sources.
     keys: SourceKeys,
     /// The tables of the sources, in order of the nodes.
@@ -73,7 +72,7 @@ impl Model for Graph {
 
     ghost view = { λ graph. record { run = graph.run.value; step = graph.step; ran = graph.ran.items } };
 
-    ghost invariant = { λ graph. IsGraph graph.run.value graph.step graph.edges.items graph.keys graph.sources.items graph.works.items graph.tables.items };
+    ghost invariant = { λ graph. IsGraph graph.run.value graph.step graph.edges graph.keys graph.sources.items graph.works.items graph.tables.items };
 }
 
 // Written out, so that a crate which lets a graph go does not prove anew how each part of it is let go.
@@ -138,14 +137,14 @@ fn gathered(
     alloc: Global,
     run: &Run,
     step: u64,
-    edges: Vec<Edge>,
+    edges: Edges,
     keys: SourceKeys,
     sources: Vec<Shared>,
     sweep: Sweep,
 ) -> Result<Graph, AllocError>
     requires entered { IsEntered run.now step }
     requires nodes { node_fault 0 (state run.now step) ≡ None }
-    requires edges { edges.items ≡ edges_of run.now.plan }
+    requires edges { edges ≡ edges_of run.now.plan }
     requires keys { keys ≡ map (λ table. keys_of table.rows) (sources_at run.now step) }
     requires sources { tables sources.items ≡ sources_shown run.now step }
     requires swept { IsSwept run.now step (length run.now.plan.nodes) sweep }
@@ -181,13 +180,13 @@ fn finished(
     alloc: Global,
     run: &Run,
     step: u64,
-    edges: Vec<Edge>,
+    edges: Edges,
     keys: SourceKeys,
     sources: Vec<Shared>,
     sweep: Sweep,
 ) -> Result<Graph, Stop>
     requires entered { IsEntered run.now step }
-    requires edges { edges.items ≡ edges_of run.now.plan }
+    requires edges { edges ≡ edges_of run.now.plan }
     requires keys { keys ≡ map (λ table. keys_of table.rows) (sources_at run.now step) }
     requires sources { tables sources.items ≡ sources_shown run.now step }
     requires swept { IsSwept run.now step (length run.now.plan.nodes) sweep }
@@ -212,7 +211,7 @@ fn next<G: Gate>(
     alloc: Global,
     run: &Run,
     step: u64,
-    edges: Vec<Edge>,
+    edges: Edges,
     keys: SourceKeys,
     sources: Vec<Shared>,
     works: Vec<Work>,
@@ -221,7 +220,7 @@ fn next<G: Gate>(
     requires lawful { IsLawfulRun run.now }
     requires reached { IsReached run.now step }
     requires next { step < length run.now.batches }
-    requires edges { edges.items ≡ edges_of run.now.plan }
+    requires edges { edges ≡ edges_of run.now.plan }
     requires keys { keys ≡ map (λ table. keys_of table.rows) (sources_at run.now step) }
     requires sources { tables sources.items ≡ sources_shown run.now step }
     requires works { works.items ≡ tags run.now step (length run.now.plan.nodes) }
@@ -247,7 +246,7 @@ fn next_by<R: Threads + Sync, G: Gate>(
     alloc: Global,
     run: &Run,
     step: u64,
-    edges: Vec<Edge>,
+    edges: Edges,
     keys: SourceKeys,
     sources: Vec<Shared>,
     works: Vec<Work>,
@@ -257,7 +256,7 @@ fn next_by<R: Threads + Sync, G: Gate>(
     requires lawful { IsLawfulRun run.now }
     requires reached { IsReached run.now step }
     requires next { step < length run.now.batches }
-    requires edges { edges.items ≡ edges_of run.now.plan }
+    requires edges { edges ≡ edges_of run.now.plan }
     requires keys { keys ≡ map (λ table. keys_of table.rows) (sources_at run.now step) }
     requires sources { tables sources.items ≡ sources_shown run.now step }
     requires works { works.items ≡ tags run.now step (length run.now.plan.nodes) }
@@ -297,7 +296,7 @@ impl Graph {
         ensures nodes { OnOk result (node_fault 0 (state run.now 0) ≡ None) }
         ensures cause { IfErr result (IsStop run.now 0) }
     {
-        let edges = all_edges(alloc, run)?;
+        let edges = Edges::of(alloc, run)?;
         let keys = SourceKeys::new(alloc, &run.opening)?;
         let sources = opened_sources(alloc, run)?;
         let sweep = open_all::<Brand>(alloc, run, &sources, Blank::new(1))?;

@@ -17,10 +17,10 @@ ghost use Rattle.update_graph.specs.Entered.{IsEntered};
 ghost use Rattle.update_graph.specs.Steps.{IsHandedOver, IsHanding};
 ghost use Rattle.update_graph.specs.Tags.{is_operator, op_at, tag};
 
+use crate::edges::Edges;
 use crate::shares::Share;
 use crate::work::Work;
 use crate::worker::{StepClaims, StepSeat, begin_node, settle_node};
-use graph_words::Edge;
 use std::alloc::{AllocError, Global};
 use std::marker::{Brand, Model};
 use std::sync::ledger::{Blank, Ledger};
@@ -88,7 +88,7 @@ pub(crate) fn hand_all(
     claims: &StepClaims,
     seat: &mut StepSeat,
     run: &Run,
-    edges: &[Edge],
+    edges: &Edges,
     node: u32,
     share: &Share,
     ready: &mut Ready,
@@ -107,11 +107,11 @@ pub(crate) fn hand_all(
     ensures of { OnOk result (IsSeatOf claims.now seat.new) }
     ensures handed { OnOk result (IsHanding claims.now.plan seat.old.view seat.new.view node (length edges.now) ready.old.nodes.items ready.new.nodes.items) }
 {
-    for (number, edge) in edges.iter().enumerate() {
-        if edge.from == node {
-            let copy = share.copy(run)?;
-            hand_over(claims, seat, number as u32, edge.to, copy, ready);
-        }
+    let numbers = edges.outputs(node);
+    for number in numbers {
+        let copy = share.copy(run)?;
+        let to = edges.to(*number);
+        hand_over(claims, seat, *number, to, copy, ready);
     }
     Ok(())
 }
@@ -164,7 +164,7 @@ pub(crate) struct StepWork<'s, U: HasRun, G: Gate> {
     alloc: Global,
     run: &'s U,
     step: u64,
-    edges: &'s [Edge],
+    edges: &'s Edges,
     gate: &'s G,
 }
 
@@ -189,7 +189,7 @@ impl<'s, U: HasRun, G: Gate> StepWork<'s, U, G> {
         alloc: Global,
         run: &'s U,
         step: u64,
-        edges: &'s [Edge],
+        edges: &'s Edges,
         gate: &'s G,
     ) -> StepWork<'s, U, G>
         requires entered { IsEntered (U.own_run run.now) step }

@@ -14,9 +14,10 @@ ghost use Rattle.update_graph.specs.Holdings.{IsForStep, IsNew};
 ghost use Rattle.update_graph.specs.Steps.{IsBegun, IsTaking};
 ghost use Rattle.update_graph.specs.Tags.{op_at, tag};
 
+use crate::edges::Edges;
 use crate::shares::Share;
 use crate::work::Work;
-use graph_words::{ClaimSeat, Claims, Edge};
+use graph_words::{ClaimSeat, Claims};
 use std::alloc::{AllocError, Global};
 use tick_model::feed::Run;
 use tick_model::items::Items;
@@ -32,7 +33,7 @@ fn take_shares(
     alloc: Global,
     claims: &StepClaims,
     seat: &mut StepSeat,
-    edges: &[Edge],
+    edges: &Edges,
     node: u32,
 ) -> Result<Items<Share>, AllocError>
     requires of { IsSeatOf claims.now seat.old }
@@ -46,11 +47,10 @@ fn take_shares(
     ensures shares { IfOk result (λ shares. shares ≡ map (tag claims.now.plan.first.value.run (claims.now.plan.first.value.step + 1)) (froms_to node edges.now)) }
 {
     let mut shares = Items::new(alloc);
-    for (number, edge) in edges.iter().enumerate() {
-        if edge.to == node {
-            let share = claims.take_share(seat, number as u32);
-            shares.push(share)?;
-        }
+    let numbers = edges.inputs(node);
+    for number in numbers {
+        let share = claims.take_share(seat, *number);
+        shares.push(share)?;
     }
     Ok(shares)
 }
@@ -61,7 +61,7 @@ pub(crate) fn begin_node(
     run: &Run,
     claims: &StepClaims,
     seat: &mut StepSeat,
-    edges: &[Edge],
+    edges: &Edges,
     node: u32,
 ) -> Result<(Work, Items<Share>), AllocError>
     requires claims { IsForStep run.now claims.now.plan }

@@ -18,7 +18,7 @@ invariant_of-result c =
     let run = c.args.run.now in
     let handed : AreHanded c.of-shares.result (Some c.in-Some.tables.items) =
     subst (λ found. AreHanded c.of-shares.result (option_map (λ (all : Vec (Arc Ticking Global) Global). all.items) found)) c.in-Some.is c.in_ok-tables.ensures in
-    subst (λ run. IsGraph run c.args.step c.args.edges.items c.args.keys c.args.sources.items c.args.sweep.works.items c.in-Some.tables.items) (sym c.of-about.ensures)
+    subst (λ run. IsGraph run c.args.step c.args.edges c.args.keys c.args.sources.items c.args.sweep.works.items c.in-Some.tables.items) (sym c.of-about.ensures)
     (record {
       lawful = c.requires.entered.lawful;
       within = c.requires.entered.within;

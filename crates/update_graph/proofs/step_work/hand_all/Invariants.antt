@@ -1,9 +1,12 @@
+use Rattle.std.proofs.Common.{drop}
 use Rattle.graph_words.specs.Seats.{IsSeatOf}
+use Rattle.update_graph.specs.Edges.{comes_from}
 use Rattle.update_graph.specs.Steps.{IsHanding}
+use Rattle.update_graph.proofs.Walking.{IsAlong}
 use Rattle.update_graph.proofs.step_work.hand_all.Given as goal
 
 abbrev pub invariant-loop-number : goal.invariant-loop-number
 invariant-loop-number l = record {
   of : IsSeatOf l.claims l.seat;
-  handing : IsHanding l.claims.plan l.initial.seat.view l.seat.view l.node l.number l.initial.ready.nodes.items l.ready.nodes.items;
+  along : IsAlong (comes_from l.node) l.claims.plan.edges.items (drop l.number-index l.numbers) (λ place. IsHanding l.claims.plan l.initial.seat.view l.seat.view l.node place l.initial.ready.nodes.items l.ready.nodes.items);
 }

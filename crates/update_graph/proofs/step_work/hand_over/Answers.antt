@@ -1,5 +1,4 @@
-use Rattle.std.proofs.Common.{◌≡◌, sym, ap, subst, get_or, Some, None, append-nil, ℕ, Bool}
-use Rattle.graph_words.specs.declared.graph.Edge.{Edge}
+use Rattle.std.proofs.Common.{◌≡◌, sym, subst, get_or, Some, None, append-nil, ℕ, Bool}
 use Rattle.graph_words.specs.declared.graph.Plan.{Plan}
 use Rattle.graph_words.specs.declared.table.Mark.TheVariants.{Delivered, Unmarked}
 use Rattle.graph_words.specs.declared.table.View.{View}
@@ -9,11 +8,9 @@ use Rattle.steal_workers.proofs.Listing.{unlisted}
 use Rattle.update_graph.specs.Tags.{Tag}
 use Rattle.update_graph.proofs.Handing.{delivered_last, delivered_only, had_marked}
 use Rattle.update_graph.proofs.PlanEdges.{edge_there}
+use Rattle.update_graph.proofs.Walking.{no_edge}
 use Rattle.update_graph.proofs.WorkSent.{sent}
 use Rattle.update_graph.proofs.step_work.hand_over.Goals as goal
-
-abbrev none_edge : Edge
-none_edge = record { from = 0; to = 0; port = 0 }
 
 -- the view after the delivery, where the edge goes to this node
 view_to : (u v : View Tag) (edge far to : ℕ) (made : Bool) → far ≡ to → v ≡ gets made far (mark_out u edge Delivered) → v ≡ gets made to (mark_out u edge Delivered)
@@ -29,8 +26,8 @@ pub add-requires-clause-fresh : goal.add-requires-clause-fresh
 add-requires-clause-fresh c =
     let plan = c.args.claims.now.plan in
     let u = c.args.seat.now.view in
-    let x = get_or plan.edges.items c.args.edge none_edge in
-    let here = edge_there plan.edges.items c.args.edge none_edge c.requires.edge in
+    let x = get_or plan.edges.items c.args.edge no_edge in
+    let here = edge_there plan.edges.items c.args.edge no_edge c.requires.edge in
     let goes = (c.requires.to x here).0 in
     let fresh = fresh_to u x.to c.args.to goes (c.deliver.ensures.fresh x here).0 in
     unlisted c.args.ready.now.nodes.items c.args.to (λ there. had_marked (at u.nodes c.args.to) (c.requires.listed c.args.to there) fresh)
@@ -40,8 +37,8 @@ returns-then-deliver-clause-over c =
     let plan = c.args.claims.now.plan in
     let u = c.args.seat.now.view in
     let v = c.deliver.new.seat.view in
-    let x = get_or plan.edges.items c.args.edge none_edge in
-    let here = edge_there plan.edges.items c.args.edge none_edge c.requires.edge in
+    let x = get_or plan.edges.items c.args.edge no_edge in
+    let here = edge_there plan.edges.items c.args.edge no_edge c.requires.edge in
     let goes = (c.requires.to x here).0 in
     let fresh = c.deliver.ensures.fresh x here in
     record {
@@ -57,8 +54,8 @@ returns-else-deliver-clause-over c =
     let plan = c.args.claims.now.plan in
     let u = c.args.seat.now.view in
     let v = c.deliver.new.seat.view in
-    let x = get_or plan.edges.items c.args.edge none_edge in
-    let here = edge_there plan.edges.items c.args.edge none_edge c.requires.edge in
+    let x = get_or plan.edges.items c.args.edge no_edge in
+    let here = edge_there plan.edges.items c.args.edge no_edge c.requires.edge in
     let goes = (c.requires.to x here).0 in
     record {
       found = None;
