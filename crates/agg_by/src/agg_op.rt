@@ -76,7 +76,7 @@ impl Model for AggOp {
 }
 
 /// The rows that a step takes out of their groups and puts into groups.
-#[derive(Debug, Drop)]
+#[derive(Drop)]
 struct Moving {
     /// The old keys of the rows that go or are modified.
     gone: RowSet,

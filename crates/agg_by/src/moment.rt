@@ -12,7 +12,7 @@ use tick_model::cells::cell;
 use tick_table::{Steps, TickTable};
 
 /// One of the two ends of a step.
-#[derive(Clone, Copy, Debug, PartialEq, Eq)]
+#[derive(Clone, Copy, PartialEq, Eq)]
 pub(crate) enum Moment {
     Before,
     Now,
@@ -58,7 +58,7 @@ impl Moment {
 }
 
 /// Room for a row that is read, and for its key cells.
-#[derive(Debug, Drop)]
+#[derive(Drop)]
 pub(crate) struct RowBuffer {
     pub row: Vec<i64>,
     pub key: Vec<i64>,

@@ -20,7 +20,7 @@ use std::sync::ledger::Ledger;
 use tick_table::{Steps, TickTable};
 
 /// The rows that some groups had, by the keys of their first rows.
-#[derive(Debug, Drop)]
+#[derive(Drop)]
 pub(crate) struct Notes {
     pub keys: RowSet,
     /// The cells of the rows, one row after the other.

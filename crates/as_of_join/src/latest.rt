@@ -7,7 +7,7 @@ ghost use Rattle.as_of_join.specs.Notes.{taken_key};
 use row_groups::Groups;
 
 /// A row of a group, and its time.
-#[derive(Clone, Copy, Debug, PartialEq, Eq)]
+#[derive(Clone, Copy, PartialEq, Eq)]
 pub(crate) struct Found {
     pub key: u64,
     pub at: i64,

@@ -22,7 +22,7 @@ use tick_model::plan::OnPair;
 use tick_table::{Steps, TickTable};
 
 /// What is noted of a place, and its time.
-#[derive(Clone, Copy, Debug, PartialEq, Eq)]
+#[derive(Clone, Copy, PartialEq, Eq)]
 pub(crate) struct Noted {
     pub at: i64,
     /// The old key of the right row that was taken, if there was one.

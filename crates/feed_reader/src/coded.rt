@@ -22,7 +22,7 @@ use tick_model::sources::is_source;
 use tick_model::table::PlainTable;
 
 /// What table files and a feed say, with each text in the place of its rank among the texts of the run.
-#[derive(Debug, Drop)]
+#[derive(Drop)]
 pub struct Coded {
     /// The table of each source, in order of their nodes' numbers.
     pub opening: Items<PlainTable>,

@@ -24,7 +24,7 @@ use tick_model::update::{KeyRange, ShiftRange};
 const MOST_STEPS: usize = 100_000;
 
 /// What a record of a feed says.
-#[derive(Debug, Drop)]
+#[derive(Drop)]
 pub(crate) enum Entry {
     /// A block of the source of this node number begins.
     Block(u32),

@@ -10,7 +10,7 @@ use std::mem;
 use tick_model::items::Items;
 
 /// The ended steps, the ended blocks of the step at hand, and its last block, which may go on.
-#[derive(Debug, Drop)]
+#[derive(Drop)]
 pub(crate) struct Gathered {
     pub(crate) batches: Items<RawBatch>,
     blocks: Items<RawBlock>,

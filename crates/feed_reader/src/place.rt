@@ -6,7 +6,7 @@ ghost use Rattle.feed_reader.specs.Places.{part_rank, opened as opened_at, passe
 use crate::entries::Entry;
 
 /// The parts of a block, in their order.
-#[derive(Clone, Copy, Debug, PartialEq, Eq)]
+#[derive(Clone, Copy, PartialEq, Eq)]
 pub(crate) enum Part {
     Removed,
     Shifts,
@@ -15,7 +15,7 @@ pub(crate) enum Part {
 }
 
 /// What the first field of a record of a feed is.
-#[derive(Clone, Copy, Debug, PartialEq, Eq)]
+#[derive(Clone, Copy, PartialEq, Eq)]
 pub(crate) enum Tag {
     /// A block begins.
     Block,
@@ -26,7 +26,7 @@ pub(crate) enum Tag {
 }
 
 /// Where the reading of a feed is.
-#[derive(Clone, Copy, Debug, PartialEq, Eq)]
+#[derive(Clone, Copy, PartialEq, Eq)]
 pub(crate) enum Place {
     /// Before the first block of a step.
     Outside,

@@ -6,7 +6,7 @@ use tick_model::name::Name;
 use tick_model::update::{KeyRange, ShiftRange};
 
 /// A cell as it is written.
-#[derive(Debug, Drop)]
+#[derive(Drop)]
 pub enum RawCell {
     Null,
     Long(i64),
@@ -14,20 +14,20 @@ pub enum RawCell {
 }
 
 /// A row under its key.
-#[derive(Debug, Drop)]
+#[derive(Drop)]
 pub struct RawRow {
     pub key: u64,
     pub cells: RowCells,
 }
 
 /// The rows of a table file.
-#[derive(Debug, Drop)]
+#[derive(Drop)]
 pub struct RawTable {
     pub rows: Items<RawRow>,
 }
 
 /// What a feed changes of one source at once.
-#[derive(Debug, Drop)]
+#[derive(Drop)]
 pub struct RawBlock {
     /// The node number of the source.
     pub table: u32,
@@ -40,13 +40,13 @@ pub struct RawBlock {
 }
 
 /// The blocks of one step.
-#[derive(Debug, Drop)]
+#[derive(Drop)]
 pub struct RawBatch {
     pub blocks: Items<RawBlock>,
 }
 
 /// The steps of a feed.
-#[derive(Debug, Drop)]
+#[derive(Drop)]
 pub struct RawFeed {
     pub batches: Items<RawBatch>,
 }

@@ -14,7 +14,7 @@ use tick_model::items::Items;
 use tick_model::name::Name;
 
 /// A text of a row, and the place of its cell.
-#[derive(Debug, Drop)]
+#[derive(Drop)]
 pub(crate) struct PlacedText {
     place: usize,
     text: Name,
@@ -22,7 +22,7 @@ pub(crate) struct PlacedText {
 
 /// The cells of a row as they will stand in the run, and its texts beside them until they have ranks: what is no text is coded as it
 /// stands. Contracts see the cells.
-#[derive(Debug, Drop)]
+#[derive(Drop)]
 pub struct RowCells {
     numbers: Vec<i64>,
     texts: Vec<PlacedText>,

@@ -7,7 +7,7 @@ use std::alloc::{AllocError, Global};
 use std::marker::Model;
 
 /// The fields of a record, which contracts see as the list of their bytes.
-#[derive(Debug, Drop)]
+#[derive(Drop)]
 pub(crate) struct Fields {
     fields: Vec<String>,
     alloc: Global,

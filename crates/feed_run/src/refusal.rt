@@ -9,7 +9,7 @@ use std::alloc::{AllocError, AllocFailed};
 use tick_model::name::Name;
 
 /// Why words or a file are refused.
-#[derive(Debug, Drop)]
+#[derive(Drop)]
 pub enum Refusal {
     /// The words are of no command.
     Usage,
@@ -32,7 +32,7 @@ pub enum Refusal {
 }
 
 /// Why there is no run.
-#[derive(Debug, Drop)]
+#[derive(Drop)]
 pub enum Stop {
     /// Memory ran out.
     Memory,

@@ -13,7 +13,7 @@ use tick_model::items::Items;
 use tick_model::plan::Node;
 
 /// What a run is summed up by.
-#[derive(Debug, Drop)]
+#[derive(Drop)]
 pub(crate) struct Totals {
     /// How many records its updates have.
     pub(crate) records: u64,

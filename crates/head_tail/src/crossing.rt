@@ -13,7 +13,7 @@ use std::alloc::AllocError;
 use tick_table::TickTable;
 
 /// The old keys of the rows that are shown no more, and the new keys of those that were not shown before.
-#[derive(Debug, Drop)]
+#[derive(Drop)]
 pub(crate) struct Crossing {
     pub leaving: RowSet,
     pub coming: RowSet,

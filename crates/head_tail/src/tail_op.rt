@@ -19,7 +19,6 @@ use std::sync::ledger::Ledger;
 use tick_table::{Change, Steps, TickTable};
 
 /// Shows the last rows of its input, or all where there are fewer. It stands for the rows that it saw last.
-#[derive(Debug)]
 pub struct TailOp {
     /// How many rows it shows at most.
     count: u32,

@@ -15,7 +15,7 @@ const SUMMAND: u64 = 1_442_695_040_888_963_407;
 const SCALE: u64 = 1 << 33;
 
 /// A sequence of numbers, the same for each run.
-#[derive(Debug, Drop)]
+#[derive(Drop)]
 pub struct Draws {
     state: u64,
 }

@@ -19,7 +19,6 @@ use tick_model::limits::MOST_ROWS;
 use tick_table::{Change, Shared, Steps};
 
 /// Puts the rows of its inputs one after the other. It stands for the rows that it saw last.
-#[derive(Debug)]
 pub struct MergeOp {
     count: u32,
     width: u32,

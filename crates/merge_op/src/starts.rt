@@ -11,7 +11,7 @@ use tick_table::TickTable;
 const REGION: u64 = 65_536;
 
 /// Where the region of an input begins.
-#[derive(Clone, Copy, Debug)]
+#[derive(Clone, Copy)]
 pub(crate) struct Start {
     /// Before the step.
     pub(crate) before: u64,

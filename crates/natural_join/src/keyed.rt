@@ -42,7 +42,7 @@ impl Side {
 }
 
 /// Room for a row that is read, and for its key cells.
-#[derive(Debug, Drop)]
+#[derive(Drop)]
 pub(crate) struct Buffers {
     pub row: Vec<i64>,
     pub key: Vec<i64>,

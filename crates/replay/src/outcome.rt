@@ -25,7 +25,7 @@ pub struct Knobs {
 }
 
 /// What a run ends with.
-#[derive(Debug, Drop)]
+#[derive(Drop)]
 pub enum Outcome {
     /// Every step is done: the last step, how many records its updates have, and how many rows each node has at the end.
     Done {

@@ -11,7 +11,7 @@ use tick_model::plan::ColumnSpec;
 use update_text::Shown;
 
 /// A node that is printed: its number, and its name and its columns.
-#[derive(Debug, Drop)]
+#[derive(Drop)]
 pub struct PrintedNode {
     pub node: u32,
     pub shown: Shown,

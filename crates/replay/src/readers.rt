@@ -11,7 +11,7 @@ use std::sync::Wait;
 use tick_model::items::Items;
 
 /// A snapshot that is kept: its step, and the words of the table.
-#[derive(Debug, Drop)]
+#[derive(Drop)]
 pub(crate) struct KeptSnapshot {
     pub(crate) step: u64,
     pub(crate) words: Items<u64>,

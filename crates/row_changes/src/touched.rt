@@ -5,7 +5,7 @@ use shift_data::ShiftData;
 use std::marker::Model;
 
 /// The rows that an operator's step touches. A contract sees the parts as lists.
-#[derive(Debug, Drop)]
+#[derive(Drop)]
 pub struct Touched {
     /// The old keys of the rows that go.
     pub removed: RowSet,

@@ -19,7 +19,7 @@ use tick_model::plan::Pred;
 use tick_table::{Steps, TickTable};
 
 /// The rows that pass no more, by their old keys, and those that pass and did not before, by their new ones.
-#[derive(Debug, Drop)]
+#[derive(Drop)]
 pub(crate) struct Crossing {
     pub leaving: RowSet,
     pub coming: RowSet,

@@ -20,7 +20,6 @@ use tick_model::plan::Expr;
 use tick_table::{Change, Steps, TickTable};
 
 /// Puts computed columns behind those of its input. It keeps nothing of the rows that it saw.
-#[derive(Debug)]
 pub struct ViewOp {
     exprs: Items<Expr>,
     width: u32,

@@ -21,7 +21,6 @@ use tick_model::plan::Pred;
 use tick_table::{Change, Steps, TickTable};
 
 /// Shows the rows of its input that pass a test. It stands for the rows that it saw last.
-#[derive(Debug)]
 pub struct WhereOp {
     test: Pred,
     width: u32,

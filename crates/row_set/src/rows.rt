@@ -17,7 +17,6 @@ use std::alloc::{AllocError, Global};
 use std::marker::Model;
 
 /// An ordered set of row keys. A contract sees the rising list of the keys.
-#[derive(Debug)]
 pub struct RowSet {
     /// The longest ranges, rising.
     ranges: Vec<Range>,

@@ -3,7 +3,7 @@
 use std::alloc::{AllocError, AllocFailed};
 
 /// Why a line is refused: the first of these that applies to it, where the comments count from 1.
-#[derive(Clone, Copy, Debug, PartialEq, Eq)]
+#[derive(Debug, Clone, Copy, PartialEq, Eq)]
 pub enum ScriptKind {
     /// First: the line is not UTF-8.
     NotUtf8,
@@ -34,7 +34,7 @@ pub enum ScriptKind {
 }
 
 /// Why the tokens of a line could not be read.
-#[derive(Clone, Copy, Debug, PartialEq, Eq)]
+#[derive(Clone, Copy, PartialEq, Eq)]
 pub enum Misread {
     Memory,
     BadLine,
@@ -63,7 +63,7 @@ impl<T: Drop> From<AllocFailed<T>> for Misread {
 }
 
 /// Why a line could not be read.
-#[derive(Debug, Drop)]
+#[derive(Drop)]
 pub enum LineFault {
     Memory,
     Refused(ScriptKind),

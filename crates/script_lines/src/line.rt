@@ -5,7 +5,7 @@ use tick_model::items::Items;
 use tick_model::plan::{Choice, Comparison, Kind};
 
 /// A formula over named columns.
-#[derive(Debug, Drop)]
+#[derive(Drop)]
 pub enum Formula<'a> {
     Column(Word<'a>),
     Number(i64),
@@ -18,7 +18,7 @@ pub enum Formula<'a> {
 }
 
 /// A test over named columns.
-#[derive(Debug, Drop)]
+#[derive(Drop)]
 pub enum Test<'a> {
     Compare(Comparison, Formula<'a>, Formula<'a>),
     And(Box<Test<'a>>, Box<Test<'a>>),
@@ -27,28 +27,28 @@ pub enum Test<'a> {
 }
 
 /// A column of a source and its kind.
-#[derive(Debug, Drop)]
+#[derive(Drop)]
 pub struct Declared<'a> {
     pub name: Word<'a>,
     pub kind: Kind,
 }
 
 /// A new column and its formula.
-#[derive(Debug, Drop)]
+#[derive(Drop)]
 pub struct Computed<'a> {
     pub name: Word<'a>,
     pub formula: Formula<'a>,
 }
 
 /// Two columns: of the left input and of the right one, or the new name and the old one.
-#[derive(Debug, Drop)]
+#[derive(Drop)]
 pub struct Pair<'a> {
     pub first: Word<'a>,
     pub second: Word<'a>,
 }
 
 /// What a new column of an aggregation says of a group's rows, over a named column.
-#[derive(Debug, Drop)]
+#[derive(Drop)]
 pub enum Function<'a> {
     Count,
     Sum(Word<'a>),
@@ -59,21 +59,21 @@ pub enum Function<'a> {
 }
 
 /// A new column of an aggregation.
-#[derive(Debug, Drop)]
+#[derive(Drop)]
 pub struct Gathered<'a> {
     pub name: Word<'a>,
     pub function: Function<'a>,
 }
 
 /// A column that is sorted by.
-#[derive(Debug, Drop)]
+#[derive(Drop)]
 pub struct Sorted<'a> {
     pub name: Word<'a>,
     pub descending: bool,
 }
 
 /// How a node is made.
-#[derive(Debug, Drop)]
+#[derive(Drop)]
 pub enum Making<'a> {
     Keep {
         input: Word<'a>,
@@ -120,7 +120,7 @@ pub enum Making<'a> {
 }
 
 /// What a line says.
-#[derive(Debug, Drop)]
+#[derive(Drop)]
 pub enum Line<'a> {
     /// Nothing: it is blank or a remark.
     Skipped,

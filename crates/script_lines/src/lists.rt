@@ -13,7 +13,7 @@ use std::alloc::Global;
 use tick_model::items::Items;
 
 /// What stands between the members of a list.
-#[derive(Clone, Copy, Debug, PartialEq, Eq)]
+#[derive(Clone, Copy, PartialEq, Eq)]
 pub enum Separator {
     Comma,
     /// Nothing: the list goes on to the end of the line, or to the word `from`.

@@ -5,7 +5,7 @@ ghost use Rattle.std.specs.Prelude.{◌≡◌};
 use std::marker::Model;
 
 /// A piece of the script's text, which contracts see as its bytes.
-#[derive(Debug, Drop)]
+#[derive(Drop)]
 pub struct Word<'a> {
     text: &'a str,
 }
@@ -42,7 +42,7 @@ impl<'a> Word<'a> {
 }
 
 /// A token of a line.
-#[derive(Debug, Drop)]
+#[derive(Drop)]
 pub enum Token<'a> {
     /// A name or a word that is reserved.
     Word(Word<'a>),

@@ -4,7 +4,7 @@ ghost use Rattle.std.specs.Prelude.{◌≡◌};
 ghost use Rattle.script_lines.specs.Words.{spelling as spelling_of, writing as writing_of};
 
 /// The words that lines are made of. `asof` and `at` are words by their place alone, and may be names.
-#[derive(Clone, Copy, Debug, PartialEq, Eq)]
+#[derive(Clone, Copy, PartialEq, Eq)]
 pub enum Keyword {
     Agg,
     And,
@@ -80,7 +80,7 @@ impl Keyword {
 }
 
 /// The symbols but those of comparisons.
-#[derive(Clone, Copy, Debug, PartialEq, Eq)]
+#[derive(Clone, Copy, PartialEq, Eq)]
 pub enum Symbol {
     CloseRound,
     CloseSquare,

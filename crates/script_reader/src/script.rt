@@ -5,7 +5,7 @@ use tick_model::name::Name;
 use tick_model::plan::Plan;
 
 /// A source, with the name of the file that it opens with where its line has one.
-#[derive(Debug, Drop)]
+#[derive(Drop)]
 pub struct SourceFile {
     /// The number of the source's node.
     pub node: u32,
@@ -14,7 +14,7 @@ pub struct SourceFile {
 
 /// What a script says: its plan, the distinct texts of its formulas and tests in order of their first places, by whose
 /// numbers the plan names them, and each source in order.
-#[derive(Debug, Drop)]
+#[derive(Drop)]
 pub struct Script {
     pub plan: Plan,
     pub literals: Items<Name>,

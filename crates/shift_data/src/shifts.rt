@@ -42,7 +42,6 @@ pub enum ShiftFault {
 }
 
 /// How the rows of a table move. A contract sees the list of its ranges.
-#[derive(Debug)]
 pub struct ShiftData {
     ranges: Vec<ShiftRange>,
 }

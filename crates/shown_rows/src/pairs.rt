@@ -14,7 +14,7 @@ use tick_model::update::KeyPair;
 use tick_table::TickTable;
 
 /// The old and the new keys of rows that stay. Both rise, and so a contract sees the list of the pairs.
-#[derive(Debug, Drop)]
+#[derive(Drop)]
 pub struct KeyPairs {
     from: RowSet,
     to: RowSet,

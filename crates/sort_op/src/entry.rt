@@ -12,7 +12,7 @@ use tick_model::items::Items;
 use tick_model::plan::SortBy;
 
 /// A row in the order of a sort.
-#[derive(Debug, Drop)]
+#[derive(Drop)]
 pub struct Entry {
     /// The row's cells in the sort columns, in the order of these.
     pub cells: Items<i64>,

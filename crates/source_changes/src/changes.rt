@@ -28,7 +28,6 @@ use tick_model::table::PlainTable;
 use tick_table::{Change, TickTable};
 
 /// The keys of every source, in order of the sources. A contract sees a list of lists of keys.
-#[derive(Debug)]
 pub struct SourceKeys {
     sets: Vec<RowSet>,
 }

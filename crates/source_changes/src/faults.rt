@@ -13,7 +13,7 @@ pub enum BatchFault {
 }
 
 /// Why the keys of a source cannot be brought on by a block.
-#[derive(Clone, Copy, Debug, PartialEq, Eq)]
+#[derive(Clone, Copy, PartialEq, Eq)]
 pub(crate) enum KeyFault {
     /// Out of memory.
     Memory,

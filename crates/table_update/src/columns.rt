@@ -8,7 +8,7 @@ ghost use Rattle.tick_model.specs.Changes.{is_none};
 use std::marker::Model;
 
 /// A set of columns with numbers below 32, one bit for each. A contract sees the rising list of their numbers.
-#[derive(Debug, Drop)]
+#[derive(Drop)]
 pub struct ColumnSet {
     bits: u32,
 }

@@ -19,7 +19,7 @@ use std::marker::Model;
 use tick_model::update::UpdateFault;
 
 /// How the rows of a table change in one step. A contract sees the update that the definitions speak of.
-#[derive(Debug, Drop)]
+#[derive(Drop)]
 pub struct Update {
     /// The keys of the rows that go, as they were.
     pub removed: RowSet,

@@ -3,7 +3,7 @@
 use std::marker::Model;
 
 /// Counts calls, and knows by their numbers, from 1, which of them fail.
-#[derive(Debug, Drop)]
+#[derive(Drop)]
 pub(crate) struct CallCounter {
     failing: Vec<u64>,
     made: u64,

@@ -14,7 +14,7 @@ pub trait Gate: Sync {
 }
 
 /// A gate that holds up nothing.
-#[derive(Clone, Copy, Debug, Default)]
+#[derive(Clone, Copy, Default)]
 pub struct OpenGate;
 
 impl Gate for OpenGate {

@@ -13,7 +13,6 @@ use std::marker::Model;
 /// Files in memory, of which the first of a name counts.
 ///
 /// A load fails where its number, from 1, is in a list, or where there is no file of its name.
-#[derive(Debug)]
 pub struct MemoryInputs {
     files: Vec<(String, Vec<u8>)>,
     calls: CallCounter,
@@ -105,7 +104,6 @@ fn content<'a>(files: &'a [(String, Vec<u8>)], name: &str) -> Option<&'a [u8]>
 }
 
 /// A sink in memory, which takes each piece whole. A write fails where its number, from 1, is in a list.
-#[derive(Debug)]
 pub struct MemorySink {
     bytes: Vec<u8>,
     calls: CallCounter,
@@ -173,7 +171,6 @@ impl Sink for MemorySink {
 }
 
 /// A sink in memory whose writes never fail but for memory. It takes each piece whole.
-#[derive(Debug)]
 pub struct SteadySink {
     bytes: Vec<u8>,
 }
@@ -238,7 +235,7 @@ fn append(bytes: &mut Vec<u8>, piece: &[u8]) -> Result<usize, SinkFault>
 }
 
 /// A sink that keeps nothing and does not tell its bytes. It takes each piece whole.
-#[derive(Clone, Copy, Debug, Default)]
+#[derive(Clone, Copy, Default)]
 pub struct VoidSink;
 
 impl Sink for VoidSink {

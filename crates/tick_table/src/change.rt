@@ -6,7 +6,7 @@ use tick_model::items::Items;
 
 /// An update with the cells of whole rows: those of the added rows by rising keys, and then those of the modified rows by
 /// rising keys. A contract sees the change that the definitions speak of.
-#[derive(Debug, Drop)]
+#[derive(Drop)]
 pub struct Change {
     /// Which rows go, come, move and differ.
     pub update: Update,

@@ -7,7 +7,7 @@ use thiserror::Error;
 use tick_table::Change;
 
 /// A change and the step at which it was printed.
-#[derive(Debug, Drop)]
+#[derive(Drop)]
 pub struct Printed {
     pub step: u64,
     pub change: Change,

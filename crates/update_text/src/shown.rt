@@ -5,7 +5,7 @@ use tick_model::name::Name;
 use tick_model::plan::ColumnSpec;
 
 /// What is printed of a table beside its rows: its name and its columns.
-#[derive(Debug, Drop)]
+#[derive(Drop)]
 pub struct Shown {
     pub name: Name,
     pub columns: Items<ColumnSpec>,

@@ -3,7 +3,7 @@
 use tick_model::items::Items;
 
 /// The rows at the positions from `first` on, `count` of them or as many as there are, with the chosen columns alone.
-#[derive(Debug, Drop)]
+#[derive(Drop)]
 pub struct Slice {
     pub first: u64,
     pub count: u32,
