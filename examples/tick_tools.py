@@ -33,9 +33,11 @@ class Arguments(argparse.ArgumentParser):
         raise Ended(f"{message}; see --help", 2)
 
 
-def run(main):
-    """Runs a tool to its end. What stops it is told in one line on standard error; a closed pipe and an interrupt end it quietly."""
-    signal.signal(signal.SIGPIPE, signal.SIG_DFL)
+def run(main, closed_pipe_is_told=True):
+    """Runs a tool to its end. What stops it is told in one line on standard error. An interrupt ends it quietly, and so does a closed pipe where it is not
+    to be told."""
+    if not closed_pipe_is_told:
+        signal.signal(signal.SIGPIPE, signal.SIG_DFL)
     signal.signal(signal.SIGINT, signal.SIG_DFL)
     status, why = 1, None
     try:
@@ -46,6 +48,8 @@ def run(main):
         sys.stdout.flush()
     except Ended as ended:
         why, status = ended.args
+    except BrokenPipeError:
+        why = "standard output is a closed pipe"
     except OSError as failed:
         why = f"{failed.filename or 'standard input or output'}: {failed.strerror}"
     except UnicodeDecodeError:
