@@ -24,7 +24,7 @@ fn set(alloc: Global, first: u64, last: u64) -> Result<RowSet, AllocError> {
 }
 
 /// The keys 1 and 2 move by 5.
-fn shift(alloc: Global) -> Result<ShiftData, ShiftFault>
+pub(crate) fn shift(alloc: Global) -> Result<ShiftData, ShiftFault>
     ensures { IfOk result (λ shift. shift ≡ (record { begin = 1; end = 2; delta = pos 5 }) ∷ []) }
 {
     let mut shift = ShiftData::new(alloc);

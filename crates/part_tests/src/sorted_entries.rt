@@ -1,6 +1,8 @@
-//! Entries of one ascending column: where they stand, and that they leave.
-ghost use Rattle.std.specs.Prelude.{◌≡◌, IfOk, length};
+//! Entries of one ascending column: where they stand, that they leave, and that they get the keys to which rows move.
+ghost use Rattle.std.specs.Prelude.{◌≡◌, ◌∷◌, [], IfOk, length};
+ghost use Rattle.sort_op.specs.Entries.{entries, rising_keys};
 
+use crate::moved_keys::shift;
 use sort_op::{Entry, SortOrder};
 use std::alloc::{AllocError, Global};
 use std::test::Fail;
@@ -9,7 +11,8 @@ use tick_model::plan::SortBy;
 
 /// An order by the first column, ascending.
 fn by_first_column(alloc: Global) -> Result<SortOrder, AllocError>
-    ensures { IfOk result (λ order. length order.by ≡ 1) }
+    ensures by { IfOk result (λ order. length order.by ≡ 1) }
+    ensures empty { IfOk result (λ order. order.chunks ≡ []) }
 {
     let mut by = Items::new(alloc);
     by.push(SortBy {
@@ -20,7 +23,8 @@ fn by_first_column(alloc: Global) -> Result<SortOrder, AllocError>
 }
 
 fn entry(alloc: Global, cell: i64, key: u64) -> Result<Entry, AllocError>
-    ensures { IfOk result (λ entry. length entry.cells ≡ 1) }
+    ensures cells { IfOk result (λ entry. length entry.cells ≡ 1) }
+    ensures key { IfOk result (λ entry. entry.key ≡ key) }
 {
     let mut cells = Items::new(alloc);
     cells.push(cell)?;
@@ -67,5 +71,23 @@ fn entries_stand_by_cell(rt: HostRuntime) -> Result<(), Fail> {
     assert!(rt; order.len() == 2 && order.by().len() == 1);
     assert_eq!(rt; order.get(1).map(|entry| entry.key), Some(1));
     assert!(rt; order.get(2).is_none());
+    Ok(())
+}
+
+/// An order of one row, whose key is 1.
+fn of_one_row(alloc: Global) -> Result<SortOrder, AllocError>
+    ensures { IfOk result (λ order. rising_keys (entries order) ≡ 1 ∷ []) }
+{
+    let mut order = by_first_column(alloc)?;
+    order.insert(entry(alloc, 5, 1)?)?;
+    Ok(order)
+}
+
+#[test]
+fn entries_get_the_keys_to_which_rows_move(rt: HostRuntime) -> Result<(), Fail> {
+    let mut order = of_one_row(rt.alloc())?;
+    order.rekey(&shift(rt.alloc())?);
+    assert_eq!(rt; order.get(0).map(|entry| entry.key), Some(6));
+    assert!(rt; order.len() == 1);
     Ok(())
 }
