@@ -10,7 +10,7 @@ use Rattle.feed_run.specs.declared.refusal.Stop.TheVariants.{Refused as Stopped}
 use Rattle.feed_run.specs.Answers.{Answers, EndsBy, EndsByStop}
 use Rattle.feed_run.specs.Headline.{IsOneOf}
 use Rattle.feed_run.specs.Readings.{Content, run_found, files_read, script_in}
-use Rattle.feed_run.specs.Verdicts.{Refused, Summary, command_files, command_verdict, found_verdict, knobs_of, task_files, task_verdict, watch_files, watch_of, watch_verdict}
+use Rattle.feed_run.specs.Verdicts.{Refused, Summary, command_files, command_told, command_verdict, found_verdict, knobs_of, task_files, task_told, task_verdict, watch_files, watch_of, watch_verdict}
 
 module _ (told : Bool) (unread : List ℕ → Type 0) (failed : Type 0) (old new : Option (List ℕ)) (answer : ℕ) (content : Content) where
   abbrev OfFiles : Knobs → List ℕ → List ℕ → Type 0
@@ -21,10 +21,10 @@ module _ (told : Bool) (unread : List ℕ → Type 0) (failed : Type 0) (old new
       Answers told (watch_verdict content (watch_of first count every) feed name (option_map script_in (content script))) unread (IsOneOf (watch_files content script feed name)) failed old new answer
 
   abbrev OfTask : Knobs → ℕ → Task → Type 0
-  OfTask knobs every task = Answers told (task_verdict content knobs every task) unread (IsOneOf (task_files content task)) failed old new answer
+  OfTask knobs every task = Answers (task_told told task) (task_verdict content knobs every task) unread (IsOneOf (task_files content task)) failed old new answer
 
   abbrev OfCommand : Option Command → Type 0
-  OfCommand asked = Answers told (command_verdict content asked) unread (IsOneOf (command_files content asked)) failed old new answer
+  OfCommand asked = Answers (command_told told asked) (command_verdict content asked) unread (IsOneOf (command_files content asked)) failed old new answer
 
   -- a run of files
   pub files_end : (knobs : Knobs) (every : ℕ) (task : Task) (script feed first second : List ℕ) → task ≡ RunTask script feed → first ≡ script → second ≡ feed → OfFiles knobs first second → OfTask knobs every task

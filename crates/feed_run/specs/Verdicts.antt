@@ -1,8 +1,9 @@
 -- What the program is to say of its words and its files.
 --     verdict words content      the verdict, where each file that has to be read is there
 --     files words content      the names of the files that have to be read
+--     are_told told words      whether the contents that the words ask for are told, where those of files are told or not
 --     status_of verdict      the program's status
-use Rattle.std.specs.Prelude.{ℕ, List, [], ◌∷◌, Option, Some, None, Result, Ok, Err, length, nat_lt, option_map, if◌then◌else◌}
+use Rattle.std.specs.Prelude.{ℕ, Bool, true, List, [], ◌∷◌, Option, Some, None, Result, Ok, Err, length, nat_lt, option_map, if◌then◌else◌}
 use Rattle.std.specs.List.{position}
 use Rattle.std.specs.Str.{bytes_eq}
 use Rattle.tick_model.specs.declared.feed.Run.{Run}
@@ -110,6 +111,19 @@ command_files content (Some asked) = task_files content asked.task
 
 abbrev pub files : List (List ℕ) → Content → List (List ℕ)
 files words content = command_files content (command words)
+
+-- whether the contents that are asked for are told: a made run asks for none, and neither do words of no command
+abbrev pub task_told : Bool → Task → Bool
+task_told told (RunTask script feed) = told
+task_told told (Demo steps) = true
+task_told told (WatchTask script feed name first count) = told
+
+abbrev pub command_told : Bool → Option Command → Bool
+command_told told None = true
+command_told told (Some asked) = task_told told asked.task
+
+abbrev pub are_told : Bool → List (List ℕ) → Bool
+are_told told words = command_told told (command words)
 
 -- the status of each
 abbrev pub refusal_status : Refusal → ℕ

@@ -4,7 +4,7 @@ ghost use Rattle.std.specs.Prelude.{◌≡◌, ◌≤◌, IsTrue, map, string_by
 ghost use Rattle.tick_io.specs.Counts.{Rose};
 ghost use Rattle.feed_run.specs.Answers.{Answers, IsInRange};
 ghost use Rattle.feed_run.specs.Headline.{IsComplete, IsOneOf, IsRead, IsStatus, IsTaskStatus, LoadFailed, NoneFailed, SomeName, TellsLoadFault, TellsVerdict, WritesPrefix, WritesPrefixOrNothing};
-ghost use Rattle.feed_run.specs.Verdicts.{knobs_of as knobs_of_command, task_files, task_verdict, verdict};
+ghost use Rattle.feed_run.specs.Verdicts.{are_told, knobs_of as knobs_of_command, task_files, task_told, task_verdict, verdict};
 
 use crate::demo::demo;
 use crate::refusal::{Refusal, Stop};
@@ -48,7 +48,7 @@ fn run_task<R: Threads + Wait + Sync, I: Inputs, S: Sink, G: Gate>(
     requires few_snaps { knobs.now.snaps ≤ 64 }
     requires some_between { 1 ≤ every }
     requires few_between { every ≤ 100000 }
-    ensures answers { Answers I.told (task_verdict (I.content inputs.old) knobs.now every task.now)
+    ensures answers { Answers (task_told I.told task.now) (task_verdict (I.content inputs.old) knobs.now every task.now)
         (LoadFailed I.failures inputs.old inputs.new) (IsOneOf (task_files (I.content inputs.old) task.now))
         (Rose (S.failures out.old) (S.failures out.new)) (S.bytes out.old) (S.bytes out.new) result }
     ensures status { IsTaskStatus task.now result }
@@ -90,7 +90,7 @@ fn answer<R: Threads + Wait + Sync, I: Inputs, S: Sink, G: Gate>(
     out: &mut S,
     gate: &G,
 ) -> u8
-    ensures answers { Answers I.told (verdict (map string_bytes words.now) (I.content inputs.old))
+    ensures answers { Answers (are_told I.told (map string_bytes words.now)) (verdict (map string_bytes words.now) (I.content inputs.old))
         (LoadFailed I.failures inputs.old inputs.new) (IsRead (map string_bytes words.now) (I.content inputs.old))
         (Rose (S.failures out.old) (S.failures out.new)) (S.bytes out.old) (S.bytes out.new) result }
     ensures status { IsStatus (map string_bytes words.now) result }
@@ -127,27 +127,27 @@ pub fn tick_main<R: Threads + Wait + Sync, I: Inputs, S: Sink, G: Gate>(
     gate: &G,
 ) -> u8
     // Where memory did not run out, and no load and no write failed.
-    ensures verdict { IsTrue I.told
+    ensures verdict { IsTrue (are_told I.told (map string_bytes words.now))
         → TellsVerdict (verdict (map string_bytes words.now) (I.content inputs.old)) result
         (S.bytes out.old) (S.bytes out.new) }
 
     // Where a file could not be read.
     ensures load_counted { result ≡ 3 → SomeName (LoadFailed I.failures inputs.old inputs.new) }
-    ensures load_fault { result ≡ 3 → IsTrue I.told
+    ensures load_fault { result ≡ 3 → IsTrue (are_told I.told (map string_bytes words.now))
         → TellsLoadFault (LoadFailed I.failures inputs.old inputs.new)
         (IsRead (map string_bytes words.now) (I.content inputs.old))
         (S.bytes out.old) (S.bytes out.new) }
 
     // Where the output could not be written.
     ensures write_counted { result ≡ 10 → Rose (S.failures out.old) (S.failures out.new) }
-    ensures write_fault { result ≡ 10 → IsTrue I.told
+    ensures write_fault { result ≡ 10 → IsTrue (are_told I.told (map string_bytes words.now))
         → WritesPrefix (verdict (map string_bytes words.now) (I.content inputs.old))
         (LoadFailed I.failures inputs.old inputs.new)
         (IsRead (map string_bytes words.now) (I.content inputs.old))
         (S.bytes out.old) (S.bytes out.new) }
 
     // Where memory ran out.
-    ensures memory { result ≡ 1 → IsTrue I.told
+    ensures memory { result ≡ 1 → IsTrue (are_told I.told (map string_bytes words.now))
         → WritesPrefixOrNothing (verdict (map string_bytes words.now) (I.content inputs.old))
         (LoadFailed I.failures inputs.old inputs.new)
         (IsRead (map string_bytes words.now) (I.content inputs.old))
@@ -155,7 +155,7 @@ pub fn tick_main<R: Threads + Wait + Sync, I: Inputs, S: Sink, G: Gate>(
 
     // There is no other status, and none but that of the verdict where nothing failed and memory sufficed.
     ensures statuses { IsStatus (map string_bytes words.now) result }
-    ensures complete { IsTrue I.told
+    ensures complete { IsTrue (are_told I.told (map string_bytes words.now))
         → NoneFailed (LoadFailed I.failures inputs.old inputs.new)
         (IsRead (map string_bytes words.now) (I.content inputs.old))
         → (Rose (S.failures out.old) (S.failures out.new) → ⊥)

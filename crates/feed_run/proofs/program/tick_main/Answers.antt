@@ -2,22 +2,22 @@ use Rattle.feed_run.proofs.ProgramLemmas.{tells_verdict, tells_load_fault, tells
 use Rattle.feed_run.proofs.program.tick_main.Goals as goal
 
 pub returns-clause-verdict : goal.returns-clause-verdict
-returns-clause-verdict g c = λ t. tells_verdict g.I.Inputs.told _ _ _ _ _ _ _ t c.answer.ensures.answers
+returns-clause-verdict g c = λ t. tells_verdict _ _ _ _ _ _ _ _ t c.answer.ensures.answers
 
 pub returns-clause-load_counted : goal.returns-clause-load_counted
-returns-clause-load_counted g c = λ three. tells_unread g.I.Inputs.told _ _ _ _ _ _ _ c.answer.ensures.answers three
+returns-clause-load_counted g c = λ three. tells_unread _ _ _ _ _ _ _ _ c.answer.ensures.answers three
 
 pub returns-clause-load_fault : goal.returns-clause-load_fault
-returns-clause-load_fault g c = λ three t. tells_load_fault g.I.Inputs.told _ _ _ _ _ _ _ t c.answer.ensures.answers three
+returns-clause-load_fault g c = λ three t. tells_load_fault _ _ _ _ _ _ _ _ t c.answer.ensures.answers three
 
 pub returns-clause-write_counted : goal.returns-clause-write_counted
-returns-clause-write_counted g c = λ ten. tells_failed g.I.Inputs.told _ _ _ _ _ _ _ c.answer.ensures.answers ten
+returns-clause-write_counted g c = λ ten. tells_failed _ _ _ _ _ _ _ _ c.answer.ensures.answers ten
 
 pub returns-clause-write_fault : goal.returns-clause-write_fault
-returns-clause-write_fault g c = λ ten t. tells_write_fault g.I.Inputs.told _ _ _ _ _ _ _ t c.answer.ensures.answers ten
+returns-clause-write_fault g c = λ ten t. tells_write_fault _ _ _ _ _ _ _ _ t c.answer.ensures.answers ten
 
 pub returns-clause-memory : goal.returns-clause-memory
-returns-clause-memory g c = λ one t. tells_memory g.I.Inputs.told _ _ _ _ _ _ _ t c.answer.ensures.answers one
+returns-clause-memory g c = λ one t. tells_memory _ _ _ _ _ _ _ _ t c.answer.ensures.answers one
 
 pub returns-clause-complete : goal.returns-clause-complete
-returns-clause-complete g c = λ t none steady. is_complete g.I.Inputs.told _ _ _ _ _ _ _ t none steady c.answer.ensures.answers
+returns-clause-complete g c = λ t none steady. is_complete _ _ _ _ _ _ _ _ t none steady c.answer.ensures.answers
