@@ -13,9 +13,9 @@ use Rattle.tick_model.specs.Updates.{Tick}
 use Rattle.tick_laws.specs.Operated.{operated}
 use Rattle.tick_table.specs.Exact.{tick_of}
 use Rattle.tick_table.specs.Ticking.{Ticking}
-use Rattle.natural_join.specs.declared.join_op.JoinFault.{JoinFault}
-use Rattle.natural_join.specs.declared.join_op.JoinFault.TheVariants.{Memory, DuplicateRight}
-use Rattle.natural_join.specs.Joiner.{IsCause as IsJoinCause, Joiner, joined_ticks, standing}
+use Rattle.lookup_join.specs.declared.join_op.JoinFault.{JoinFault}
+use Rattle.lookup_join.specs.declared.join_op.JoinFault.TheVariants.{Memory, DuplicateRight}
+use Rattle.lookup_join.specs.Joiner.{IsCause as IsJoinCause, Joiner, joined_ticks, standing}
 use Rattle.row_groups.specs.Members.{Grouped}
 use Rattle.operators.specs.declared.running.Running.{Running}
 use Rattle.operators.specs.declared.running.Running.TheVariants.{Join}

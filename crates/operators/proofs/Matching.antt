@@ -10,7 +10,7 @@ use Rattle.tick_model.specs.Updates.{Tick}
 use Rattle.tick_laws.specs.Operated.{operated}
 use Rattle.tick_table.specs.Exact.{tick_of}
 use Rattle.tick_table.specs.Ticking.{Ticking}
-use Rattle.as_of_join.specs.Matcher.{Matcher, matched_ticks, standing}
+use Rattle.lookup_join.specs.Matcher.{Matcher, matched_ticks, standing}
 use Rattle.row_groups.specs.Members.{Grouped}
 use Rattle.operators.specs.declared.running.Running.{Running}
 use Rattle.operators.specs.declared.running.Running.TheVariants.{AsOf}

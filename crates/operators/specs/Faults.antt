@@ -1,7 +1,7 @@
 -- What a fault of one operator is among those of all.
 --     of_join fault, of_merge fault      of a join, and of a merge
-use Rattle.natural_join.specs.declared.join_op.JoinFault.{JoinFault}
-use Rattle.natural_join.specs.declared.join_op.JoinFault.TheVariants.{Memory as JoinMemory, DuplicateRight}
+use Rattle.lookup_join.specs.declared.join_op.JoinFault.{JoinFault}
+use Rattle.lookup_join.specs.declared.join_op.JoinFault.TheVariants.{Memory as JoinMemory, DuplicateRight}
 use Rattle.merge_op.specs.declared.fault.MergeFault.{MergeFault}
 use Rattle.merge_op.specs.declared.fault.MergeFault.TheVariants.{Memory as MergeMemory, TooManyRows}
 use Rattle.tick_model.specs.declared.table.NodeFault.TheVariants.{DuplicateRight as TwoMatches, TooManyRows as ManyRows}

@@ -14,8 +14,8 @@ use Rattle.tick_model.specs.Ready.{table_in}
 use Rattle.tick_model.specs.Tables.{keys}
 use Rattle.tick_model.specs.Where.{where_table}
 use Rattle.agg_by.specs.Aggregator.{StandsFor as StandsForGroups}
-use Rattle.as_of_join.specs.Matcher.{Stands as StandsForMatches}
-use Rattle.natural_join.specs.Joiner.{Stands as StandsForJoin}
+use Rattle.lookup_join.specs.Joiner.{Stands as StandsForJoin}
+use Rattle.lookup_join.specs.Matcher.{Stands as StandsForMatches}
 use Rattle.sort_op.specs.Sorted.{entries_of}
 use Rattle.operators.specs.declared.running.Running.{Running}
 use Rattle.operators.specs.declared.running.Running.TheVariants.{Where, View, Join, Agg, Merge, Sort, Head, Tail, AsOf}

@@ -1,7 +1,7 @@
 //! Why a step of an operator is refused.
 
+use lookup_join::JoinFault;
 use merge_op::MergeFault;
-use natural_join::JoinFault;
 use std::alloc::AllocError;
 use tick_model::table::NodeFault;
 

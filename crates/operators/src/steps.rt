@@ -7,10 +7,9 @@ ghost use Rattle.operators.specs.Stepping.{IsReady, IsRefusal, IsStep, room_for}
 use crate::fault::StepFault;
 use crate::running::Running;
 use agg_by::AggOp;
-use as_of_join::AsOfOp;
 use head_tail::{HeadOp, TailOp};
+use lookup_join::{AsOfOp, JoinOp};
 use merge_op::MergeOp;
-use natural_join::JoinOp;
 use row_ops::{ViewOp, WhereOp};
 use sort_op::SortOp;
 use std::alloc::Global;

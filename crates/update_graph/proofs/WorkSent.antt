@@ -1,11 +1,11 @@
 -- What a node keeps may go to another thread: its operator, and its table, which others may hold too.
 use denote.Param.Send.{IsSend, IsSync, sendable}
 use Rattle.operators.below.agg_by.proofs.agg_op.AggOp.TheSendSync as agg
-use Rattle.operators.below.as_of_join.proofs.as_of_op.AsOfOp.TheSendSync as as_of
+use Rattle.operators.below.lookup_join.proofs.as_of_op.AsOfOp.TheSendSync as as_of
 use Rattle.operators.below.head_tail.proofs.head_op.HeadOp.TheSendSync as head
 use Rattle.operators.below.head_tail.proofs.tail_op.TailOp.TheSendSync as tail
 use Rattle.operators.below.merge_op.proofs.merging.MergeOp.TheSendSync as merge
-use Rattle.operators.below.natural_join.proofs.join_op.JoinOp.TheSendSync as join
+use Rattle.operators.below.lookup_join.proofs.join_op.JoinOp.TheSendSync as join
 use Rattle.operators.below.row_set.proofs.rows.RowSet.TheSendSync as row_set
 use Rattle.operators.below.sort_op.proofs.operator.SortOp.TheSendSync as sort
 use Rattle.operators.specs.contracts.operator.Operator as operator

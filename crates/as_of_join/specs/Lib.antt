@@ -1,5 +1,0 @@
-pub mod Keyed
-pub mod Latest
-pub mod Matcher
-pub mod Notes
-pub mod Taken

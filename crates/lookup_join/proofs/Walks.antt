@@ -1,0 +1,227 @@
+-- Walks over keys, notes and pairs: one element more.
+use Rattle.std.proofs.Common.{◌≡◌, refl, ap, ap₂, sym, ◌∙◌, Bool, true, false, cond, ◌||◌, ◌==◌, ℕ, zero, suc, ◌+◌, ◌*◌, ◌-◌, ◌<◌, ◌≤◌, arith, List, [], ◌∷◌, ◌++◌, map, take, length, Option, Some, None, ℤ, pos, true≢false}
+use Rattle.std.specs.Prelude.{find, flat_map, fold, is_some, option_map, slice_get, slice_index_or, unwrap_or}
+use Rattle.std.specs.List.{AllByRecursion, range_with_len}
+use Rattle.std.specs.List.Sorted.{IsPermutation}
+use Rattle.std.proofs.lemmas.List.Sorted.{list_any-IsPermutation}
+use Rattle.std.proofs.lemmas.Bool.{eqb-true}
+use Rattle.std.proofs.lemmas.Grind.{flat_map-append}
+use Rattle.std.proofs.lemmas.List.{append-nil, length-map, map-append}
+use Rattle.std.proofs.lemmas.List.Sums.{fold-append}
+use Rattle.std.proofs.lemmas.Option.{none-some}
+use Rattle.key_lists.specs.Keys.{is_among, IsRising}
+use Rattle.key_lists.proofs.Among.{among-append, each_among, of_among}
+use Rattle.key_lists.proofs.Every.{every_weaker, filter_all, map_same}
+use Rattle.lookup_join.specs.declared.keyed.Side.{Side}
+use Rattle.lookup_join.specs.declared.keyed.Side.TheVariants.{Right}
+use Rattle.lookup_join.specs.declared.pick.Pick.{Pick}
+use Rattle.lookup_join.specs.Duplicates.{cells_under}
+use Rattle.lookup_join.specs.Keyed.{column_of, indexed, key_cells, keyed, member_at, time_of}
+use Rattle.lookup_join.specs.Notes.{Note, NoteList, Spot, fresh_note, noting, spot_under, with_note}
+use Rattle.lookup_join.specs.Taken.{spot_at}
+use Rattle.row_groups.specs.Members.{Grouped, Member, keys_of, member_of, member_under}
+use Rattle.row_set.proofs.United.{among-with_key}
+use Rattle.row_set.specs.Ranges.{keys_from}
+use Rattle.row_set.specs.Sets.{united}
+use Rattle.shown_rows.proofs.Walks.{below_keys, take_next}
+use Rattle.tick_model.specs.declared.plan.OnPair.{OnPair}
+use Rattle.tick_model.specs.declared.table.PlainRow.{PlainRow}
+use Rattle.tick_model.specs.Tables.{cell, keys}
+
+some_same : {X : Type 0} {x y : X} → Some x ≡ Some y → x ≡ y
+some_same {X = X} {x = x} {y = y} e = cc
+
+-- the element of a mapped list
+pub get-map : {X Y : Type 0} (f : X → Y) (xs : List X) (n : ℕ) (x : X) → slice_get xs n ≡ Some x → slice_get (map f xs) n ≡ Some (f x)
+get-map f [] n x e = absurd (none-some x e)
+get-map f (y ∷ xs) zero x e = ap (λ z. Some (f z)) (some_same e)
+get-map f (y ∷ xs) (suc n) x e = get-map f xs n x e
+
+-- a note is what is told of it
+pub note_at : (notes : List Note) (n : ℕ) (cells : List ℤ) (at : ℤ) (before : Option ℕ) → slice_get (map (λ (note : Note). note.cells) notes) n ≡ Some cells → slice_get (map (λ (note : Note). note.at) notes) n ≡ Some at → slice_get (map (λ (note : Note). note.before) notes) n ≡ Some before
+    → slice_get notes n ≡ (let note : Note = record { cells = cells; at = at; before = before } in Some note)
+note_at [] n cells at before e f g = absurd (none-some cells e)
+note_at (note ∷ notes) zero cells at before e f g = whole note.cells cells note.at at note.before before (some_same e) (some_same f) (some_same g)
+  where
+    whole : (cells cells' : List ℤ) (at at' : ℤ) (before before' : Option ℕ) → cells ≡ cells' → at ≡ at' → before ≡ before'
+        → ◌≡◌ {A = Option Note} (let note : Note = record { cells = cells; at = at; before = before } in Some note) (let note : Note = record { cells = cells'; at = at'; before = before' } in Some note)
+    whole cells cells' at at' before before' c t b = ap₂ (λ cells at. let note : Note = record { cells = cells; at = at; before = before } in Some note) c t ∙ ap (λ before. let note : Note = record { cells = cells'; at = at'; before = before } in Some note) b
+note_at (note ∷ notes) (suc n) cells at before e f g = note_at notes n cells at before e f g
+
+-- one element more of what all tell
+pub told_next : {X Y : Type 0} (f : X → List Y) (xs : List X) (n : ℕ) (x : X) (told : List Y) → slice_get xs n ≡ Some x → told ≡ flat_map f (take n xs) → told ++ f x ≡ flat_map f (take (n + 1) xs)
+told_next f xs n x told e so_far = ap₂ (λ ys zs. ys ++ zs) so_far (sym (append-nil (f x))) ∙ sym (ap (flat_map f) (take_next xs n x e) ∙ flat_map-append f (take n xs) (x ∷ []))
+
+pub fold_next : {X Y : Type 0} (f : Y → X → Y) (start : Y) (xs : List X) (n : ℕ) (x : X) → slice_get xs n ≡ Some x → fold f start (take (n + 1) xs) ≡ f (fold f start (take n xs)) x
+fold_next f start xs n x e = ap (fold f start) (take_next xs n x e) ∙ fold-append f start (take n xs) (x ∷ [])
+
+pub map_next : {X Y : Type 0} (f : X → Y) (xs : List X) (n : ℕ) (x : X) → slice_get xs n ≡ Some x → map f (take (n + 1) xs) ≡ map f (take n xs) ++ f x ∷ []
+map_next f xs n x e = ap (map f) (take_next xs n x e) ∙ map-append f (take n xs) (x ∷ [])
+
+-- one place more is noted
+pub noting_next : {X : Type 0} (pick : Pick) (members : List Member) (start : List Note) (spot : X → Spot) (xs : List X) (n : ℕ) (x : X) → slice_get xs n ≡ Some x
+    → with_note (fresh_note pick members (spot x)) (noting pick members start (map spot (take n xs))) ≡ noting pick members start (map spot (take (n + 1) xs))
+noting_next pick members start spot xs n x e =
+    sym (ap (noting pick members start) (map_next spot xs n x e)
+    ∙ fold-append (λ (notes : List Note) spot. with_note (fresh_note pick members spot) notes) start (map spot (take n xs)) (spot x ∷ []))
+
+-- two places more
+pub noting_two : {X : Type 0} (pick : Pick) (members : List Member) (start : List Note) (first second : X → Spot) (xs : List X) (n : ℕ) (x : X) → slice_get xs n ≡ Some x
+    → with_note (fresh_note pick members (second x)) (with_note (fresh_note pick members (first x)) (noting pick members start (flat_map (λ x. first x ∷ second x ∷ []) (take n xs))))
+    ≡ noting pick members start (flat_map (λ x. first x ∷ second x ∷ []) (take (n + 1) xs))
+noting_two pick members start first second xs n x e =
+    sym (ap (noting pick members start) (ap (flat_map (λ x. first x ∷ second x ∷ [])) (take_next xs n x e) ∙ flat_map-append (λ x. first x ∷ second x ∷ []) (take n xs) (x ∷ []))
+    ∙ fold-append (λ (notes : List Note) spot. with_note (fresh_note pick members spot) notes) start (flat_map (λ x. first x ∷ second x ∷ []) (take n xs)) (first x ∷ second x ∷ []))
+
+-- a note that is put, of what was known before
+pub note_put : (pick : Pick) (members : List Member) (first before after : NoteList) (notes : List Note) (own spot : Spot) → before ≡ (record first { notes = notes }) → own ≡ spot
+    → after ≡ (record before { notes = with_note (fresh_note pick members own) before.notes })
+    → after ≡ (record first { notes = with_note (fresh_note pick members spot) notes })
+note_put pick members first before after notes own spot b c a =
+    a ∙ ap (λ (noted : NoteList). let more : NoteList = record noted { notes = with_note (fresh_note pick members own) noted.notes } in more) b
+    ∙ ap (λ (spot : Spot). let more : NoteList = record first { notes = with_note (fresh_note pick members spot) notes } in more) c
+
+-- the row under a key, as the index has it
+pub member_known : (side : Side) (on : List OnPair) (pick : Pick) (rows : List PlainRow) (key : ℕ) → is_among key (keys rows) ≡ true → member_under key (keyed side on pick rows) ≡ Some (member_at side on pick rows key)
+member_known side on pick [] key h = absurd (true≢false (sym h))
+member_known side on pick (row ∷ rows) key h = by (row.key == key) refl (λ k. member_known side on pick rows key k)
+  where
+    by : (b : Bool) → (row.key == key) ≡ b → (is_among key (keys rows) ≡ true → member_under key (keyed side on pick rows) ≡ Some (member_at side on pick rows key))
+        → cond b (Some (member_of row.key (key_cells side on row.cells) (time_of side pick row.cells))) (member_under key (keyed side on pick rows))
+        ≡ (let cells = unwrap_or (option_map (λ (row : PlainRow). row.cells) (cond b (Some row) (find (λ row. row.key == key) rows))) [] in Some (member_of key (key_cells side on cells) (time_of side pick cells)))
+    by true e rest = ap (λ k. Some (member_of k (key_cells side on row.cells) (time_of side pick row.cells))) (eqb-true row.key key e)
+    by false e rest = rest (sym (ap (λ b. b || is_among key (keys rows)) e) ∙ h)
+
+pub length-key_cells : (side : Side) (on : List OnPair) (cells : List ℤ) → length (key_cells side on cells) ≡ length on
+length-key_cells side on cells = length-map on (λ pair. cell cells (column_of side pair))
+
+-- one row more is read, and one note more
+pub reads_more : (width so_far more first n : ℕ) → so_far ≤ first + width * n → more ≤ so_far + width → more ≤ first + width * (n + 1)
+reads_more width so_far more first n h e = omega (arith, h, e)
+
+-- a number above others is not among them
+pub among_above : (key : ℕ) (others : List ℕ) → AllByRecursion (λ other. other < key) others → is_among key others ≡ false
+among_above key [] h = refl
+among_above key (other ∷ others) h = ap₂ (λ a b. a || b) (below (other == key) refl) (among_above key others h.1)
+  where
+    below : (b : Bool) → (other == key) ≡ b → (other == key) ≡ false
+    below false e = e
+    below true e = absurd (past (eqb-true other key e) h.0)
+      where
+        past : other ≡ key → other < key → ⊥
+        past e less = omega (arith, e, less)
+
+-- a key at a place is not among those before it
+pub unseen : (keys : List ℕ) (n key : ℕ) → IsRising keys → slice_get keys n ≡ Some key → is_among key (take n keys) ≡ false
+unseen keys n key rising e = among_above key (take n keys) (below_keys (λ _. true) keys n key (take n keys) rising e (sym (filter_all (take n keys))))
+
+-- one key more among those that came and those that were there
+pub came_next : (key other : ℕ) (came own all : List ℕ) (n : ℕ) → slice_get all n ≡ Some other → is_among key own ≡ (is_among key (take n all) || is_among key came) → ((other == key) || is_among key own) ≡ (is_among key (take (n + 1) all) || is_among key came)
+came_next key other came own all n here so_far =
+    ap (λ b. (other == key) || b) so_far
+    ∙ swapped (other == key) (is_among key (take n all)) (is_among key came)
+    ∙ ap (λ b. b || is_among key came) (sym (ap (is_among key) (take_next all n other here) ∙ among-append key (take n all) (other ∷ [])))
+  where
+    swapped : (a b c : Bool) → (a || (b || c)) ≡ ((b || (a || false)) || c)
+    swapped true true c = refl
+    swapped true false c = refl
+    swapped false true c = refl
+    swapped false false c = refl
+
+-- an element that is there, and one that is read
+pub get_index : {X : Type 0} (xs : List X) (n : ℕ) (other : X) → n < length xs → slice_get xs n ≡ Some (slice_index_or xs n other)
+get_index [] n other h = absurd (omega arith)
+get_index (x ∷ xs) zero other h = refl
+get_index (x ∷ xs) (suc n) other h = get_index xs n other (omega arith)
+
+pub some_of : {X Y : Type 0} (f : X → Y) (o : Option X) (y : Y) → option_map f o ≡ Some y → is_some o ≡ true
+some_of f None y e = absurd (none-some y e)
+some_of f (Some x) y e = refl
+
+pub take_all : {X : Type 0} (xs : List X) (n : ℕ) → length xs ≤ n → take n xs ≡ xs
+take_all [] zero h = refl
+take_all [] (suc n) h = refl
+take_all (x ∷ xs) zero h = absurd (omega arith)
+take_all (x ∷ xs) (suc n) h = ap (λ rest. x ∷ rest) (take_all xs n (omega arith))
+
+-- what holds of all numbers holds of them in another order
+pub every_permuted : (P : ℕ → Type 0) (xs ys : List ℕ) → IsPermutation xs ys → AllByRecursion P xs → AllByRecursion P ys
+every_permuted P xs ys same h =
+    every_weaker (λ y. is_among y ys ≡ true) P ys (λ y own. of_among P y xs h (list_any-IsPermutation (λ other. other == y) xs ys same ∙ own)) (each_among ys)
+
+pub among_permuted : (key : ℕ) (xs ys : List ℕ) → IsPermutation xs ys → is_among key xs ≡ is_among key ys
+among_permuted key xs ys same = list_any-IsPermutation (λ other. other == key) xs ys same
+
+-- one key more in a set
+pub among_more : (key other : ℕ) (set keys : List ℕ) (n : ℕ) → slice_get keys n ≡ Some other → is_among key set ≡ is_among key (take n keys) → is_among key (united (keys_from other other) set) ≡ is_among key (take (n + 1) keys)
+among_more key other set keys n here so_far =
+    ap (λ count. is_among key (united (range_with_len other count) set)) (let one : other + 1 - other ≡ 1 = omega arith in one)
+    ∙ among-with_key key other set
+    ∙ ap (λ b. (other == key) || b) so_far
+    ∙ swapped (other == key) (is_among key (take n keys))
+    ∙ sym (ap (is_among key) (take_next keys n other here) ∙ among-append key (take n keys) (other ∷ []))
+  where
+    swapped : (a b : Bool) → (a || b) ≡ (b || (a || false))
+    swapped true true = refl
+    swapped true false = refl
+    swapped false true = refl
+    swapped false false = refl
+
+pub some_is : {X : Type 0} {x y : X} → Some x ≡ Some y → x ≡ y
+some_is e = some_same e
+
+-- the place of a row that the index has
+pub spot_known : (on : List OnPair) (pick : Pick) (rows : List PlainRow) (index : Grouped) (key : ℕ) → index ≡ indexed Right on pick rows → is_among key (keys rows) ≡ true → spot_under key index.members ≡ spot_at on pick rows key
+spot_known on pick rows index key is there = ap (λ (index : Grouped). spot_under key index.members) is ∙ ap (λ (o : Option Member). unwrap_or (option_map (λ (member : Member). let spot : Spot = record { cells = member.cells; at = member.at } in spot) o) (record { cells = []; at = pos 0 })) (member_known Right on pick rows key there)
+
+pub member_is : (side : Side) (on : List OnPair) (pick : Pick) (rows : List PlainRow) (index : Grouped) (key : ℕ) → index ≡ indexed side on pick rows → is_among key (keys rows) ≡ true → is_some (member_under key index.members) ≡ true
+member_is side on pick rows index key is there = ap is_some (ap (λ (index : Grouped). member_under key index.members) is ∙ member_known side on pick rows key there)
+
+pub spot_is : (cells cells' : List ℤ) (at at' : ℤ) → cells ≡ cells' → at ≡ at' → ◌≡◌ {A = Spot} (record { cells = cells; at = at }) (record { cells = cells'; at = at' })
+spot_is cells cells' at at' c t = ap₂ (λ cells at. let spot : Spot = record { cells = cells; at = at } in spot) c t
+
+pub some_is_there : {X : Type 0} (o : Option X) (x : X) → o ≡ Some x → is_some o ≡ true
+some_is_there o x e = ap is_some e
+
+-- the key cells of a member, where all have as many
+pub width_under : (width key : ℕ) (members : List Member) (cells : List ℤ) → AllByRecursion (λ (member : Member). length member.cells ≡ width) members → Some cells ≡ option_map (λ (member : Member). member.cells) (member_under key members) → length cells ≡ width
+width_under width key [] cells h e = absurd (none-some cells (sym e))
+width_under width key (member ∷ members) cells h e = by (member.key == key) e (λ f. width_under width key members cells h.1 f)
+  where
+    by : (b : Bool) → Some cells ≡ option_map (λ (member : Member). member.cells) (cond b (Some member) (member_under key members)) → (Some cells ≡ option_map (λ (member : Member). member.cells) (member_under key members) → length cells ≡ width) → length cells ≡ width
+    by true f rest = ap length (some_same f) ∙ h.0
+    by false f rest = rest f
+
+-- the notes of removed, of modified and of added rows
+pub noting_parts : (pick : Pick) (members : List Member) (width width' : ℕ) (first second third fourth : NoteList) (olds olds' changes news : List Spot) → width ≡ width' → olds ≡ olds'
+    → first ≡ (record { width = width; notes = [] }) → second ≡ (record first { notes = noting pick members first.notes olds }) → third ≡ (record second { notes = noting pick members second.notes changes }) → fourth ≡ (record third { notes = noting pick members third.notes news })
+    → fourth ≡ (record { width = width'; notes = noting pick members [] (olds' ++ (changes ++ news)) })
+noting_parts pick members width width' first second third fourth olds olds' changes news w o a b c d =
+    d
+    ∙ ap (λ (noted : NoteList). let more : NoteList = record noted { notes = noting pick members noted.notes news } in more)
+    (c ∙ ap (λ (noted : NoteList). let more : NoteList = record noted { notes = noting pick members noted.notes changes } in more) (b ∙ ap (λ (noted : NoteList). let more : NoteList = record noted { notes = noting pick members noted.notes olds } in more) a))
+    ∙ ap₂ (λ width spots. let noted : NoteList = record { width = width; notes = noting pick members (noting pick members (noting pick members [] spots) changes) news } in noted) w o
+    ∙ ap (λ notes. let noted : NoteList = record { width = width'; notes = notes } in noted)
+    (sym (fold-append more [] olds' (changes ++ news) ∙ fold-append more (noting pick members [] olds') changes news))
+  where
+    more : List Note → Spot → List Note
+    more notes spot = with_note (fresh_note pick members spot) notes
+
+-- the places of rows that the index has
+pub spots_known : (on : List OnPair) (pick : Pick) (rows : List PlainRow) (index : Grouped) (removed : List ℕ) → index ≡ indexed Right on pick rows → AllByRecursion (λ key. is_among key (keys rows) ≡ true) removed → map (λ key. spot_under key index.members) removed ≡ map (spot_at on pick rows) removed
+spots_known on pick rows index removed is there =
+    map_same (λ key. spot_under key index.members) (spot_at on pick rows) removed
+    (every_weaker (λ key. is_among key (keys rows) ≡ true) (λ key. spot_under key index.members ≡ spot_at on pick rows key) removed (λ key own. spot_known on pick rows index key is own) there)
+
+pub members_known : (on : List OnPair) (pick : Pick) (rows : List PlainRow) (index : Grouped) (removed : List ℕ) → index ≡ indexed Right on pick rows → AllByRecursion (λ key. is_among key (keys rows) ≡ true) removed → AllByRecursion (λ key. is_some (member_under key index.members) ≡ true) removed
+members_known on pick rows index removed is there = every_weaker (λ key. is_among key (keys rows) ≡ true) (λ key. is_some (member_under key index.members) ≡ true) removed (λ key own. member_is Right on pick rows index key is own) there
+
+-- a member that is there has its key cells
+pub under_some : (members : List Member) (key : ℕ) → is_among key (keys_of members) ≡ true → option_map (λ (member : Member). member.cells) (member_under key members) ≡ Some (cells_under members key)
+under_some [] key h = absurd (true≢false (sym h))
+under_some (member ∷ members) key h = by (member.key == key) refl (λ k. under_some members key k)
+  where
+    by : (b : Bool) → (member.key == key) ≡ b → (is_among key (keys_of members) ≡ true → option_map (λ (member : Member). member.cells) (member_under key members) ≡ Some (cells_under members key))
+        → option_map (λ (member : Member). member.cells) (cond b (Some member) (member_under key members)) ≡ Some (unwrap_or (option_map (λ (member : Member). member.cells) (cond b (Some member) (member_under key members))) [])
+    by true e rest = refl
+    by false e rest = rest (sym (ap (λ b. b || is_among key (keys_of members)) e) ∙ h)

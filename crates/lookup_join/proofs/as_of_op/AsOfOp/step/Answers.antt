@@ -1,0 +1,44 @@
+use Rattle.std.proofs.Common.{ap, ap₂, sym, ◌∙◌, subst, ◌+◌, ◌<◌, ◌≤◌, ℕ, List, length}
+use Rattle.std.specs.List.{AllByRecursion}
+use Rattle.lookup_join.specs.declared.keyed.Side.TheVariants.{Left, Right}
+use Rattle.lookup_join.specs.declared.pick.Pick.TheVariants.{Latest}
+use Rattle.lookup_join.specs.Matcher.{Matcher, Stands, matched_ticks, standing}
+use Rattle.lookup_join.specs.Keyed.{indexed}
+use Rattle.row_groups.specs.Members.{Grouped}
+use Rattle.tick_model.specs.Changes.{change_of}
+use Rattle.tick_model.specs.declared.plan.OnPair.{OnPair}
+use Rattle.tick_table.specs.Exact.{tick_of}
+use Rattle.lookup_join.proofs.as_of_op.AsOfOp.step.Goals as goal
+
+pub lookup_step-requires-clause-few : goal.lookup_step-requires-clause-few
+lookup_step-requires-clause-few g c =
+    subst (λ (take : List ℕ). c.args.left.now.new.width + length take ≤ 32) (sym c.as_slice-2.ensures)
+    (subst (λ (width : ℕ). width + length c.self.inside.take ≤ 32) (sym (c.requires.left_width ∙ ap (λ (matcher : Matcher). matcher.left_width) (sym c.self.view_is))) c.self.invariant.few)
+
+pub lookup_step-requires-clause-take : goal.lookup_step-requires-clause-take
+lookup_step-requires-clause-take g c =
+    subst (λ (take : List ℕ). AllByRecursion (λ column. column < c.args.right.now.new.width) take) (sym c.as_slice-2.ensures)
+    (subst (λ (width : ℕ). AllByRecursion (λ column. column < width) c.self.inside.take) (sym (c.requires.right_width ∙ ap (λ (matcher : Matcher). matcher.right_width) (sym c.self.view_is))) c.self.invariant.taken)
+
+pub lookup_step-requires-clause-left_rows : goal.lookup_step-requires-clause-left_rows
+lookup_step-requires-clause-left_rows g c =
+    let stands = subst (λ (matcher : Matcher). Stands matcher c.args.left.now.old c.args.right.now.old) (sym c.self.view_is) c.requires.stands in
+    stands.left_rows ∙ ap (λ (on : List OnPair). indexed Left on (Latest c.self.inside.at) c.args.left.now.old.rows) (sym c.as_slice.ensures)
+
+pub lookup_step-requires-clause-right_rows : goal.lookup_step-requires-clause-right_rows
+lookup_step-requires-clause-right_rows g c =
+    let stands = subst (λ (matcher : Matcher). Stands matcher c.args.left.now.old c.args.right.now.old) (sym c.self.view_is) c.requires.stands in
+    stands.right_rows ∙ ap (λ (on : List OnPair). indexed Right on (Latest c.self.inside.at) c.args.right.now.old.rows) (sym c.as_slice.ensures)
+
+pub returns-clause-stands : goal.returns-clause-stands
+returns-clause-stands g c =
+    ap₂ (λ (left : Grouped) (right : Grouped). let matcher : Matcher = record { on = c.self.inside.on; at = c.self.inside.at; take = c.self.inside.take; left_width = c.self.inside.left_width; right_width = c.self.inside.right_width; left = left; right = right } in matcher)
+    (c.in_ok-change.ensures.left_rows ∙ ap (λ (on : List OnPair). indexed Left on (Latest c.self.inside.at) c.args.left.now.new.rows) c.as_slice.ensures)
+    (c.in_ok-change.ensures.right_rows ∙ ap (λ (on : List OnPair). indexed Right on (Latest c.self.inside.at) c.args.right.now.new.rows) c.as_slice.ensures)
+    ∙ ap (λ (matcher : Matcher). standing matcher c.args.left.now.new c.args.right.now.new) c.self.view_is
+
+pub returns-clause-change : goal.returns-clause-change
+returns-clause-change g c =
+    c.in_ok-change.ensures.change
+    ∙ ap₂ (λ (on : List OnPair) (take : List ℕ). change_of (matched_ticks on c.self.inside.at take (tick_of c.args.left.now) (tick_of c.args.right.now))) c.as_slice.ensures c.as_slice-2.ensures
+    ∙ ap (λ (matcher : Matcher). change_of (matched_ticks matcher.on matcher.at matcher.take (tick_of c.args.left.now) (tick_of c.args.right.now))) c.self.view_is

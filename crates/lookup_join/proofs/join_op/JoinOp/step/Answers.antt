@@ -1,0 +1,80 @@
+use Rattle.std.proofs.Common.{◌≡◌, refl, ap, ap₂, sym, ◌∙◌, subst, ◌+◌, ◌<◌, ◌≤◌, ℕ, List, length}
+use Rattle.std.specs.Prelude.{option_map}
+use Rattle.std.specs.List.{AllByRecursion}
+use Rattle.lookup_join.specs.declared.keyed.Side.TheVariants.{Left, Right}
+use Rattle.lookup_join.specs.declared.pick.Pick.{Pick}
+use Rattle.lookup_join.specs.Joiner.{Joiner, Stands, joined_ticks, standing}
+use Rattle.lookup_join.specs.Keyed.{indexed}
+use Rattle.lookup_join.specs.Matched.{matched_tick, pick_of}
+use Rattle.lookup_join.proofs.Faults.{came_members, node_of, told_is}
+use Rattle.row_groups.specs.Members.{Grouped}
+use Rattle.tick_model.specs.Changes.{change_of}
+use Rattle.tick_model.specs.declared.plan.OnPair.{OnPair}
+use Rattle.tick_model.specs.declared.plan.Choice.{Choice}
+use Rattle.tick_model.specs.declared.plan.Choice.TheVariants.{Error, First, Last}
+use Rattle.tick_model.specs.Join.{join_fault}
+use Rattle.tick_model.specs.Updates.{Tick}
+use Rattle.tick_table.specs.Exact.{tick_of}
+use Rattle.lookup_join.proofs.join_op.JoinOp.step.Goals as goal
+
+-- what a choice takes makes the join's own table
+ticks : (choice : Choice) (on : List OnPair) (take : List ℕ) (left right : Tick) → matched_tick on (pick_of choice) take left right ≡ joined_ticks on take choice left right
+ticks Error on take left right = refl
+ticks First on take left right = refl
+ticks Last on take left right = refl
+
+pub lookup_step-requires-clause-few : goal.lookup_step-requires-clause-few
+lookup_step-requires-clause-few g c =
+    subst (λ (take : List ℕ). c.args.left.now.new.width + length take ≤ 32) (sym c.as_slice-2.ensures)
+    (subst (λ (width : ℕ). width + length c.self.inside.take ≤ 32) (sym (c.requires.left_width ∙ ap (λ (joiner : Joiner). joiner.left_width) (sym c.self.view_is))) c.self.invariant.few)
+
+pub lookup_step-requires-clause-take : goal.lookup_step-requires-clause-take
+lookup_step-requires-clause-take g c =
+    subst (λ (take : List ℕ). AllByRecursion (λ column. column < c.args.right.now.new.width) take) (sym c.as_slice-2.ensures)
+    (subst (λ (width : ℕ). AllByRecursion (λ column. column < width) c.self.inside.take) (sym (c.requires.right_width ∙ ap (λ (joiner : Joiner). joiner.right_width) (sym c.self.view_is))) c.self.invariant.taken)
+
+pub lookup_step-requires-clause-left_rows : goal.lookup_step-requires-clause-left_rows
+lookup_step-requires-clause-left_rows g c =
+    let stands = subst (λ (joiner : Joiner). Stands joiner c.args.left.now.old c.args.right.now.old) (sym c.self.view_is) c.requires.stands in
+    stands.left_rows ∙ ap₂ (λ (on : List OnPair) (pick : Pick). indexed Left on pick c.args.left.now.old.rows) (sym c.as_slice.ensures) (sym c.of.ensures)
+
+pub lookup_step-requires-clause-right_rows : goal.lookup_step-requires-clause-right_rows
+lookup_step-requires-clause-right_rows g c =
+    let stands = subst (λ (joiner : Joiner). Stands joiner c.args.left.now.old c.args.right.now.old) (sym c.self.view_is) c.requires.stands in
+    stands.right_rows ∙ ap₂ (λ (on : List OnPair) (pick : Pick). indexed Right on pick c.args.right.now.old.rows) (sym c.as_slice.ensures) (sym c.of.ensures)
+
+pub fault_now-requires : goal.fault_now-requires
+fault_now-requires g c = came_members c.as_slice.result.now c.args.left.now c.requires.left_exact c.args.right.now c.requires.right_exact c.of.result _ _ c.in_ok-change.ensures.left_rows c.in_ok-change.ensures.came
+
+pub returns-in-Some-clause-cause : goal.returns-in-Some-clause-cause
+returns-in-Some-clause-cause g c =
+    let stands = subst (λ (joiner : Joiner). Stands joiner c.args.left.now.old c.args.right.now.old) (sym c.self.view_is) c.requires.stands in
+    ap (λ (joiner : Joiner). join_fault joiner.on joiner.choice c.args.left.now.new c.args.right.now.new) (sym c.self.view_is)
+    ∙ ap (λ (on : List OnPair). join_fault on c.self.inside.choice c.args.left.now.new c.args.right.now.new) (sym c.as_slice.ensures)
+    ∙ sym (told_is c.as_slice.result.now c.args.left.now c.requires.left_exact c.args.right.now c.requires.right_exact c.self.inside.choice c.of.result c.of.ensures _ _ _ _ c.in_ok-change.ensures.left_rows c.in_ok-change.ensures.right_rows c.in_ok-change.ensures.notes c.in_ok-change.ensures.came
+    (ap (λ (on : List OnPair). join_fault on c.self.inside.choice c.args.left.now.old c.args.right.now.old) c.as_slice.ensures ∙ stands.sound))
+    ∙ ap (option_map node_of) (sym c.in-Some.ensures)
+
+pub returns-clause-stands : goal.returns-clause-stands
+returns-clause-stands g c =
+    ap₂ (λ (left : Grouped) (right : Grouped). let joiner : Joiner = record { on = c.self.inside.on; take = c.self.inside.take; choice = c.self.inside.choice; left_width = c.self.inside.left_width; right_width = c.self.inside.right_width; left = left; right = right } in joiner)
+    (c.in_ok-change.ensures.left_rows ∙ ap₂ (λ (on : List OnPair) (pick : Pick). indexed Left on pick c.args.left.now.new.rows) c.as_slice.ensures c.of.ensures)
+    (c.in_ok-change.ensures.right_rows ∙ ap₂ (λ (on : List OnPair) (pick : Pick). indexed Right on pick c.args.right.now.new.rows) c.as_slice.ensures c.of.ensures)
+    ∙ ap (λ (joiner : Joiner). standing joiner c.args.left.now.new c.args.right.now.new) c.self.view_is
+
+pub returns-clause-sound : goal.returns-clause-sound
+returns-clause-sound g c =
+    let stands = subst (λ (joiner : Joiner). Stands joiner c.args.left.now.old c.args.right.now.old) (sym c.self.view_is) c.requires.stands in
+    ap (λ (joiner : Joiner). join_fault joiner.on joiner.choice c.args.left.now.new c.args.right.now.new) (sym c.self.view_is)
+    ∙ ap (λ (on : List OnPair). join_fault on c.self.inside.choice c.args.left.now.new c.args.right.now.new) (sym c.as_slice.ensures)
+    ∙ sym (told_is c.as_slice.result.now c.args.left.now c.requires.left_exact c.args.right.now c.requires.right_exact c.self.inside.choice c.of.result c.of.ensures _ _ _ _ c.in_ok-change.ensures.left_rows c.in_ok-change.ensures.right_rows c.in_ok-change.ensures.notes c.in_ok-change.ensures.came
+    (ap (λ (on : List OnPair). join_fault on c.self.inside.choice c.args.left.now.old c.args.right.now.old) c.as_slice.ensures ∙ stands.sound))
+    ∙ ap (option_map node_of) (sym c.in_default.ensures)
+
+pub returns-clause-change : goal.returns-clause-change
+returns-clause-change g c =
+    c.in_ok-change.ensures.change
+    ∙ ap (λ (pick : Pick). change_of (matched_tick c.as_slice.result.now pick c.as_slice-2.result.now (tick_of c.args.left.now) (tick_of c.args.right.now))) c.of.ensures
+    ∙ ap change_of (ticks c.self.inside.choice c.as_slice.result.now c.as_slice-2.result.now (tick_of c.args.left.now) (tick_of c.args.right.now))
+    ∙ ap₂ (λ (on : List OnPair) (take : List ℕ). change_of (joined_ticks on take c.self.inside.choice (tick_of c.args.left.now) (tick_of c.args.right.now))) c.as_slice.ensures c.as_slice-2.ensures
+    ∙ ap (λ (joiner : Joiner). change_of (joined_ticks joiner.on joiner.take joiner.choice (tick_of c.args.left.now) (tick_of c.args.right.now))) c.self.view_is

@@ -1,0 +1,25 @@
+use Rattle.std.proofs.Common.{ap, sym, subst, ◌+◌, ◌*◌, ◌≤◌, ℕ, length}
+use Rattle.lookup_join.specs.Notes.{NoteList}
+use Rattle.lookup_join.specs.Taken.{modified_pairs}
+use Rattle.lookup_join.proofs.Before.{matched}
+use Rattle.lookup_join.proofs.Noting.{notes_few}
+use Rattle.lookup_join.proofs.Stepping.{modified_count, step_reads}
+use Rattle.lookup_join.proofs.lookup.lookup_step.Goals as goal
+
+pub matched_change-requires-clause-matched : goal.matched_change-requires-clause-matched
+matched_change-requires-clause-matched g c =
+    matched c.args.on.now c.args.pick c.args.right.now c.requires.right_exact c.args.take.now c.args.left.now _ _ c.requires.left_exact c.requires.take c.in_ok-notes.ensures.index (ap (λ (noted : NoteList). noted.notes) c.in_ok-notes.ensures.notes)
+
+pub matched_change-requires-clause-notes : goal.matched_change-requires-clause-notes
+matched_change-requires-clause-notes g c = ap (λ (noted : NoteList). noted.notes) c.in_ok-notes.ensures.notes
+
+pub returns-clause-reads : goal.returns-clause-reads
+returns-clause-reads g c =
+    let left = c.args.left.now in
+    let right = c.args.right.now in
+    let few : length c.in_ok-notes.notes.notes ≤ length right.update.removed + length right.update.added + 2 * length right.update.modified =
+    subst (λ (n : ℕ). length c.in_ok-notes.notes.notes ≤ length right.update.removed + length right.update.added + 2 * n) (modified_count right c.requires.right_exact)
+    (subst (λ (noted : NoteList). length noted.notes ≤ length right.update.removed + length right.update.added + 2 * length (modified_pairs right)) (sym c.in_ok-notes.ensures.notes) (notes_few c.args.on.now c.args.pick right c.requires.right_exact)) in
+    step_reads left.new.width right.new.width (length c.args.take.now) c.args.reads.now c.bring_right_on.new.reads c.bring_left_on.new.reads c.matched_change.new.reads (length c.in_ok-notes.notes.notes)
+    (length left.update.removed) (length left.update.added) (length left.update.modified) (length right.update.removed) (length right.update.added) (length right.update.modified) (length c.in_ok-change.change.update.removed) (length c.in_ok-change.change.update.added) (length c.in_ok-change.change.update.modified)
+    c.in_ok-notes.ensures.reads c.in_ok-came.ensures.reads c.in_ok-change.ensures.reads few

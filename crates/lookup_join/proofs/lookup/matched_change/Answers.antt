@@ -1,0 +1,107 @@
+use Rattle.std.proofs.Common.{◌≡◌, ap, ap₂, sym, ◌∙◌, subst, ◌+◌, ◌*◌, ◌≤◌, ◌<◌, ◌^◌, arith, ℕ, List, length}
+use Rattle.std.specs.Prelude.{IfOk, Result, Ok, Err}
+use Rattle.std.specs.List.{AllByRecursion}
+use Rattle.key_lists.specs.Keys.{is_among, without}
+use Rattle.lookup_join.specs.declared.pick.Pick.{Pick}
+use Rattle.lookup_join.specs.Matched.{matched_table}
+use Rattle.lookup_join.specs.Notes.{Note}
+use Rattle.lookup_join.specs.Taken.{IsFrom, step_notes, turned_members}
+use Rattle.lookup_join.proofs.Before.{notes_from}
+use Rattle.lookup_join.proofs.Compared.{are_compared, are_mapped, compared_few, turned, turned_small}
+use Rattle.row_changes.specs.Parts.{AreCompared}
+use Rattle.row_groups.specs.Members.{Grouped, Member}
+use Rattle.row_set.specs.Sets.{united}
+use Rattle.shift_data.specs.Moves.{IsLawful, unapplied}
+use Rattle.shown_rows.proofs.Restricted.{exact_shift}
+use Rattle.tick_model.specs.Changes.{Change}
+use Rattle.tick_model.specs.declared.update.ShiftRange.{ShiftRange}
+use Rattle.tick_model.specs.Tables.{keys}
+use Rattle.tick_model.specs.Updates.{Update, pairs}
+use Rattle.tick_model.specs.declared.table.PlainRow.{PlainRow}
+use Rattle.std.proofs.Math.Nat.{mul-le-mul_left}
+use Rattle.lookup_join.proofs.lookup.matched_change.Goals as goal
+
+IfOk_both : {X E : Type 0} (r : Result X E) (P Q R : X → Type 0) → ((x : X) → P x → Q x → R x) → IfOk r P → IfOk r Q → IfOk r R
+IfOk_both (Ok x) P Q R f p q = f x p q
+IfOk_both (Err e) P Q R f p q = tt
+
+turned_same : (pick : Pick) (take : List ℕ) (left left' right right' : List Member) (old new : List PlainRow) (notes notes' : List Note) → left ≡ left' → right ≡ right' → notes ≡ notes' → turned_members pick take left right notes old new notes ≡ turned_members pick take left' right' notes' old new notes'
+turned_same pick take left left' right right' old new notes notes' l r n =
+    ap₂ (λ left right. turned_members pick take left right notes old new notes) l r ∙ ap (λ notes. turned_members pick take left' right' notes old new notes) n
+
+reads_within : (row first second last modified added out taken notes compared : ℕ) → second ≤ first + 2 * taken * notes → last ≤ second + row * (2 * compared + added) → compared ≤ modified + out → last ≤ first + 2 * taken * notes + row * (2 * (modified + out) + added)
+reads_within row first second last modified added out taken notes compared h k m =
+    omega (arith, h, k, mul-le-mul_left row more)
+  where
+    more : 2 * compared + added ≤ 2 * (modified + out) + added
+    more = omega (arith, m)
+
+pub turned_rows-requires-clause-take : goal.turned_rows-requires-clause-take
+turned_rows-requires-clause-take g c = c.requires.matched.within
+
+pub turned_rows-requires-clause-there : goal.turned_rows-requires-clause-there
+turned_rows-requires-clause-there g c =
+    let rows = c.args.rows.now in
+    let right = rows.right.now in
+    subst (λ (notes : List Note). AllByRecursion (IsFrom rows.pick rows.index.now.members right.old right.new) notes) (sym c.requires.notes)
+    (subst (λ (members : List Member). AllByRecursion (IsFrom rows.pick members right.old right.new) (step_notes rows.on.now rows.pick right)) (sym (ap (λ (index : Grouped). index.members) c.requires.matched.rows))
+    (notes_from rows.on.now rows.pick right c.requires.matched.right_exact))
+
+pub key_set-requires : goal.key_set-requires
+key_set-requires g c =
+    let rows = c.args.rows.now in
+    let left = rows.left.now in
+    let right = rows.right.now in
+    let e = c.requires.matched.left_exact in
+    let f = c.requires.matched.right_exact in
+    let turned_are : c.in_ok-turned.turned.items ≡ turned rows.on.now rows.pick rows.take.now left e right f =
+    c.in_ok-turned.ensures.keys ∙ turned_same _ _ _ _ _ _ _ _ _ _ (ap (λ (index : Grouped). index.members) c.requires.left_rows) (ap (λ (index : Grouped). index.members) c.requires.matched.rows) c.requires.notes in
+    subst (AllByRecursion (λ key. key < 2 ^ 62)) (sym turned_are) (turned_small rows.on.now rows.pick rows.take.now left e right f)
+
+pub unapply_without-requires : goal.unapply_without-requires
+unapply_without-requires g c =
+    let left = c.args.rows.now.left.now in
+    subst (λ (shifts : List ShiftRange). IsLawful shifts (without c.removed.result.now c.prev_rows.result.now)) (sym (c.shifted.ensures ∙ ap (λ (update : Update). update.shifted) c.update-update.ensures))
+    (subst (λ (ks : List ℕ). IsLawful left.update.shifted ks) (sym (ap₂ without (c.removed.ensures.keys ∙ ap (λ (update : Update). update.removed) c.update-update.ensures) c.prev_rows.ensures.keys))
+    (exact_shift left c.requires.matched.left_exact))
+
+pub mapped-requires-clause-tables : goal.mapped-requires-clause-tables
+mapped-requires-clause-tables g c =
+    let rows = c.args.rows.now in
+    are_mapped rows.on.now rows.pick rows.take.now rows.left.now c.requires.matched.left_exact rows.right.now c.requires.matched.right_exact
+
+pub mapped-requires-clause-compared : goal.mapped-requires-clause-compared
+mapped-requires-clause-compared g c =
+    let rows = c.args.rows.now in
+    let left = rows.left.now in
+    let right = rows.right.now in
+    let e = c.requires.matched.left_exact in
+    let f = c.requires.matched.right_exact in
+    let turned_are : c.in_ok-turned.turned.items ≡ turned rows.on.now rows.pick rows.take.now left e right f =
+    c.in_ok-turned.ensures.keys ∙ turned_same _ _ _ _ _ _ _ _ _ _ (ap (λ (index : Grouped). index.members) c.requires.left_rows) (ap (λ (index : Grouped). index.members) c.requires.matched.rows) c.requires.notes in
+    let set_is : (key : ℕ) → is_among key c.in_ok-set.set ≡ is_among key (turned rows.on.now rows.pick rows.take.now left e right f) = λ key. c.in_ok-set.ensures key ∙ ap (is_among key) turned_are in
+    let now_are : c.in_ok-now.now ≡ without left.update.added (united c.in_ok-set.set left.update.modified) =
+    c.in_ok-now.ensures ∙ ap₂ without (c.added.ensures.keys ∙ ap (λ (update : Update). update.added) c.update-update.ensures) (c.in_ok-touched.ensures ∙ ap (united c.in_ok-set.set) (c.modified.ensures.keys ∙ ap (λ (update : Update). update.modified) c.update-update.ensures)) in
+    let before_are : c.in_ok-before.before ≡ unapplied left.update.shifted (without left.update.removed (keys left.old.rows)) c.in_ok-now.now =
+    c.in_ok-before.ensures ∙ ap (λ (shifts : List ShiftRange). unapplied shifts (without c.removed.result.now c.prev_rows.result.now) c.in_ok-now.now) (c.shifted.ensures ∙ ap (λ (update : Update). update.shifted) c.update-update.ensures)
+    ∙ ap (λ (ks : List ℕ). unapplied left.update.shifted ks c.in_ok-now.now) (ap₂ without (c.removed.ensures.keys ∙ ap (λ (update : Update). update.removed) c.update-update.ensures) c.prev_rows.ensures.keys) in
+    subst (λ (before : List ℕ). AreCompared (matched_table rows.on.now rows.pick rows.take.now left.old right.old) (matched_table rows.on.now rows.pick rows.take.now left.new right.new) (pairs left.old left.update) before c.in_ok-now.now) (sym before_are)
+    (are_compared rows.on.now rows.pick rows.take.now left e right f c.in_ok-set.set c.in_ok-now.now set_is now_are)
+
+pub returns-clause-reads : goal.returns-clause-reads
+returns-clause-reads g c =
+    let rows = c.args.rows.now in
+    let left = rows.left.now in
+    let right = rows.right.now in
+    let e = c.requires.matched.left_exact in
+    let f = c.requires.matched.right_exact in
+    let turned_are : c.in_ok-turned.turned.items ≡ turned rows.on.now rows.pick rows.take.now left e right f =
+    c.in_ok-turned.ensures.keys ∙ turned_same _ _ _ _ _ _ _ _ _ _ (ap (λ (index : Grouped). index.members) c.requires.left_rows) (ap (λ (index : Grouped). index.members) c.requires.matched.rows) c.requires.notes in
+    let set_is : (key : ℕ) → is_among key c.in_ok-set.set ≡ is_among key (turned rows.on.now rows.pick rows.take.now left e right f) = λ key. c.in_ok-set.ensures key ∙ ap (is_among key) turned_are in
+    let now_are : c.in_ok-now.now ≡ without left.update.added (united c.in_ok-set.set left.update.modified) =
+    c.in_ok-now.ensures ∙ ap₂ without (c.added.ensures.keys ∙ ap (λ (update : Update). update.added) c.update-update.ensures) (c.in_ok-touched.ensures ∙ ap (united c.in_ok-set.set) (c.modified.ensures.keys ∙ ap (λ (update : Update). update.modified) c.update-update.ensures)) in
+    let few = compared_few rows.on.now rows.pick rows.take.now left e right f c.in_ok-set.set c.in_ok-now.now set_is now_are in
+    IfOk_both c.mapped.result _ _ _ (λ (change : Change) is reads.
+    reads_within (left.new.width + length rows.take.now) c.args.reads.now c.turned_rows.new.reads c.mapped.new.reads (length left.update.modified) (length left.update.added) (length change.update.modified) (length rows.take.now) (length rows.notes.now.notes) (length c.in_ok-now.now)
+    c.in_ok-turned.ensures.reads reads (subst (λ n. length c.in_ok-now.now ≤ length left.update.modified + n) (sym (ap (λ (change : Change). length change.update.modified) is)) few))
+    c.mapped.ensures.change c.mapped.ensures.reads

@@ -1,0 +1,15 @@
+use Rattle.std.proofs.Common.{◌≡◌, ◌+◌, ◌*◌, ◌≤◌, ◌∷◌, [], take}
+use Rattle.std.specs.Prelude.{flat_map}
+use Rattle.lookup_join.specs.Notes.{noting}
+use Rattle.lookup_join.specs.Taken.{spot_at}
+use Rattle.tick_model.specs.declared.update.KeyPair.{KeyPair}
+use Rattle.lookup_join.proofs.notes.note_modified.Given as goal
+
+abbrev pub invariant-loop-place : goal.invariant-loop-place
+invariant-loop-place g l = record {
+  notes : l.notes ≡ record l.fn.notes {
+    notes = noting l.pick l.index.members l.fn.notes.notes
+        (flat_map (λ (pair : KeyPair). spot_at l.on l.pick l.right.old.rows pair.old ∷ spot_at l.on l.pick l.right.new.rows pair.new ∷ []) (take l.place l.modified));
+  };
+  reads : l.reads ≤ l.fn.reads + l.right.new.width * l.place;
+}

@@ -1,0 +1,35 @@
+use Rattle.std.proofs.Common.{◌≡◌, ap, sym, ◌∙◌, subst, true, [], ◌∷◌, map, length, refl}
+use Rattle.std.specs.Prelude.{flat_map, is_some}
+use Rattle.std.specs.List.{AllByRecursion}
+use Rattle.lookup_join.specs.Notes.{NoteList, spot_under}
+use Rattle.lookup_join.specs.Taken.{spot_at}
+use Rattle.lookup_join.proofs.Stepping.{removed_there}
+use Rattle.lookup_join.proofs.Walks.{members_known, noting_parts, spots_known}
+use Rattle.row_groups.specs.Members.{Grouped, member_under}
+use Rattle.tick_model.specs.declared.update.KeyPair.{KeyPair}
+use Rattle.tick_model.specs.Updates.{Update}
+use Rattle.lookup_join.proofs.notes.touched_places.Goals as goal
+
+pub note_removed-requires-clause-here : goal.note_removed-requires-clause-here
+note_removed-requires-clause-here g c =
+    let right = c.args.right.now in
+    let removed : c.removed.result.now ≡ right.update.removed = c.removed.ensures.keys ∙ ap (λ (update : Update). update.removed) c.update.ensures in
+    subst (AllByRecursion (λ key. is_some (member_under key c.args.index.now.members) ≡ true)) (sym removed)
+    (members_known c.args.on.now c.args.pick right.old.rows c.args.index.now right.update.removed c.requires.index (removed_there right c.requires.exact))
+
+pub note_removed-requires-clause-width : goal.note_removed-requires-clause-width
+note_removed-requires-clause-width g c =
+    ap (λ (noted : NoteList). noted.width) c.new-notes.ensures ∙ sym (ap (λ (index : Grouped). index.width) c.requires.index)
+
+pub returns-clause-notes : goal.returns-clause-notes
+returns-clause-notes g c =
+    let right = c.args.right.now in
+    let removed : c.removed.result.now ≡ right.update.removed = c.removed.ensures.keys ∙ ap (λ (update : Update). update.removed) c.update.ensures in
+    let known : map (λ key. spot_under key c.args.index.now.members) c.removed.result.now ≡ map (spot_at c.args.on.now c.args.pick right.old.rows) right.update.removed =
+    ap (map (λ key. spot_under key c.args.index.now.members)) removed ∙ spots_known c.args.on.now c.args.pick right.old.rows c.args.index.now right.update.removed c.requires.index (removed_there right c.requires.exact) in
+    let on = c.args.on.now in
+    let pick = c.args.pick in
+    noting_parts pick c.args.index.now.members (length on) (length on) c.new-notes.result c.note_removed.new.notes c.note_modified.new.notes c.note_added.new.notes
+    (map (λ key. spot_under key c.args.index.now.members) c.removed.result.now) (map (spot_at on pick right.old.rows) right.update.removed)
+    (flat_map (λ (pair : KeyPair). spot_at on pick right.old.rows pair.old ∷ spot_at on pick right.new.rows pair.new ∷ []) c.args.modified.now) (map (spot_at on pick right.new.rows) right.update.added)
+    refl known c.new-notes.ensures c.in_ok-note_removed.ensures c.in_ok-note_modified.ensures.notes c.in_ok-note_added.ensures.notes

@@ -1,0 +1,200 @@
+//! The rows of an input by their key cells and times, and how a step brings them on.
+
+ghost use Rattle.std.specs.Prelude.{◌≡◌, ℕ, ◌+◌, ◌*◌, ◌≤◌, ◌++◌, ◌||◌, false, drop, filter, length, vec_len, IfOk, IsTrue, OnOk};
+ghost use Rattle.std.specs.List.{AllByRecursion};
+ghost use Rattle.std.specs.Option.{option_map_or};
+ghost use Rattle.key_lists.specs.Keys.{IsRising, is_among};
+ghost use Rattle.lookup_join.specs.Taken.{rekeyed_pairs};
+ghost use Rattle.lookup_join.specs.Keyed.{IsRowOf, column_of, indexed, key_cells, rekeys, same_spot, time_at, time_of};
+ghost use Rattle.row_changes.specs.Parts.{AreThere};
+ghost use Rattle.row_groups.specs.Members.{keys_of, member_of, member_under};
+ghost use Rattle.row_set.specs.Sets.{united};
+ghost use Rattle.tick_model.specs.Tables.{cells_at, keys};
+ghost use Rattle.tick_model.specs.Updates.{new_keys};
+ghost use Rattle.tick_table.specs.Exact.{IsExact};
+
+use crate::pick::Pick;
+use row_groups::Groups;
+use row_set::RowSet;
+use shown_rows::KeyPairs;
+use std::alloc::{AllocError, Global};
+use std::sync::ledger::Ledger;
+use tick_model::cells::cell;
+use tick_model::plan::OnPair;
+use tick_table::{Steps, TickTable};
+
+/// An input of a join.
+#[derive(Clone, Copy, Debug, PartialEq, Eq)]
+pub enum Side {
+    Left,
+    Right,
+}
+
+impl Side {
+    /// The column that is compared with one of the other side.
+    pub(crate) fn column(self, pair: OnPair) -> u32
+        ensures { result ≡ column_of self pair }
+    {
+        match self {
+            Side::Left => pair.left,
+            Side::Right => pair.right,
+        }
+    }
+}
+
+/// Room for a row that is read, and for its key cells.
+#[derive(Drop)]
+pub(crate) struct Buffers {
+    pub row: Vec<i64>,
+    pub key: Vec<i64>,
+}
+
+/// Puts the key cells of the last row of the cells, which begins at `start`, behind it.
+pub(crate) fn put_key_cells(
+    side: Side,
+    on: &[OnPair],
+    start: usize,
+    cells: &mut Vec<i64>,
+) -> Result<(), AllocError>
+    requires { start ≤ vec_len cells.old }
+    ensures { OnOk result (cells.new.items ≡ cells.old.items ++ key_cells side on.now (drop start cells.old.items)) }
+{
+    let end = cells.len();
+    for pair in on {
+        let key_cell = cell(&cells[start..end], side.column(*pair));
+        cells.push(key_cell)?;
+    }
+    Ok(())
+}
+
+/// The time of the last row of the cells, which begins at `start`.
+pub(crate) fn time_from(side: Side, pick: Pick, start: usize, cells: &[i64]) -> i64
+    requires { start ≤ length cells.now }
+    ensures { result ≡ time_of side pick (drop start cells.now) }
+{
+    pick.time(side, &cells[start..])
+}
+
+/// Reads the key cells that a row has now, and gives its time.
+pub(crate) fn read_key<L: Ledger>(
+    side: Side,
+    on: &[OnPair],
+    pick: Pick,
+    input: &TickTable,
+    key: u64,
+    buffers: &mut Buffers,
+    reads: &mut Steps<L>,
+) -> Result<i64, AllocError>
+    requires { IsTrue (is_among key (keys input.now.new.rows)) }
+    ensures cells { OnOk result (buffers.new.key.items ≡ key_cells side on.now (cells_at key input.now.new.rows)) }
+    ensures time { IfOk result (λ time. time ≡ time_at side pick input.now.new.rows key) }
+    ensures reads { OnOk result (reads.new ≡ reads.old + input.now.new.width) }
+{
+    buffers.row.clear();
+    buffers.key.clear();
+    input.row(key, &mut buffers.row, reads)?;
+    for pair in on {
+        let key_cell = cell(&buffers.row, side.column(*pair));
+        buffers.key.push(key_cell)?;
+    }
+    Ok(pick.time(side, &buffers.row))
+}
+
+/// Whether a row of the index has these key cells and this time.
+fn stands_at(index: &Groups, key: u64, cells: &[i64], time: i64) -> bool
+    ensures { result ≡ option_map_or (λ member. same_spot member (member_of key cells.now time)) (member_under key index.now.members) false }
+{
+    let same_cells = match index.cells_of(key) {
+        Some(own) => own == cells,
+        None => false,
+    };
+    same_cells && index.at_of(key) == Some(time)
+}
+
+/// Those of the pairs of rows that stay whose key cells or times change, where the index has the rows before the step.
+pub(crate) fn rekeyed<L: Ledger>(
+    alloc: Global,
+    side: Side,
+    on: &[OnPair],
+    pick: Pick,
+    index: &Groups,
+    input: &TickTable,
+    pairs: &KeyPairs,
+    buffers: &mut Buffers,
+    reads: &mut Steps<L>,
+) -> Result<KeyPairs, AllocError>
+    requires index { index.now ≡ indexed side on.now pick input.now.old.rows }
+    requires before { AllByRecursion (λ pair. IsTrue (is_among pair.old (keys input.now.old.rows))) pairs.now }
+    requires now { AllByRecursion (λ pair. IsTrue (is_among pair.new (keys input.now.new.rows))) pairs.now }
+    ensures pairs { IfOk result (λ changed. changed ≡ filter (rekeys side on.now pick input.now.old input.now.new) pairs.now) }
+    ensures reads { OnOk result (reads.new ≤ reads.old + input.now.new.width * length pairs.now) }
+{
+    let mut changed = KeyPairs::new(alloc);
+    for place in 0..pairs.len() {
+        let pair = pairs.at(place);
+        let time = read_key(side, on, pick, input, pair.new, buffers, reads)?;
+        if !stands_at(index, pair.old, &buffers.key, time) {
+            changed = changed.with_last(pair)?;
+        }
+    }
+    Ok(changed)
+}
+
+/// Puts rows of now in the index, which has none of their keys.
+fn add_rows<L: Ledger>(
+    side: Side,
+    on: &[OnPair],
+    pick: Pick,
+    index: &mut Groups,
+    input: &TickTable,
+    keys: &RowSet,
+    buffers: &mut Buffers,
+    reads: &mut Steps<L>,
+) -> Result<(), AllocError>
+    requires there { AreThere input.now.new keys.now }
+    requires absent { AllByRecursion (λ key. is_among key (keys_of index.old.members) ≡ false) keys.now }
+    requires width { index.old.width ≡ length on.now }
+    requires rows { AllByRecursion (IsRowOf side on.now pick input.now.new.rows) index.old.members }
+    requires rising { IsRising (keys_of index.old.members) }
+    ensures width { OnOk result (index.new.width ≡ length on.now) }
+    ensures rising { OnOk result (IsRising (keys_of index.new.members)) }
+    ensures rows { OnOk result (AllByRecursion (IsRowOf side on.now pick input.now.new.rows) index.new.members) }
+    ensures keys { OnOk result ((key : ℕ) → is_among key (keys_of index.new.members) ≡ (is_among key keys.now || is_among key (keys_of index.old.members))) }
+    ensures reads { OnOk result (reads.new ≤ reads.old + input.now.new.width * length keys.now) }
+{
+    for position in 0..keys.len() {
+        let key = keys.get(position).unwrap();
+        let time = read_key(side, on, pick, input, key, buffers, reads)?;
+        index.add(key, &buffers.key, time)?;
+    }
+    Ok(())
+}
+
+/// Brings the index of an input on by a step, in which these pairs of rows change their key cells or their times. Gives the keys
+/// of the rows that are new in their places.
+pub(crate) fn bring_on<L: Ledger>(
+    side: Side,
+    on: &[OnPair],
+    pick: Pick,
+    index: &mut Groups,
+    input: &TickTable,
+    rekeyed: KeyPairs,
+    buffers: &mut Buffers,
+    reads: &mut Steps<L>,
+) -> Result<RowSet, AllocError>
+    requires exact { IsExact input.now }
+    requires index { index.old ≡ indexed side on.now pick input.now.old.rows }
+    requires rekeyed { rekeyed ≡ rekeyed_pairs side on.now pick input.now }
+    ensures index { OnOk result (index.new ≡ indexed side on.now pick input.now.new.rows) }
+    ensures came { IfOk result (λ came. came ≡ united (new_keys rekeyed) input.now.update.added) }
+    ensures reads { OnOk result (reads.new ≤ reads.old + input.now.new.width * (length rekeyed + length input.now.update.added)) }
+{
+    let update = input.update();
+    let (from, to) = rekeyed.into_keys();
+    index.remove(update.removed());
+    index.remove(&from);
+    index.shift(update.shifted())?;
+    let came = to.union(update.added())?;
+    add_rows(side, on, pick, index, input, &came, buffers, reads)?;
+    Ok(came)
+}

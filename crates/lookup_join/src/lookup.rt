@@ -1,0 +1,176 @@
+//! A step of a join, whatever it picks: what it brings on, and the change that it makes.
+
+ghost use Rattle.std.specs.Prelude.{◌≡◌, ◌+◌, ◌*◌, ◌<◌, ◌≤◌, length, IfOk, OnOk};
+ghost use Rattle.std.specs.List.{AllByRecursion};
+ghost use Rattle.lookup_join.specs.Keyed.{indexed};
+ghost use Rattle.lookup_join.specs.Matched.{matched_tick};
+ghost use Rattle.lookup_join.specs.Taken.{AreMatched, rekeyed_pairs, step_notes};
+ghost use Rattle.row_set.specs.Sets.{united};
+ghost use Rattle.tick_model.specs.Changes.{change_of};
+ghost use Rattle.tick_model.specs.Updates.{new_keys};
+ghost use Rattle.tick_table.specs.Exact.{IsExact, counted, tick_of};
+
+use crate::keyed::{Buffers, Side, bring_on, rekeyed};
+use crate::notes::{Notes, touched_places};
+use crate::pick::Pick;
+use crate::rows::MatchedRows;
+use crate::turned::{key_set, turned_rows};
+use row_changes::mapped;
+use row_groups::Groups;
+use row_set::RowSet;
+use shown_rows::KeyPairs;
+use std::alloc::{AllocError, Global};
+use std::sync::ledger::Ledger;
+use tick_model::plan::OnPair;
+use tick_table::{Change, Steps, TickTable};
+
+/// What a step comes to.
+#[derive(Drop)]
+pub(crate) struct Outcome {
+    pub change: Change,
+    /// What was taken before at the places that the step touches.
+    pub notes: Notes,
+    /// The left rows that are new in their places.
+    pub came: RowSet,
+}
+
+/// Brings both indexes on by a step, and makes the change of the matched rows.
+pub(crate) fn lookup_step<L: Ledger>(
+    alloc: Global,
+    on: &[OnPair],
+    pick: Pick,
+    take: &[u32],
+    left_rows: &mut Groups,
+    right_rows: &mut Groups,
+    left: &TickTable,
+    right: &TickTable,
+    buffers: &mut Buffers,
+    reads: &mut Steps<L>,
+) -> Result<Outcome, AllocError>
+    requires left_exact { IsExact left.now }
+    requires right_exact { IsExact right.now }
+    requires few { left.now.new.width + length take.now ≤ 32 }
+    requires take { AllByRecursion (λ column. column < right.now.new.width) take.now }
+    requires left_rows { left_rows.old ≡ indexed Side.Left on.now pick left.now.old.rows }
+    requires right_rows { right_rows.old ≡ indexed Side.Right on.now pick right.now.old.rows }
+    ensures left_rows { OnOk result (left_rows.new ≡ indexed Side.Left on.now pick left.now.new.rows) }
+    ensures right_rows { OnOk result (right_rows.new ≡ indexed Side.Right on.now pick right.now.new.rows) }
+    ensures change { IfOk result (λ outcome. outcome.change ≡ change_of (matched_tick on.now pick take.now (tick_of left.now) (tick_of right.now))) }
+    ensures notes { IfOk result (λ outcome. outcome.notes ≡ record { width = length on.now; notes = step_notes on.now pick right.now }) }
+    ensures came { IfOk result (λ outcome. outcome.came ≡ united (new_keys (rekeyed_pairs Side.Left on.now pick left.now)) left.now.update.added) }
+    ensures reads { IfOk result (λ outcome. reads.new ≤ reads.old
+        + 4 * (left.now.new.width + right.now.new.width + (left.now.new.width + length take.now)) * (counted left.now.update + counted right.now.update + counted outcome.change.update)) }
+{
+    let notes = bring_right_on(alloc, on, pick, right_rows, right, buffers, reads)?;
+    let came = bring_left_on(alloc, on, pick, left_rows, left, buffers, reads)?;
+    let rows = MatchedRows {
+        left,
+        right,
+        on,
+        pick,
+        take,
+        index: right_rows,
+        notes: &notes,
+    };
+    let change = matched_change(alloc, &rows, left_rows, reads)?;
+    Ok(Outcome {
+        change,
+        notes,
+        came,
+    })
+}
+
+/// Brings the index of the right rows on, and notes what was taken before at the places that the step touches.
+fn bring_right_on<L: Ledger>(
+    alloc: Global,
+    on: &[OnPair],
+    pick: Pick,
+    index: &mut Groups,
+    right: &TickTable,
+    buffers: &mut Buffers,
+    reads: &mut Steps<L>,
+) -> Result<Notes, AllocError>
+    requires exact { IsExact right.now }
+    requires index { index.old ≡ indexed Side.Right on.now pick right.now.old.rows }
+    ensures index { OnOk result (index.new ≡ indexed Side.Right on.now pick right.now.new.rows) }
+    ensures notes { IfOk result (λ notes. notes ≡ record { width = length on.now; notes = step_notes on.now pick right.now }) }
+    ensures reads { OnOk result (reads.new ≤ reads.old + right.now.new.width * (3 * length right.now.update.modified + 2 * length right.now.update.added)) }
+{
+    let modified = KeyPairs::modified(right)?;
+    let notes = touched_places(alloc, on, pick, index, right, &modified, buffers, reads)?;
+    let changed = rekeyed(
+        alloc,
+        Side::Right,
+        on,
+        pick,
+        index,
+        right,
+        &modified,
+        buffers,
+        reads,
+    )?;
+    bring_on(Side::Right, on, pick, index, right, changed, buffers, reads)?;
+    Ok(notes)
+}
+
+/// Brings the index of the left rows on. Gives the keys of the rows that are new in their places.
+fn bring_left_on<L: Ledger>(
+    alloc: Global,
+    on: &[OnPair],
+    pick: Pick,
+    index: &mut Groups,
+    left: &TickTable,
+    buffers: &mut Buffers,
+    reads: &mut Steps<L>,
+) -> Result<RowSet, AllocError>
+    requires exact { IsExact left.now }
+    requires index { index.old ≡ indexed Side.Left on.now pick left.now.old.rows }
+    ensures index { OnOk result (index.new ≡ indexed Side.Left on.now pick left.now.new.rows) }
+    ensures came { IfOk result (λ came. came ≡ united (new_keys (rekeyed_pairs Side.Left on.now pick left.now)) left.now.update.added) }
+    ensures reads { OnOk result (reads.new ≤ reads.old + left.now.new.width * (2 * length left.now.update.modified + length left.now.update.added)) }
+{
+    let modified = KeyPairs::modified(left)?;
+    let changed = rekeyed(
+        alloc,
+        Side::Left,
+        on,
+        pick,
+        index,
+        left,
+        &modified,
+        buffers,
+        reads,
+    )?;
+    bring_on(Side::Left, on, pick, index, left, changed, buffers, reads)
+}
+
+/// The change of the join. It compares the left rows that are modified, and those for which a note speaks where other
+/// cells are taken now.
+fn matched_change<L: Ledger>(
+    alloc: Global,
+    rows: &MatchedRows<'_>,
+    left_rows: &Groups,
+    reads: &mut Steps<L>,
+) -> Result<Change, AllocError>
+    requires few { rows.now.left.now.new.width + length rows.now.take.now ≤ 32 }
+    requires left_rows { left_rows.now ≡ indexed Side.Left rows.now.on.now rows.now.pick rows.now.left.now.new.rows }
+    requires matched { AreMatched rows.now.on.now rows.now.pick rows.now.take.now rows.now.left.now rows.now.right.now rows.now.index.now rows.now.notes.now.notes }
+    requires notes { rows.now.notes.now.notes ≡ step_notes rows.now.on.now rows.now.pick rows.now.right.now }
+    ensures change { IfOk result (λ change. change ≡ change_of (matched_tick rows.now.on.now rows.now.pick rows.now.take.now (tick_of rows.now.left.now) (tick_of rows.now.right.now))) }
+    ensures reads { IfOk result (λ change. reads.new ≤ reads.old
+        + 2 * length rows.now.take.now * length rows.now.notes.now.notes
+        + (rows.now.left.now.new.width + length rows.now.take.now) * (2 * (length rows.now.left.now.update.modified + length change.update.modified) + length rows.now.left.now.update.added)) }
+{
+    let turned = turned_rows(
+        alloc, rows.pick, rows.take, left_rows, rows.index, rows.right, rows.notes, reads,
+    )?;
+    let update = rows.left.update();
+    let set = key_set(alloc, turned)?;
+    let touched = set.union(update.modified())?;
+    let now = touched.minus(update.added())?;
+    let before = update
+        .shifted()
+        .unapply_without(rows.left.prev_rows(), update.removed(), &now)?;
+    let width = rows.left.width() + rows.take.len() as u32;
+    mapped(alloc, rows, width, rows.left, before, now, reads)
+}

@@ -1,0 +1,101 @@
+//! The rows of a join, before a step and now.
+
+ghost use Rattle.std.specs.Prelude.{◌≡◌};
+ghost use Rattle.lookup_join.specs.Latest.{match_of};
+ghost use Rattle.lookup_join.specs.Notes.{taken_key};
+ghost use Rattle.lookup_join.specs.Taken.{match_as_before, match_now, speaks};
+
+use crate::keyed::{Side, put_key_cells, time_from};
+use crate::latest::{latest, latest_key};
+use crate::matches::Match;
+use crate::notes::Notes;
+use crate::pick::Pick;
+use row_changes::Rows;
+use row_groups::Groups;
+use std::alloc::AllocError;
+use std::sync::ledger::Ledger;
+use tick_model::plan::OnPair;
+use tick_table::{Steps, TickTable};
+
+/// The rows of a join, of both inputs: what was taken before the step is noted, or else it is what is taken now.
+#[derive(Drop)]
+pub(crate) struct MatchedRows<'a> {
+    pub left: &'a TickTable,
+    pub right: &'a TickTable,
+    pub on: &'a [OnPair],
+    pub pick: Pick,
+    pub take: &'a [u32],
+    /// The right rows of now.
+    pub index: &'a Groups,
+    pub notes: &'a Notes,
+}
+
+impl MatchedRows<'_> {
+    /// The right row that left rows with these key cells take now at a time.
+    fn match_now(&self, cells: &[i64], time: i64) -> Match
+        ensures { result ≡ match_now (taken_key self.now.pick self.now.index.now.members cells.now time) }
+    {
+        Match::now(latest_key(self.pick, self.index, cells, time))
+    }
+
+    /// Whether a note of this time speaks for left rows: no right row of now came after it.
+    fn speaks(&self, cells: &[i64], time: i64, noted: i64) -> bool
+        ensures { result ≡ speaks (match_of self.now.pick cells.now time self.now.index.now.members) noted }
+    {
+        match latest(self.pick, self.index, cells, time) {
+            Some(row) => row.at <= noted,
+            None => true,
+        }
+    }
+
+    /// The right row that they took before the step. A note says it, but where a right row of now came after the note.
+    fn match_before(&self, cells: &[i64], time: i64) -> Match
+        ensures { result ≡ match_as_before self.now.pick self.now.index.now.members self.now.notes.now.notes cells.now time }
+    {
+        match self.notes.of(cells, time) {
+            Some(note) if self.speaks(cells, time, note.at) => Match::before(note.before),
+            _ => self.match_now(cells, time),
+        }
+    }
+}
+
+impl<L: Ledger> Rows<L> for MatchedRows<'_> {
+    ghost use Rattle.std.specs.Prelude.{◌≡◌, ◌+◌, ◌≤◌, ◌++◌, length, OnOk};
+    ghost use Rattle.lookup_join.specs.Matched.{matched_table};
+    ghost use Rattle.lookup_join.specs.Taken.{AreMatched};
+
+    ghost table_before = { λ rows. matched_table rows.on.now rows.pick rows.take.now rows.left.now.old rows.right.now.old };
+
+    ghost table_now = { λ rows. matched_table rows.on.now rows.pick rows.take.now rows.left.now.new rows.right.now.new };
+
+    ghost row_reads = { λ rows. rows.left.now.new.width + length rows.take.now };
+
+    ghost ready = { λ rows. AreMatched rows.on.now rows.pick rows.take.now rows.left.now rows.right.now rows.index.now rows.notes.now.notes };
+
+    fn before(
+        &self,
+        key: u64,
+        cells: &mut Vec<i64>,
+        reads: &mut Steps<L>,
+    ) -> Result<(), AllocError> {
+        let start = cells.len();
+        self.left.prev_row(key, cells, reads)?;
+        let end = cells.len();
+        let time = time_from(Side::Left, self.pick, start, cells);
+        put_key_cells(Side::Left, self.on, start, cells)?;
+        let taken = self.match_before(&cells[end..], time);
+        cells.truncate(end);
+        taken.put_cells(self.right, self.take, cells, reads)
+    }
+
+    fn now(&self, key: u64, cells: &mut Vec<i64>, reads: &mut Steps<L>) -> Result<(), AllocError> {
+        let start = cells.len();
+        self.left.row(key, cells, reads)?;
+        let end = cells.len();
+        let time = time_from(Side::Left, self.pick, start, cells);
+        put_key_cells(Side::Left, self.on, start, cells)?;
+        let taken = self.match_now(&cells[end..], time);
+        cells.truncate(end);
+        taken.put_cells(self.right, self.take, cells, reads)
+    }
+}
