@@ -1,6 +1,7 @@
 pub mod Apart
 pub mod Batches
 pub mod Behind
+pub mod Coming
 pub mod Counts
 pub mod Edges
 pub mod Held
@@ -17,3 +18,4 @@ pub mod Spliced
 pub mod Swept
 pub mod United
 pub mod Windows
+pub mod Yielded

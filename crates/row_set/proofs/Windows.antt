@@ -42,13 +42,21 @@ pub rising_back : (xs ys : List ℕ) → IsRising (xs ++ ys) → IsRising ys
 rising_back [] ys h = h
 rising_back (x ∷ xs) ys h = rising_back xs ys h.1
 
-rising_before : (xs : List ℕ) (y : ℕ) (ys : List ℕ) → IsRising (xs ++ y ∷ ys) → AllByRecursion (λ x. x < y) xs
+pub rising_before : (xs : List ℕ) (y : ℕ) (ys : List ℕ) → IsRising (xs ++ y ∷ ys) → AllByRecursion (λ x. x < y) xs
 rising_before [] y ys h = tt
 rising_before (x ∷ xs) y ys h = (at xs h.0, rising_before xs y ys h.1)
   where
     at : (zs : List ℕ) → AllByRecursion (λ z. x < z) (zs ++ y ∷ ys) → x < y
     at [] k = k.0
     at (z ∷ zs) k = at zs k.1
+
+pub rising_left_out : (xs : List ℕ) (y : ℕ) (ys : List ℕ) → IsRising (xs ++ y ∷ ys) → IsRising (xs ++ ys)
+rising_left_out [] y ys h = h.1
+rising_left_out (x ∷ xs) y ys h = (out xs h.0, rising_left_out xs y ys h.1)
+  where
+    out : (zs : List ℕ) → AllByRecursion (λ z. x < z) (zs ++ y ∷ ys) → AllByRecursion (λ z. x < z) (zs ++ ys)
+    out [] k = k.1
+    out (z ∷ zs) k = (k.0, out zs k.1)
 
 pub rising-drop : (n : ℕ) (xs : List ℕ) → IsRising xs → IsRising (drop n xs)
 rising-drop n xs h = rising_back (take n xs) (drop n xs) (subst IsRising (sym (take-append-drop n xs)) h)

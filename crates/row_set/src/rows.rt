@@ -9,6 +9,7 @@ ghost use Rattle.row_set.specs.Sets.{IsKeySet, count_below, common, found, last_
 
 use crate::algebra::{Choice, KEYS_END, rest_from, stretch_from};
 use crate::edits::{append_keys, insert_keys, make_room, recount, remove_keys};
+use crate::iter::Keys;
 use crate::ranges::Range;
 use crate::search::{self, all_end_before};
 use crate::shifts::shift_keys;
@@ -145,6 +146,18 @@ impl RowSet {
         ensures keys { IsKeySet self.now }
     {
         search::next_key(&self.ranges, key)
+    }
+
+    /// The keys, rising.
+    pub fn iter(&self) -> Keys<'_>
+        ensures rest { result ≡ self.now }
+        ensures keys { IsKeySet self.now }
+    {
+        Keys {
+            next: 0,
+            end: 0,
+            ranges: self.ranges(),
+        }
     }
 
     /// The longest ranges of neighbouring keys, rising.
@@ -300,5 +313,17 @@ impl RowSet {
             at = end;
         }
         Ok(kept)
+    }
+}
+
+impl<'a> IntoIterator for &'a RowSet {
+    type Item = u64;
+
+    type IntoIter = Keys<'a>;
+
+    ghost into_iter_gives = { λ set keys. (keys ≡ set.now) × IsKeySet set.now };
+
+    fn into_iter(self) -> Self::IntoIter {
+        self.iter()
     }
 }
