@@ -45,10 +45,8 @@ pub(crate) fn print_rows<R: Print>(
     table: &TickTable,
     keys: &RowSet,
 ) -> Result<(), Fault> {
-    for position in 0..keys.len() {
-        if let Some(key) = keys.get(position)
-            && table.rows().contains(key)
-        {
+    for key in keys {
+        if table.rows().contains(key) {
             let cells = cells_of(alloc, table, key)?;
             println!(rt; "  {what}: row {key} {cells:?}")?;
         }

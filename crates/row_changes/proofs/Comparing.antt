@@ -1,20 +1,17 @@
 -- Rows that are compared, pair by pair.
-use Rattle.std.proofs.Common.{◌≡◌, refl, ap, sym, ◌∙◌, Bool, true, false, not, ℕ, zero, suc, ◌+◌, ◌<◌, arith, ◌-◌, ◌*◌, ◌≤◌, List, [], ◌∷◌, ◌++◌, filter, length, take, drop, get_or, cond, ◌&&◌, ◌||◌, ◌==◌, ap₂, append_assoc, ℤ}
+use Rattle.std.proofs.Common.{◌≡◌, refl, ap, sym, ◌∙◌, subst, Bool, true, false, not, ℕ, suc, ◌+◌, ◌<◌, arith, ◌-◌, ◌*◌, ◌≤◌, List, [], ◌∷◌, ◌++◌, filter, length, drop, cond, ◌&&◌, ◌||◌, ◌==◌, ap₂, append_assoc, append-nil, ℤ, inl, inr, length-append}
 use Rattle.std.specs.Cmp.{signed_Decides}
 use Rattle.std.specs.Cmp.Rules.{signed_items}
-use Rattle.std.specs.List.{AllByRecursion, list_any, range_with_len}
+use Rattle.std.specs.List.{AllByRecursion, range_with_len}
 use Rattle.std.specs.Ordering.{int_eq}
-use Rattle.std.specs.Prelude.{nat_lt}
+use Rattle.std.specs.Prelude.{nat_lt, ◌⊎◌}
 use Rattle.std.proofs.Math.Seq.{drop-append_seam}
 use Rattle.std.proofs.lemmas.Bool.{and_right, le-ltb, ne_eqb, not-false}
-use Rattle.std.proofs.lemmas.List.{map-append}
-use Rattle.std.proofs.lemmas.List.Elements.{filter_more}
-use Rattle.std.proofs.lemmas.List.Folds.{list_any_more}
 use Rattle.std.proofs.lemmas.Grind.{flat_map-append}
-use Rattle.key_lists.specs.Keys.{is_among, IsRising}
-use Rattle.key_lists.proofs.Every.{all_from, every-map, every-filter}
+use Rattle.key_lists.specs.Keys.{IsRising}
 use Rattle.row_set.specs.Ranges.{keys_from}
 use Rattle.row_set.specs.Sets.{united, with_key}
+use Rattle.row_set.proofs.Windows.{rising_left_out}
 use Rattle.shift_data.specs.Moves.{pairs_of}
 use Rattle.tick_model.specs.declared.table.PlainTable.{PlainTable}
 use Rattle.tick_model.specs.declared.update.KeyPair.{KeyPair}
@@ -43,44 +40,50 @@ length-pairs_of [] now e = e
 length-pairs_of (old ∷ before) [] e = refl
 length-pairs_of (old ∷ before) (new ∷ now) e = ap suc (length-pairs_of before now (omega (arith, e)))
 
-pub get-pairs_of : (before now : List ℕ) (i : ℕ) (d : KeyPair) → length before ≡ length now → i < length now → get_or (pairs_of before now) i d ≡ (let pair : KeyPair = record { old = get_or before i 0; new = get_or now i 0 } in pair)
-get-pairs_of [] now i d e lt = absurd (omega (arith, e))
-get-pairs_of (old ∷ before) [] i d e lt = absurd (omega arith)
-get-pairs_of (old ∷ before) (new ∷ now) zero d e lt = refl
-get-pairs_of (old ∷ before) (new ∷ now) (suc i) d e lt = get-pairs_of before now i d (omega (arith, e)) (omega arith)
-
--- the new keys of the first pairs are below the next one
-front_below : (before now : List ℕ) (i : ℕ) → IsRising now → i < length now → AllByRecursion (λ (pair : KeyPair). pair.new < get_or now i 0) (take i (pairs_of before now))
-front_below before now zero r lt = tt
-front_below [] now (suc i) r lt = tt
-front_below (old ∷ before) [] (suc i) r lt = absurd (omega arith)
-front_below (old ∷ before) (new ∷ now) (suc i) r lt = (all_from (λ key. new < key) now r.0 i 0 (omega arith), front_below before now i r.1 (omega arith))
-
-pub told_below : (p : KeyPair → Bool) (before now : List ℕ) (i : ℕ) → IsRising now → i < length now → AllByRecursion (λ key. key < get_or now i 0) (new_keys (filter p (take i (pairs_of before now))))
-told_below p before now i r lt =
-    every-map (λ key. key < get_or now i 0) (λ (pair : KeyPair). pair.new) (filter p (take i (pairs_of before now)))
-    (every-filter (λ (pair : KeyPair). pair.new < get_or now i 0) p (take i (pairs_of before now)) (front_below before now i r lt))
-
--- the new keys that one more pair tells
-pub told_more : (p : KeyPair → Bool) (pairs : List KeyPair) (i : ℕ) (d : KeyPair) → i < length pairs → new_keys (filter p (take (i + 1) pairs)) ≡ new_keys (filter p (take i pairs)) ++ new_keys (filter p (get_or pairs i d ∷ []))
-told_more p pairs i d lt = ap new_keys (filter_more p pairs i d lt) ∙ map-append (λ (pair : KeyPair). pair.new) (filter p (take i pairs)) (filter p (get_or pairs i d ∷ []))
-
--- the columns in which one of the pairs differs, with those of one more pair
-pub columns_more : (differ : ℕ → KeyPair → Bool) (pairs : List KeyPair) (i width : ℕ) (d : KeyPair) (set more : List ℕ) → i < length pairs
-    → ((c : ℕ) → is_among c set ≡ (nat_lt c width && list_any (differ c) (take i pairs)))
-    → ((c : ℕ) → is_among c more ≡ (is_among c set || (nat_lt c width && differ c (get_or pairs i d))))
-    → (c : ℕ) → is_among c more ≡ (nat_lt c width && list_any (differ c) (take (i + 1) pairs))
-columns_more differ pairs i width d set more lt h e c =
-    e c
-    ∙ ap (λ b. b || (nat_lt c width && differ c (get_or pairs i d))) (h c)
-    ∙ and_or (nat_lt c width) (list_any (differ c) (take i pairs)) (differ c (get_or pairs i d))
-    ∙ ap (λ b. nat_lt c width && b) (sym (list_any_more (differ c) pairs i d lt))
+-- where one of the two lists has come to its end
+pub pairs_end : (before now : List ℕ) → ((u : List ℕ) × ((before ≡ []) × (u ≡ []))) ⊎ ((u : List ℕ) × ((now ≡ []) × (u ≡ []))) → pairs_of before now ≡ []
+pairs_end before now h =
+    elim h [
+      | inl e ↦ ap (λ keys. pairs_of keys now) e.1.0
+      | inr e ↦ ap (pairs_of before) e.1.0 ∙ none before
+    ]
   where
-    and_or : (a b c : Bool) → ((a && b) || (a && c)) ≡ (a && (b || c))
-    and_or true b c = refl
-    and_or false b c = refl
+    none : (keys : List ℕ) → pairs_of keys [] ≡ []
+    none [] = refl
+    none (key ∷ keys) = refl
+
+-- the new keys that are told with the next pair, behind which those of the others come
+pub told_next : (p : KeyPair → Bool) (pair : KeyPair) (pairs : List KeyPair) (told : List ℕ) → (told ++ new_keys (filter p (pair ∷ []))) ++ new_keys (filter p pairs) ≡ told ++ new_keys (filter p (pair ∷ pairs))
+told_next p pair pairs told =
+    elim (p pair) as (λ b. (told ++ new_keys (cond b (pair ∷ []) [])) ++ new_keys (filter p pairs) ≡ told ++ new_keys (cond b (pair ∷ filter p pairs) (filter p pairs))) [
+      | true ↦ append_assoc told (pair.new ∷ []) (new_keys (filter p pairs))
+      | false ↦ ap (λ keys. keys ++ new_keys (filter p pairs)) (append-nil told)
+    ]
+
+pub rises_next : (p : KeyPair → Bool) (pair : KeyPair) (told now : List ℕ) → IsRising (told ++ pair.new ∷ now) → IsRising ((told ++ new_keys (filter p (pair ∷ []))) ++ now)
+rises_next p pair told now rises =
+    elim (p pair) as (λ b. IsRising ((told ++ new_keys (cond b (pair ∷ []) [])) ++ now)) [
+      | true ↦ subst IsRising (sym (append_assoc told (pair.new ∷ []) now)) rises
+      | false ↦ subst (λ keys. IsRising (keys ++ now)) (sym (append-nil told)) (rising_left_out told pair.new now rises)
+    ]
+
+-- whether a column is told with the next pair, or with one of the others
+pub column_next : (told less differs others : Bool) → ((told || (less && differs)) || (less && others)) ≡ (told || (less && (differs || others)))
+column_next true less differs others = refl
+column_next false true differs others = refl
+column_next false false differs others = refl
+
+or_none : (b : Bool) → (b || false) ≡ b
+or_none true = refl
+or_none false = refl
+
+pub column_end : (told less : Bool) → told ≡ (told || (less && false))
+column_end told less = sym (ap (λ b. told || b) (and_right less false refl) ∙ or_none told)
 
 -- the cells of the rows under more keys
+pub cells_next : (table : PlainTable) (some : List ℕ) (key : ℕ) → cells_under table some ++ cells_at key table.rows ≡ cells_under table (some ++ key ∷ [])
+cells_next table some key = sym (flat_map-append (λ key. cells_at key table.rows) some (key ∷ []) ∙ ap (λ cells. cells_under table some ++ cells) (append-nil (cells_at key table.rows)))
+
 pub cells_more : (table : PlainTable) (others cells more : List ℤ) (told added all : List ℕ) → cells ≡ others ++ cells_under table told → all ≡ told ++ added → more ≡ cells ++ cells_under table added → more ≡ others ++ cells_under table all
 cells_more table others cells more told added all h a m =
     m
@@ -88,9 +91,15 @@ cells_more table others cells more told added all h a m =
     ∙ append_assoc others (cells_under table told) (cells_under table added)
     ∙ ap (λ xs. others ++ xs) (sym (flat_map-append (λ key. cells_at key table.rows) told added) ∙ ap (cells_under table) (sym a))
 
--- the reads of one more pair
-pub reads_more : (each first so_far more i : ℕ) → so_far ≤ first + each * (2 * i) → more ≤ so_far + each * 2 → more ≤ first + each * (2 * (i + 1))
-reads_more each first so_far more i a b = omega arith
+-- the reads of one more row, and of the next pair
+pub reads_next : (each first so_far more : ℕ) (some : List ℕ) (key : ℕ) → so_far ≤ first + each * length some → more ≤ so_far + each → more ≤ first + each * length (some ++ key ∷ [])
+reads_next each first so_far more some key h e = subst (λ n. more ≤ first + each * n) (sym (length-append some (key ∷ []))) (within (length some) h)
+  where
+    within : (n : ℕ) → so_far ≤ first + each * n → more ≤ first + each * (n + 1)
+    within n h = omega (arith, h, e)
+
+pub pair_reads : (each so_far more total n : ℕ) → so_far + each * (2 * suc n) ≤ total → more ≤ so_far + each * 2 → more + each * (2 * n) ≤ total
+pair_reads each so_far more total n h e = omega (arith, h, e)
 
 -- a row that stands behind others
 pub behind : (others row cells now : List ℤ) (start : ℕ) → cells ≡ others ++ row → start ≡ length others → now ≡ drop start cells → now ≡ row
@@ -108,10 +117,6 @@ same_column old new column pair e =
 
 pub no_column : (old new : PlainTable) (pair : KeyPair) (width column : ℕ) (others : Bool) → differs old new pair ≡ false → others ≡ (others || (nat_lt column width && differs_in old new column pair))
 no_column old new pair width column others e = sym (ap (λ b. others || b) (and_right (nat_lt column width) (differs_in old new column pair) (same_column old new column pair e)) ∙ or_none others)
-  where
-    or_none : (b : Bool) → (b || false) ≡ b
-    or_none true = refl
-    or_none false = refl
 
 -- a key above all others comes last
 with_key_last : (key : ℕ) (keys : List ℕ) → AllByRecursion (λ other. other < key) keys → with_key key keys ≡ keys ++ key ∷ []

@@ -1,6 +1,6 @@
 //! The rows that a change tells: those that come, and of those that stay the ones that differ.
 
-ghost use Rattle.std.specs.Prelude.{◌≡◌, ℕ, ◌+◌, ◌*◌, ◌^◌, ◌<◌, ◌≤◌, ◌++◌, ◌&&◌, ◌||◌, [], ◌∷◌, IsTrue, filter, length, nat_lt, not, slice_index, IfOk, OnOk};
+ghost use Rattle.std.specs.Prelude.{◌≡◌, ℕ, ◌+◌, ◌*◌, ◌^◌, ◌<◌, ◌≤◌, ◌++◌, ◌&&◌, ◌||◌, [], ◌∷◌, IsTrue, filter, length, nat_lt, not, IfOk, OnOk};
 ghost use Rattle.std.specs.List.{AllByRecursion, list_any};
 ghost use Rattle.std.specs.Ordering.{int_eq};
 ghost use Rattle.key_lists.specs.Keys.{IsRising, is_among};
@@ -42,19 +42,10 @@ pub(crate) fn cells_now<L: Ledger, R: Rows<L>>(
     ensures reads { OnOk result (reads.new ≤ reads.old + R.row_reads rows.now * length keys.now) }
 {
     let mut cells = Vec::new(alloc);
-    for position in 0..keys.len() {
-        rows.now(key_at(keys, position), &mut cells, reads)?;
+    for key in keys {
+        rows.now(key, &mut cells, reads)?;
     }
     Ok(cells)
-}
-
-/// The key at a position.
-fn key_at(keys: &RowSet, position: u64) -> u64
-    requires { position < length keys.now }
-    ensures key { result ≡ slice_index keys.now position }
-    ensures small { result < 2 ^ 62 }
-{
-    keys.get(position).unwrap()
 }
 
 /// Compares the rows that stay, place by place. Those that differ are told behind the cells.
@@ -84,11 +75,8 @@ pub(crate) fn compare_rows<L: Ledger, R: Rows<L>>(
         columns: ColumnSet::none(),
     };
     let mut row = Vec::with_capacity(alloc, width as usize)?;
-    for position in 0..now.len() {
-        let pair = KeyPair {
-            old: key_at(before, position),
-            new: key_at(now, position),
-        };
+    for (old, new) in before.iter().zip(now) {
+        let pair = KeyPair { old, new };
         compare_row(rows, width, pair, &mut told, &mut row, reads)?;
     }
     Ok(told)

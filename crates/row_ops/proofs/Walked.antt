@@ -9,11 +9,6 @@ use Rattle.tick_model.specs.Updates.{Update, new_keys}
 use Rattle.tick_table.specs.Exact.{counted}
 use Rattle.shown_rows.proofs.Walks.{below_some, filter_next, of_place}
 
--- one key more, where it passes
-pub keys_next : (test : ℕ → Bool) (keys : List ℕ) (n key : ℕ) (found more : List ℕ) (answer : Bool) → slice_get keys n ≡ Some key → found ≡ filter test (take n keys) → answer ≡ test key → more ≡ found ++ cond answer (key ∷ []) [] → more ≡ filter test (take (n + 1) keys)
-keys_next test keys n key found more answer here so_far is last =
-    last ∙ ap₂ (λ ks b. ks ++ cond b (key ∷ []) []) so_far is ∙ sym (filter_next test keys n key here)
-
 -- the key of one pair more, where it passes
 pub named_next : (f : KeyPair → ℕ) (test : KeyPair → Bool) (pairs : List KeyPair) (n : ℕ) (pair : KeyPair) (found more : List ℕ) (answer : Bool) → slice_get pairs n ≡ Some pair → found ≡ map f (filter test (take n pairs)) → answer ≡ test pair → more ≡ found ++ cond answer (f pair ∷ []) [] → more ≡ map f (filter test (take (n + 1) pairs))
 named_next f test pairs n pair found more answer here so_far is last =

@@ -47,8 +47,7 @@ pub(crate) fn passing_keys<L: Ledger>(
     ensures reads { OnOk result (reads.new ≤ reads.old + input.now.new.width * length keys.now) }
 {
     let mut found = RowSet::new(alloc);
-    for position in 0..keys.len() {
-        let key = keys.get(position).unwrap();
+    for key in keys {
         let answer = passes_now(test, input, key, row, reads)?;
         put_last_if(answer, &mut found, key)?;
     }

@@ -55,6 +55,13 @@ below_keys test xs n x made r e so_far = subst (AllByRecursion (λ k. k < x)) (m
     map_same_key [] = refl
     map_same_key (k ∷ ks) = ap (λ rest. k ∷ rest) (map_same_key ks)
 
+-- those that pass a test, with one more
+pub chosen_more : (test : ℕ → Bool) (some : List ℕ) (key : ℕ) (found more : List ℕ) (wanted : Bool) → found ≡ filter test some → wanted ≡ test key → more ≡ found ++ cond wanted (key ∷ []) [] → more ≡ filter test (some ++ key ∷ [])
+chosen_more test some key found more wanted so_far is last = last ∙ ap₂ (λ keys b. keys ++ cond b (key ∷ []) []) so_far is ∙ sym (filter-append test some (key ∷ []))
+
+pub chosen_below : (test : ℕ → Bool) (some found : List ℕ) (key : ℕ) → AllByRecursion (λ other. other < key) some → found ≡ filter test some → AllByRecursion (λ other. other < key) found
+chosen_below test some found key below so_far = subst (AllByRecursion (λ other. other < key)) (sym so_far) (every-filter (λ other. other < key) test some below)
+
 -- pairs of two lists of one length
 pub pair_at : (old new : List ℕ) (n k l : ℕ) → slice_get old n ≡ Some k → slice_get new n ≡ Some l → slice_get (pairs_of old new) n ≡ (let pair : KeyPair = record { old = k; new = l } in Some pair)
 pair_at [] new n k l e f = absurd (none-some k e)

@@ -33,11 +33,8 @@ pub fn keys_among(alloc: Global, keys: &RowSet, others: &RowSet) -> Result<RowSe
     ensures { IfOk result (λ found. found ≡ common keys.now others.now) }
 {
     let mut found = RowSet::new(alloc);
-    for position in 0..keys.len() {
-        let key = keys.get(position).unwrap();
-        if others.contains(key) {
-            put_last(&mut found, key)?;
-        }
+    for key in keys {
+        put_last_if(others.contains(key), &mut found, key)?;
     }
     Ok(found)
 }

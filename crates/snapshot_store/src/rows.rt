@@ -1,13 +1,11 @@
 //! The words of a table, copied row by row.
 
-ghost use Rattle.std.specs.Prelude.{◌≡◌, ◌+◌, ◌*◌, ◌^◌, ◌<◌, ◌≤◌, ◌++◌, ℕ, IsTrue, length, map, flat_map, vec_len, vec_capacity};
+ghost use Rattle.std.specs.Prelude.{◌≡◌, ◌+◌, ◌*◌, ◌<◌, ◌≤◌, ◌++◌, IsTrue, length, vec_len, vec_capacity};
 ghost use Rattle.key_lists.specs.Keys.{is_among};
-ghost use Rattle.row_set.specs.Ranges.{keys_in};
-ghost use Rattle.tick_model.specs.Tables.{IsTable, cells_at, keys};
+ghost use Rattle.tick_model.specs.Tables.{IsTable, keys};
 ghost use Rattle.tick_model.specs.Words.{words as words_of_table};
 ghost use Rattle.snapshot_store.specs.Rows.{words_at};
 
-use row_set::Range;
 use std::marker::Brand;
 use std::sync::ledger::{Blank, Ledger};
 use tick_table::{Steps, TickTable};
@@ -27,27 +25,6 @@ fn copy_row<L: Ledger>(table: &TickTable, key: u64, words: &mut Vec<u64>, reads:
     }
 }
 
-// Copies the rows of a range of keys behind the words.
-fn copy_range<L: Ledger>(
-    table: &TickTable,
-    range: Range,
-    words: &mut Vec<u64>,
-    reads: &mut Steps<L>,
-)
-    requires table { IsTable table.now.new }
-    requires order { range.first ≤ range.last }
-    requires small { range.last < 2 ^ 62 }
-    requires here { (key : ℕ) → range.first ≤ key → key ≤ range.last → IsTrue (is_among key (keys table.now.new.rows)) }
-    requires room { vec_len words.old + length (keys_in range) * (1 + table.now.new.width) ≤ vec_capacity words.old }
-    ensures words { words.new.items ≡ words.old.items ++ flat_map (words_at table.now.new.rows) (keys_in range) }
-    ensures long { vec_len words.new ≡ vec_len words.old + length (keys_in range) * (1 + table.now.new.width) }
-    ensures room { vec_capacity words.new ≡ vec_capacity words.old }
-{
-    for key in range.first..range.last + 1 {
-        copy_row(table, key, words, reads);
-    }
-}
-
 // The same as `copy_table`, with a counter of reads.
 fn copy_counting<L: Ledger>(table: &TickTable, words: &mut Vec<u64>, blank: Blank)
     requires name { blank.name ≡ L.name }
@@ -61,8 +38,8 @@ fn copy_counting<L: Ledger>(table: &TickTable, words: &mut Vec<u64>, blank: Blan
     let rows = table.rows();
     words.clear();
     words.push_reserved(rows.len());
-    for range in rows.ranges() {
-        copy_range(table, *range, words, &mut reads);
+    for key in rows {
+        copy_row(table, key, words, &mut reads);
     }
 }
 

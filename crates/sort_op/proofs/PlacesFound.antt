@@ -4,7 +4,6 @@ use Rattle.std.specs.Prelude.{filter_map, nat_lt, option_map, slice_get}
 use Rattle.std.specs.List.{AllByRecursion, cons_option, position_or_len, range_with_len}
 use Rattle.std.specs.Option.{ok_or, option_map_or}
 use Rattle.std.proofs.lemmas.Bool.{cases_eq, lt-ltb, ltb-true, ne_eqb}
-use Rattle.std.proofs.lemmas.List.{map-append}
 use Rattle.std.proofs.lemmas.List.Elements.{filter_map-append}
 use Rattle.std.proofs.lemmas.Option.{none-some, slice_get-get_or, slice_get-map}
 use Rattle.key_lists.specs.Keys.{IsRising, is_among}
@@ -105,12 +104,6 @@ length-filter_map_most f [] = omega arith
 length-filter_map_most f (x ∷ xs) =
     let rest = length-filter_map_most f xs in
     elim (f x) as (λ o. length (cons_option o (filter_map f xs)) ≤ length (x ∷ xs)) [ None ↦ omega (arith, rest) | Some y ↦ omega (arith, rest) ]
-
--- the key of one position more
-pub keys_next : (entries : List Entry) (positions : List ℕ) (n position : ℕ) (made : List ℕ) → slice_get positions n ≡ Some position → made ≡ keys_at entries (take n positions) → made ++ key_at entries position ∷ [] ≡ keys_at entries (take (n + 1) positions)
-keys_next entries positions n position made here so_far =
-    ap (λ ks. ks ++ key_at entries position ∷ []) so_far
-    ∙ sym (ap (keys_at entries) (take_next positions n position here) ∙ map-append (key_at entries) (take n positions) (position ∷ []))
 
 -- of rising keys, so many are below one of them as stand before it
 pub place_counted : (key : ℕ) (keys : List ℕ) → IsRising keys → is_among key keys ≡ true → slice_get keys (count_below key keys) ≡ Some key

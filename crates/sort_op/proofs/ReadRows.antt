@@ -14,15 +14,13 @@ use Rattle.tick_model.specs.Updates.{Update, new_keys, old_keys}
 use Rattle.tick_table.specs.Exact.{IsExact, tick_of}
 use Rattle.tick_table.specs.Ticking.{Ticking}
 use Rattle.shown_rows.proofs.Restricted.{modified_new}
-use Rattle.shown_rows.proofs.Walks.{filter_next, take_next}
+use Rattle.shown_rows.proofs.Walks.{filter_next}
 use Rattle.sort_op.specs.declared.entry.Entry.{Entry}
 use Rattle.sort_op.specs.Reading.{entries_under, entry_under, entry_with, modified_pairs}
 
 -- one row more
-pub entries_next : (by : List SortBy) (table : PlainTable) (keys : List ℕ) (n key : ℕ) (made : List Entry) → slice_get keys n ≡ Some key → made ≡ entries_under by table (take n keys) → made ++ entry_under by table key ∷ [] ≡ entries_under by table (take (n + 1) keys)
-entries_next by table keys n key made here so_far =
-    ap (λ es. es ++ entry_under by table key ∷ []) so_far
-    ∙ sym (ap (entries_under by table) (take_next keys n key here) ∙ map-append (entry_under by table) (take n keys) (key ∷ []))
+pub entries_next : (by : List SortBy) (table : PlainTable) (some : List ℕ) (key : ℕ) (made : List Entry) → made ≡ entries_under by table some → made ++ entry_under by table key ∷ [] ≡ entries_under by table (some ++ key ∷ [])
+entries_next by table some key made so_far = ap (λ es. es ++ entry_under by table key ∷ []) so_far ∙ sym (map-append (entry_under by table) some (key ∷ []))
 
 -- the entry of one pair more, where it passes
 pub entries_more : (entry : ℕ → Entry) (f : KeyPair → ℕ) (test : KeyPair → Bool) (first : List Entry) (pairs : List KeyPair) (n : ℕ) (pair : KeyPair) (made more : List Entry) (answer : Bool) → slice_get pairs n ≡ Some pair → made ≡ first ++ map entry (map f (filter test (take n pairs))) → answer ≡ test pair

@@ -72,12 +72,10 @@ pub(crate) fn keys_of(
 ) -> Result<Vec<u64>, AllocError>
     ensures { IfOk result (λ keys. keys.items ≡ keys_at (entries order.now) positions.now) }
 {
-    let mut keys = Vec::new(alloc);
-    for place in 0..positions.len() {
-        let position = positions.get(place).unwrap();
-        keys.push(key_of(order, position))?;
-    }
-    Ok(keys)
+    positions
+        .iter()
+        .map(|position| key_of(order, position))
+        .collect(alloc)
 }
 
 /// The positions below `count` but these, by ranges.

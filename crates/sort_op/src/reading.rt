@@ -110,8 +110,7 @@ fn entries_before<L: Ledger>(
     ensures reads { OnOk result (reads.new ≤ reads.old + input.now.old.width * length keys.now) }
 {
     let mut entries = Vec::new(alloc);
-    for position in 0..keys.len() {
-        let key = keys.get(position).unwrap();
+    for key in keys {
         rows.row_before.clear();
         input.prev_row(key, &mut rows.row_before, reads)?;
         entries.push(entry_of(alloc, by, rows.row_before.as_slice(), key)?)?;
@@ -133,8 +132,7 @@ fn entries_now<L: Ledger>(
     ensures reads { OnOk result (reads.new ≤ reads.old + input.now.new.width * length keys.now) }
 {
     let mut entries = Vec::new(alloc);
-    for position in 0..keys.len() {
-        let key = keys.get(position).unwrap();
+    for key in keys {
         rows.row_now.clear();
         input.row(key, &mut rows.row_now, reads)?;
         entries.push(entry_of(alloc, by, rows.row_now.as_slice(), key)?)?;

@@ -5,7 +5,6 @@ pub mod ExactAgain
 pub mod Keeping
 pub mod NewKeys
 pub mod Puts
-pub mod RangePuts
 pub mod SlotCells
 pub mod TableColumns
 pub mod Uses

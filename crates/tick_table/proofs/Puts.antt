@@ -1,6 +1,7 @@
 -- Rows that are put among others one after the other: as they are found, and as they are added and modified.
-use Rattle.std.proofs.Common.{◌≡◌, refl, ap, ap₂, sym, ◌∙◌, subst, Bool, true, false, cond, ◌||◌, ℕ, suc, ◌+◌, ◌*◌, ◌<◌, ◌≤◌, arith, List, [], ◌∷◌, ◌++◌, length, take, drop, Some, None, ℤ, ltb, ◌==◌, unwrap_or, inl, inr, zero-mul, true≢false}
+use Rattle.std.proofs.Common.{◌≡◌, refl, ap, ap₂, sym, ◌∙◌, subst, Bool, true, false, cond, ◌||◌, ℕ, suc, ◌+◌, ◌*◌, ◌<◌, ◌≤◌, arith, List, [], ◌∷◌, ◌++◌, length, length-drop, take, drop, Some, None, ℤ, ltb, ◌==◌, unwrap_or, inl, inr, zero-mul, true≢false}
 use Rattle.std.specs.List.{AllByRecursion}
+use Rattle.std.proofs.Math.Nat.{suc-mul}
 use Rattle.std.proofs.lemmas.List.{drop-drop}
 use Rattle.std.proofs.lemmas.Bool.{cases_lt, ne_eqb, eq-eqb, eqb-true, eqb-false, lt-ltb, or_parts, or_from, or_right}
 use Rattle.key_lists.specs.Keys.{is_among, IsRising}
@@ -171,6 +172,16 @@ put_rows-known (row ∷ modified) rows rising rows_rise there =
     (subst (λ ks. AllByRecursion (λ key. is_among key ks ≡ true) (keys modified)) (sym (keys-modifying (row ∷ []) rows)) there.1)
     ∙ modifying-modifying row modified rows (not_found row.key modified rising.0)
 
+-- the first of some rows has as many cells as a row has, and the others have theirs behind them
+pub row_fits : (n width cells : ℕ) → suc n * width ≤ cells → width ≤ cells
+row_fits n width cells room = omega (arith, suc-mul n width)
+
+pub room_next : (n width : ℕ) (cells : List ℤ) → suc n * width ≤ length cells → n * width ≤ length (drop width cells)
+room_next n width cells room = omega (arith, suc-mul n width, length-drop width cells)
+
+pub rest_next : (n width : ℕ) (cells : List ℤ) → drop (n * width) (drop width cells) ≡ drop (suc n * width) cells
+rest_next n width cells = let more : width + n * width ≡ suc n * width = omega (arith, suc-mul n width) in drop-drop (n * width) width cells ∙ ap (λ k. drop k cells) more
+
 -- rows whose cells stand one after the other
 pub keys-rows_under : (width : ℕ) (ks : List ℕ) (cells : List ℤ) → keys (rows_under width ks cells) ≡ ks
 keys-rows_under width [] cells = refl
@@ -182,8 +193,10 @@ rows_under-append width (key ∷ first) second cells =
     let here : PlainRow = record { key = key; cells = take width cells } in
     ap (λ rest. here ∷ rest)
     (rows_under-append width first second (drop width cells)
-    ∙ ap (λ more. rows_under width first (drop width cells) ++ rows_under width second more)
-    (drop-drop (length first * width) width cells ∙ ap (λ n. drop n cells) (sym (suc-mul' (length first)))))
-  where
-    suc-mul' : (n : ℕ) → suc n * width ≡ width + n * width
-    suc-mul' n = grind arith
+    ∙ ap (λ more. rows_under width first (drop width cells) ++ rows_under width second more) (rest_next (length first) width cells))
+
+pub put_two : (width : ℕ) (first second : List ℕ) (cells : List ℤ) (rows : List PlainRow)
+    → put_rows (rows_under width second (drop (length first * width) cells)) (put_rows (rows_under width first cells) rows) ≡ put_rows (rows_under width (first ++ second) cells) rows
+put_two width first second cells rows =
+    sym (put_rows-append (rows_under width first cells) (rows_under width second (drop (length first * width) cells)) rows)
+    ∙ ap (λ some. put_rows some rows) (sym (rows_under-append width first second cells))

@@ -4,7 +4,6 @@ ghost use Rattle.std.specs.Prelude.{◌≡◌, ◌^◌, ◌<◌, ◌≤◌, [], 
 ghost use Rattle.std.specs.List.{AllByRecursion};
 ghost use Rattle.column_source.specs.Entries.{keys_of as entry_keys};
 ghost use Rattle.key_lists.specs.Keys.{is_among};
-ghost use Rattle.row_set.specs.Ranges.{keys_from};
 ghost use Rattle.row_set.specs.Sets.{IsKeySet};
 ghost use Rattle.shift_data.specs.Moves.{IsLawful};
 ghost use Rattle.tick_model.specs.Tables.{cells_at, keys};
@@ -13,7 +12,7 @@ ghost use Rattle.tick_table.specs.SlotRows.{put_row, slots_under};
 
 use crate::slots::Slots;
 use column_source::Column;
-use row_set::{Range, RowSet};
+use row_set::RowSet;
 use shift_data::ShiftData;
 use std::alloc::{AllocError, Global};
 use std::marker::Model;
@@ -170,20 +169,7 @@ fn note_slots(numbers: &Column, removed: &RowSet, slots: &mut Vec<i64>) -> Resul
     ensures slots { OnOk result (slots.new.items ≡ slots.old.items ++ slots_under removed.now numbers.now.now) }
     ensures keys { IsKeySet removed.now }
 {
-    for range in removed.ranges() {
-        note_range(numbers, *range, slots)?;
-    }
-    Ok(())
-}
-
-/// Puts the slots of the rows of a range behind others.
-fn note_range(numbers: &Column, range: Range, slots: &mut Vec<i64>) -> Result<(), AllocError>
-    requires order { range.first ≤ range.last }
-    requires small { range.last < 2 ^ 62 }
-    requires there { AllByRecursion (λ key. IsTrue (is_among key (entry_keys numbers.now.now))) (keys_from range.first range.last) }
-    ensures { OnOk result (slots.new.items ≡ slots.old.items ++ slots_under (keys_from range.first range.last) numbers.now.now) }
-{
-    for key in range.first..range.last + 1 {
+    for key in removed {
         slots.push(numbers.get(key))?;
     }
     Ok(())

@@ -3,14 +3,13 @@
 ghost use Rattle.std.specs.Prelude.{◌≡◌, ◌*◌, ◌^◌, ◌<◌, ◌≤◌, IsTrue, None, true, length, drop, IfOk, OnOk};
 ghost use Rattle.std.specs.List.{AllByRecursion};
 ghost use Rattle.key_lists.specs.Keys.{is_among};
-ghost use Rattle.row_set.specs.Ranges.{keys_from};
 ghost use Rattle.tick_model.specs.Changes.{rows_under, told_keys};
 ghost use Rattle.tick_model.specs.Rules.{update_fault};
 ghost use Rattle.tick_model.specs.Tables.{keys as row_keys};
 ghost use Rattle.tick_table.specs.SlotRows.{put_row, put_rows, stepped};
 
 use crate::slot_rows::SlotRows;
-use row_set::{Range, RowSet};
+use row_set::RowSet;
 use std::alloc::AllocError;
 use table_update::Update;
 
@@ -51,30 +50,7 @@ fn put_all<'a>(
     ensures rest { IfOk result (λ rest. rest.now ≡ drop (length keys.now * rows.old.width) cells.now) }
 {
     let mut rest = cells;
-    for range in keys.ranges() {
-        rest = put_range(rows, *range, rest, known)?;
-    }
-    Ok(rest)
-}
-
-/// Puts rows under the keys of a range.
-fn put_range<'a>(
-    rows: &mut SlotRows,
-    range: Range,
-    cells: &'a [i64],
-    known: bool,
-) -> Result<&'a [i64], AllocError>
-    requires order { range.first ≤ range.last }
-    requires small { range.last < 2 ^ 62 }
-    requires known { known ≡ true → AllByRecursion (λ key. IsTrue (is_among key (row_keys rows.old.now))) (keys_from range.first range.last) }
-    requires whole { length (keys_from range.first range.last) * rows.old.width ≤ length cells.now }
-    ensures width { OnOk result (rows.new.width ≡ rows.old.width) }
-    ensures now { OnOk result (rows.new.now ≡ put_rows (rows_under rows.old.width (keys_from range.first range.last) cells.now) rows.old.now) }
-    ensures before { OnOk result (rows.new.before ≡ rows.old.before) }
-    ensures rest { IfOk result (λ rest. rest.now ≡ drop (length (keys_from range.first range.last) * rows.old.width) cells.now) }
-{
-    let mut rest = cells;
-    for key in range.first..range.last + 1 {
+    for key in keys {
         let (row, others) = rest.split_at(rows.width());
         put(rows, key, row, known)?;
         rest = others;

@@ -1,12 +1,22 @@
-use Rattle.std.proofs.Common.{◌≡◌, ap, sym, ◌∙◌, subst, ℕ, ◌+◌, ◌<◌, ◌≤◌, ◌^◌, arith, List, [], ◌∷◌, ◌++◌, drop, length, get_or}
+use Rattle.std.proofs.Common.{◌≡◌, ap, sym, ◌∙◌, subst, ℕ, ◌+◌, ◌<◌, ◌≤◌, ◌^◌, arith, List, [], ◌∷◌, ◌++◌, drop, get_or, length}
 use Rattle.std.specs.List.{AllByRecursion}
 use Rattle.std.proofs.lemmas.List.{append-nil, drop_more}
 use Rattle.std.proofs.Math.ListN.{drop_of_length-le}
 use Rattle.row_set.specs.declared.ranges.Range.{Range}
-use Rattle.row_set.specs.Ranges.{keys_of}
-use Rattle.tick_table.proofs.RangePuts.{range_ascends}
+use Rattle.row_set.specs.Ranges.{AreApart, keys_of}
+use Rattle.row_set.proofs.Places.{range_at}
 use Rattle.merge_op.proofs.Keyed.{IsPut, last_small, plus, put_next, rest_small, whole_rises}
 use Rattle.merge_op.proofs.touching.put_keys.Goals as goal
+
+-- the range at hand ends where it begins or later, and below the end of keys where it goes
+range_small : (offset : ℕ) (ranges : List Range) (index : ℕ) (d : Range) → AreApart 0 ranges → index < length ranges → AllByRecursion (λ key. key + offset < 2 ^ 62) (keys_of (drop index ranges))
+    → ((get_or ranges index d).first ≤ (get_or ranges index d).last) × ((get_or ranges index d).last + offset < 2 ^ 62)
+range_small offset ranges index d apart less small =
+    let order = (range_at 0 ranges apart index d less).ascends in (
+      order,
+      last_small (λ key. key + offset < 2 ^ 62) (get_or ranges index d) (drop (index + 1) ranges) order
+          (subst (λ (rest : List Range). AllByRecursion (λ key. key + offset < 2 ^ 62) (keys_of rest)) (drop_more ranges index d less) small),
+    )
 
 pub loop-range-init : goal.loop-range-init
 loop-range-init c = record {
@@ -31,36 +41,17 @@ loop-range-preserved c =
 
 pub overflow_add-range : goal.overflow_add-range
 overflow_add-range c =
-    let ranges = c.ranges-range-items.result.now in
-    let d : Range = record { first = 0; last = 0 } in
-    let order : (get_or ranges c.loop-range.range-index d).first ≤ (get_or ranges c.loop-range.range-index d).last = range_ascends 0 ranges c.ranges-range-items.ensures.apart c.loop-range.range-index d c.loop-range-test.true in
-    let small : (get_or ranges c.loop-range.range-index d).last + c.args.offset < 2 ^ 62 =
-    last_small (λ key. key + c.args.offset < 2 ^ 62) (get_or ranges c.loop-range.range-index d) (drop (c.loop-range.range-index + 1) ranges) order
-    (subst (λ (rest : List Range). AllByRecursion (λ key. key + c.args.offset < 2 ^ 62) (keys_of rest)) (drop_more ranges c.loop-range.range-index d c.loop-range-test.true) c.loop-range.invariant.small) in
-    omega (arith, order, small)
+    let here = range_small c.args.offset c.ranges-range-items.result.now c.loop-range.range-index record { first = 0; last = 0 } c.ranges-range-items.ensures.apart c.loop-range-test.true c.loop-range.invariant.small in
+    omega (arith, here.0, here.1)
 
 pub overflow_add-range-in-loop-range : goal.overflow_add-range-in-loop-range
-overflow_add-range-in-loop-range c =
-    let ranges = c.ranges-range-items.result.now in
-    let d : Range = record { first = 0; last = 0 } in
-    let order : (get_or ranges c.loop-range.range-index d).first ≤ (get_or ranges c.loop-range.range-index d).last = range_ascends 0 ranges c.ranges-range-items.ensures.apart c.loop-range.range-index d c.loop-range-test.true in
-    let small : (get_or ranges c.loop-range.range-index d).last + c.args.offset < 2 ^ 62 =
-    last_small (λ key. key + c.args.offset < 2 ^ 62) (get_or ranges c.loop-range.range-index d) (drop (c.loop-range.range-index + 1) ranges) order
-    (subst (λ (rest : List Range). AllByRecursion (λ key. key + c.args.offset < 2 ^ 62) (keys_of rest)) (drop_more ranges c.loop-range.range-index d c.loop-range-test.true) c.loop-range.invariant.small) in
-    omega (arith, small)
+overflow_add-range-in-loop-range c = omega (arith, (range_small c.args.offset c.ranges-range-items.result.now c.loop-range.range-index record { first = 0; last = 0 } c.ranges-range-items.ensures.apart c.loop-range-test.true c.loop-range.invariant.small).1)
 
 pub insert_range-requires-clause-order : goal.insert_range-requires-clause-order
-insert_range-requires-clause-order c =
-    let d : Range = record { first = 0; last = 0 } in
-    omega (arith, range_ascends 0 c.ranges-range-items.result.now c.ranges-range-items.ensures.apart c.loop-range.range-index d c.loop-range-test.true)
+insert_range-requires-clause-order c = omega (arith, (range_small c.args.offset c.ranges-range-items.result.now c.loop-range.range-index record { first = 0; last = 0 } c.ranges-range-items.ensures.apart c.loop-range-test.true c.loop-range.invariant.small).0)
 
 pub insert_range-requires-clause-small : goal.insert_range-requires-clause-small
-insert_range-requires-clause-small c =
-    let ranges = c.ranges-range-items.result.now in
-    let d : Range = record { first = 0; last = 0 } in
-    let order : (get_or ranges c.loop-range.range-index d).first ≤ (get_or ranges c.loop-range.range-index d).last = range_ascends 0 ranges c.ranges-range-items.ensures.apart c.loop-range.range-index d c.loop-range-test.true in
-    last_small (λ key. key + c.args.offset < 2 ^ 62) (get_or ranges c.loop-range.range-index d) (drop (c.loop-range.range-index + 1) ranges) order
-    (subst (λ (rest : List Range). AllByRecursion (λ key. key + c.args.offset < 2 ^ 62) (keys_of rest)) (drop_more ranges c.loop-range.range-index d c.loop-range-test.true) c.loop-range.invariant.small)
+insert_range-requires-clause-small c = (range_small c.args.offset c.ranges-range-items.result.now c.loop-range.range-index record { first = 0; last = 0 } c.ranges-range-items.ensures.apart c.loop-range-test.true c.loop-range.invariant.small).1
 
 pub returns : goal.returns
 returns c =

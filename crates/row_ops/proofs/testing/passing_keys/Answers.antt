@@ -1,18 +1,39 @@
-use Rattle.std.proofs.Common.{sym, ◌∙◌}
+use Rattle.std.proofs.Common.{arith, [], ◌∷◌, IsTrue, length-append, ap, ◌∙◌, filter, subst, ℕ, List, length, ◌≤◌, ◌+◌, ◌*◌}
+use Rattle.key_lists.specs.Keys.{is_among}
+use Rattle.row_set.proofs.Yielded.{next_above, next_has, next_small, yielded_all}
+use Rattle.shown_rows.proofs.Walks.{chosen_below, chosen_more}
 use Rattle.tick_model.specs.Formulas.{truth}
-use Rattle.tick_model.specs.Tables.{cells_at}
-use Rattle.shown_rows.proofs.Walks.{below_keys}
-use Rattle.row_ops.proofs.Walked.{keys_next, reads_next}
+use Rattle.tick_model.specs.Tables.{cells_at, keys}
+use Rattle.row_changes.proofs.Comparing.{reads_next}
 use Rattle.row_ops.proofs.testing.passing_keys.Goals as goal
+
+pub passes_now-requires-clause-here : goal.passes_now-requires-clause-here
+passes_now-requires-clause-here g c =
+    next_has c.loop-key.yielded c.into_iter-key-iterator.ensures.into_iter_gives c.loop-key.yielded_by c.in-Some.ensures.steps (λ key. IsTrue (is_among key (keys c.args.input.now.new.rows))) c.requires.here
+
+pub put_last_if-requires-clause-small : goal.put_last_if-requires-clause-small
+put_last_if-requires-clause-small g c =
+    let all = c.into_iter-key-iterator.ensures.into_iter_gives in
+    next_small c.loop-key.yielded all c.loop-key.yielded_by c.in-Some.ensures.steps
 
 pub put_last_if-requires-clause-last : goal.put_last_if-requires-clause-last
 put_last_if-requires-clause-last g c =
-    below_keys (λ key. truth c.args.test.now (cells_at key c.args.input.now.new.rows)) c.args.keys.now c.loop-position.position c.unwrap-key.result c.loop-position.found c.get.ensures.keys.rising (sym c.get.ensures.key ∙ c.unwrap-key.ensures) c.loop-position.invariant.found
+    let all = c.into_iter-key-iterator.ensures.into_iter_gives in
+    let yielded = c.loop-key.yielded in
+    chosen_below (λ key. truth c.args.test.now (cells_at key c.args.input.now.new.rows)) yielded c.loop-key.found c.in-Some.key (next_above yielded all c.loop-key.yielded_by c.in-Some.ensures.steps) c.loop-key.invariant.found
 
-pub loop-position-preserved : goal.loop-position-preserved
-loop-position-preserved g c = record {
-  found =
-      keys_next (λ key. truth c.args.test.now (cells_at key c.args.input.now.new.rows)) c.args.keys.now c.loop-position.position c.unwrap-key.result c.loop-position.found c.put_last_if.new.keys c.in_ok-answer.answer
-      (sym c.get.ensures.key ∙ c.unwrap-key.ensures) c.loop-position.invariant.found c.in_ok-answer.ensures.answer c.in_ok-put_last_if.ensures;
-  reads = reads_next c.args.input.now.new.width c.loop-position.reads c.passes_now.new.reads c.args.reads.now c.loop-position.position c.loop-position.invariant.reads c.in_ok-answer.ensures.reads;
-}
+pub loop-key-preserved : goal.loop-key-preserved
+loop-key-preserved g c =
+    let yielded = c.loop-key.yielded in
+    let key = c.in-Some.key in record {
+      found =
+          chosen_more (λ key. truth c.args.test.now (cells_at key c.args.input.now.new.rows)) yielded key c.loop-key.found c.put_last_if.new.keys c.in_ok-answer.answer
+          c.loop-key.invariant.found c.in_ok-answer.ensures.answer c.in_ok-put_last_if.ensures;
+      reads = reads_next c.args.input.now.new.width c.args.reads.now c.loop-key.reads c.passes_now.new.reads yielded key c.loop-key.invariant.reads (omega (arith, c.in_ok-answer.ensures.reads));
+    }
+
+pub returns-clause-keys : goal.returns-clause-keys
+returns-clause-keys g c = c.loop-key.invariant.found ∙ ap (filter (λ key. truth c.args.test.now (cells_at key c.args.input.now.new.rows))) (yielded_all c.loop-key.yielded c.into_iter-key-iterator.ensures.into_iter_gives c.loop-key.yielded_by c.in-None.ensures.steps.0)
+
+pub returns-clause-reads : goal.returns-clause-reads
+returns-clause-reads g c = subst (λ (keys : List ℕ). c.loop-key.reads ≤ c.args.reads.now + c.args.input.now.new.width * length keys) (yielded_all c.loop-key.yielded c.into_iter-key-iterator.ensures.into_iter_gives c.loop-key.yielded_by c.in-None.ensures.steps.0) c.loop-key.invariant.reads

@@ -1,22 +1,24 @@
-use Rattle.std.proofs.Common.{◌≡◌, sym, ◌∙◌, Some}
-use Rattle.std.specs.Prelude.{slice_get}
+use Rattle.std.proofs.Common.{ap, ◌∙◌, List, ℕ}
 use Rattle.key_lists.specs.Keys.{is_among}
-use Rattle.shown_rows.proofs.Walks.{below_keys, none_more, one_more}
+use Rattle.row_set.proofs.Yielded.{next_above, next_small, yielded_all}
+use Rattle.shown_rows.proofs.Walks.{chosen_below, chosen_more}
+use Rattle.row_set.specs.Sets.{common}
 use Rattle.shown_rows.proofs.keys.keys_among.Goals as goal
-use Rattle.shown_rows.proofs.keys.keys_among.Goals.{then-contains+in_ok-put_last, else-contains}
 
-pub put_last-requires-clause-last : goal.put_last-requires-clause-last
-put_last-requires-clause-last c =
-    below_keys (λ key. is_among key c.args.others.now) c.args.keys.now c.loop-position.position c.unwrap-key.result c.loop-position.found c.get.ensures.keys.rising (sym c.get.ensures.key ∙ c.unwrap-key.ensures) c.loop-position.invariant
+pub put_last_if-requires-clause-small : goal.put_last_if-requires-clause-small
+put_last_if-requires-clause-small c =
+    let all = c.into_iter-key-iterator.ensures.into_iter_gives in
+    next_small c.loop-key.yielded all c.loop-key.yielded_by c.in-Some.ensures.steps
 
-pub loop-position-preserved : goal.loop-position-preserved
-loop-position-preserved c =
-    let here : slice_get c.args.keys.now c.loop-position.position ≡ Some c.unwrap-key.result = sym c.get.ensures.key ∙ c.unwrap-key.ensures in
-    elim c.if-contains.branch [
-      | then-contains+in_ok-put_last w ↦
-          w.found-is ∙ w.in_ok-put_last.ensures
-          ∙ one_more (λ key. is_among key c.args.others.now) c.args.keys.now c.loop-position.position c.unwrap-key.result c.loop-position.found here (sym c.contains.ensures.member ∙ w.if-contains.true) c.loop-position.invariant
-      | else-contains w ↦
-          w.found-is
-          ∙ none_more (λ key. is_among key c.args.others.now) c.args.keys.now c.loop-position.position c.unwrap-key.result c.loop-position.found here (sym c.contains.ensures.member ∙ w.if-contains.false) c.loop-position.invariant
-    ]
+pub put_last_if-requires-clause-last : goal.put_last_if-requires-clause-last
+put_last_if-requires-clause-last c =
+    let all = c.into_iter-key-iterator.ensures.into_iter_gives in
+    let yielded = c.loop-key.yielded in
+    chosen_below (λ key. is_among key c.args.others.now) yielded c.loop-key.found c.in-Some.key (next_above yielded all c.loop-key.yielded_by c.in-Some.ensures.steps) c.loop-key.invariant
+
+pub loop-key-preserved : goal.loop-key-preserved
+loop-key-preserved c =
+    chosen_more (λ key. is_among key c.args.others.now) c.loop-key.yielded c.in-Some.key c.loop-key.found c.put_last_if.new.keys c.contains.result c.loop-key.invariant c.contains.ensures.member c.in_ok-put_last_if.ensures
+
+pub returns : goal.returns
+returns c = c.loop-key.invariant ∙ ap (λ (keys : List ℕ). common keys c.args.others.now) (yielded_all c.loop-key.yielded c.into_iter-key-iterator.ensures.into_iter_gives c.loop-key.yielded_by c.in-None.ensures.steps.0)

@@ -1,9 +1,9 @@
-use Rattle.std.proofs.Common.{◌≡◌, ◌+◌, ◌*◌, ◌≤◌, take}
+use Rattle.std.proofs.Common.{◌≡◌, ◌+◌, ◌*◌, ◌≤◌, length}
 use Rattle.sort_op.specs.Reading.{entries_under}
 use Rattle.sort_op.proofs.reading.entries_now.Given as goal
 
-abbrev pub invariant-loop-position : goal.invariant-loop-position
-invariant-loop-position g l = record {
-  entries : l.entries.items ≡ entries_under l.by l.input.new (take l.position l.keys);
-  reads : l.reads ≤ l.fn.reads + l.input.new.width * l.position;
+abbrev pub invariant-loop-key : goal.invariant-loop-key
+invariant-loop-key g l = record {
+  entries : l.entries.items ≡ entries_under l.by l.input.new l.yielded;
+  reads : l.reads ≤ l.fn.reads + l.input.new.width * length l.yielded;
 }

@@ -14,7 +14,7 @@ use Rattle.tick_model.specs.Updates.{removing, shifting}
 use Rattle.tick_table.specs.Kept.{table_now}
 use Rattle.tick_table.specs.SlotRows.{put_rows}
 use Rattle.tick_table.proofs.CarriedRows.{added_put, keys-removing, modified_there}
-use Rattle.tick_table.proofs.RangePuts.{put_two}
+use Rattle.tick_table.proofs.Puts.{put_two}
 use Rattle.tick_table.proofs.stepping.bring_on.Goals as goal
 
 pub remove-requires : goal.remove-requires
