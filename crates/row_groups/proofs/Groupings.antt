@@ -248,6 +248,17 @@ pub absent_under : (key : ℕ) (table : Table) (groups : ByNumber) (xs : List En
 absent_under key table groups xs e =
     none_of_map (cells_in table groups) (handle_under key xs) (sym (ap (option_map (λ member. member.cells)) e) ∙ under_same (λ member. member.cells) (cells_in table groups) key table groups xs (λ x. refl))
 
+-- a key with a member has a handle
+pub there_under : (key : ℕ) (table : Table) (groups : ByNumber) (xs : List Entry) → IsSome (member_under key (members_of (rows_of table groups xs))) → IsSome (handle_under key xs)
+there_under key table groups xs there = by_handle (handle_under key xs) refl
+  where
+    by_handle : (found : Option ℕ) → handle_under key xs ≡ found → IsSome found
+    by_handle None e =
+        subst (λ (member : Option Member). IsSome member)
+        (none_of_map (λ (member : Member). member.cells) (member_under key (members_of (rows_of table groups xs))) (sym (under_same (λ member. member.cells) (cells_in table groups) key table groups xs (λ x. refl) ∙ ap (option_map (cells_in table groups)) e)))
+        there
+    by_handle (Some handle) e = refl
+
 -- how many rows stand before a place
 pub counted : (f : Member → Bool) (entries : List Entry) (cells : List ℤ) (slots : List Slot) (n : ℕ) → n ≤ length slots → AllByRecursion (λ s. f (member_at entries cells s) ≡ true) (take n slots) → AllByRecursion (λ s. f (member_at entries cells s) ≡ false) (drop n slots) → n ≡ count_by f (map (member_at entries cells) slots)
 counted f entries cells [] zero le h k = refl

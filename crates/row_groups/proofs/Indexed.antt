@@ -1,10 +1,9 @@
 -- The index as a whole: rows that move, come and leave.
-use Rattle.std.proofs.Common.{◌≡◌, ◌≢◌, refl, ap, sym, ◌∙◌, subst, Bool, true, false, not, cond, ◌||◌, ℕ, zero, suc, ◌+◌, ◌^◌, ◌<◌, ◌≤◌, arith, List, [], ◌∷◌, ◌++◌, map, filter, length, take, take_all, add-one, Option, Some, None, Result, Ok, Err, OnOk, OnErr, IsSome, unwrap_or, inl, inr, ℤ, int_lt, if◌then◌else◌}
-use Rattle.std.specs.Prelude.{slice_get}
+use Rattle.std.proofs.Common.{◌≡◌, ◌≢◌, refl, ap, sym, ◌∙◌, subst, Bool, true, false, not, cond, ◌||◌, ℕ, ◌^◌, ◌<◌, List, [], ◌∷◌, ◌++◌, map, filter, length, Option, Some, None, Result, Ok, Err, OnOk, OnErr, IsSome, unwrap_or, inl, inr, ℤ, int_lt, if◌then◌else◌}
 use Rattle.std.specs.List.{AllByRecursion}
-use Rattle.std.proofs.lemmas.Bool.{cases_eq, eq-eqb, ne_eqb}
+use Rattle.std.proofs.lemmas.Bool.{cases_eq, eq-eqb}
 use Rattle.std.specs.Cmp.Rules.{signed_items}
-use Rattle.key_lists.specs.Keys.{is_among, IsRising}
+use Rattle.key_lists.specs.Keys.{is_among}
 use Rattle.key_lists.proofs.Every.{every, every_both, every_weaker, every_unmapped, every-filter, every-map, filter-map, filter_passes}
 use Rattle.tick_model.specs.Tables.{same_cells}
 use Rattle.tick_model.specs.declared.update.ShiftRange.{ShiftRange}
@@ -84,9 +83,6 @@ members_shifted shifts table groups xs new e = ap (λ es. members_of (rows_of ta
 -- the others of a row have other handles
 some_own : (m n : ℕ) → ◌≡◌ {A = Option ℕ} (Some m) (Some n) → m ≡ n
 some_own m n e = cc
-
-none_some : (n : ℕ) → ◌≡◌ {A = Option ℕ} None (Some n) → ⊥
-none_some n e = cc
 
 true_not_false : ◌≡◌ {A = Bool} true false → ⊥
 true_not_false e = cc
@@ -219,28 +215,6 @@ pub index_left : (gone : List ℕ) (index : Index) (entries : List Entry) → Ho
 index_left gone index entries is left =
     subst (λ xs. IsIndex (handled index xs)) (sym left) (record { handled = handled_left gone index.handles is.handled; kept = is.kept; listed = is.listed; numbered = is.numbered })
 
--- keys that come one by one
-pub new_key : (keys : List ℕ) (i key : ℕ) → IsRising keys → slice_get keys i ≡ Some key → is_among key (take i keys) ≡ false
-new_key keys zero key up e = refl
-new_key [] (suc i) key up e = refl
-new_key (x ∷ keys) (suc i) key up e =
-    ap (λ b. b || is_among key (take i keys)) (ne_eqb x key (λ same. below x keys i key up.0 e same)) ∙ new_key keys i key up.1 e
-  where
-    below : (x : ℕ) (keys : List ℕ) (i key : ℕ) → AllByRecursion (λ y. x < y) keys → slice_get keys i ≡ Some key → x ≡ key → ⊥
-    below x [] i key h e same = none_some key e
-    below x (y ∷ keys) zero key h e same = omega (arith, some_own y key e, h.0)
-    below x (y ∷ keys) (suc i) key h e same = below x keys i key h.1 e same
-
-pub one_more : (keys : List ℕ) (i key : ℕ) → slice_get keys i ≡ Some key → take (suc i) keys ≡ take i keys ++ key ∷ []
-one_more [] i key e = absurd (none_some key e)
-one_more (x ∷ keys) zero key e = ap (λ k. k ∷ []) (some_own x key e)
-one_more (x ∷ keys) (suc i) key e = ap (λ ks. x ∷ ks) (one_more keys i key e)
-
-pub there_is : (keys : List ℕ) (i : ℕ) → i < length keys → slice_get keys i ≡ None → ⊥
-there_is [] i lt e = omega arith
-there_is (x ∷ keys) zero lt e = none_some x (sym e)
-there_is (x ∷ keys) (suc i) lt e = there_is keys i (omega arith) e
-
 pub still_under : (gone : List ℕ) (key : ℕ) (xs : List Entry) → is_among key gone ≡ false → handle_under key (left_rows gone xs) ≡ handle_under key xs
 still_under gone key xs e = handle_under-left key gone xs ∙ ap (λ b. cond b None (handle_under key xs)) e
 
@@ -267,7 +241,7 @@ none_alike cells (row ∷ rows) e =
     by_test row rest true f = absurd (cc)
     by_test row rest false f = (refl, f)
 
-no_slots : (rows : List Row) → map slot_of rows ≡ [] → rows ≡ []
+pub no_slots : (rows : List Row) → map slot_of rows ≡ [] → rows ≡ []
 no_slots [] e = refl
 no_slots (row ∷ rows) e = absurd (cc)
 
@@ -307,6 +281,7 @@ pub record Leaves (key handle : ℕ) (index : Index) (lists : Lists) : Type 0 wh
   pub becomes : Becomes (cells_in index.table index.lists.groups handle) (slots_without index.handles (at_in index.table handle) key (slots_under (cells_in index.table index.lists.groups handle) index.lists)) index.lists lists
   pub stays : slots_without index.handles (at_in index.table handle) key (slots_numbered (kept_in index.table handle).number index.lists.groups) ≢ [] → cells_with (kept_in index.table handle).number lists.groups ≡ cells_with (kept_in index.table handle).number index.lists.groups
   pub others : (other : ℕ) → other ≢ (kept_in index.table handle).number → cells_with other lists.groups ≡ cells_with other index.lists.groups
+  pub fewer : (other : ℕ) (cells : List ℤ) → cells_with other lists.groups ≡ Some cells → cells_with other index.lists.groups ≡ Some cells
   pub numbered : AreNumbered lists
 
 pub some_cells : (cells : Option (List ℤ)) → IsSome cells → cells ≡ Some (unwrap_or cells [])
@@ -346,10 +321,6 @@ left_same gone key handle index lists is fresh leaves =
     subst (λ xs. AreListed (rows_of table groups xs) lists × AllByRecursion (λ x. IsSame table groups table lists.groups x.handle) xs) (sym (left_more gone key index.handles))
     (listed, rest_same table index.lists lists number cells own index.width rest (without (slots_numbered number groups)) slots leaves.stays leaves.others (every-filter (λ x. IsKept index.width table groups x.handle) p all is.kept))
 
--- one of several keys
-next_keys : (keys : List ℕ) (i key : ℕ) → slice_get keys i ≡ Some key → take (i + 1) keys ≡ take i keys ++ key ∷ []
-next_keys keys i key got = ap (λ n. take n keys) (add-one i) ∙ one_more keys i key got
-
 -- an index from which the rows under some of the keys are gone
 pub record AreGone (keys : List ℕ) (old new : Index) : Type 0 where
   pub holds : Holds (left_rows keys new.handles) new
@@ -357,6 +328,7 @@ pub record AreGone (keys : List ℕ) (old new : Index) : Type 0 where
   pub table : new.table ≡ old.table
   pub width : new.width ≡ old.width
   pub same : AllByRecursion (λ x. IsSame old.table old.lists.groups new.table new.lists.groups x.handle) (left_rows keys new.handles)
+  pub fewer : (other : ℕ) (cells : List ℤ) → cells_with other new.lists.groups ≡ Some cells → cells_with other old.lists.groups ≡ Some cells
 
 pub none_gone : (index : Index) → IsIndex index → AreGone [] index index
 none_gone index is = record {
@@ -366,62 +338,58 @@ none_gone index is = record {
   width = refl;
   same = every-filter (λ x. IsSame index.table index.lists.groups index.table index.lists.groups x.handle) (λ x. not (is_among x.key [])) index.handles
       (every_weaker (λ x. IsKept index.width index.table index.lists.groups x.handle) (λ x. IsSame index.table index.lists.groups index.table index.lists.groups x.handle) index.handles (λ x k. record { within = k.within; cells = refl; at = refl }) is.kept);
+  fewer = λ other cells e. e;
 }
 
-pub step_missing : (keys : List ℕ) (i key : ℕ) (old index : Index) → AreGone (take i keys) old index → IsRising keys → slice_get keys i ≡ Some key → handle_under key index.handles ≡ None → AreGone (take (i + 1) keys) old index
-step_missing keys i key old index is up got none =
-    let gone = take i keys in
-    let same : left_rows gone index.handles ≡ left_rows (take (i + 1) keys) index.handles =
-    sym (ap (λ ks. left_rows ks index.handles) (next_keys keys i key got) ∙ left_more gone key index.handles
-    ∙ left_missing key (left_rows gone index.handles) (still_under gone key index.handles (new_key keys i key up got) ∙ none)) in
+pub step_missing : (gone : List ℕ) (key : ℕ) (old index : Index) → AreGone gone old index → is_among key gone ≡ false → handle_under key index.handles ≡ None → AreGone (gone ++ key ∷ []) old index
+step_missing gone key old index is new none =
+    let same : left_rows gone index.handles ≡ left_rows (gone ++ key ∷ []) index.handles =
+    sym (left_more gone key index.handles ∙ left_missing key (left_rows gone index.handles) (still_under gone key index.handles new ∙ none)) in
     record {
       holds = subst (λ xs. Holds xs index) same is.holds;
       handles = is.handles;
       table = is.table;
       width = is.width;
       same = subst (AllByRecursion (λ x. IsSame old.table old.lists.groups index.table index.lists.groups x.handle)) same is.same;
+      fewer = is.fewer;
     }
 
-pub step_less : (keys : List ℕ) (i key handle : ℕ) (old index : Index) (lists : Lists) → AreGone (take i keys) old index → IsRising keys → slice_get keys i ≡ Some key → Leaves key handle index lists → AreGone (take (i + 1) keys) old (record index { lists = lists })
-step_less keys i key handle old index lists is up got leaves =
-    let gone = take i keys in
+pub step_less : (gone : List ℕ) (key handle : ℕ) (old index : Index) (lists : Lists) → AreGone gone old index → is_among key gone ≡ false → Leaves key handle index lists → AreGone (gone ++ key ∷ []) old (record index { lists = lists })
+step_less gone key handle old index lists is new leaves =
     let all = left_rows gone index.handles in
     let p = λ (x : Entry). not (is_among x.key (key ∷ [])) in
-    let left = left_same gone key handle index lists is.holds (new_key keys i key up got) leaves in
-    let next = sym (next_keys keys i key got) in
+    let left = left_same gone key handle index lists is.holds new leaves in
     let before : left_rows (gone ++ key ∷ []) index.handles ≡ filter p all = left_more gone key index.handles in
     let kept = subst (AllByRecursion (λ x. IsKept index.width index.table index.lists.groups x.handle)) (sym before) (every-filter (λ x. IsKept index.width index.table index.lists.groups x.handle) p all is.holds.kept) in
     record {
-      holds = subst (λ ks. Holds (left_rows ks index.handles) (record index { lists = lists })) next (record {
+      holds = record {
         handled = is.holds.handled;
         kept = kept_same index.table index.lists.groups index.table lists.groups index.width (left_rows (gone ++ key ∷ []) index.handles) kept left.1;
         listed = subst (λ rs. AreListed rs lists) (sym (rows_same index.table index.lists.groups index.table lists.groups (left_rows (gone ++ key ∷ []) index.handles) left.1)) left.0;
         numbered = leaves.numbered;
-      });
+      };
       handles = is.handles;
       table = is.table;
       width = is.width;
-      same = subst (λ ks. AllByRecursion (λ x. IsSame old.table old.lists.groups index.table lists.groups x.handle) (left_rows ks index.handles)) next
-          (every_both (λ x. IsSame old.table old.lists.groups index.table index.lists.groups x.handle) (λ x. IsSame index.table index.lists.groups index.table lists.groups x.handle) (λ x. IsSame old.table old.lists.groups index.table lists.groups x.handle) (left_rows (gone ++ key ∷ []) index.handles)
+      same =
+          every_both (λ x. IsSame old.table old.lists.groups index.table index.lists.groups x.handle) (λ x. IsSame index.table index.lists.groups index.table lists.groups x.handle) (λ x. IsSame old.table old.lists.groups index.table lists.groups x.handle) (left_rows (gone ++ key ∷ []) index.handles)
           (λ x a b. record { within = b.within; cells = b.cells ∙ a.cells; at = b.at ∙ a.at })
-          (subst (AllByRecursion (λ x. IsSame old.table old.lists.groups index.table index.lists.groups x.handle)) (sym before) (every-filter (λ x. IsSame old.table old.lists.groups index.table index.lists.groups x.handle) p all is.same)) left.1);
+          (subst (AllByRecursion (λ x. IsSame old.table old.lists.groups index.table index.lists.groups x.handle)) (sym before) (every-filter (λ x. IsSame old.table old.lists.groups index.table index.lists.groups x.handle) p all is.same)) left.1;
+      fewer = λ other cells e. is.fewer other cells (leaves.fewer other cells e);
     }
 
 -- what is kept of the row of a key
-pub kept_of : (keys : List ℕ) (i key handle : ℕ) (index : Index) → Holds (left_rows (take i keys) index.handles) index → IsRising keys → slice_get keys i ≡ Some key → handle_under key index.handles ≡ Some handle → IsKept index.width index.table index.lists.groups handle
-kept_of keys i key handle index is up got here =
-    under_has (λ x. IsKept index.width index.table index.lists.groups x.handle) key handle (left_rows (take i keys) index.handles) is.kept (still_under (take i keys) key index.handles (new_key keys i key up got) ∙ here)
+pub kept_of : (gone : List ℕ) (key handle : ℕ) (index : Index) → Holds (left_rows gone index.handles) index → is_among key gone ≡ false → handle_under key index.handles ≡ Some handle → IsKept index.width index.table index.lists.groups handle
+kept_of gone key handle index is new here =
+    under_has (λ x. IsKept index.width index.table index.lists.groups x.handle) key handle (left_rows gone index.handles) is.kept (still_under gone key index.handles new ∙ here)
 
 -- the group of the row of a key
-pub group_there : (keys : List ℕ) (i key handle : ℕ) (index : Index) → Holds (left_rows (take i keys) index.handles) index → IsRising keys → slice_get keys i ≡ Some key → handle_under key index.handles ≡ Some handle → IsGroup index.handles (slots_numbered (kept_in index.table handle).number index.lists.groups)
-group_there keys i key handle index is up got here =
+pub group_there : (gone : List ℕ) (key handle : ℕ) (index : Index) → Holds (left_rows gone index.handles) index → is_among key gone ≡ false → handle_under key index.handles ≡ Some handle → IsGroup index.handles (slots_numbered (kept_in index.table handle).number index.lists.groups)
+group_there gone key handle index is new here =
     let number = (kept_in index.table handle).number in
     let cells = cells_in index.table index.lists.groups handle in
-    let own = some_cells (cells_with number index.lists.groups) (kept_of keys i key handle index is up got here).there in
-    subst (IsGroup index.handles) (under_number cells number index.lists (is.numbered.cells cells number own)) (holds_group (take i keys) index cells is)
-
-pub all_gone : (keys : List ℕ) (i : ℕ) (old index : Index) → length keys ≤ i → AreGone (take i keys) old index → AreGone keys old index
-all_gone keys i old index le is = subst (λ ks. AreGone ks old index) (take_all i keys le) is
+    let own = some_cells (cells_with number index.lists.groups) (kept_of gone key handle index is new here).there in
+    subst (IsGroup index.handles) (under_number cells number index.lists (is.numbered.cells cells number own)) (holds_group gone index cells is)
 
 pub members_removed : (keys : List ℕ) (old index : Index) (entries : List Entry) → AreGone keys old index → entries ≡ left_rows keys index.handles → members_of (rows_of index.table index.lists.groups entries) ≡ left_members keys (members_of (rows_of old.table old.lists.groups old.handles))
 members_removed keys old index entries gone left =

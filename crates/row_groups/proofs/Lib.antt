@@ -6,3 +6,4 @@ pub mod Listed
 pub mod Keys
 pub mod Groupings
 pub mod Indexed
+pub mod Named

@@ -1,10 +1,11 @@
 -- The rows by their handles and by their groups.
-use Rattle.std.specs.Prelude.{List}
+use Rattle.std.specs.Prelude.{List, map, option_map}
 use Rattle.std.specs.List.{AllByRecursion}
 use Rattle.row_handles.specs.Entries.{Entry, AreHandled}
 use Rattle.row_groups.specs.declared.index.Index.{Index}
-use Rattle.row_groups.specs.Members.{Grouped}
-use Rattle.row_groups.specs.Rows.{AreListed, AreNumbered, IsKept, members_of, rows_of}
+use Rattle.row_groups.specs.declared.lists.KeyedRows.{KeyedRows}
+use Rattle.row_groups.specs.Members.{Grouped, Names, Numbered, with_names}
+use Rattle.row_groups.specs.Rows.{AreListed, AreNumbered, ByNumber, IsKept, members_of, rows_of}
 
 -- the groups are those of these rows, which are among those that have handles
 pub record Holds (entries : List Entry) (index : Index) : Type 0 where
@@ -18,3 +19,9 @@ IsIndex index = Holds index.handles index
 
 abbrev pub grouped_of : Index → Grouped
 grouped_of index = record { width = index.width; members = members_of (rows_of index.table index.lists.groups index.handles) }
+
+abbrev pub names_of : ByNumber → Names
+names_of groups = map (option_map (λ (group : KeyedRows). group.cells.items)) groups.slots
+
+abbrev pub numbered_of : Index → Numbered
+numbered_of index = with_names (names_of index.lists.groups) (grouped_of index)

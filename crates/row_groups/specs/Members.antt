@@ -5,7 +5,11 @@
 --     left_members gone members      the members under none of the keys that are gone
 --     moved_members shifts members      each under the key to which its row moves
 --     group_of cells members      the members with these cells, by rising `at`, and by rising key where `at` is the same
-use Rattle.std.specs.Prelude.{ℕ, ◌≡◌, ◌==◌, not, nat_lt, int_lt, List, [], ◌∷◌, Option, filter, find, length, map, ℤ, if◌then◌else◌}
+--     name_at number names      the key cells of the group with a number, or None where no group has it
+--     with_names names groups, groups_of numbered      members with the numbers of their groups, and without
+--     IsNumberOf number cells names      it is the number of the group with these key cells, and no other is
+--     IsPart part whole      each group of the part has its number in the whole
+use Rattle.std.specs.Prelude.{ℕ, ◌≡◌, ◌≢◌, ◌==◌, not, nat_lt, int_lt, List, [], ◌∷◌, Option, None, Some, filter, find, length, map, slice_index_or, ℤ, if◌then◌else◌}
 use Rattle.std.specs.List.{AllByRecursion}
 use Rattle.key_lists.specs.Keys.{is_among}
 use Rattle.row_set.specs.Sets.{IsKeySet}
@@ -63,3 +67,32 @@ group_of cells members = by_at (filter (λ member. same_cells cells member.cells
 pub record AreGrouped (grouped : Grouped) : Type 0 where
   pub keys : IsKeySet (keys_of grouped.members)
   pub cells : AllByRecursion (λ member. length member.cells ≡ grouped.width) grouped.members
+
+-- the key cells of each group, by the number of the group
+abbrev pub Names : Type 0
+Names = List (Option (List ℤ))
+
+abbrev pub name_at : ℕ → Names → Option (List ℤ)
+name_at number names = slice_index_or names number None
+
+-- the members, each with this many cells, and the numbers of their groups
+pub record Numbered : Type 0 where
+  pub width : ℕ
+  pub members : List Member
+  pub names : Names
+
+abbrev pub with_names : Names → Grouped → Numbered
+with_names names groups = record { width = groups.width; members = groups.members; names = names }
+
+abbrev pub groups_of : Numbered → Grouped
+groups_of numbered = record { width = numbered.width; members = numbered.members }
+
+pub record IsNumberOf (number : ℕ) (cells : List ℤ) (names : Names) : Type 0 where
+  pub own : name_at number names ≡ Some cells
+  pub alone : (other : ℕ) → name_at other names ≡ Some cells → other ≡ number
+
+-- the groups of the part, each of which has a number there, have it in the whole too, where no group has two
+pub record IsPart (part whole : Numbered) : Type 0 where
+  pub kept : (number : ℕ) (cells : List ℤ) → name_at number part.names ≡ Some cells → name_at number whole.names ≡ Some cells
+  pub named : (cells : List ℤ) → ((number : ℕ) → name_at number part.names ≢ Some cells) → group_of cells part.members ≡ []
+  pub alone : (number other : ℕ) (cells : List ℤ) → name_at number whole.names ≡ Some cells → name_at other whole.names ≡ Some cells → number ≡ other

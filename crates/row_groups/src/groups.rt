@@ -4,7 +4,7 @@ ghost use Rattle.tick_model.specs.Rules.{shift_fault};
 ghost use Rattle.row_groups.specs.Members.{AreGrouped, group_of, keys_of, left_members, member_of, member_under, moved_members, with_member};
 
 use crate::group::Group;
-use crate::index::Index;
+use crate::numbered::NumberedGroups;
 use row_set::RowSet;
 use shift_data::ShiftData;
 use std::alloc::{AllocError, Global};
@@ -13,24 +13,21 @@ use std::marker::Model;
 /// The rows of a table by their key cells. The rows with equal cells are a group, in which they stand by rising `at` and then by
 /// rising key. What is kept of a row is not read from the table again.
 pub struct Groups {
-    index: Index,
+    numbered: NumberedGroups,
 }
 
 impl Drop for Groups {
     fn drop(self) {
-        let Self { index: _ } = self;
+        let Self { numbered: _ } = self;
     }
 }
 
 impl Model for Groups {
-    ghost use Rattle.row_groups.specs.Members.{Grouped};
-    ghost use Rattle.row_groups.specs.Indexes.{grouped_of, IsIndex};
+    ghost use Rattle.row_groups.specs.Members.{Grouped, groups_of};
 
     ghost Value = { Grouped };
 
-    ghost view = { λ groups. grouped_of groups.index };
-
-    ghost invariant = { λ groups. IsIndex groups.index };
+    ghost view = { λ groups. groups_of groups.numbered };
 }
 
 impl Groups {
@@ -39,7 +36,7 @@ impl Groups {
         ensures { result ≡ record { width = width; members = [] } }
     {
         Groups {
-            index: Index::new(alloc, width),
+            numbered: NumberedGroups::new(alloc, width),
         }
     }
 
@@ -52,14 +49,15 @@ impl Groups {
         ensures members { OnOk result (self.new ≡ record self.old { members = with_member (member_of key cells.now at) self.old.members }) }
         ensures refused { OnErr result (self.new ≡ self.old) }
     {
-        self.index.add(key, cells, at)
+        self.numbered.add(key, cells, at)?;
+        Ok(())
     }
 
     /// Takes out the rows under these keys; it is no matter whether all of them have one. It takes no memory.
     pub fn remove(&mut self, keys: &RowSet)
         ensures { self.new ≡ record self.old { members = left_members keys.now self.old.members } }
     {
-        self.index.remove(keys);
+        self.numbered.remove(keys);
     }
 
     /// Moves the rows to the keys to which the shift leads them, where they rise again. The cost is that of the blocks of
@@ -69,7 +67,7 @@ impl Groups {
         ensures members { OnOk result (self.new ≡ record self.old { members = moved_members shifts.now self.old.members }) }
         ensures refused { OnErr result (self.new ≡ self.old) }
     {
-        self.index.shift(shifts)
+        self.numbered.shift(shifts)
     }
 
     /// The rows with these cells.
@@ -77,11 +75,7 @@ impl Groups {
         ensures group { result ≡ group_of cells.now self.now.members }
         ensures members { AreGrouped self.now }
     {
-        Group::new(
-            &self.index.handles,
-            cells,
-            self.index.lists.rows_with(cells),
-        )
+        self.numbered.group(cells)
     }
 
     /// The rows with the cells of the row under a key, or None where there is none. It takes no hash.
@@ -89,14 +83,7 @@ impl Groups {
         ensures group { result ≡ option_map (λ member. group_of member.cells self.now.members) (member_under key self.now.members) }
         ensures members { AreGrouped self.now }
     {
-        let handle = self.index.handles.handle_of(key)?;
-        let kept = self.index.table.get(handle);
-        let lists = &self.index.lists;
-        Some(Group::new(
-            &self.index.handles,
-            lists.cells_of(kept.number),
-            lists.rows_of(kept.number),
-        ))
+        self.numbered.group_of(key)
     }
 
     /// The key cells of the row under a key, or None where there is none.
@@ -104,9 +91,7 @@ impl Groups {
         ensures cells { option_map (λ cells. cells.now) result ≡ option_map (λ member. member.cells) (member_under key self.now.members) }
         ensures members { AreGrouped self.now }
     {
-        let handle = self.index.handles.handle_of(key)?;
-        let kept = self.index.table.get(handle);
-        Some(self.index.lists.cells_of(kept.number))
+        self.numbered.cells_of(key)
     }
 
     /// The `at` of the row under a key, or None where there is none.
@@ -114,7 +99,6 @@ impl Groups {
         ensures at { result ≡ option_map (λ member. member.at) (member_under key self.now.members) }
         ensures members { AreGrouped self.now }
     {
-        let handle = self.index.handles.handle_of(key)?;
-        Some(self.index.table.get(handle).at)
+        self.numbered.at_of(key)
     }
 }

@@ -1,9 +1,9 @@
 //! The rows by their handles and by their groups.
-ghost use Rattle.std.specs.Prelude.{◌≡◌, ◌^◌, ◌<◌, ◌∷◌, [], length, None, Some, OnOk, OnErr};
+ghost use Rattle.std.specs.Prelude.{◌≡◌, ℕ, List, ℤ, ◌^◌, ◌<◌, ◌∷◌, [], length, None, Some, IfOk, IsSome, OnOk, OnErr};
 ghost use Rattle.tick_model.specs.Rules.{shift_fault};
 ghost use Rattle.row_handles.specs.Entries.{handle_under, keys_of, left_rows, moved_rows};
 ghost use Rattle.row_groups.specs.Members.{left_members, member_of, moved_members, with_member};
-ghost use Rattle.row_groups.specs.Rows.{members_of, rows_of};
+ghost use Rattle.row_groups.specs.Rows.{cells_with, members_of, rows_of};
 
 use crate::lists::Lists;
 use crate::place::{Place, Slot};
@@ -24,12 +24,13 @@ pub(crate) struct Index {
 }
 
 impl Index {
-    ghost use Rattle.row_groups.specs.Indexes.{grouped_of, Holds, IsIndex};
+    ghost use Rattle.row_groups.specs.Indexes.{grouped_of, Holds, IsIndex, names_of};
 
     /// No rows, which are to have so many key cells each.
     pub(crate) fn new(alloc: Global, width: usize) -> Index
         ensures sound { IsIndex result }
         ensures members { grouped_of result ≡ record { width = width; members = [] } }
+        ensures names { names_of result.lists.groups ≡ [] }
     {
         Index {
             width,
@@ -39,8 +40,14 @@ impl Index {
         }
     }
 
-    /// Puts a row that has its handle into its group.
-    fn enter(&mut self, handle: Handle, key: u64, cells: &[i64], at: i64) -> Result<(), AllocError>
+    /// Puts a row that has its handle into its group. Returns the number of the group.
+    fn enter(
+        &mut self,
+        handle: Handle,
+        key: u64,
+        cells: &[i64],
+        at: i64,
+    ) -> Result<usize, AllocError>
         requires others { Holds (left_rows (key ∷ []) self.old.handles) self.old }
         requires handle { handle_under key self.old.handles ≡ Some handle }
         requires width { length cells.now ≡ self.old.width }
@@ -48,6 +55,8 @@ impl Index {
         ensures row { OnOk result (grouped_of self.new ≡ record { width = self.old.width; members = with_member (member_of key cells.now at) (members_of (rows_of self.old.table self.old.lists.groups (left_rows (key ∷ []) self.old.handles))) }) }
         ensures err { OnErr result (Holds (left_rows (key ∷ []) self.new.handles) self.new) }
         ensures others { rows_of self.new.table self.new.lists.groups (left_rows (key ∷ []) self.new.handles) ≡ rows_of self.old.table self.old.lists.groups (left_rows (key ∷ []) self.old.handles) }
+        ensures number { IfOk result (λ number. cells_with number self.new.lists.groups ≡ Some cells.now) }
+        ensures numbers { (other : ℕ) → IsSome (cells_with other self.old.lists.groups) → cells_with other self.new.lists.groups ≡ cells_with other self.old.lists.groups }
         ensures handles { self.new.handles ≡ self.old.handles }
         ensures width { self.new.width ≡ self.old.width }
     {
@@ -59,11 +68,11 @@ impl Index {
         };
         let number = self.lists.put(cells, &place, Slot { at, handle })?;
         self.table.keep(handle, Kept { number, at });
-        Ok(())
+        Ok(number)
     }
 
-    /// Puts a row in under a key that has none.
-    pub(crate) fn add(&mut self, key: u64, cells: &[i64], at: i64) -> Result<(), AllocError>
+    /// Puts a row in under a key that has none. Returns the number of its group.
+    pub(crate) fn add(&mut self, key: u64, cells: &[i64], at: i64) -> Result<usize, AllocError>
         requires sound { IsIndex self.old }
         requires small { key < 2 ^ 62 }
         requires absent { handle_under key self.old.handles ≡ None }
@@ -71,13 +80,17 @@ impl Index {
         ensures sound { IsIndex self.new }
         ensures ok { OnOk result (grouped_of self.new ≡ record (grouped_of self.old) { members = with_member (member_of key cells.now at) (grouped_of self.old).members }) }
         ensures err { OnErr result (grouped_of self.new ≡ grouped_of self.old) }
+        ensures number { IfOk result (λ number. cells_with number self.new.lists.groups ≡ Some cells.now) }
+        ensures numbers { (other : ℕ) → IsSome (cells_with other self.old.lists.groups) → cells_with other self.new.lists.groups ≡ cells_with other self.old.lists.groups }
     {
         let handle = self.handles.add(key)?;
-        if let Err(refusal) = self.enter(handle, key, cells, at) {
-            self.handles.remove_one(key);
-            return Err(refusal);
+        match self.enter(handle, key, cells, at) {
+            Ok(number) => Ok(number),
+            Err(refusal) => {
+                self.handles.remove_one(key);
+                Err(refusal)
+            }
         }
-        Ok(())
     }
 
     /// Takes out the rows under these keys.
@@ -85,11 +98,9 @@ impl Index {
         requires sound { IsIndex self.old }
         ensures sound { IsIndex self.new }
         ensures members { grouped_of self.new ≡ record (grouped_of self.old) { members = left_members keys.now (grouped_of self.old).members } }
+        ensures fewer { (other : ℕ) (cells : List ℤ) → cells_with other self.new.lists.groups ≡ Some cells → cells_with other self.old.lists.groups ≡ Some cells }
     {
-        for position in 0..keys.len() {
-            let Some(key) = keys.get(position) else {
-                return;
-            };
+        for key in keys {
             let Some(handle) = self.handles.handle_of(key) else {
                 continue;
             };
@@ -111,6 +122,7 @@ impl Index {
         ensures sound { IsIndex self.new }
         ensures ok { OnOk result (grouped_of self.new ≡ record (grouped_of self.old) { members = moved_members shifts.now (grouped_of self.old).members }) }
         ensures err { OnErr result (grouped_of self.new ≡ grouped_of self.old) }
+        ensures groups { self.new.lists.groups ≡ self.old.lists.groups }
     {
         self.handles.shift(shifts)
     }

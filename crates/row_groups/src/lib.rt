@@ -7,9 +7,11 @@ mod group;
 mod groups;
 mod index;
 mod lists;
+mod numbered;
 mod place;
 mod sequence;
 mod table;
 
 pub use group::Group;
 pub use groups::Groups;
+pub use numbered::NumberedGroups;

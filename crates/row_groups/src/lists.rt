@@ -62,14 +62,6 @@ impl Lists {
         &self.groups[number].cells
     }
 
-    /// The rows of a group.
-    pub(crate) fn rows_of(&self, number: usize) -> &Sequence
-        requires { IsSome (cells_with number self.now.groups) }
-        ensures { result.now ≡ slots_numbered number self.now.groups }
-    {
-        &self.groups[number].rows
-    }
-
     /// Begins the group of these cells with its first row, and gives it a number.
     fn begin(&mut self, cells: &[i64], slot: Slot) -> Result<usize, AllocError>
         requires sound { AreNumbered self.old }
@@ -119,6 +111,7 @@ impl Lists {
     fn give_up(&mut self, number: usize)
         requires { AreNumbered self.old }
         ensures rows { (cells : List ℤ) → cells_with number self.old.groups ≡ Some cells → Becomes cells [] self.old self.new }
+        ensures gone { cells_with number self.new.groups ≡ None }
         ensures others { (other : ℕ) → other ≢ number → cells_with other self.new.groups ≡ cells_with other self.old.groups }
         ensures sound { AreNumbered self.new }
     {
@@ -136,6 +129,7 @@ impl Lists {
         ensures rows { (cells : List ℤ) → cells_with number self.old.groups ≡ Some cells → Becomes cells (slots_without place.now.handles.now place.now.at place.now.key (slots_under cells self.old)) self.old self.new }
         ensures own { slots_without place.now.handles.now place.now.at place.now.key (slots_numbered number self.old.groups) ≢ [] → cells_with number self.new.groups ≡ cells_with number self.old.groups }
         ensures others { (other : ℕ) → other ≢ number → cells_with other self.new.groups ≡ cells_with other self.old.groups }
+        ensures fewer { (other : ℕ) (cells : List ℤ) → cells_with other self.new.groups ≡ Some cells → cells_with other self.old.groups ≡ Some cells }
         ensures sound { AreNumbered self.new }
     {
         let rows = &mut self.groups[number].rows;

@@ -26,11 +26,11 @@ returns-in-Err-clause-err c =
     let rows = ap (rows_of c.enter.new.self.table c.enter.new.self.lists.groups) c.remove_one.ensures ∙ c.enter.ensures.others ∙ ap (rows_of old.table old.lists.groups) back in
     grouped_same _ _ _ _ c.enter.ensures.width (ap members_of rows)
 
-pub returns-clause-ok : goal.returns-clause-ok
-returns-clause-ok c =
+pub returns-in-Ok-clause-ok : goal.returns-in-Ok-clause-ok
+returns-in-Ok-clause-ok c =
     let old = c.args.self.now in
     let key = c.args.key in
     let back = ap (left_rows (key ∷ [])) c.in_ok-handle.ensures.rows ∙ left_again key c.in_ok-handle.handle old.handles (ascending old.handles c.requires.sound.handled) c.requires.absent in
-    c.in_default.ensures.row
+    c.in-Ok.ensures.row
     ∙ ap (λ at. record { width = old.width; members = with_member (member_of key c.args.cells.now at) (members_of (rows_of old.table old.lists.groups (left_rows (key ∷ []) c.add.new.self))) }) (to_z-of_z w64 c.args.at c.ranges.at)
     ∙ ap (λ xs. record { width = old.width; members = with_member (member_of key c.args.cells.now c.args.at) (members_of (rows_of old.table old.lists.groups xs)) }) back

@@ -1,8 +1,10 @@
-use Rattle.std.proofs.Common.{◌≡◌, ◌+◌, ◌<◌, ◌≤◌, ◌++◌, ap, sym, ◌∙◌, subst, refl, suc, take, drop, length, arith, []}
+use Rattle.std.proofs.Common.{◌≡◌, ◌+◌, ◌<◌, ◌≤◌, ◌++◌, ap, sym, ◌∙◌, subst, refl, suc, take, drop, length, arith, [], inl, inr}
+use Rattle.std.proofs.lemmas.Bool.{cases_eq}
+use Rattle.std.proofs.lemmas.Option.{none-some}
 use Rattle.row_handles.proofs.Leaving.{no_items}
 use Rattle.row_groups.specs.declared.lists.Lists.{Lists}
 use Rattle.row_groups.specs.Slots.{slots_without}
-use Rattle.row_groups.specs.Rows.{Becomes}
+use Rattle.row_groups.specs.Rows.{Becomes, cells_with}
 use Rattle.slab.specs.Slab.{with_value}
 use Rattle.row_groups.proofs.Listed.{becomes_after, changed, changes_cells, changes_rows, none_there, placed_without, same_items, under_number, with_rows}
 use Rattle.row_groups.proofs.lists.Lists.take.Goals as goal
@@ -61,3 +63,25 @@ returns-else-is_empty-clause-rows c = λ cells own.
     let held = under_number cells number old (c.requires.sound.cells cells number own) ∙ with_rows number old.groups group was in
     subst (λ slots. Becomes cells slots old mid) (rest ∙ ap without (sym held))
     (subst (λ cs. Becomes cs left old mid) same (changes_rows number group left old mid (changed number group left old mid c.requires.sound was refl refl)))
+
+pub returns-then-is_empty-clause-fewer : goal.returns-then-is_empty-clause-fewer
+returns-then-is_empty-clause-fewer c = λ other cells e.
+    let old = c.args.self.now in
+    let number = c.args.number in
+    let group = c.index_mut.result.now in
+    let left = c.if-position-len.rows in
+    let mid : Lists = record old { groups = with_value old.groups number (record group { rows = left }) } in
+    let new = c.give_up.new.self in
+    elim (cases_eq other number) [
+      | inl same ↦ absurd (none-some cells (sym c.give_up.ensures.gone ∙ ap (λ n. cells_with n new.groups) (sym same) ∙ e))
+      | inr differ ↦ sym (changes_cells number group left old mid (changed number group left old mid c.requires.sound c.index_mut.ensures.value refl refl) other) ∙ sym (c.give_up.ensures.others other differ) ∙ e
+    ]
+
+pub returns-else-is_empty-clause-fewer : goal.returns-else-is_empty-clause-fewer
+returns-else-is_empty-clause-fewer c = λ other cells e.
+    let old = c.args.self.now in
+    let number = c.args.number in
+    let group = c.index_mut.result.now in
+    let left = c.if-position-len.rows in
+    let mid : Lists = record old { groups = with_value old.groups number (record group { rows = left }) } in
+    sym (changes_cells number group left old mid (changed number group left old mid c.requires.sound c.index_mut.ensures.value refl refl) other) ∙ e

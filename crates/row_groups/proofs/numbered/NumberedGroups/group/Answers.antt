@@ -1,9 +1,9 @@
 use Rattle.std.proofs.Common.{ap, sym, ◌∙◌, subst, map}
-use Rattle.row_groups.specs.Members.{AreGrouped, group_of}
+use Rattle.row_groups.specs.Members.{AreGrouped, Numbered, group_of, groups_of}
 use Rattle.row_groups.specs.Slots.{AreKnown, AreRanked, member_at}
 use Rattle.row_groups.proofs.Keys.{ascending, known_all}
 use Rattle.row_groups.proofs.Groupings.{are_grouped, listed_group, listed_members}
-use Rattle.row_groups.proofs.groups.Groups.group.Goals as goal
+use Rattle.row_groups.proofs.numbered.NumberedGroups.group.Goals as goal
 
 pub new-requires-clause-known : goal.new-requires-clause-known
 new-requires-clause-known c =
@@ -23,9 +23,9 @@ returns-clause-group c =
     c.new.ensures
     ∙ ap (map (member_at index.handles c.args.cells.now)) c.rows_with.ensures
     ∙ listed_members index.table index.lists.groups index.handles index.lists c.args.cells.now c.self.invariant.listed c.self.invariant.handled
-    ∙ ap (λ grouped. group_of c.args.cells.now grouped.members) c.self.view_is
+    ∙ ap (λ (numbered : Numbered). group_of c.args.cells.now numbered.members) c.self.view_is
 
 pub returns-clause-members : goal.returns-clause-members
 returns-clause-members c =
     let index = c.self.inside.index in
-    subst AreGrouped c.self.view_is (are_grouped index.width index.table index.lists.groups index.handles c.self.invariant.handled c.self.invariant.kept)
+    subst (λ (numbered : Numbered). AreGrouped (groups_of numbered)) c.self.view_is (are_grouped index.width index.table index.lists.groups index.handles c.self.invariant.handled c.self.invariant.kept)

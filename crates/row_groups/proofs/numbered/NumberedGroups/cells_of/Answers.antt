@@ -1,24 +1,24 @@
 use Rattle.std.proofs.Common.{ap, sym, ◌∙◌, subst, refl, option_map, unwrap_or, List, [], ℤ, Option, Some, IsSome}
 use Rattle.row_groups.specs.declared.table.Kept.{Kept}
-use Rattle.row_groups.specs.Members.{AreGrouped, member_under}
+use Rattle.row_groups.specs.Members.{AreGrouped, Numbered, groups_of, member_under}
 use Rattle.row_groups.specs.Rows.{IsKept, cells_in, cells_with}
 use Rattle.row_groups.proofs.Keys.{under_has}
 use Rattle.row_groups.proofs.Groupings.{are_grouped, under_same}
-use Rattle.row_groups.proofs.groups.Groups.cells_of.Goals as goal
+use Rattle.row_groups.proofs.numbered.NumberedGroups.cells_of.Goals as goal
 
 pub returns-in_err-handle-clause-cells : goal.returns-in_err-handle-clause-cells
 returns-in_err-handle-clause-cells c =
     let index = c.self.inside.index in
     rw c.from_residual.ensures
     (sym (
-    ap (λ grouped. option_map (λ member. member.cells) (member_under c.args.key grouped.members)) (sym c.self.view_is)
+    ap (λ (numbered : Numbered). option_map (λ member. member.cells) (member_under c.args.key numbered.members)) (sym c.self.view_is)
     ∙ under_same (λ member. member.cells) (cells_in index.table index.lists.groups) c.args.key index.table index.lists.groups index.handles (λ x. refl)
     ∙ ap (option_map (cells_in index.table index.lists.groups)) (sym c.handle_of.ensures.handle ∙ c.in_err-handle.was)
     ))
 
 pub returns-in_err-handle-clause-members : goal.returns-in_err-handle-clause-members
 returns-in_err-handle-clause-members c =
-    subst AreGrouped c.self.view_is (are_grouped c.self.inside.index.width c.self.inside.index.table c.self.inside.index.lists.groups c.self.inside.index.handles c.self.invariant.handled c.self.invariant.kept)
+    subst (λ (numbered : Numbered). AreGrouped (groups_of numbered)) c.self.view_is (are_grouped c.self.inside.index.width c.self.inside.index.table c.self.inside.index.lists.groups c.self.inside.index.handles c.self.invariant.handled c.self.invariant.kept)
 
 pub get-kept-requires : goal.get-kept-requires
 get-kept-requires c =
@@ -36,11 +36,11 @@ returns-clause-cells c =
     let index = c.self.inside.index in
     ap (λ (cells : Option (List ℤ)). Some (unwrap_or cells [])) (c.cells_of.ensures ∙ ap (λ (kept : Kept). cells_with kept.number index.lists.groups) c.get-kept.ensures)
     ∙ sym (
-    ap (λ grouped. option_map (λ member. member.cells) (member_under c.args.key grouped.members)) (sym c.self.view_is)
+    ap (λ (numbered : Numbered). option_map (λ member. member.cells) (member_under c.args.key numbered.members)) (sym c.self.view_is)
     ∙ under_same (λ member. member.cells) (cells_in index.table index.lists.groups) c.args.key index.table index.lists.groups index.handles (λ x. refl)
     ∙ ap (option_map (cells_in index.table index.lists.groups)) (sym c.handle_of.ensures.handle ∙ c.in_ok-handle.was)
     )
 
 pub returns-clause-members : goal.returns-clause-members
 returns-clause-members c =
-    subst AreGrouped c.self.view_is (are_grouped c.self.inside.index.width c.self.inside.index.table c.self.inside.index.lists.groups c.self.inside.index.handles c.self.invariant.handled c.self.invariant.kept)
+    subst (λ (numbered : Numbered). AreGrouped (groups_of numbered)) c.self.view_is (are_grouped c.self.inside.index.width c.self.inside.index.table c.self.inside.index.lists.groups c.self.inside.index.handles c.self.invariant.handled c.self.invariant.kept)
