@@ -1,8 +1,7 @@
 -- What is kept for an aggregate says of a group what the aggregate of its rows is.
-use Rattle.std.proofs.Common.{◌≡◌, refl, ap, ap₂, sym, ◌∙◌, subst, Bool, true, false, not, cond, ◌==◌, ◌||◌, ℕ, zero, suc, ◌+◌, ◌-◌, ◌^◌, ◌<◌, ◌≤◌, arith, List, [], ◌∷◌, ◌++◌, map, filter, length, get_or, Option, Some, None, ℤ, pos, ◌+ℤ◌, w64, fold, count_by, int_le, int_lt, option_map, true≢false, append_assoc, is_some, is_ok, OnOk, Result, Ok, Err, if◌then◌else◌}
+use Rattle.std.proofs.Common.{◌≡◌, refl, ap, ap₂, sym, ◌∙◌, subst, Bool, true, false, not, cond, ◌==◌, ◌||◌, ℕ, zero, suc, ◌-◌, ◌^◌, ◌<◌, ◌≤◌, arith, List, [], ◌∷◌, ◌++◌, map, filter, length, Option, Some, None, ℤ, pos, ◌+ℤ◌, w64, fold, option_map, true≢false, append_assoc, is_some, is_ok, OnOk, Result, Ok, Err, if◌then◌else◌}
 use Rattle.std.specs.Cmp.{signed_Decides}
 use Rattle.std.specs.Cmp.Rules.{signed_items}
-use Rattle.std.specs.Int.{int_min, int_max}
 use Rattle.std.specs.List.{AllByRecursion}
 use Rattle.std.specs.Option.{option_map_or}
 use Rattle.std.specs.Ordering.{int_eq}
@@ -10,12 +9,11 @@ use Rattle.std.specs.Prelude.{find, slice_get, unwrap_or}
 use Rattle.std.proofs.lemmas.Bool.{and_parts}
 use Rattle.std.proofs.lemmas.Int.{int_wrap_fits, ints}
 use Rattle.std.proofs.lemmas.List.{length-map}
-use Rattle.std.proofs.lemmas.List.Sums.{sum_by-cons}
 use Rattle.key_lists.specs.Keys.{is_among, IsRising}
 use Rattle.std.proofs.lemmas.Option.{none-some}
-use Rattle.key_lists.proofs.Every.{every-filter, every-map, every_both, every_weaker, filter-map, filter_passes, map_map, map_same}
+use Rattle.key_lists.proofs.Every.{every-filter, every-map, every_weaker, filter-map, filter_passes, map_map, map_same}
 use Rattle.row_changes.specs.Sums.{added_up}
-use Rattle.row_groups.specs.Members.{Grouped, Member, by_at, group_of, keys_of, member_under, placed as member_placed}
+use Rattle.row_groups.specs.Members.{Grouped, IsNumberOf, Member, Names, by_at, group_of, keys_of, member_under, name_at, placed as member_placed}
 use Rattle.tick_laws.proofs.ResultCells.{length-filter_most}
 use Rattle.tick_model.proofs.Among.{each_found, rows_among}
 use Rattle.tick_laws.proofs.ResultTables.{table_count}
@@ -27,35 +25,17 @@ use Rattle.tick_model.specs.Formulas.{wrap}
 use Rattle.tick_model.specs.Tables.{cell, cells_at, is_null, keys, null, row_at, same_cells, IsTable}
 use Rattle.agg_by.specs.declared.running.Running.{Running}
 use Rattle.agg_by.specs.declared.running.Running.TheVariants.{Count, Sum, Min, Max, First, Last}
-use Rattle.agg_by.specs.Answers.{AreNumbers, IsFloored, answer, cell_of, greatest, least, places, sum_or_null}
-use Rattle.agg_by.specs.Kept.{AnswerAll, Answers, agg_of, group_rows, indexed, member_by}
+use Rattle.agg_by.specs.Answers.{answer, cell_of}
+use Rattle.agg_by.specs.ByNumber.{at_number}
+use Rattle.agg_by.specs.Kept.{AnswerAll, Answers, agg_of, cells_in, group_rows, indexed, member_by}
 use Rattle.agg_by.specs.Steps.{first_keys, kept_cells, key_at}
-use Rattle.agg_by.specs.Sums.{count_of, total_of, value_of}
+use Rattle.agg_by.specs.Sums.{no_total, sum_or_null, total_of}
+use Rattle.agg_by.specs.Values.{greatest, in_order, least}
 use Rattle.agg_by.proofs.Bringing.{keys-members, members}
-use Rattle.agg_by.proofs.GroupRows.{cells-agg, first_at, group_cells}
-use Rattle.agg_by.proofs.Ordered.{AreAbove, all_above, greatest_is, least_is, placed, sorted, sorted_ascends}
+use Rattle.agg_by.proofs.GroupRows.{cells-agg, first_at}
+use Rattle.agg_by.proofs.Ordered.{greatest_is, least_is}
 
--- the places of members in order are these numbers in order
-places-placed : (member : Member) (ms : List Member) → places (member_placed member ms) ≡ placed member.at (places ms)
-places-placed member [] = refl
-places-placed member (other ∷ others) = by (int_lt other.at member.at) (places-placed member others)
-  where
-    by : (b : Bool) → places (member_placed member others) ≡ placed member.at (places others) → places (if b then other ∷ member_placed member others else member ∷ other ∷ others) ≡ (if b then other.at ∷ placed member.at (places others) else member.at ∷ other.at ∷ places others)
-    by true rest = ap (λ xs. other.at ∷ xs) rest
-    by false rest = refl
-
-places-by_at : (ms : List Member) → places (by_at ms) ≡ sorted (places ms)
-places-by_at [] = refl
-places-by_at (member ∷ ms) = places-placed member (by_at ms) ∙ ap (placed member.at) (places-by_at ms)
-
-count-places : (ms : List Member) → count_by (λ (member : Member). int_le member.at null) ms ≡ count_by (λ v. int_le v null) (places ms)
-count-places [] = refl
-count-places (member ∷ ms) =
-    sum_by-cons (λ (member : Member). cond (int_le member.at null) 1 0) member ms
-    ∙ ap (λ n. cond (int_le member.at null) 1 0 + n) (count-places ms)
-    ∙ sym (sum_by-cons (λ v. cond (int_le v null) 1 0) member.at (places ms))
-
--- the sum of cells, and how many hold something
+-- the sum of cells
 fold_added : (a : ℤ) (xs : List ℤ) → fold ◌+ℤ◌ a xs ≡ a +ℤ added_up (λ x. x) xs
 fold_added a [] = none a
   where
@@ -69,26 +49,7 @@ fold_added a (x ∷ xs) = fold_added (a +ℤ x) xs ∙ through a x (added_up (λ
 with_none : (s : ℤ) → pos 0 +ℤ s ≡ s
 with_none s = omega (arith, ints)
 
-added_value : (xs : List ℤ) → added_up value_of xs ≡ added_up (λ x. x) (present xs)
-added_value [] = refl
-added_value (x ∷ xs) = by (is_null x) (added_value xs)
-  where
-    by : (b : Bool) → added_up value_of xs ≡ added_up (λ x. x) (present xs) → (if b then pos 0 else x) +ℤ added_up value_of xs ≡ added_up (λ x. x) (cond (not b) (x ∷ present xs) (present xs))
-    by true rest = with_none (added_up value_of xs) ∙ rest
-    by false rest = ap (λ s. x +ℤ s) rest
-
-added_count : (xs : List ℤ) → added_up count_of xs ≡ pos (length (present xs))
-added_count [] = refl
-added_count (x ∷ xs) = by (is_null x) (added_count xs)
-  where
-    one : (n : ℕ) → pos 1 +ℤ pos n ≡ pos (suc n)
-    one n = omega (arith, ints)
-
-    by : (b : Bool) → added_up count_of xs ≡ pos (length (present xs)) → (if b then pos 0 else pos 1) +ℤ added_up count_of xs ≡ pos (length (cond (not b) (x ∷ present xs) (present xs)))
-    by true rest = with_none (added_up count_of xs) ∙ rest
-    by false rest = ap (λ s. pos 1 +ℤ s) rest ∙ one (length (present xs))
-
-small_wraps : (n : ℕ) → n ≤ 2 ^ 62 → wrap (pos n) ≡ pos n
+pub small_wraps : (n : ℕ) → n ≤ 2 ^ 62 → wrap (pos n) ≡ pos n
 small_wraps n h = int_wrap_fits w64 (pos n) (record { sfits = below n h })
   where
     below : (n : ℕ) → n ≤ 2 ^ 62 → n < 2 ^ 63
@@ -104,20 +65,18 @@ not_none n = by (int_eq (pos (suc n)) (pos 0)) refl
         past : pos (suc n) ≡ pos 0 → ⊥
         past e = cc
 
-sum_present : (xs some : List ℤ) → some ≡ present xs → length some ≤ 2 ^ 62 → (if int_eq (wrap (pos (length some))) (pos 0) then null else wrap (pos 0 +ℤ added_up (λ x. x) some)) ≡ sum_of some
-sum_present xs [] e h = ap (λ z. if int_eq z (pos 0) then null else wrap (pos 0 +ℤ pos 0)) (small_wraps 0 h)
-sum_present xs (x ∷ some) e h =
-    ap (λ z. if int_eq z (pos 0) then null else wrap (pos 0 +ℤ added_up (λ x. x) (x ∷ some))) (small_wraps (suc (length some)) h)
-    ∙ ap (λ b. if b then null else wrap (pos 0 +ℤ added_up (λ x. x) (x ∷ some))) (not_none (length some))
-    ∙ ap wrap (sym (fold_added (pos 0) (x ∷ some)))
+sum_is : (xs : List ℤ) → length xs ≤ 2 ^ 62 → sum_or_null (total_of xs) ≡ sum_of xs
+sum_is [] few = ap (λ z. if int_eq z (pos 0) then null else wrap (pos 0)) (small_wraps 0 few)
+sum_is (x ∷ xs) few =
+    ap (λ z. if int_eq z (pos 0) then null else wrap (added_up (λ x. x) (x ∷ xs))) (small_wraps (suc (length xs)) few)
+    ∙ ap (λ b. if b then null else wrap (added_up (λ x. x) (x ∷ xs))) (not_none (length xs))
+    ∙ ap wrap (sym (fold_added (pos 0) (x ∷ xs) ∙ with_none (added_up (λ x. x) (x ∷ xs))))
 
-sum_is : (xs : List ℤ) → length xs ≤ 2 ^ 62 → sum_or_null (total_of xs) ≡ sum_of (present xs)
-sum_is xs few =
-    ap₂ (λ (count value : ℤ). if int_eq (wrap count) (pos 0) then null else wrap value) (added_count xs) (added_value xs ∙ sym (with_none (added_up (λ x. x) (present xs))))
-    ∙ sum_present xs (present xs) refl (fewer (length xs) (length (present xs)) few (length-filter_most (λ value. not (is_null value)) xs))
-  where
-    fewer : (n m : ℕ) → n ≤ 2 ^ 62 → m ≤ n → m ≤ 2 ^ 62
-    fewer n m h k = omega (arith, h, k)
+-- what is said of a group for which nothing is kept is said of no cells
+told : {X : Type 0} (say : X → ℤ) (none : X) (entries : List X) (n : ℕ) → say none ≡ null → option_map_or say (slice_get entries n) null ≡ say (at_number none n entries)
+told say none [] n e = sym e
+told say none (entry ∷ entries) zero e = refl
+told say none (entry ∷ entries) (suc n) e = told say none entries n e
 
 fold_first : (x : ℤ) (xs : List ℤ) → fold (λ first _. first) x xs ≡ x
 fold_first x [] = refl
@@ -192,41 +151,23 @@ module _ (by : List ℕ) (rows : List PlainRow) (cells : List ℤ) where
   cell_at column (row ∷ some) zero h = ap (λ cells. cell cells column) h.0
   cell_at column (row ∷ some) (suc i) h = cell_at column some i h.1
 
-  ordered : (column : ℕ) → places (group_of cells (members by (Some column) rows)) ≡ sorted (column_of group column)
-  ordered column =
-      ap (λ ms. places (by_at ms)) (members-group (Some column)) ∙ places-by_at (members by (Some column) group)
-      ∙ ap sorted (map_map (λ (member : Member). member.at) (member_by by (Some column)) group)
-
-  above : (column : ℕ) → IsFloored (group_of cells (members by (Some column) rows)) → AreAbove (sorted (column_of group column))
-  above column floored =
-      all_above (sorted (column_of group column)) (sorted_ascends (column_of group column))
-      (λ place e. floored place (ap (λ s. slice_get s 0) (ordered column) ∙ e))
-
-  least_group : (column : ℕ) → IsFloored (group_of cells (members by (Some column) rows)) → least (group_of cells (members by (Some column) rows)) ≡ over int_min (present (column_of group column))
-  least_group column floored =
-      ap (λ n. get_or (places (group_of cells (members by (Some column) rows))) n null) (count-places (group_of cells (members by (Some column) rows)))
-      ∙ ap (λ s. get_or s (count_by (λ v. int_le v null) s) null) (ordered column)
-      ∙ least_is (column_of group column) (above column floored)
-
-  greatest_group : (column : ℕ) → IsFloored (group_of cells (members by (Some column) rows)) → greatest (group_of cells (members by (Some column) rows)) ≡ over int_max (present (column_of group column))
-  greatest_group column floored =
-      ap (λ n. get_or (places (group_of cells (members by (Some column) rows))) (n - 1) null) (sym (length-map (group_of cells (members by (Some column) rows)) (λ (member : Member). member.at)))
-      ∙ ap (λ s. get_or s (length s - 1) null) (ordered column)
-      ∙ greatest_is (column_of group column) (above column floored)
-
   -- what is said of the group is the aggregate of its rows
-  pub answer_is : IsRising (keys rows) → length group ≤ 2 ^ 62 → (running : Running) → Answers by rows running → AreNumbers running cells
-      → answer running cells (group_of cells (members by None rows)) rows ≡ aggregate group (agg_of running)
-  answer_is rising few Count p n = ap pos length_group
-  answer_is rising few (Sum column sums) p n = ap sum_or_null (p cells) ∙ sum_is (column_of group column) (subst (λ k. k ≤ 2 ^ 62) (sym (length-map group (λ (row : PlainRow). cell row.cells column))) few)
-  answer_is rising few (Min column kept) p n =
-      let are : kept.members ≡ members by (Some column) rows = ap (λ kept. kept.members) p in
-      ap (λ (ms : List Member). least (group_of cells ms)) are ∙ least_group column (subst (λ (ms : List Member). IsFloored (group_of cells ms)) are n)
-  answer_is rising few (Max column kept) p n =
-      let are : kept.members ≡ members by (Some column) rows = ap (λ kept. kept.members) p in
-      ap (λ (ms : List Member). greatest (group_of cells ms)) are ∙ greatest_group column (subst (λ (ms : List Member). IsFloored (group_of cells ms)) are n)
-  answer_is rising few (First column) p n = ap (λ ks. cell_of rows column (slice_get ks 0)) keys_group ∙ cell_at column group 0 (own_rows rising) ∙ first_over column group
-  answer_is rising few (Last column) p n =
+  pub answer_is : IsRising (keys rows) → length group ≤ 2 ^ 62 → (names : Names) (number : ℕ) → name_at number names ≡ Some cells → (running : Running) → Answers by names rows running
+      → answer running number (group_of cells (members by None rows)) rows ≡ aggregate group (agg_of running)
+  answer_is rising few names number named Count p = ap pos length_group
+  answer_is rising few names number named (Sum column sums) p =
+      told sum_or_null no_total sums number refl
+      ∙ ap sum_or_null (p number ∙ ap (λ (name : Option (List ℤ)). total_of (cells_in by column rows name)) named)
+      ∙ sum_is (present (column_of group column)) (fewer (length group) (length (column_of group column)) (length (present (column_of group column))) few (length-map group (λ (row : PlainRow). cell row.cells column)) (length-filter_most (λ value. not (is_null value)) (column_of group column)))
+    where
+      fewer : (n m k : ℕ) → n ≤ 2 ^ 62 → m ≡ n → k ≤ m → k ≤ 2 ^ 62
+      fewer n m k h e l = omega (arith, h, e, l)
+  answer_is rising few names number named (Min column values) p =
+      told least [] values number refl ∙ ap least (p number ∙ ap (λ (name : Option (List ℤ)). in_order (cells_in by column rows name)) named) ∙ least_is (present (column_of group column))
+  answer_is rising few names number named (Max column values) p =
+      told greatest [] values number refl ∙ ap greatest (p number ∙ ap (λ (name : Option (List ℤ)). in_order (cells_in by column rows name)) named) ∙ greatest_is (present (column_of group column))
+  answer_is rising few names number named (First column) p = ap (λ ks. cell_of rows column (slice_get ks 0)) keys_group ∙ cell_at column group 0 (own_rows rising) ∙ first_over column group
+  answer_is rising few names number named (Last column) p =
       ap₂ (λ ks n. cell_of rows column (slice_get ks (n - 1))) keys_group length_group ∙ cell_at column group (length group - 1) (own_rows rising) ∙ last_over column group
 
 pub some_of : {X Y : Type 0} (f : X → Y) (o : Option X) (y : Y) → option_map f o ≡ Some y → is_some o ≡ true
@@ -236,10 +177,6 @@ some_of f (Some x) y e = refl
 pub both_ok : {X E : Type 0} (r : Result X E) (P Q R : Type 0) → (P → Q → R) → OnOk r P → OnOk r Q → OnOk r R
 both_ok (Ok x) P Q R f p q = f p q
 both_ok (Err e) P Q R f p q = tt
-
-mapped : {X Y Z : Type 0} (f : X → Y) (g : Y → Z) (o : Option X) (y : Y) → option_map f o ≡ Some y → option_map (λ x. g (f x)) o ≡ Some (g y)
-mapped f g None y e = absurd (none-some y e)
-mapped f g (Some x) y e = ap (option_map g) e
 
 -- the cells that the members of a group have, which a row leads
 head_cells : (by : List ℕ) (first : ℕ) (rows : List PlainRow) (cells own : List ℤ) → option_map_or (λ (row : PlainRow). row.key == first) (slice_get rows 0) false ≡ true
@@ -255,14 +192,12 @@ module _ (by : List ℕ) (table : PlainTable) (t : IsTable table) (kept : Groupe
   pub known_at : (key : ℕ) → is_among key (keys table.rows) ≡ true → option_map (λ (member : Member). member.cells) (member_under key kept.members) ≡ Some (key_at by table.rows key)
   known_at key own = ap (λ ms. option_map (λ (member : Member). member.cells) (member_under key ms)) members_are ∙ cells_known by None table.rows key own
 
-  pub group_at : (key : ℕ) → is_among key (keys table.rows) ≡ true → option_map (λ (member : Member). group_of member.cells kept.members) (member_under key kept.members) ≡ Some (group_of (key_at by table.rows key) kept.members)
-  group_at key own = mapped (λ (member : Member). member.cells) (λ cells. group_of cells kept.members) (member_under key kept.members) (key_at by table.rows key) (known_at key own)
-
   -- rows that are kept
+  pub there_at : (key : ℕ) → is_among key (keys table.rows) ≡ true → is_some (member_under key kept.members) ≡ true
+  there_at key own = some_of (λ (member : Member). member.cells) (member_under key kept.members) (key_at by table.rows key) (known_at key own)
+
   pub own_there : (ks : List ℕ) → AllByRecursion (λ key. is_among key (keys table.rows) ≡ true) ks → AllByRecursion (λ key. is_some (member_under key kept.members) ≡ true) ks
-  own_there ks there =
-      every_weaker (λ key. is_among key (keys table.rows) ≡ true) (λ key. is_some (member_under key kept.members) ≡ true) ks
-      (λ key own. some_of (λ (member : Member). member.cells) (member_under key kept.members) (key_at by table.rows key) (known_at key own)) there
+  own_there ks there = every_weaker (λ key. is_among key (keys table.rows) ≡ true) (λ key. is_some (member_under key kept.members) ≡ true) ks there_at there
 
   pub own_cells : (ks : List ℕ) → AllByRecursion (λ key. is_among key (keys table.rows) ≡ true) ks → map (kept_cells kept.members) ks ≡ map (key_at by table.rows) ks
   own_cells ks there =
@@ -270,9 +205,14 @@ module _ (by : List ℕ) (table : PlainTable) (t : IsTable table) (kept : Groupe
       (every_weaker (λ key. is_among key (keys table.rows) ≡ true) (λ key. kept_cells kept.members key ≡ key_at by table.rows key) ks
       (λ key own. ap (λ (cells : Option (List ℤ)). unwrap_or cells []) (known_at key own)) there)
 
-  -- the group of its first row
-  pub led_group : (first : ℕ) → is_among first (first_keys by table.rows) ≡ true → option_map (λ (member : Member). group_of member.cells kept.members) (member_under first kept.members) ≡ Some (group_of (key_at by table.rows first) kept.members)
-  led_group first own = group_at first (and_parts _ _ (sym (first_at by table first t) ∙ own)).1
+  -- a first row is a row
+  pub led_row : (first : ℕ) → is_among first (first_keys by table.rows) ≡ true → is_among first (keys table.rows) ≡ true
+  led_row first own = (and_parts _ _ (sym (first_at by table first t) ∙ own)).1
+
+  -- the group of its first row, by its number
+  pub led_at : (first number : ℕ) (names : Names) (found : Option (List Member)) → is_among first (first_keys by table.rows) ≡ true → ((cells : List ℤ) → option_map (λ (member : Member). member.cells) (member_under first kept.members) ≡ Some cells → IsNumberOf number cells names)
+      → found ≡ option_map (λ cells. group_of cells kept.members) (name_at number names) → found ≡ Some (group_of (key_at by table.rows first) kept.members)
+  led_at first number names found own is e = e ∙ ap (option_map (λ cells. group_of cells kept.members)) (is (key_at by table.rows first) (known_at first (led_row first own))).own
 
   pub led_cells : (first : ℕ) (rows : List Member) (cells : List ℤ) → is_among first (first_keys by table.rows) ≡ true → rows ≡ group_of (key_at by table.rows first) kept.members → AllByRecursion (λ member. member.cells ≡ cells) rows → cells ≡ key_at by table.rows first
   led_cells first rows cells own is all =
@@ -290,23 +230,24 @@ module _ (by : List ℕ) (table : PlainTable) (t : IsTable table) (kept : Groupe
   pub rows_there : (cells : List ℤ) (rows : List Member) → rows ≡ group_of cells kept.members → AllByRecursion (λ key. is_among key (keys table.rows) ≡ true) (keys_of rows)
   rows_there cells rows is = subst (λ (ms : List Member). AllByRecursion (λ key. is_among key (keys table.rows) ≡ true) (keys_of ms)) (sym (is ∙ ap (group_of cells) members_are)) (group_there by table.rows cells)
 
-  values_are : (aggs : List Agg) (running : List Running) (cells : List ℤ) → AnswerAll by aggs table.rows running → AllByRecursion (λ running. AreNumbers running cells) running
-      → map (λ running. answer running cells (group_of cells (members by None table.rows)) table.rows) running ≡ map (aggregate (group by table.rows cells)) aggs
-  values_are aggs running cells answers numbers =
-      map_same (λ running. answer running cells (group_of cells (members by None table.rows)) table.rows) (λ running. aggregate (group by table.rows cells) (agg_of running)) running
-      (every_both (Answers by table.rows) (λ running. AreNumbers running cells) (λ running. answer running cells (group_of cells (members by None table.rows)) table.rows ≡ aggregate (group by table.rows cells) (agg_of running)) running
-      (answer_is by table.rows cells t.rising (few_of cells)) answers.1 numbers)
+  values_are : (names : Names) (number : ℕ) (aggs : List Agg) (running : List Running) (cells : List ℤ) → name_at number names ≡ Some cells → AnswerAll by names aggs table.rows running
+      → map (λ running. answer running number (group_of cells (members by None table.rows)) table.rows) running ≡ map (aggregate (group by table.rows cells)) aggs
+  values_are names number aggs running cells named answers =
+      map_same (λ running. answer running number (group_of cells (members by None table.rows)) table.rows) (λ running. aggregate (group by table.rows cells) (agg_of running)) running
+      (every_weaker (Answers by names table.rows) (λ running. answer running number (group_of cells (members by None table.rows)) table.rows ≡ aggregate (group by table.rows cells) (agg_of running)) running
+      (answer_is by table.rows cells t.rising (few_of cells) names number named) answers.1)
       ∙ sym (map_map (aggregate (group by table.rows cells)) agg_of running) ∙ ap (map (aggregate (group by table.rows cells))) answers.0
 
   -- the row of a group, put behind other cells
-  pub put_row : (aggs : List Agg) (running : List Running) (first : ℕ) (cells : List ℤ) (rows : List Member) (old read new : List ℤ) → AnswerAll by aggs table.rows running → is_among first (first_keys by table.rows) ≡ true
-      → cells ≡ key_at by table.rows first → rows ≡ group_of cells kept.members → AllByRecursion (λ running. AreNumbers running cells) running → read ≡ old ++ cells
-      → new ≡ read ++ map (λ running. answer running cells rows table.rows) running → new ≡ old ++ cells_at first (agg_table by aggs table).rows
-  put_row aggs running first cells rows old read new answers own cells_is rows_is numbers begun made =
+  pub put_row : (names : Names) (number : ℕ) (aggs : List Agg) (running : List Running) (first : ℕ) (cells : List ℤ) (rows : List Member) (old read new : List ℤ) → AnswerAll by names aggs table.rows running → is_among first (first_keys by table.rows) ≡ true
+      → name_at number names ≡ Some (key_at by table.rows first) → cells ≡ key_at by table.rows first → rows ≡ group_of (key_at by table.rows first) kept.members → read ≡ old ++ cells
+      → new ≡ read ++ map (λ running. answer running number rows table.rows) running → new ≡ old ++ cells_at first (agg_table by aggs table).rows
+  put_row names number aggs running first cells rows old read new answers own named cells_is rows_is begun made =
+      let at = key_at by table.rows first in
       made
-      ∙ ap₂ (λ (xs : List ℤ) (ms : List Member). xs ++ map (λ running. answer running cells ms table.rows) running) begun (rows_is ∙ ap (group_of cells) members_are)
-      ∙ append_assoc old cells (map (λ running. answer running cells (group_of cells (members by None table.rows)) table.rows) running)
-      ∙ ap (λ (row : List ℤ). old ++ row) (ap (λ (values : List ℤ). cells ++ values) (values_are aggs running cells answers numbers) ∙ ap (group_cells by aggs table.rows) cells_is ∙ sym (cells-agg by aggs table first t own))
+      ∙ ap₂ (λ (xs : List ℤ) (ms : List Member). xs ++ map (λ running. answer running number ms table.rows) running) (begun ∙ ap (λ (cells : List ℤ). old ++ cells) cells_is) (rows_is ∙ ap (group_of at) members_are)
+      ∙ append_assoc old at (map (λ running. answer running number (group_of at (members by None table.rows)) table.rows) running)
+      ∙ ap (λ (row : List ℤ). old ++ row) (ap (λ (values : List ℤ). at ++ values) (values_are names number aggs running at named answers) ∙ sym (cells-agg by aggs table first t own))
 
 -- cells that are put behind others, by another name
 pub items_put : {X E : Type 0} (r : Result X E) (old row cells new : List ℤ) → row ≡ cells → new ≡ (if is_ok r then old ++ row else old) → OnOk r (new ≡ old ++ cells)

@@ -7,6 +7,7 @@ use Rattle.std.proofs.lemmas.List.Sorted.{list_any-IsPermutation}
 use Rattle.std.specs.Option.{option_map_or}
 use Rattle.std.specs.Prelude.{slice_get}
 use Rattle.std.proofs.lemmas.Bool.{eqb-true}
+use Rattle.std.proofs.lemmas.Option.{none-some, same_Some}
 use Rattle.key_lists.specs.Keys.{is_among, IsRising}
 use Rattle.key_lists.proofs.Among.{among-append, among-filter, each_among, of_among}
 use Rattle.key_lists.proofs.Every.{every_both, every_weaker, every-filter, every-map, every_unmapped, filter_passes}
@@ -42,18 +43,22 @@ every-by_at : (P : Member → Type 0) (ms : List Member) → AllByRecursion P ms
 every-by_at P [] h = tt
 every-by_at P (member ∷ ms) h = every-placed P member (by_at ms) h.0 (every-by_at P ms h.1)
 
-pub group_small : (grouped : Grouped) (cells : List ℤ) → AreGrouped grouped → AllByRecursion (λ key. key < 2 ^ 62) (keys_of (group_of cells grouped.members))
+group_small : (grouped : Grouped) (cells : List ℤ) → AreGrouped grouped → AllByRecursion (λ key. key < 2 ^ 62) (keys_of (group_of cells grouped.members))
 group_small grouped cells are =
     every-map (λ key. key < 2 ^ 62) (λ (member : Member). member.key) (group_of cells grouped.members)
     (every-by_at (λ member. member.key < 2 ^ 62) (filter (λ (member : Member). same_cells cells member.cells) grouped.members)
     (every-filter (λ member. member.key < 2 ^ 62) (λ (member : Member). same_cells cells member.cells) grouped.members
     (every_unmapped (λ key. key < 2 ^ 62) (λ (member : Member). member.key) grouped.members are.keys.small)))
 
--- the group of a row that is kept
-pub kept_group : (ms : List Member) (key : ℕ) → is_some (member_under key ms) ≡ true → option_map (λ (member : Member). group_of member.cells ms) (member_under key ms) ≡ Some (group_of (kept_cells ms key) ms)
-kept_group ms key there = by (member_under key ms) there
+pub some_small : (grouped : Grouped) (named : Option (List ℤ)) (group : List Member) → AreGrouped grouped → option_map (λ cells. group_of cells grouped.members) named ≡ Some group → AllByRecursion (λ key. key < 2 ^ 62) (keys_of group)
+some_small grouped None group are e = absurd (none-some group e)
+some_small grouped (Some cells) group are e = subst (λ (group : List Member). AllByRecursion (λ key. key < 2 ^ 62) (keys_of group)) (same_Some (group_of cells grouped.members) group e) (group_small grouped cells are)
+
+-- the cells of a row that is kept
+pub kept_own : (ms : List Member) (key : ℕ) → is_some (member_under key ms) ≡ true → option_map (λ (member : Member). member.cells) (member_under key ms) ≡ Some (kept_cells ms key)
+kept_own ms key there = by (member_under key ms) there
   where
-    by : (o : Option Member) → is_some o ≡ true → option_map (λ (member : Member). group_of member.cells ms) o ≡ Some (group_of (unwrap_or (option_map (λ (member : Member). member.cells) o) []) ms)
+    by : (o : Option Member) → is_some o ≡ true → option_map (λ (member : Member). member.cells) o ≡ Some (unwrap_or (option_map (λ (member : Member). member.cells) o) [])
     by None e = absurd (true≢false (sym e))
     by (Some member) e = refl
 
@@ -144,7 +149,7 @@ module _ (by : List ℕ) (table : PlainTable) (t : IsTable table) where
   first_key_of key [] = refl
   first_key_of key (row ∷ some) = refl
 
-  starts_when : (key : ℕ) (cells : List ℤ) → starts (members by None rows) key cells ≡ (same_cells (key_at by rows key) cells && is_among key (first_keys by rows))
+  pub starts_when : (key : ℕ) (cells : List ℤ) → starts (members by None rows) key cells ≡ (same_cells (key_at by rows key) cells && is_among key (first_keys by rows))
   starts_when key cells =
       ap (λ ks. option_map_or (λ k. k == key) (slice_get ks 0) false) (keys_group by rows cells) ∙ first_key_of key (group_rows by cells rows) ∙ leads_when cells key
 
@@ -170,6 +175,40 @@ module _ (by : List ℕ) (table : PlainTable) (t : IsTable table) where
       rising_same firsts (filter (λ key. list_any (same_cells (key_at by rows key)) touched) (first_keys by rows)) rising
       (rising_some (λ key. list_any (same_cells (key_at by rows key)) touched) (first_keys by rows) first_keys_rise)
       (λ key. found key ∙ starts_any key touched ∙ sym (among-filter (λ key. list_any (same_cells (key_at by rows key)) touched) key (first_keys by rows)))
+
+-- the keys of the first rows of some groups
+abbrev led_keys : List Member → List (List ℤ) → List ℕ
+led_keys ms [] = []
+led_keys ms (cells ∷ touched) = option_map_or (λ key. with_key key (led_keys ms touched)) (slice_get (keys_of (group_of cells ms)) 0) (led_keys ms touched)
+
+led_rise : (ms : List Member) (touched : List (List ℤ)) → IsRising (led_keys ms touched)
+led_rise ms [] = tt
+led_rise ms (cells ∷ touched) =
+    elim (slice_get (keys_of (group_of cells ms)) 0) as (λ first. IsRising (option_map_or (λ key. with_key key (led_keys ms touched)) first (led_keys ms touched))) [
+      | None ↦ led_rise ms touched
+      | Some key ↦ with_key_rises key (led_keys ms touched) (led_rise ms touched)
+    ]
+
+few_led : (ms : List Member) (touched : List (List ℤ)) → length (led_keys ms touched) ≤ length touched
+few_led ms [] = omega arith
+few_led ms (cells ∷ touched) = by (slice_get (keys_of (group_of cells ms)) 0) (few_led ms touched)
+  where
+    by : (first : Option ℕ) → length (led_keys ms touched) ≤ length touched → length (option_map_or (λ key. with_key key (led_keys ms touched)) first (led_keys ms touched)) ≤ length (cells ∷ touched)
+    by None h = omega (arith, h)
+    by (Some key) h = omega (arith, h, length-with_key key (led_keys ms touched))
+
+among-led : (first : ℕ) (ms : List Member) (touched : List (List ℤ)) → is_among first (led_keys ms touched) ≡ list_any (starts ms first) touched
+among-led first ms [] = refl
+among-led first ms (cells ∷ touched) = by (slice_get (keys_of (group_of cells ms)) 0) (among-led first ms touched)
+  where
+    by : (found : Option ℕ) → is_among first (led_keys ms touched) ≡ list_any (starts ms first) touched → is_among first (option_map_or (λ key. with_key key (led_keys ms touched)) found (led_keys ms touched)) ≡ (option_map_or (λ key. key == first) found false || list_any (starts ms first) touched)
+    by None h = h
+    by (Some key) h = among-with_key first key (led_keys ms touched) ∙ ap (λ b. (key == first) || b) h
+
+-- they are no more than the groups
+pub few_firsts : (ms : List Member) (touched : List (List ℤ)) (firsts : List ℕ) → IsRising firsts → ((first : ℕ) → is_among first firsts ≡ list_any (starts ms first) touched) → length firsts ≤ length touched
+few_firsts ms touched firsts rising found =
+    subst (λ (keys : List ℕ). length keys ≤ length touched) (sym (rising_same firsts (led_keys ms touched) rising (led_rise ms touched) (λ first. found first ∙ sym (among-led first ms touched)))) (few_led ms touched)
 
 -- an element that is there, and all of them
 pub get_index : {X : Type 0} (xs : List X) (n : ℕ) (other : X) → n < length xs → slice_get xs n ≡ Some (get_or xs n other)

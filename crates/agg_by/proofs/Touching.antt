@@ -79,15 +79,6 @@ pub any-append : {X : Type 0} (p : X → Bool) (xs ys : List X) → list_any p (
 any-append p [] ys = refl
 any-append p (x ∷ xs) ys = ap (λ b. p x || b) (any-append p xs ys) ∙ sym (or_assoc (p x) (list_any p xs) (list_any p ys))
 
-or_swap : (a b : Bool) → (a || b) ≡ (b || a)
-or_swap true true = refl
-or_swap true false = refl
-or_swap false true = refl
-or_swap false false = refl
-
-pub any_swap : {X : Type 0} (p : X → Bool) (xs ys : List X) → list_any p (xs ++ ys) ≡ list_any p (ys ++ xs)
-any_swap p xs ys = any-append p xs ys ∙ or_swap (list_any p xs) (list_any p ys) ∙ sym (any-append p ys xs)
-
 -- whether one of the first so many passes, with one more
 pub any_next : {Y : Type 0} (p : Y → Bool) (f : ℕ → Y) (keys : List ℕ) (n key : ℕ) (before : Bool) → slice_get keys n ≡ Some key → ((before || list_any p (map f (take n keys))) || p (f key)) ≡ (before || list_any p (map f (take (n + 1) keys)))
 any_next p f keys n key before here =

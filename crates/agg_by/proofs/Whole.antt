@@ -2,12 +2,13 @@
 use Rattle.std.proofs.Common.{◌≡◌, refl, ap, ap₂, sym, ◌∙◌, subst, Bool, true, false, not, cond, ℕ, suc, ◌+◌, ◌*◌, ◌^◌, ◌≤◌, arith, List, [], ◌∷◌, ◌++◌, map, filter, length, None, ℤ}
 use Rattle.std.specs.List.{AllByRecursion, list_any}
 use Rattle.std.proofs.lemmas.Bool.{and_parts}
+use Rattle.std.proofs.lemmas.List.{length-append, length-map}
 use Rattle.std.proofs.Math.Nat.{mul-le-mul_left}
 use Rattle.key_lists.specs.Keys.{is_among, IsRising, without}
 use Rattle.key_lists.proofs.Among.{each_among}
 use Rattle.key_lists.proofs.Every.{every_unmapped, every_weaker, every-filter, every-map, filter_passes}
 use Rattle.key_lists.proofs.Rising.{as_filter, rising-filter, rising_some}
-use Rattle.row_groups.specs.Members.{Grouped, Member}
+use Rattle.row_groups.specs.Members.{Grouped, Numbered, groups_of}
 use Rattle.row_set.specs.Sets.{united}
 use Rattle.shown_rows.proofs.Restricted.{kept, modified_even}
 use Rattle.table_update.specs.Kept.{old_modified}
@@ -33,7 +34,7 @@ use Rattle.agg_by.proofs.Answering.{own_cells}
 use Rattle.agg_by.proofs.FirstKeys.{first_keys_rise, firsts_are, length-with_key}
 use Rattle.agg_by.proofs.GroupParts.{is_tick, staying_is, tick, touched}
 use Rattle.agg_by.proofs.GroupRows.{keys-agg}
-use Rattle.agg_by.proofs.Touching.{any_swap, come_there, gone_there}
+use Rattle.agg_by.proofs.Touching.{gone_there}
 
 within_one : (width : ℕ) (running : Running) → IsColumn width (agg_of running) → IsWithin width running
 within_one width Count h = tt
@@ -50,11 +51,12 @@ within_all width aggs running are columns =
     (every_unmapped (IsColumn width) agg_of running (subst (AllByRecursion (IsColumn width)) (sym are) columns))
 
 -- what is kept where all is begun
-pub begun_keeps : (old new : Kept) (rows : List PlainRow) → IsMade old new → new.rows ≡ old.rows → ((rows : List PlainRow) → Are old.by old.aggs rows old.running.items → AnswerAll old.by old.aggs rows new.running.items)
-    → old.rows ≡ indexed old.by None rows → Are old.by old.aggs rows old.running.items → Keeps new rows
+pub begun_keeps : (old new : Kept) (rows : List PlainRow) → IsMade old new → new.rows ≡ old.rows → ((rows : List PlainRow) → Are old.by old.rows.names old.aggs rows old.running.items → AnswerAll old.by old.rows.names old.aggs rows new.running.items)
+    → groups_of old.rows ≡ indexed old.by None rows → Are old.by old.rows.names old.aggs rows old.running.items → Keeps new rows
 begun_keeps old new rows made same begun indexed_rows are = record {
-  rows = same ∙ indexed_rows ∙ ap (λ by. indexed by None rows) (sym made.by);
-  running = subst (λ (by : List ℕ). AnswerAll by new.aggs rows new.running.items) (sym made.by) (subst (λ (aggs : List Agg). AnswerAll old.by aggs rows new.running.items) (sym made.aggs) (begun rows are));
+  rows = ap groups_of same ∙ indexed_rows ∙ ap (λ by. indexed by None rows) (sym made.by);
+  running = subst (λ (by : List ℕ). AnswerAll by new.rows.names new.aggs rows new.running.items) (sym made.by)
+      (subst (λ (aggs : List Agg). AnswerAll old.by new.rows.names aggs rows new.running.items) (sym made.aggs) (subst (λ (kept : Numbered). AnswerAll old.by kept.names old.aggs rows new.running.items) (sym same) (begun rows are)));
 }
 
 length-united : (xs ys : List ℕ) → length (united xs ys) ≤ length xs + length ys
@@ -74,38 +76,32 @@ more_reads width some more first second h few = omega (arith, h, mul-le-mul_left
 pub noted_reads : (width aggs first second third touched firsts : ℕ) → second ≤ first + width * touched → third ≤ second + aggs * firsts → firsts ≤ touched → third ≤ first + (width + aggs) * touched
 noted_reads width aggs first second third touched firsts h k few = omega (arith, h, k, mul-le-mul_left aggs few)
 
-pub step_reads : (width aggs first second third fourth fifth touched firsts all : ℕ)
-    → second ≤ first + (width + aggs) * touched → third ≤ second + width * touched → fourth ≤ third + width * touched → fifth ≤ fourth + 2 * aggs * firsts → firsts ≤ touched → touched ≤ all → fifth ≤ first + 3 * (width + aggs) * all
-step_reads width aggs first second third fourth fifth touched firsts all h k l m few most =
-    omega (arith, h, k, l, m, mul-le-mul_left aggs few, mul-le-mul_left width most, mul-le-mul_left aggs most)
+pub step_reads : (width aggs first second third fourth touched firsts all : ℕ)
+    → second ≤ first + (width + aggs) * touched → third ≤ second + width * touched → fourth ≤ third + 2 * aggs * firsts → firsts ≤ touched → touched ≤ all → fourth ≤ first + 3 * (width + aggs) * all
+step_reads width aggs first second third fourth touched firsts all h k m few most =
+    omega (arith, h, k, m, mul-le-mul_left aggs few, mul-le-mul_left width most, mul-le-mul_left aggs most)
 
 pub wider_reads : (width by aggs first last all out : ℕ) → last ≤ first + 3 * (width + aggs) * all → last ≤ first + 4 * (width + (by + aggs)) * (all + out)
 wider_reads width by aggs first last all out h = omega (arith, h)
 
+-- the key cells of the touched rows, those of before as they are kept
+pub touched_is : (by : List ℕ) (t : Ticking) (e : IsExact t) (index : Grouped) (went came : List ℕ) → index ≡ indexed by None t.old.rows → went ≡ gone t → came ≡ come t
+    → map (kept_cells index.members) went ++ map (key_at by t.new.rows) came ≡ touched_cells by t
+touched_is by t e index went came are w c =
+    ap (λ (cells : List (List ℤ)). cells ++ map (key_at by t.new.rows) came)
+    (own_cells by t.old e.tick.old_table index are went (subst (AllByRecursion (λ key. is_among key (keys t.old.rows) ≡ true)) (sym w) (gone_there t e)))
+    ∙ ap₂ (λ (went came : List ℕ). map (key_at by t.old.rows) went ++ map (key_at by t.new.rows) came) w c
+
+pub touched_few : (by : List ℕ) (t : Ticking) → length (touched_cells by t) ≡ length (gone t) + length (come t)
+touched_few by t =
+    length-append (map (key_at by t.old.rows) (gone t)) (map (key_at by t.new.rows) (come t))
+    ∙ ap₂ (λ m n. m + n) (length-map (gone t) (key_at by t.old.rows)) (length-map (come t) (key_at by t.new.rows))
+
 -- what is found among the rows by what is kept of them
-found_firsts : (by : List ℕ) (t : Ticking) (table : PlainTable) → IsTable table → (index : Grouped) (went came firsts : List ℕ) → index ≡ indexed by None table.rows → went ≡ gone t → came ≡ come t → IsRising firsts
-    → ((first : ℕ) → is_among first firsts ≡ list_any (starts index.members first) (map (key_at by t.old.rows) went ++ map (key_at by t.new.rows) came)) → firsts ≡ touched_firsts by t table.rows
-found_firsts by t table is index went came firsts are w c rising found =
-    firsts_are by table is (touched_cells by t) firsts rising
-    (λ first.
-    found first
-    ∙ ap₂ (λ (members : List Member) (cells : List (List ℤ)). list_any (starts members first) cells) (ap (λ (index : Grouped). index.members) are)
-    (ap₂ (λ (went came : List ℕ). map (key_at by t.old.rows) went ++ map (key_at by t.new.rows) came) w c))
-
-pub found_before : (by : List ℕ) (t : Ticking) (e : IsExact t) (index : Grouped) (went came firsts : List ℕ) → index ≡ indexed by None t.old.rows → went ≡ gone t → came ≡ come t → IsRising firsts
-    → ((first : ℕ) → is_among first firsts ≡ list_any (starts index.members first) (map (kept_cells index.members) went ++ map (key_at by t.new.rows) came)) → firsts ≡ touched_firsts by t t.old.rows
-found_before by t e index went came firsts are w c rising found =
-    found_firsts by t t.old e.tick.old_table index went came firsts are w c rising
-    (λ first. found first ∙ ap (λ (cells : List (List ℤ)). list_any (starts index.members first) (cells ++ map (key_at by t.new.rows) came))
-    (own_cells by t.old e.tick.old_table index are went (subst (AllByRecursion (λ key. is_among key (keys t.old.rows) ≡ true)) (sym w) (gone_there t e))))
-
-pub found_now : (by : List ℕ) (t : Ticking) (e : IsExact t) (index : Grouped) (went came firsts : List ℕ) → index ≡ indexed by None t.new.rows → went ≡ gone t → came ≡ come t → IsRising firsts
-    → ((first : ℕ) → is_among first firsts ≡ list_any (starts index.members first) (map (kept_cells index.members) came ++ map (key_at by t.old.rows) went)) → firsts ≡ touched_firsts by t t.new.rows
-found_now by t e index went came firsts are w c rising found =
-    found_firsts by t t.new e.tick.new_table index went came firsts are w c rising
-    (λ first. found first ∙ any_swap (starts index.members first) (map (kept_cells index.members) came) (map (key_at by t.old.rows) went)
-    ∙ ap (λ (cells : List (List ℤ)). list_any (starts index.members first) (map (key_at by t.old.rows) went ++ cells))
-    (own_cells by t.new e.tick.new_table index are came (subst (AllByRecursion (λ key. is_among key (keys t.new.rows) ≡ true)) (sym c) (come_there t e))))
+pub found_firsts : (by : List ℕ) (t : Ticking) (table : PlainTable) → IsTable table → (index : Grouped) (firsts : List ℕ) → index ≡ indexed by None table.rows → IsRising firsts
+    → ((first : ℕ) → is_among first firsts ≡ list_any (starts index.members first) (touched_cells by t)) → firsts ≡ touched_firsts by t table.rows
+found_firsts by t table is index firsts are rising found =
+    firsts_are by table is (touched_cells by t) firsts rising (λ first. found first ∙ ap (λ (index : Grouped). list_any (starts index.members first) (touched_cells by t)) are)
 
 pub touched_there : (by : List ℕ) (t : Ticking) (rows : List PlainRow) → AllByRecursion (λ key. is_among key (first_keys by rows) ≡ true) (touched_firsts by t rows)
 touched_there by t rows = every-filter (λ key. is_among key (first_keys by rows) ≡ true) (λ key. is_touched by t (key_at by rows key)) (first_keys by rows) (each_among (first_keys by rows))

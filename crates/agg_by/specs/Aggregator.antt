@@ -8,7 +8,7 @@ use Rattle.std.specs.List.{AllByRecursion}
 use Rattle.agg_by.specs.declared.running.Running.{Running}
 use Rattle.agg_by.specs.Kept.{Are, indexed}
 use Rattle.agg_by.specs.Steps.{first_keys}
-use Rattle.row_groups.specs.Members.{Grouped}
+use Rattle.row_groups.specs.Members.{Numbered, groups_of}
 use Rattle.tick_model.specs.declared.plan.Agg.{Agg}
 use Rattle.tick_model.specs.declared.plan.Agg.TheVariants.{Count, Sum, Min, Max, First, Last}
 use Rattle.tick_model.specs.declared.plan.Op.TheVariants.{Agg as Aggregated}
@@ -20,7 +20,7 @@ pub record Aggregator : Type 0 where
   pub by : List ℕ
   pub aggs : List Agg
   pub width : ℕ
-  pub rows : Grouped
+  pub rows : Numbered
   pub running : List Running
   pub shown : List ℕ
 
@@ -41,8 +41,8 @@ pub record IsAggregator (columns : List ℕ) (all : List Agg) (input_width : ℕ
 
 -- what is kept is that of these rows
 pub record StandsFor (aggregator : Aggregator) (table : PlainTable) : Type 0 where
-  pub rows : aggregator.rows ≡ indexed aggregator.by None table.rows
-  pub running : Are aggregator.by aggregator.aggs table.rows aggregator.running
+  pub rows : groups_of aggregator.rows ≡ indexed aggregator.by None table.rows
+  pub running : Are aggregator.by aggregator.rows.names aggregator.aggs table.rows aggregator.running
   pub shown : aggregator.shown ≡ first_keys aggregator.by table.rows
 
 abbrev pub grouped : List ℕ → List Agg → Tick → Tick

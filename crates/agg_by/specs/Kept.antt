@@ -2,18 +2,22 @@
 --     indexed by column rows      the rows by their key cells, and in each group in order of a column or of their keys
 --     group_rows by cells rows      the rows with these key cells
 --     agg_of running      the aggregate that is answered
---     AnswersOf by summed rows running      the sums are those of some rows, and the orders those of others
---     Answers by rows running      what is kept for the aggregate is that of these rows
---     Are by aggs rows running      these answer the aggregates of these rows; they are begun at the first step, before which there are no rows
+--     cells_in by column rows named      the cells of a column that hold something, of the group that is named by its key cells
+--     AreMade none make by names column rows entries      for each group by its number there is what is made of these
+--     Answers by names rows running      what is kept for the aggregate is that of these rows
+--     Are by names aggs rows running      these answer the aggregates of these rows; they are begun at the first step, before which there are no rows
 --     Keeps kept rows      all that is kept is that of these rows
 use Rattle.std.specs.Prelude.{◌≡◌, ℕ, List, [], Option, None, Some, filter, length, map, ℤ, pos, ◌⊎◌}
 use Rattle.std.specs.List.{AllByRecursion}
+use Rattle.std.specs.Option.{option_map_or}
 use Rattle.agg_by.specs.declared.kept.Kept.{Kept}
 use Rattle.agg_by.specs.declared.running.Running.{Running}
 use Rattle.agg_by.specs.declared.running.Running.TheVariants.{Count, Sum, Min, Max, First, Last}
-use Rattle.agg_by.specs.Sums.{ByCells, total_of, total_under}
-use Rattle.row_groups.specs.Members.{Grouped, Member, member_of}
-use Rattle.tick_model.specs.Agg.{column_of, key_cells}
+use Rattle.agg_by.specs.ByNumber.{at_number}
+use Rattle.agg_by.specs.Sums.{no_total, total_of}
+use Rattle.agg_by.specs.Values.{in_order}
+use Rattle.row_groups.specs.Members.{Grouped, Member, Names, groups_of, member_of, name_at}
+use Rattle.tick_model.specs.Agg.{column_of, key_cells, present}
 use Rattle.tick_model.specs.Tables.{cell, same_cells}
 use Rattle.tick_model.specs.declared.plan.Agg.{Agg}
 use Rattle.tick_model.specs.declared.plan.Agg.TheVariants.{Count as CountAgg, Sum as SumAgg, Min as MinAgg, Max as MaxAgg, First as FirstAgg, Last as LastAgg}
@@ -33,37 +37,34 @@ indexed by column rows = record { width = length by; members = map (member_by by
 abbrev pub group_rows : List ℕ → List ℤ → List PlainRow → List PlainRow
 group_rows by cells = filter (λ row. same_cells cells (key_cells by row.cells))
 
-abbrev pub AreSums : List ℕ → ℕ → List PlainRow → ByCells → Type 0
-AreSums by column rows by_cells = (cells : List ℤ) → total_under cells by_cells ≡ total_of (column_of (group_rows by cells rows) column)
+-- none where no group is named
+abbrev pub cells_in : List ℕ → ℕ → List PlainRow → Option (List ℤ) → List ℤ
+cells_in by column rows named = option_map_or (λ cells. present (column_of (group_rows by cells rows) column)) named []
+
+abbrev pub AreMade : {X : Type 0} → X → (List ℤ → X) → List ℕ → Names → ℕ → List PlainRow → List X → Type 0
+AreMade none make by names column rows entries = (number : ℕ) → at_number none number entries ≡ make (cells_in by column rows (name_at number names))
 
 abbrev pub agg_of : Running → Agg
 agg_of Count = CountAgg
 agg_of (Sum column sums) = SumAgg column
-agg_of (Min column rows) = MinAgg column
-agg_of (Max column rows) = MaxAgg column
+agg_of (Min column values) = MinAgg column
+agg_of (Max column values) = MaxAgg column
 agg_of (First column) = FirstAgg column
 agg_of (Last column) = LastAgg column
 
-abbrev pub AnswersOf : List ℕ → List PlainRow → List PlainRow → Running → Type 0
-AnswersOf by summed rows Count = Unit {0}
-AnswersOf by summed rows (Sum column sums) = AreSums by column summed sums.by_cells
-AnswersOf by summed rows (Min column groups) = groups ≡ indexed by (Some column) rows
-AnswersOf by summed rows (Max column groups) = groups ≡ indexed by (Some column) rows
-AnswersOf by summed rows (First column) = Unit {0}
-AnswersOf by summed rows (Last column) = Unit {0}
+abbrev pub Answers : List ℕ → Names → List PlainRow → Running → Type 0
+Answers by names rows Count = Unit {0}
+Answers by names rows (Sum column sums) = AreMade no_total total_of by names column rows sums
+Answers by names rows (Min column values) = AreMade [] in_order by names column rows values
+Answers by names rows (Max column values) = AreMade [] in_order by names column rows values
+Answers by names rows (First column) = Unit {0}
+Answers by names rows (Last column) = Unit {0}
 
-abbrev pub Answers : List ℕ → List PlainRow → Running → Type 0
-Answers by rows = AnswersOf by rows rows
+abbrev pub AnswerAll : List ℕ → Names → List Agg → List PlainRow → List Running → Type 0
+AnswerAll by names aggs rows running = (map agg_of running ≡ aggs) × AllByRecursion (Answers by names rows) running
 
--- within a step the sums are those of some rows, and the orders those of others
-abbrev pub AnswerBoth : List ℕ → List Agg → List PlainRow → List PlainRow → List Running → Type 0
-AnswerBoth by aggs summed rows running = (map agg_of running ≡ aggs) × AllByRecursion (AnswersOf by summed rows) running
-
-abbrev pub AnswerAll : List ℕ → List Agg → List PlainRow → List Running → Type 0
-AnswerAll by aggs rows = AnswerBoth by aggs rows rows
-
-abbrev pub Are : List ℕ → List Agg → List PlainRow → List Running → Type 0
-Are by aggs rows running = ((rows ≡ []) × (running ≡ [])) ⊎ AnswerAll by aggs rows running
+abbrev pub Are : List ℕ → Names → List Agg → List PlainRow → List Running → Type 0
+Are by names aggs rows running = ((rows ≡ []) × (running ≡ [])) ⊎ AnswerAll by names aggs rows running
 
 -- made of the same
 pub record IsMade (old new : Kept) : Type 0 where
@@ -71,5 +72,5 @@ pub record IsMade (old new : Kept) : Type 0 where
   pub aggs : new.aggs ≡ old.aggs
 
 pub record Keeps (kept : Kept) (seen : List PlainRow) : Type 0 where
-  pub rows : kept.rows ≡ indexed kept.by None seen
-  pub running : AnswerAll kept.by kept.aggs seen kept.running.items
+  pub rows : groups_of kept.rows ≡ indexed kept.by None seen
+  pub running : AnswerAll kept.by kept.rows.names kept.aggs seen kept.running.items

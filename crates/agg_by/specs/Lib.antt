@@ -1,9 +1,11 @@
 pub mod Moments
+pub mod ByNumber
 pub mod Sums
+pub mod Values
 pub mod Kept
 pub mod Notes
 pub mod Answers
-pub mod Stepping
 pub mod Steps
+pub mod Touched
 pub mod Rows
 pub mod Aggregator

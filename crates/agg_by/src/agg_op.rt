@@ -1,13 +1,16 @@
 //! The operator: what it keeps, and its step.
 
-ghost use Rattle.std.specs.Prelude.{◌≡◌, ◌+◌, ◌*◌, ◌≤◌, None, length, IfOk, OnOk};
+ghost use Rattle.std.specs.Prelude.{◌≡◌, ℕ, ◌+◌, ◌*◌, ◌≤◌, None, length, IfOk, OnOk};
 ghost use Rattle.std.specs.List.{AllByRecursion};
 ghost use Rattle.agg_by.specs.Aggregator.{IsAggregator, IsColumn, StandsFor, grouped};
 ghost use Rattle.agg_by.specs.Answers.{IsWithin};
 ghost use Rattle.agg_by.specs.Kept.{Are, IsMade, Keeps, indexed};
 ghost use Rattle.agg_by.specs.Notes.{IsNoted};
 ghost use Rattle.agg_by.specs.Rows.{AreReady};
-ghost use Rattle.agg_by.specs.Steps.{come as come_of, first_keys, gone as gone_of, touched_firsts};
+ghost use Rattle.agg_by.specs.Steps.{come as come_of, first_keys, gone as gone_of, touched_cells, touched_firsts};
+ghost use Rattle.agg_by.specs.Touched.{is_named};
+ghost use Rattle.key_lists.specs.Keys.{is_among};
+ghost use Rattle.row_groups.specs.Members.{groups_of};
 ghost use Rattle.tick_model.specs.Agg.{agg_table};
 ghost use Rattle.tick_model.specs.Changes.{change_of};
 ghost use Rattle.tick_table.specs.Exact.{IsExact, counted, tick_of};
@@ -15,10 +18,11 @@ ghost use Rattle.tick_table.specs.Ticking.{no_rows};
 
 use crate::firsts::firsts_of;
 use crate::kept::Kept;
-use crate::moment::{Moment, RowBuffer};
+use crate::moment::RowBuffer;
 use crate::notes::Notes;
 use crate::rows::GroupRows;
 use crate::staying::staying_firsts;
+use crate::touched::TouchedGroups;
 use row_changes::{Touched, change_of_touched};
 use row_set::RowSet;
 use shown_rows::KeyPairs;
@@ -37,6 +41,8 @@ pub struct AggOp {
     shown: RowSet,
     /// A row that is read, and its key cells.
     buffer: RowBuffer,
+    /// The groups that a step touches.
+    touched: TouchedGroups,
     /// Room for the rows that are noted in a step.
     noted: Vec<i64>,
 }
@@ -48,6 +54,7 @@ impl Drop for AggOp {
             kept: _,
             shown: _,
             buffer: _,
+            touched: _,
             noted: _,
         } = self;
     }
@@ -112,6 +119,7 @@ impl AggOp {
             kept: Kept::new(alloc, by, aggs),
             shown: RowSet::new(alloc),
             buffer: RowBuffer::new(alloc),
+            touched: TouchedGroups::new(alloc),
             noted: Vec::new(alloc),
         }
     }
@@ -140,6 +148,7 @@ impl AggOp {
             mut kept,
             mut shown,
             mut buffer,
+            mut touched,
             noted,
         } = self;
         let (change, noted) = grouped_step(
@@ -147,6 +156,7 @@ impl AggOp {
             &mut kept,
             &mut shown,
             &mut buffer,
+            &mut touched,
             noted,
             input,
             reads,
@@ -157,6 +167,7 @@ impl AggOp {
                 kept,
                 shown,
                 buffer,
+                touched,
                 noted,
             },
             change,
@@ -170,6 +181,7 @@ fn grouped_step<L: Ledger>(
     kept: &mut Kept,
     shown: &mut RowSet,
     buffer: &mut RowBuffer,
+    touched: &mut TouchedGroups,
     noted: Vec<i64>,
     input: &TickTable,
     reads: &mut Steps<L>,
@@ -177,8 +189,8 @@ fn grouped_step<L: Ledger>(
     requires exact { IsExact input.now }
     requires few { length kept.old.by + length kept.old.aggs ≤ 32 }
     requires columns { AllByRecursion (IsColumn input.now.new.width) kept.old.aggs }
-    requires rows { kept.old.rows ≡ indexed kept.old.by None input.now.old.rows }
-    requires running { Are kept.old.by kept.old.aggs input.now.old.rows kept.old.running.items }
+    requires rows { groups_of kept.old.rows ≡ indexed kept.old.by None input.now.old.rows }
+    requires running { Are kept.old.by kept.old.rows.names kept.old.aggs input.now.old.rows kept.old.running.items }
     requires shown { shown.old ≡ first_keys kept.old.by input.now.old.rows }
     ensures made { OnOk result (IsMade kept.old kept.new) }
     ensures keeps { OnOk result (Keeps kept.new input.now.new.rows) }
@@ -188,18 +200,9 @@ fn grouped_step<L: Ledger>(
 {
     let moving = Moving::of(input)?;
     kept.begin(alloc)?;
-    let notes = noted_groups(alloc, kept, input, &moving, buffer, noted, reads)?;
-    kept.bring_on(input, &moving.gone, &moving.come, buffer, reads)?;
-    let firsts = firsts_of(
-        alloc,
-        kept,
-        &moving.come,
-        Moment::Before,
-        input,
-        &moving.gone,
-        buffer,
-        reads,
-    )?;
+    let notes = noted_groups(alloc, kept, input, &moving, touched, buffer, noted, reads)?;
+    kept.bring_on(input, &moving.gone, &moving.come, touched, buffer, reads)?;
+    let firsts = firsts_of(alloc, &kept.rows, touched.numbers())?;
     let rows = GroupRows {
         input,
         kept,
@@ -210,12 +213,13 @@ fn grouped_step<L: Ledger>(
     Ok((change, notes.into_cells()))
 }
 
-/// Notes the rows of the touched groups before the step.
+/// Notes the groups that the step touches, and their rows before it.
 fn noted_groups<L: Ledger>(
     alloc: Global,
     kept: &Kept,
     input: &TickTable,
     moving: &Moving,
+    touched: &mut TouchedGroups,
     buffer: &mut RowBuffer,
     noted: Vec<i64>,
     reads: &mut Steps<L>,
@@ -226,20 +230,13 @@ fn noted_groups<L: Ledger>(
     requires within { AllByRecursion (IsWithin input.now.old.width) kept.now.running.items }
     requires gone { moving.now.gone ≡ gone_of input.now }
     requires come { moving.now.come ≡ come_of input.now }
+    ensures touched { OnOk result ((number : ℕ) → is_among number touched.new ≡ is_named (touched_cells kept.now.by input.now) kept.now.rows.names number) }
     ensures noted { IfOk result (λ notes. IsNoted notes (agg_table kept.now.by kept.now.aggs input.now.old)) }
     ensures keys { IfOk result (λ notes. notes.keys ≡ touched_firsts kept.now.by input.now input.now.old.rows) }
     ensures reads { OnOk result (reads.new ≤ reads.old + (input.now.new.width + length kept.now.aggs) * (length moving.now.gone + length moving.now.come)) }
 {
-    let before = firsts_of(
-        alloc,
-        kept,
-        &moving.gone,
-        Moment::Now,
-        input,
-        &moving.come,
-        buffer,
-        reads,
-    )?;
+    touched.note_before(kept, input, &moving.gone, &moving.come, buffer, reads)?;
+    let before = firsts_of(alloc, &kept.rows, touched.numbers())?;
     Notes::take(kept, input, before, noted, reads)
 }
 

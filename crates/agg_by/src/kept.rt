@@ -1,8 +1,9 @@
 //! What is kept of an input's rows, and how a step brings it on.
 
-ghost use Rattle.std.specs.Prelude.{◌≡◌, ◌+◌, ◌*◌, ◌≤◌, ◌++◌, [], List, None, IsTrue, OnOk, length};
-ghost use Rattle.std.specs.List.{AllByRecursion};
+ghost use Rattle.std.specs.Prelude.{◌≡◌, ◌+◌, ◌*◌, ◌≤◌, ◌++◌, ℕ, [], List, None, IsTrue, OnOk, length, map};
+ghost use Rattle.std.specs.List.{AllByRecursion, list_any};
 ghost use Rattle.key_lists.specs.Keys.{is_among, without};
+ghost use Rattle.row_groups.specs.Members.{IsPart, groups_of};
 ghost use Rattle.shift_data.specs.Moves.{IsLawful};
 ghost use Rattle.tick_model.specs.Agg.{agg_table};
 ghost use Rattle.tick_model.specs.Tables.{IsTable, cells_at, keys};
@@ -11,11 +12,13 @@ ghost use Rattle.tick_model.specs.declared.table.PlainRow.{PlainRow};
 ghost use Rattle.tick_table.specs.Exact.{IsExact};
 ghost use Rattle.agg_by.specs.Answers.{IsWithin};
 ghost use Rattle.agg_by.specs.Moments.{table_at};
-ghost use Rattle.agg_by.specs.Steps.{come as come_of, first_keys, gone as gone_of};
+ghost use Rattle.agg_by.specs.Steps.{come as come_of, first_keys, gone as gone_of, key_at, starts, touched_cells};
+ghost use Rattle.agg_by.specs.Touched.{AreNoted, is_named, starts_numbered};
 
 use crate::moment::{Moment, RowBuffer};
-use crate::running::{Running, begun, bring_all_on, bring_rows_on, put_all, put_values, take_all};
-use row_groups::Groups;
+use crate::running::{Running, begun, put_all, put_values, take_all};
+use crate::touched::TouchedGroups;
+use row_groups::NumberedGroups;
 use row_set::RowSet;
 use std::alloc::{AllocError, Global};
 use std::sync::ledger::Ledger;
@@ -28,7 +31,7 @@ pub struct Kept {
     pub(crate) by: Items<u32>,
     pub(crate) aggs: Items<Agg>,
     /// The rows by their key cells, in each group by their keys.
-    pub(crate) rows: Groups,
+    pub(crate) rows: NumberedGroups,
     /// The aggregates in their order; none before the first step.
     pub(crate) running: Vec<Running>,
 }
@@ -45,20 +48,20 @@ impl Drop for Kept {
 }
 
 impl Kept {
-    ghost use Rattle.agg_by.specs.Kept.{Are, AnswerAll, AnswerBoth, IsMade, Keeps, indexed};
+    ghost use Rattle.agg_by.specs.Kept.{Are, AnswerAll, IsMade, Keeps, indexed};
 
     /// What is kept of no rows. It takes no memory.
     pub(crate) fn new(alloc: Global, by: Items<u32>, aggs: Items<Agg>) -> Kept
         ensures by { result.by ≡ by }
         ensures aggs { result.aggs ≡ aggs }
-        ensures rows { result.rows ≡ record { width = length by; members = [] } }
+        ensures rows { result.rows ≡ record { width = length by; members = []; names = [] } }
         ensures running { result.running.items ≡ [] }
     {
         let width = by.len();
         Kept {
             by,
             aggs,
-            rows: Groups::new(alloc, width),
+            rows: NumberedGroups::new(alloc, width),
             running: Vec::new(alloc),
         }
     }
@@ -67,22 +70,24 @@ impl Kept {
     pub(crate) fn begin(&mut self, alloc: Global) -> Result<(), AllocError>
         ensures made { OnOk result (IsMade self.old self.new) }
         ensures rows { OnOk result (self.new.rows ≡ self.old.rows) }
-        ensures running { OnOk result ((rows : List PlainRow) → Are self.old.by self.old.aggs rows self.old.running.items
-            → AnswerAll self.old.by self.old.aggs rows self.new.running.items) }
+        ensures running { OnOk result ((rows : List PlainRow) → Are self.old.by self.old.rows.names self.old.aggs rows self.old.running.items
+            → AnswerAll self.old.by self.old.rows.names self.old.aggs rows self.new.running.items) }
     {
         if self.running.is_empty() {
-            self.running = begun(alloc, self.aggs.as_slice(), self.by.as_slice())?;
+            self.running = begun(alloc, self.aggs.as_slice())?;
         }
         Ok(())
     }
 
     /// Brings all on by the step that the input shows, where `gone` has the old keys of the rows that go or are modified, and
-    /// `come` the new keys of those that come or are modified.
+    /// `come` the new keys of those that come or are modified. `touched` has the groups with their key cells before, and gets those
+    /// that come, so that it has the touched groups of now.
     pub(crate) fn bring_on<L: Ledger>(
         &mut self,
         input: &TickTable,
         gone: &RowSet,
         come: &RowSet,
+        touched: &mut TouchedGroups,
         buffer: &mut RowBuffer,
         reads: &mut Steps<L>,
     ) -> Result<(), AllocError>
@@ -90,16 +95,18 @@ impl Kept {
         requires keeps { Keeps self.old input.now.old.rows }
         requires gone { gone.now ≡ gone_of input.now }
         requires come { come.now ≡ come_of input.now }
+        requires touched { (number : ℕ) → is_among number touched.old ≡ is_named (touched_cells self.old.by input.now) self.old.rows.names number }
         ensures keeps { OnOk result (Keeps self.new input.now.new.rows) }
+        ensures firsts { OnOk result ((first : ℕ) → list_any (starts_numbered self.new.rows first) touched.new ≡ list_any (starts self.new.rows.members first) (touched_cells self.old.by input.now)) }
         ensures made { OnOk result (IsMade self.old self.new) }
         ensures reads { OnOk result (reads.new ≤ reads.old + input.now.new.width * (length gone.now + length come.now)) }
     {
         self.take_rows(input, gone, buffer, reads)?;
         self.move_rows(input, gone)?;
-        self.put_rows(input, come, buffer, reads)
+        self.put_rows(input, come, touched, buffer, reads)
     }
 
-    /// Takes the cells of rows out of the sums.
+    /// Takes rows out of what answers the aggregates.
     fn take_rows<L: Ledger>(
         &mut self,
         input: &TickTable,
@@ -112,50 +119,58 @@ impl Kept {
         requires old_table { IsTable input.now.old }
         ensures made { OnOk result (IsMade self.old self.new) }
         ensures rows { OnOk result (self.new.rows ≡ self.old.rows) }
-        ensures running { OnOk result (AnswerBoth self.old.by self.old.aggs (removing gone.now input.now.old.rows) input.now.old.rows self.new.running.items) }
+        ensures running { OnOk result (AnswerAll self.old.by self.old.rows.names self.old.aggs (removing gone.now input.now.old.rows) self.new.running.items) }
         ensures reads { OnOk result (reads.new ≤ reads.old + input.now.old.width * length gone.now) }
     {
         for position in 0..gone.len() {
             let key = gone.get(position).unwrap();
             buffer.read(Moment::Before, self.by.as_slice(), input, key, reads)?;
-            take_all(&mut self.running, buffer)?;
+            let number = self.rows.number_of(key);
+            take_all(&mut self.running, number, &buffer.row)?;
         }
         Ok(())
     }
 
     /// Takes rows out of the groups, and moves the others to their keys of now.
     fn move_rows(&mut self, input: &TickTable, gone: &RowSet) -> Result<(), AllocError>
-        requires rows { self.old.rows ≡ indexed self.old.by None input.now.old.rows }
-        requires running { AnswerBoth self.old.by self.old.aggs (removing gone.now input.now.old.rows) input.now.old.rows self.old.running.items }
+        requires rows { groups_of self.old.rows ≡ indexed self.old.by None input.now.old.rows }
+        requires running { AnswerAll self.old.by self.old.rows.names self.old.aggs (removing gone.now input.now.old.rows) self.old.running.items }
         requires lawful { IsLawful input.now.update.shifted (without gone.now (keys input.now.old.rows)) }
         ensures made { OnOk result (IsMade self.old self.new) }
         ensures keeps { OnOk result (Keeps self.new (shifting input.now.update.shifted (removing gone.now input.now.old.rows))) }
+        ensures names { OnOk result (IsPart self.new.rows self.old.rows) }
     {
         let shifts = input.update().shifted();
-        bring_rows_on(&mut self.rows, gone, shifts)?;
-        bring_all_on(&mut self.running, gone, shifts)
+        self.rows.remove(gone);
+        self.rows.shift(shifts)?;
+        Ok(())
     }
 
-    /// Puts rows in.
+    /// Puts rows in, and notes their groups.
     fn put_rows<L: Ledger>(
         &mut self,
         input: &TickTable,
         come: &RowSet,
+        touched: &mut TouchedGroups,
         buffer: &mut RowBuffer,
         reads: &mut Steps<L>,
     ) -> Result<(), AllocError>
         requires keeps { Keeps self.old (removing come.now input.now.new.rows) }
+        requires names { IsPart self.old.rows self.old.rows }
         requires come { AllByRecursion (λ key. IsTrue (is_among key (keys input.now.new.rows))) come.now }
         requires new_table { IsTable input.now.new }
         ensures made { OnOk result (IsMade self.old self.new) }
         ensures keeps { OnOk result (Keeps self.new input.now.new.rows) }
+        ensures names { OnOk result (IsPart self.old.rows self.new.rows) }
+        ensures noted { OnOk result (AreNoted touched.old (map (key_at self.old.by input.now.new.rows) come.now) self.new.rows.names touched.new) }
         ensures reads { OnOk result (reads.new ≤ reads.old + input.now.new.width * length come.now) }
     {
         for position in 0..come.len() {
             let key = come.get(position).unwrap();
             buffer.read(Moment::Now, self.by.as_slice(), input, key, reads)?;
-            self.rows.add(key, &buffer.key, 0)?;
-            put_all(&mut self.running, key, buffer)?;
+            let number = self.rows.add(key, &buffer.key, 0)?;
+            touched.note(number)?;
+            put_all(&mut self.running, number, &buffer.row)?;
         }
         Ok(())
     }
@@ -176,17 +191,9 @@ impl Kept {
         ensures cells { OnOk result (cells.new.items ≡ cells.old.items ++ cells_at first (agg_table self.now.by self.now.aggs (table_at moment input.now)).rows) }
         ensures reads { OnOk result (reads.new ≤ reads.old + length self.now.aggs) }
     {
-        let group = self.rows.group_of(first).unwrap();
-        let key_cells = group.cells();
-        cells.extend_from_slice(key_cells)?;
-        put_values(
-            &self.running,
-            key_cells,
-            &group,
-            moment,
-            input,
-            cells,
-            reads,
-        )
+        let number = self.rows.number_of(first);
+        let group = self.rows.group_at(number).unwrap();
+        cells.extend_from_slice(group.cells())?;
+        put_values(&self.running, number, &group, moment, input, cells, reads)
     }
 }

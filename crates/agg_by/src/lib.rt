@@ -1,13 +1,15 @@
 //! `agg`: one row for each group of rows with equal key cells, under the key of the group's first row.
 //!
 //! The operator keeps the rows of its input by their groups (`row_groups`), and for each aggregate what answers it without a
-//! walk: a running sum of each group (`sums`), or the rows of each group in order of a column's cells (`running`). What a step
-//! touches are the groups of the rows that come, go or are modified, by their key cells before and now (`firsts`). Of each such
-//! group the row before is noted (`notes`) before the indexes are brought on (`kept`). A group that no row touches is not looked
-//! at; only its key moves with its first row.
+//! walk (`running`): of the cells of each group, by the group's number (`by_number`), their sum (`sums`) or themselves in order
+//! (`values`).
+//! What a step touches are the groups of the rows that come, go or are modified, by their key cells before and now. Each is noted
+//! once, by its number (`touched`), which gives its first row before and now (`firsts`). Its row before is noted (`notes`) before
+//! the indexes are brought on (`kept`). A group that no row touches is not looked at; only its key moves with its first row.
 #![tactic(auto)]
 
 mod agg_op;
+mod by_number;
 mod firsts;
 mod kept;
 mod moment;
@@ -16,5 +18,7 @@ mod rows;
 mod running;
 mod staying;
 mod sums;
+mod touched;
+mod values;
 
 pub use agg_op::AggOp;

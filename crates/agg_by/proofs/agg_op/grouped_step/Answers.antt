@@ -1,20 +1,19 @@
 use Rattle.std.proofs.Common.{◌≡◌, ap, ap₂, sym, ◌∙◌, subst, true, arith, ◌+◌, ◌*◌, ◌≤◌, List, ℕ, length}
-use Rattle.std.specs.List.{AllByRecursion}
-use Rattle.key_lists.specs.Keys.{is_among}
+use Rattle.std.specs.List.{AllByRecursion, list_any}
+use Rattle.row_groups.specs.Members.{groups_of}
 use Rattle.tick_laws.specs.Checked.{keys_after}
 use Rattle.tick_model.specs.Agg.{agg_table}
 use Rattle.tick_model.specs.Changes.{Change, change_of}
 use Rattle.tick_model.specs.declared.plan.Agg.{Agg}
-use Rattle.tick_model.specs.Tables.{keys}
 use Rattle.tick_model.specs.Updates.{between}
 use Rattle.tick_table.specs.Exact.{counted, tick_of}
 use Rattle.agg_by.specs.Aggregator.{IsColumn, grouped}
 use Rattle.agg_by.specs.Notes.{IsNoted}
-use Rattle.agg_by.specs.Steps.{first_keys, touched_firsts}
-use Rattle.agg_by.proofs.Answering.{own_there}
-use Rattle.agg_by.proofs.Touching.{come_there, gone_there}
+use Rattle.agg_by.specs.Steps.{first_keys, starts, touched_cells, touched_firsts}
+use Rattle.agg_by.specs.Touched.{starts_numbered}
+use Rattle.agg_by.proofs.FirstKeys.{few_firsts}
 use Rattle.agg_by.proofs.GroupParts.{tick}
-use Rattle.agg_by.proofs.Whole.{begun_keeps, found_now, more_reads, shown_after, shown_lawful, step_reads, touched_count, within_all}
+use Rattle.agg_by.proofs.Whole.{begun_keeps, found_firsts, shown_after, shown_lawful, step_reads, touched_count, touched_few, within_all}
 use Rattle.agg_by.proofs.agg_op.grouped_step.Goals as goal
 
 pub noted_groups-requires-clause-keeps : goal.noted_groups-requires-clause-keeps
@@ -32,14 +31,8 @@ pub bring_on-requires-clause-keeps : goal.bring_on-requires-clause-keeps
 bring_on-requires-clause-keeps g c =
     begun_keeps c.args.kept.now c.begin.new.self c.args.input.now.old.rows c.in_ok-begin.ensures.made c.in_ok-begin.ensures.rows c.in_ok-begin.ensures.running c.requires.rows c.requires.running
 
-pub firsts_of-requires-clause-others : goal.firsts_of-requires-clause-others
-firsts_of-requires-clause-others g c = subst (AllByRecursion (λ key. is_among key (keys c.args.input.now.old.rows) ≡ true)) (sym c.in_ok-moving.ensures.gone) (gone_there c.args.input.now c.requires.exact)
-
-pub firsts_of-requires-clause-own : goal.firsts_of-requires-clause-own
-firsts_of-requires-clause-own g c =
-    let t = c.args.input.now in
-    own_there c.bring_on.new.self.by t.new c.requires.exact.tick.new_table c.bring_on.new.self.rows c.in_ok-bring_on.ensures.keeps.rows c.in_ok-moving.moving.come
-    (subst (AllByRecursion (λ key. is_among key (keys t.new.rows) ≡ true)) (sym c.in_ok-moving.ensures.come) (come_there t c.requires.exact))
+pub bring_on-requires-clause-touched : goal.bring_on-requires-clause-touched
+bring_on-requires-clause-touched g c = c.in_ok-notes.ensures.touched
 
 pub group_change-requires-clause-ready : goal.group_change-requires-clause-ready
 group_change-requires-clause-ready g c =
@@ -57,7 +50,12 @@ group_change-requires-clause-ready g c =
 pub group_change-requires-clause-firsts : goal.group_change-requires-clause-firsts
 group_change-requires-clause-firsts g c =
     let t = c.args.input.now in
-    found_now c.bring_on.new.self.by t c.requires.exact c.bring_on.new.self.rows _ _ c.in_ok-firsts.firsts c.in_ok-bring_on.ensures.keeps.rows c.in_ok-moving.ensures.gone c.in_ok-moving.ensures.come c.in_ok-firsts.ensures.rising c.in_ok-firsts.ensures.firsts
+    let kept = c.bring_on.new.self in
+    let rows = kept.rows in
+    found_firsts kept.by t t.new c.requires.exact.tick.new_table (groups_of rows) c.in_ok-firsts.firsts c.in_ok-bring_on.ensures.keeps.rows c.in_ok-firsts.ensures.rising
+    (λ first.
+    c.in_ok-firsts.ensures.firsts first ∙ ap (list_any (starts_numbered rows first)) c.numbers.ensures ∙ c.in_ok-bring_on.ensures.firsts first
+    ∙ ap (λ (by : List ℕ). list_any (starts rows.members first) (touched_cells by t)) (sym c.in_ok-bring_on.ensures.made.by))
 
 pub apply_to_keys-requires : goal.apply_to_keys-requires
 apply_to_keys-requires g c =
@@ -95,12 +93,13 @@ returns-clause-reads g c =
     let touched = length c.in_ok-moving.moving.gone + length c.in_ok-moving.moving.come in
     let first : c.noted_groups.new.reads ≤ c.args.reads.now + (width + length aggs) * touched =
     subst (λ (aggs : List Agg). c.noted_groups.new.reads ≤ c.args.reads.now + (width + length aggs) * touched) made.aggs c.in_ok-notes.ensures.reads in
-    let last : c.group_change.new.reads ≤ c.firsts_of.new.reads + 2 * length aggs * length c.in_ok-firsts.firsts =
-    subst (λ (aggs : List Agg). c.group_change.new.reads ≤ c.firsts_of.new.reads + 2 * length aggs * length c.in_ok-firsts.firsts) (brought.aggs ∙ made.aggs) c.in_ok-change.ensures.reads in
+    let last : c.group_change.new.reads ≤ c.bring_on.new.reads + 2 * length aggs * length c.in_ok-firsts.firsts =
+    subst (λ (aggs : List Agg). c.group_change.new.reads ≤ c.bring_on.new.reads + 2 * length aggs * length c.in_ok-firsts.firsts) (brought.aggs ∙ made.aggs) c.in_ok-change.ensures.reads in
     let most : touched ≤ counted t.update = subst (λ (n : ℕ). n ≤ counted t.update) (sym (ap₂ (λ (gone come : List ℕ). length gone + length come) c.in_ok-moving.ensures.gone c.in_ok-moving.ensures.come)) (touched_count t c.requires.exact) in
-    let most_gone : length c.in_ok-moving.moving.gone ≤ touched = omega arith in
-    let found : c.firsts_of.new.reads ≤ c.bring_on.new.reads + width * touched =
-    more_reads width (length c.in_ok-moving.moving.gone) touched c.bring_on.new.reads c.firsts_of.new.reads
-    (subst (λ (width : ℕ). c.firsts_of.new.reads ≤ c.bring_on.new.reads + width * length c.in_ok-moving.moving.gone) (sym c.requires.exact.tick.one_width) c.in_ok-firsts.ensures.reads) most_gone in
-    let few : length c.in_ok-firsts.firsts ≤ touched = omega (arith, c.in_ok-firsts.ensures.few) in
-    step_reads width (length aggs) c.args.reads.now c.noted_groups.new.reads c.bring_on.new.reads c.firsts_of.new.reads c.group_change.new.reads touched (length c.in_ok-firsts.firsts) (counted t.update) first c.in_ok-bring_on.ensures.reads found last few most
+    let rows = c.bring_on.new.self.rows in
+    let few : length c.in_ok-firsts.firsts ≤ length (touched_cells c.begin.new.self.by t) =
+    few_firsts rows.members (touched_cells c.begin.new.self.by t) c.in_ok-firsts.firsts c.in_ok-firsts.ensures.rising
+    (λ first. c.in_ok-firsts.ensures.firsts first ∙ ap (list_any (starts_numbered rows first)) c.numbers.ensures ∙ c.in_ok-bring_on.ensures.firsts first) in
+    let count : length (touched_cells c.begin.new.self.by t) ≡ touched =
+    touched_few c.begin.new.self.by t ∙ sym (ap₂ (λ (gone come : List ℕ). length gone + length come) c.in_ok-moving.ensures.gone c.in_ok-moving.ensures.come) in
+    step_reads width (length aggs) c.args.reads.now c.noted_groups.new.reads c.bring_on.new.reads c.group_change.new.reads touched (length c.in_ok-firsts.firsts) (counted t.update) first c.in_ok-bring_on.ensures.reads last (subst (λ (n : ℕ). length c.in_ok-firsts.firsts ≤ n) count few) most

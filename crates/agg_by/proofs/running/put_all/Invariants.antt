@@ -1,6 +1,6 @@
-use Rattle.agg_by.specs.Answers.{Gains}
-use Rattle.agg_by.specs.Stepping.{Stepped}
+use Rattle.std.proofs.Common.{◌≡◌, ◌++◌, map, take, drop}
+use Rattle.agg_by.specs.Answers.{with_row}
 use Rattle.agg_by.proofs.running.put_all.Given as goal
 
 abbrev pub invariant-loop-place : goal.invariant-loop-place
-invariant-loop-place l = Stepped (Gains l.fn.key l.row.key.items l.row.row.items) l.place l.fn.all l.all
+invariant-loop-place l = l.all ≡ map (with_row l.fn.number l.row) (take l.place l.fn.all) ++ drop l.place l.fn.all

@@ -1,6 +1,7 @@
 use Rattle.std.proofs.Common.{◌≡◌, refl, ap, sym, ◌∙◌, ◌*◌, ◌≤◌, ◌^◌, arith, true, false, List, ℕ, Some, None, length}
 use Rattle.std.specs.Prelude.{slice_get}
 use Rattle.key_lists.specs.Keys.{is_among}
+use Rattle.row_groups.specs.Members.{groups_of}
 use Rattle.tick_model.specs.Agg.{agg_table}
 use Rattle.tick_model.specs.declared.update.KeyPair.{KeyPair}
 use Rattle.tick_model.specs.declared.update.ShiftRange.{ShiftRange}
@@ -67,7 +68,7 @@ returns-then-not-has_key_cells c =
     let row = c.row_at.ensures ∙ noted_at c.args.notes.now (agg_table by aggs t.old) c.args.position old c.requires.noted here in
     let same : same_cells (key_at by t.old.rows old) (key_at by t.new.rows land) ≡ false =
     ap (λ (k : ℕ). same_cells (key_at by t.old.rows old) (key_at by t.new.rows k)) (sym place)
-    ∙ sym (c.has_key_cells.ensures ∙ has_cells by t e aggs old c.landing-new.result c.row_at.result.now c.args.kept.now.rows own row (first_row_there by t e c.landing-new.result first) c.requires.keeps.rows) ∙ c.if-not-has_key_cells.true in
+    ∙ sym (c.has_key_cells.ensures ∙ has_cells by t e aggs old c.landing-new.result c.row_at.result.now (groups_of c.args.kept.now.rows) own row (first_row_there by t e c.landing-new.result first) c.requires.keeps.rows) ∙ c.if-not-has_key_cells.true in
     pair_when by t c.args.notes.now.keys c.args.position old None false here (not_same (is_among old t.update.removed) (is_among land (touched_firsts by t t.new.rows)) (same_cells (key_at by t.old.rows old) (key_at by t.new.rows land)) same) refl
 
 pub returns : goal.returns
@@ -86,7 +87,7 @@ returns c =
     let row = c.row_at.ensures ∙ noted_at c.args.notes.now (agg_table by aggs t.old) c.args.position old c.requires.noted here in
     let same : same_cells (key_at by t.old.rows old) (key_at by t.new.rows land) ≡ true =
     ap (λ (k : ℕ). same_cells (key_at by t.old.rows old) (key_at by t.new.rows k)) (sym place)
-    ∙ sym (c.has_key_cells.ensures ∙ has_cells by t e aggs old c.landing-new.result c.row_at.result.now c.args.kept.now.rows own row (first_row_there by t e c.landing-new.result first) c.requires.keeps.rows) ∙ c.if-not-has_key_cells.false in
+    ∙ sym (c.has_key_cells.ensures ∙ has_cells by t e aggs old c.landing-new.result c.row_at.result.now (groups_of c.args.kept.now.rows) own row (first_row_there by t e c.landing-new.result first) c.requires.keeps.rows) ∙ c.if-not-has_key_cells.false in
     pair_when by t c.args.notes.now.keys c.args.position old (Some (record { old = old; new = c.landing-new.result })) true here
     (all_three (is_among old t.update.removed) (is_among land (touched_firsts by t t.new.rows)) (same_cells (key_at by t.old.rows old) (key_at by t.new.rows land)) left (ap (λ (k : ℕ). is_among k (touched_firsts by t t.new.rows)) (sym place) ∙ first) same)
     (ap (λ (k : ℕ). let pair : KeyPair = record { old = old; new = k } in Some pair) place)

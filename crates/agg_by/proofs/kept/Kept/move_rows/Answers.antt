@@ -1,52 +1,67 @@
-use Rattle.std.proofs.Common.{◌≡◌, ap, sym, ◌∙◌, subst, rules, List, None, length}
-use Rattle.std.proofs.lemmas.List.{with_items_is}
-use Rattle.std.proofs.lemmas.Result.{on_ok_weaker}
-use Rattle.std.specs.List.{AllByRecursion}
+use Rattle.std.proofs.Common.{◌≡◌, ap, ap₂, sym, ◌∙◌, subst, ℕ, List, None}
 use Rattle.key_lists.proofs.Every.{every_weaker}
+use Rattle.row_groups.specs.Members.{Grouped, Names, group_of, groups_of, keys_of, left_members, moved_members, name_at}
+use Rattle.shift_data.specs.Moves.{IsLawful}
 use Rattle.tick_model.specs.declared.update.ShiftRange.{ShiftRange}
 use Rattle.tick_model.specs.Updates.{Update, removing, shifting}
-use Rattle.agg_by.specs.declared.running.Running.{Running}
-use Rattle.agg_by.specs.Answers.{CanMove, Moves, MovesLawfully, moving}
-use Rattle.agg_by.specs.Kept.{AnswerAll, Answers, AnswersOf, agg_of}
-use Rattle.agg_by.specs.Stepping.{Stepped}
-use Rattle.agg_by.proofs.KeptSteps.{can_move, indexed_can, indexed_moves, moves, moves_agg}
-use Rattle.agg_by.proofs.Stepping.{stepped_every, stepped_same}
+use Rattle.agg_by.specs.Kept.{Answers, cells_in, indexed}
+use Rattle.agg_by.proofs.Bringing.{left-members, members, moved-members}
+use Rattle.agg_by.proofs.KeptSteps.{indexed_left, indexed_moved, left_lawful, moved_cells, same_answers}
+use Rattle.agg_by.proofs.Made.{same_named}
+use Rattle.agg_by.proofs.Noted.{moved_none}
 use Rattle.agg_by.proofs.kept.Kept.move_rows.Goals as goal
 
-pub bring_rows_on-requires : goal.bring_rows_on-requires
-bring_rows_on-requires c =
+pub shift-requires : goal.shift-requires
+shift-requires c =
     let t = c.args.input.now in
-    let P : List ShiftRange → Type 0 = λ shifts. MovesLawfully c.args.gone.now shifts c.args.self.now.rows in
-    subst P (sym (c.shifted-shifts.ensures ∙ ap (λ (update : Update). update.shifted) c.update.ensures))
-    (indexed_can c.args.self.now.by t.old.rows c.args.gone.now t.update.shifted None c.args.self.now.rows c.requires.rows c.requires.lawful)
-
-pub bring_all_on-requires : goal.bring_all_on-requires
-bring_all_on-requires c =
-    let t = c.args.input.now in
-    let gone = c.args.gone.now in
     let by = c.args.self.now.by in
-    let all : c.deref_mut.result.now ≡ c.args.self.now.running.items = search rules in
-    let P : List ShiftRange → Type 0 = λ shifts. AllByRecursion (CanMove gone shifts) c.deref_mut.result.now in
-    subst P (sym (c.shifted-shifts.ensures ∙ ap (λ (update : Update). update.shifted) c.update.ensures))
-    (subst (AllByRecursion (CanMove gone t.update.shifted)) (sym all)
-    (every_weaker (AnswersOf by (removing gone t.old.rows) t.old.rows) (CanMove gone t.update.shifted) c.args.self.now.running.items (can_move by t.old.rows gone t.update.shifted c.requires.lawful) c.requires.running.1))
+    let gone = c.args.gone.now in
+    let left : groups_of c.remove.new.self ≡ indexed by None (removing gone t.old.rows) = c.remove.ensures.members ∙ indexed_left by t.old.rows gone (groups_of c.args.self.now.rows) c.requires.rows in
+    subst (λ (shifts : List ShiftRange). IsLawful shifts (keys_of c.remove.new.self.members)) (sym (c.shifted-shifts.ensures ∙ ap (λ (update : Update). update.shifted) c.update.ensures))
+    (left_lawful by t.old.rows gone t.update.shifted (groups_of c.remove.new.self) left c.requires.lawful)
 
 pub returns-clause-keeps : goal.returns-clause-keeps
 returns-clause-keeps c =
     let t = c.args.input.now in
+    let by = c.args.self.now.by in
+    let gone = c.args.gone.now in
+    let rows = removing gone t.old.rows in
+    let kept = c.args.self.now.rows in
+    let mid = c.remove.new.self in
+    let names = c.shift.new.self.names in
+    let shift : c.shifted-shifts.result.now ≡ t.update.shifted = c.shifted-shifts.ensures ∙ ap (λ (update : Update). update.shifted) c.update.ensures in
+    let left : groups_of mid ≡ indexed by None rows = c.remove.ensures.members ∙ indexed_left by t.old.rows gone (groups_of kept) c.requires.rows in
+    let same = λ (column n : ℕ).
+    sym (same_named by column rows mid kept c.remove.ensures.names (ap (λ (grouped : Grouped). grouped.members) left) n)
+    ∙ ap (λ (names : Names). cells_in by column rows (name_at n names)) (sym c.in_ok-shift.ensures.names)
+    ∙ moved_cells by t.update.shifted rows column (name_at n names) in record {
+      rows =
+          c.in_ok-shift.ensures.members
+          ∙ ap (λ (shifts : List ShiftRange). let moved : Grouped = record (groups_of mid) { members = moved_members shifts mid.members } in moved) shift
+          ∙ indexed_moved by rows t.update.shifted (groups_of mid) left;
+      running = (
+        c.requires.running.0,
+        every_weaker (Answers by kept.names rows) (Answers by names (shifting t.update.shifted rows)) c.args.self.now.running.items
+            (same_answers by kept.names names rows (shifting t.update.shifted rows) same) c.requires.running.1,
+      );
+    }
+
+pub returns-clause-names : goal.returns-clause-names
+returns-clause-names c =
+    let t = c.args.input.now in
     let gone = c.args.gone.now in
     let by = c.args.self.now.by in
-    let items = c.args.self.now.running.items in
+    let left = removing gone t.old.rows in
+    let mid = c.remove.new.self in
+    let new = c.shift.new.self in
     let shift : c.shifted-shifts.result.now ≡ t.update.shifted = c.shifted-shifts.ensures ∙ ap (λ (update : Update). update.shifted) c.update.ensures in
-    let all : c.deref_mut.result.now ≡ items = search rules in
-    let long : length c.bring_all_on.new.all ≡ c.args.self.now.running.len = c.bring_all_on.auto.all ∙ ap length all ∙ sym c.args.self.now.running.ok.0 in
-    on_ok_weaker c.bring_all_on.result (λ is.
-    let Q : List ShiftRange → Type 0 = λ shifts. Stepped (Moves gone shifts) (length c.deref_mut.result.now) c.deref_mut.result.now c.bring_all_on.new.all in
-    let R : List Running → Type 0 = λ old. Stepped (Moves gone t.update.shifted) (length old) old c.bring_all_on.new.all in
-    let moved : Stepped (Moves gone t.update.shifted) (length items) items c.bring_all_on.new.all = subst R all (subst Q shift is) in record {
-      rows = c.in_ok-bring_rows_on.ensures ∙ ap (λ (shifts : List ShiftRange). moving gone shifts c.args.self.now.rows) shift ∙ indexed_moves by t.old.rows gone t.update.shifted None c.args.self.now.rows c.requires.rows;
-      running = subst (AnswerAll by c.args.self.now.aggs (shifting t.update.shifted (removing gone t.old.rows))) (sym (with_items_is c.args.self.now.running c.bring_all_on.new.all long)) (
-        stepped_same (Moves gone t.update.shifted) agg_of items c.bring_all_on.new.all (moves_agg gone t.update.shifted) moved ∙ c.requires.running.0,
-        stepped_every (Moves gone t.update.shifted) (AnswersOf by (removing gone t.old.rows) t.old.rows) (Answers by (shifting t.update.shifted (removing gone t.old.rows))) items c.bring_all_on.new.all (moves by t.old.rows gone t.update.shifted) moved c.requires.running.1,
-      );
-    }) c.bring_all_on.ensures
+    let are : mid.members ≡ members by None left =
+    ap (λ (grouped : Grouped). grouped.members) c.remove.ensures.members ∙ ap (λ (grouped : Grouped). left_members gone grouped.members) c.requires.rows ∙ left-members by None gone t.old.rows in
+    let moved : new.members ≡ members by None (shifting t.update.shifted left) =
+    ap (λ (grouped : Grouped). grouped.members) c.in_ok-shift.ensures.members ∙ ap₂ moved_members shift are ∙ moved-members by None t.update.shifted left in record {
+      kept = λ number cells e. c.remove.ensures.names.kept number cells (ap (λ (names : Names). name_at number names) (sym c.in_ok-shift.ensures.names) ∙ e);
+      named = λ cells unnamed.
+          ap (group_of cells) moved
+          ∙ moved_none by t.update.shifted left cells (ap (group_of cells) (sym are) ∙ c.remove.ensures.names.named cells (λ number e. unnamed number (ap (λ (names : Names). name_at number names) c.in_ok-shift.ensures.names ∙ e)));
+      alone = c.remove.ensures.names.alone;
+    }

@@ -1,22 +1,20 @@
-use Rattle.std.proofs.Common.{◌≡◌, refl, ap, sym, ◌∙◌, subst, rules, arith, true, false, IsTrue, List, Some, ◌∷◌, ℕ, ℤ, ◌+◌, length, take}
+use Rattle.std.proofs.Common.{◌≡◌, refl, ap, ap₂, sym, ◌∙◌, subst, rules, arith, true, false, IsTrue, List, Some, ◌∷◌, ℕ, ℤ, ◌+◌, length, map, option_map, is_some, take}
 use Rattle.std.specs.Prelude.{slice_get}
-use Rattle.std.specs.List.{AllByRecursion}
 use Rattle.std.proofs.lemmas.List.{with_items_is}
 use Rattle.std.proofs.Math.Seq.{take-length}
 use Rattle.key_lists.specs.Keys.{is_among}
 use Rattle.key_lists.proofs.Every.{filter_all}
+use Rattle.row_groups.specs.Members.{IsNumberOf, Member, Numbered, groups_of, member_under}
 use Rattle.shown_rows.proofs.Walks.{below_keys, of_place, take_next}
 use Rattle.tick_model.specs.declared.table.PlainRow.{PlainRow}
-use Rattle.tick_model.specs.Agg.{key_cells}
 use Rattle.tick_model.specs.Tables.{cells_at, keys}
 use Rattle.tick_model.specs.Updates.{removing}
 use Rattle.agg_by.specs.declared.running.Running.{Running}
-use Rattle.agg_by.specs.Answers.{Loses}
-use Rattle.agg_by.specs.Kept.{AnswerBoth, AnswersOf, agg_of}
+use Rattle.agg_by.specs.Answers.{without_row}
+use Rattle.agg_by.specs.Kept.{AnswerAll, Answers}
 use Rattle.agg_by.specs.Steps.{key_at}
-use Rattle.agg_by.specs.Stepping.{Stepped}
-use Rattle.agg_by.proofs.KeptSteps.{above_all, loses, loses_agg, removing-last}
-use Rattle.agg_by.proofs.Stepping.{stepped_every, stepped_same}
+use Rattle.agg_by.proofs.Answering.{known_at, there_at}
+use Rattle.agg_by.proofs.KeptSteps.{above_all, all_changed, loses, removing-last, without_agg}
 use Rattle.agg_by.proofs.kept.Kept.take_rows.Goals as goal
 
 pub loop-position-init : goal.loop-position-init
@@ -24,7 +22,7 @@ loop-position-init g c = record {
   by = refl;
   aggs = refl;
   rows = refl;
-  running = subst (λ (rows : List PlainRow). AnswerBoth c.args.self.now.by c.args.self.now.aggs rows c.args.input.now.old.rows c.args.self.now.running.items) (sym (filter_all c.args.input.now.old.rows)) c.requires.keeps.running;
+  running = subst (λ (rows : List PlainRow). AnswerAll c.args.self.now.by c.args.self.now.rows.names c.args.self.now.aggs rows c.args.self.now.running.items) (sym (filter_all c.args.input.now.old.rows)) c.requires.keeps.running;
   reads = omega arith;
 }
 
@@ -33,40 +31,51 @@ read-requires g c = record {
   here = of_place (λ key. IsTrue (is_among key (keys c.args.input.now.old.rows))) c.loop-position.position c.args.gone.now c.unwrap-key.result c.requires.gone (sym c.get.ensures.key ∙ c.unwrap-key.ensures);
 }
 
+pub number_of-number-requires : goal.number_of-number-requires
+number_of-number-requires g c =
+    let t = c.args.input.now.old in
+    let key = c.unwrap-key.result in
+    let own : is_among key (keys t.rows) ≡ true = of_place (λ key. is_among key (keys t.rows) ≡ true) c.loop-position.position c.args.gone.now key c.requires.gone (sym c.get.ensures.key ∙ c.unwrap-key.ensures) in
+    subst (λ (kept : Numbered). is_some (member_under key kept.members) ≡ true) (sym c.loop-position.invariant.rows)
+    (there_at c.args.self.now.by t c.requires.old_table (groups_of c.args.self.now.rows) c.requires.keeps.rows key own)
+
 pub loop-position-preserved : goal.loop-position-preserved
 loop-position-preserved g c =
     let rows = c.args.input.now.old.rows in
     let by = c.args.self.now.by in
+    let names = c.args.self.now.rows.names in
     let gone = c.args.gone.now in
     let place = c.loop-position.position in
     let key = c.unwrap-key.result in
+    let number = c.number_of-number.result in
     let items = c.loop-position.self.running.items in
     let new = c.take_all.new.all in
     let here : slice_get gone place ≡ Some key = sym c.get.ensures.key ∙ c.unwrap-key.ensures in
     let own : is_among key (keys rows) ≡ true = of_place (λ key. is_among key (keys rows) ≡ true) place gone key c.requires.gone here in
     let apart : is_among key (take place gone) ≡ false = above_all key (take place gone) (below_keys (λ _. true) gone place key (take place gone) c.get.ensures.keys.rising here (sym (filter_all (take place gone)))) in
+    let known : option_map (λ (member : Member). member.cells) (member_under key c.loop-position.self.rows.members) ≡ Some (key_at by rows key) =
+    ap (λ (kept : Numbered). option_map (λ (member : Member). member.cells) (member_under key kept.members)) c.loop-position.invariant.rows
+    ∙ known_at by c.args.input.now.old c.requires.old_table (groups_of c.args.self.now.rows) c.requires.keeps.rows key own in
+    let is : IsNumberOf number (key_at by rows key) names = subst (λ (kept : Numbered). IsNumberOf number (key_at by rows key) kept.names) c.loop-position.invariant.rows (c.number_of-number.ensures (key_at by rows key) known) in
     let all : c.deref_mut.result.now ≡ items = search rules in
-    let cells : c.read.new.self.key.items ≡ key_at by rows key = c.in_ok-read.ensures.key ∙ ap (λ (columns : List ℕ). key_cells columns (cells_at key rows)) (c.as_slice.ensures ∙ c.loop-position.invariant.by) in
-    let A : List ℤ → Type 0 = λ cells. Stepped (Loses cells c.read.new.self.row.items) (length c.deref_mut.result.now) c.deref_mut.result.now new in
-    let B : List ℤ → Type 0 = λ row. Stepped (Loses (key_at by rows key) row) (length c.deref_mut.result.now) c.deref_mut.result.now new in
-    let C : List Running → Type 0 = λ old. Stepped (Loses (key_at by rows key) (cells_at key rows)) (length old) old new in
-    let lost : Stepped (Loses (key_at by rows key) (cells_at key rows)) (length items) items new = subst C all (subst B c.in_ok-read.ensures.row (subst A cells c.in_ok-take_all.ensures)) in
+    let f = without_row number (cells_at key rows) in
+    let row : c.deref.result.now ≡ c.read.new.self.row.items = search rules in
+    let lost : new ≡ map f items = c.in_ok-take_all.ensures ∙ ap₂ (λ (row : List ℤ) (old : List Running). map (without_row number row) old) (row ∙ c.in_ok-read.ensures.row) all in
     let long : length new ≡ c.loop-position.self.running.len = c.take_all.auto.all ∙ ap length all ∙ sym c.loop-position.self.running.ok.0 in
     let left : removing (key ∷ take place gone) rows ≡ removing (take (place + 1) gone) rows = removing-last key (take place gone) rows ∙ ap (λ (ks : List ℕ). removing ks rows) (sym (take_next gone place key here)) in record {
       by = c.loop-position.invariant.by;
       aggs = c.loop-position.invariant.aggs;
       rows = c.loop-position.invariant.rows;
-      running = subst (AnswerBoth by c.args.self.now.aggs (removing (take (place + 1) gone) rows) rows) (sym (with_items_is c.loop-position.self.running new long)) (
-        stepped_same (Loses (key_at by rows key) (cells_at key rows)) agg_of items new (loses_agg (key_at by rows key) (cells_at key rows)) lost ∙ c.loop-position.invariant.running.0,
-        subst (λ (left : List PlainRow). AllByRecursion (AnswersOf by left rows) new) left
-            (stepped_every (Loses (key_at by rows key) (cells_at key rows)) (AnswersOf by (removing (take place gone) rows) rows) (AnswersOf by (removing (key ∷ take place gone) rows) rows) items new
-            (loses by rows c.requires.old_table.rising key (take place gone) own apart rows) lost c.loop-position.invariant.running.1),
-      );
+      running =
+          subst (AnswerAll by names c.args.self.now.aggs (removing (take (place + 1) gone) rows)) (sym (with_items_is c.loop-position.self.running new long ∙ lost))
+          (subst (λ (left : List PlainRow). AnswerAll by names c.args.self.now.aggs left (map f items)) left
+          (all_changed f (Answers by names (removing (take place gone) rows)) (Answers by names (removing (key ∷ take place gone) rows)) c.args.self.now.aggs items (without_agg number (cells_at key rows))
+          (loses by rows c.requires.old_table.rising key (take place gone) own apart names number is) c.loop-position.invariant.running));
       reads = omega (arith, c.loop-position.invariant.reads, c.in_ok-read.ensures.reads);
     }
 
 pub returns-clause-running : goal.returns-clause-running
 returns-clause-running g c =
     let end : c.loop-position.position ≡ length c.args.gone.now = omega arith in
-    subst (λ (ks : List ℕ). AnswerBoth c.args.self.now.by c.args.self.now.aggs (removing ks c.args.input.now.old.rows) c.args.input.now.old.rows c.loop-position.self.running.items)
+    subst (λ (ks : List ℕ). AnswerAll c.args.self.now.by c.args.self.now.rows.names c.args.self.now.aggs (removing ks c.args.input.now.old.rows) c.loop-position.self.running.items)
     (ap (λ (n : ℕ). take n c.args.gone.now) end ∙ take-length c.args.gone.now) c.loop-position.invariant.running

@@ -1,6 +1,6 @@
 use Rattle.std.proofs.Common.{◌≡◌, ◌+◌, ◌*◌, ◌≤◌, take}
 use Rattle.tick_model.specs.Updates.{removing}
-use Rattle.agg_by.specs.Kept.{AnswerBoth}
+use Rattle.agg_by.specs.Kept.{AnswerAll}
 use Rattle.agg_by.proofs.kept.Kept.take_rows.Given as goal
 
 abbrev pub invariant-loop-position : goal.invariant-loop-position
@@ -8,6 +8,6 @@ invariant-loop-position g l = record {
   by : l.self.by ≡ l.fn.self.by;
   aggs : l.self.aggs ≡ l.fn.self.aggs;
   rows : l.self.rows ≡ l.fn.self.rows;
-  running : AnswerBoth l.fn.self.by l.fn.self.aggs (removing (take l.position l.gone) l.input.old.rows) l.input.old.rows l.self.running.items;
+  running : AnswerAll l.fn.self.by l.fn.self.rows.names l.fn.self.aggs (removing (take l.position l.gone) l.input.old.rows) l.self.running.items;
   reads : l.reads ≤ l.fn.reads + l.input.old.width * l.position;
 }

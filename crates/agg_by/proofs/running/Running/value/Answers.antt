@@ -22,4 +22,4 @@ pub returns-in-Count-clause-answer : goal.returns-in-Count-clause-answer
 returns-in-Count-clause-answer g c =
     let small : c.len.result < 2 ^ 63 = omega arith in
     let number : to_z w64 c.len.result ≡ pos c.len.result = omega (arith, ints) in
-    number ∙ ap pos c.len.ensures ∙ ap (λ (running : Running). answer running c.args.cells.now c.args.group.now (table_at c.args.moment c.args.input.now).rows) (sym c.in-Count.is)
+    number ∙ ap pos c.len.ensures ∙ ap (λ (running : Running). answer running c.args.number c.args.group.now (table_at c.args.moment c.args.input.now).rows) (sym c.in-Count.is)

@@ -1,0 +1,147 @@
+//! The groups that a step touches, by their numbers.
+
+ghost use Rattle.std.specs.Prelude.{◌≡◌, ℕ, ◌+◌, ◌*◌, ◌≤◌, ◌||◌, [], None, IsSome, IsTrue, OnOk, length, map};
+ghost use Rattle.std.specs.List.{AllByRecursion, list_any};
+ghost use Rattle.agg_by.specs.Kept.{indexed};
+ghost use Rattle.agg_by.specs.Steps.{come as come_of, gone as gone_of, kept_cells, key_at, starts, touched_cells};
+ghost use Rattle.agg_by.specs.Touched.{is_named, starts_numbered, with_number};
+ghost use Rattle.key_lists.specs.Keys.{is_among};
+ghost use Rattle.row_groups.specs.Members.{groups_of, member_under};
+ghost use Rattle.tick_model.specs.Tables.{keys as keys_of};
+ghost use Rattle.tick_table.specs.Exact.{IsExact};
+
+use crate::kept::Kept;
+use crate::moment::{Moment, RowBuffer};
+use row_groups::NumberedGroups;
+use row_set::RowSet;
+use std::alloc::{AllocError, Global};
+use std::marker::Model;
+use std::sync::ledger::Ledger;
+use tick_table::{Steps, TickTable};
+
+/// The numbers of groups, each once. A contract sees the list of them.
+#[derive(Drop)]
+pub(crate) struct TouchedGroups {
+    numbers: Vec<usize>,
+    /// Which numbers are in the list.
+    marks: Vec<bool>,
+}
+
+impl Model for TouchedGroups {
+    ghost use Rattle.std.specs.Prelude.{ℕ, List};
+    ghost use Rattle.agg_by.specs.Touched.{AreMarks};
+
+    ghost Value = { List ℕ };
+
+    ghost view = { λ touched. touched.numbers.items };
+
+    ghost invariant = { λ touched. AreMarks touched.numbers.items touched.marks.items };
+}
+
+impl TouchedGroups {
+    /// No groups. It takes no memory.
+    pub fn new(alloc: Global) -> TouchedGroups
+        ensures { result ≡ [] }
+    {
+        TouchedGroups {
+            numbers: Vec::new(alloc),
+            marks: Vec::new(alloc),
+        }
+    }
+
+    /// The numbers.
+    pub fn numbers(&self) -> &[usize]
+        ensures { result.now ≡ self.now }
+    {
+        &self.numbers
+    }
+
+    /// Forgets all groups. The cost is that of those that are noted.
+    fn clear(&mut self)
+        ensures { self.new ≡ [] }
+    {
+        for number in &self.numbers {
+            self.marks[*number] = false;
+        }
+        self.numbers.clear();
+    }
+
+    /// Notes a group.
+    pub fn note(&mut self, number: usize) -> Result<(), AllocError>
+        ensures { OnOk result (self.new ≡ with_number number self.old) }
+    {
+        while self.marks.len() <= number {
+            self.marks.push(false)?;
+        }
+        if !self.marks[number] {
+            self.numbers.push(number)?;
+            self.marks[number] = true;
+        }
+        Ok(())
+    }
+
+    /// Notes the groups that a step touches, as they are before it, and forgets others. `gone` has the old keys of the rows that
+    /// go or are modified, and `come` the new keys of those that come or are modified.
+    pub fn note_before<L: Ledger>(
+        &mut self,
+        kept: &Kept,
+        input: &TickTable,
+        gone: &RowSet,
+        come: &RowSet,
+        buffer: &mut RowBuffer,
+        reads: &mut Steps<L>,
+    ) -> Result<(), AllocError>
+        requires exact { IsExact input.now }
+        requires rows { groups_of kept.now.rows ≡ indexed kept.now.by None input.now.old.rows }
+        requires gone { gone.now ≡ gone_of input.now }
+        requires come { come.now ≡ come_of input.now }
+        ensures named { OnOk result ((number : ℕ) → is_among number self.new ≡ is_named (touched_cells kept.now.by input.now) kept.now.rows.names number) }
+        ensures firsts { OnOk result ((first : ℕ) → list_any (starts_numbered kept.now.rows first) self.new ≡ list_any (starts kept.now.rows.members first) (touched_cells kept.now.by input.now)) }
+        ensures reads { OnOk result (reads.new ≤ reads.old + input.now.new.width * length come.now) }
+    {
+        self.clear();
+        self.note_kept(&kept.rows, gone)?;
+        self.note_coming(kept, input, come, buffer, reads)
+    }
+
+    /// Notes the groups of these rows, which are kept.
+    fn note_kept(&mut self, rows: &NumberedGroups, keys: &RowSet) -> Result<(), AllocError>
+        requires { AllByRecursion (λ key. IsSome (member_under key rows.now.members)) keys.now }
+        ensures named { OnOk result ((number : ℕ) → is_among number self.new
+            ≡ (is_among number self.old || is_named (map (kept_cells rows.now.members) keys.now) rows.now.names number)) }
+        ensures firsts { OnOk result ((first : ℕ) → list_any (starts_numbered rows.now first) self.new
+            ≡ (list_any (starts_numbered rows.now first) self.old || list_any (starts rows.now.members first) (map (kept_cells rows.now.members) keys.now))) }
+    {
+        for position in 0..keys.len() {
+            let key = keys.get(position).unwrap();
+            self.note(rows.number_of(key))?;
+        }
+        Ok(())
+    }
+
+    /// Notes the groups, as they are kept, that have the key cells of these rows of now. It reads each of the rows.
+    fn note_coming<L: Ledger>(
+        &mut self,
+        kept: &Kept,
+        input: &TickTable,
+        keys: &RowSet,
+        buffer: &mut RowBuffer,
+        reads: &mut Steps<L>,
+    ) -> Result<(), AllocError>
+        requires { AllByRecursion (λ key. IsTrue (is_among key (keys_of input.now.new.rows))) keys.now }
+        ensures named { OnOk result ((number : ℕ) → is_among number self.new
+            ≡ (is_among number self.old || is_named (map (key_at kept.now.by input.now.new.rows) keys.now) kept.now.rows.names number)) }
+        ensures firsts { OnOk result ((first : ℕ) → list_any (starts_numbered kept.now.rows first) self.new
+            ≡ (list_any (starts_numbered kept.now.rows first) self.old || list_any (starts kept.now.rows.members first) (map (key_at kept.now.by input.now.new.rows) keys.now))) }
+        ensures reads { OnOk result (reads.new ≤ reads.old + input.now.new.width * length keys.now) }
+    {
+        for position in 0..keys.len() {
+            let key = keys.get(position).unwrap();
+            buffer.read(Moment::Now, kept.by.as_slice(), input, key, reads)?;
+            if let Some(number) = kept.rows.find(&buffer.key) {
+                self.note(number)?;
+            }
+        }
+        Ok(())
+    }
+}
