@@ -1,5 +1,6 @@
 pub mod Records
 pub mod Cells
+pub mod CellTexts
 pub mod RowCells
 pub mod Answers
 pub mod Assembled

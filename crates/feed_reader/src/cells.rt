@@ -2,15 +2,15 @@
 
 ghost use Rattle.std.specs.Prelude.{◌≡◌, ◌^◌, ◌<◌, ◌≤◌, ◌==◌, ◌+◌, IfOk, drop, length, pos, option_map};
 ghost use Rattle.csv.specs.Records.{fields_of};
-ghost use Rattle.feed_reader.specs.Cells.{number_below, signed_below, long_of, key_of, delta_of, cell_of, cells_of};
+ghost use Rattle.feed_reader.specs.Cells.{number_below, signed_below, key_of, delta_of, cell_of, cells_of};
 
+use crate::cell_text::CellText;
 use crate::raw::RawCell;
 use crate::records::field;
 use crate::row_cells::RowCells;
 use csv::StringRecord;
 use std::alloc::{AllocError, Global};
 use tick_model::limits::SOURCE_KEYS;
-use tick_model::name::Name;
 use tick_model::plan::{ColumnSpec, Kind};
 
 /// The most digits of a number.
@@ -53,13 +53,6 @@ fn signed_number(text: &str, limit: u64) -> Option<i64>
     }
 }
 
-/// The number of a long cell.
-fn long(text: &str) -> Option<i64>
-    ensures { result ≡ long_of text.now }
-{
-    signed_number(text, 1 << 63)
-}
-
 /// The key of a row of a source.
 pub(crate) fn key(text: &str) -> Option<u64>
     ensures { result ≡ key_of text.now }
@@ -85,8 +78,8 @@ fn cell(alloc: Global, kind: Kind, field: &str) -> Result<Option<RawCell>, Alloc
         return Ok(Some(RawCell::Null));
     }
     match kind {
-        Kind::Long => Ok(long(field).map(RawCell::Long)),
-        Kind::Text => Ok(Some(RawCell::Text(Name::of(String::from_str(alloc, field)?)))),
+        Kind::Long => Ok(signed_number(field, 1 << 63).map(RawCell::Long)),
+        Kind::Text => Ok(Some(RawCell::Text(CellText::of(alloc, field)?))),
     }
 }
 

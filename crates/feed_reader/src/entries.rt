@@ -39,13 +39,16 @@ pub(crate) enum Entry {
 fn tag(text: &str) -> Option<Tag>
     ensures { result ≡ tag_of text.now }
 {
-    match text {
-        "t" => Some(Tag::Block),
-        "r" => Some(Tag::Of(Part::Removed)),
-        "s" => Some(Tag::Of(Part::Shifts)),
-        "a" => Some(Tag::Of(Part::Added)),
-        "m" => Some(Tag::Of(Part::Modified)),
-        "." => Some(Tag::End),
+    let [letter] = text.as_bytes() else {
+        return None;
+    };
+    match letter {
+        b't' => Some(Tag::Block),
+        b'r' => Some(Tag::Of(Part::Removed)),
+        b's' => Some(Tag::Of(Part::Shifts)),
+        b'a' => Some(Tag::Of(Part::Added)),
+        b'm' => Some(Tag::Of(Part::Modified)),
+        b'.' => Some(Tag::End),
         _ => None,
     }
 }

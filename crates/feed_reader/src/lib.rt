@@ -7,6 +7,7 @@
 #![tactic(auto)]
 
 mod assembled;
+mod cell_text;
 mod cells;
 mod coded;
 mod coding;
@@ -25,6 +26,7 @@ mod tables;
 mod texts;
 
 pub use assembled::assemble;
+pub use cell_text::CellText;
 pub use coded::{Coded, code};
 pub use fault::{TextFault, TextKind};
 pub use feeds::read_feed;

@@ -2,7 +2,6 @@
 
 ghost use Rattle.std.specs.Prelude.{◌≡◌, [], OnOk, IfOk};
 ghost use Rattle.feed_reader.specs.Coding.{with_text};
-ghost use Rattle.feed_reader.specs.Noted.{noted as noted_in};
 
 use std::alloc::{AllocError, Global};
 use std::collections::{BTreeSet, HashSet};
@@ -28,17 +27,6 @@ impl<'a> Model for Noted<'a> {
     ghost view = { λ a. noted a.ordered };
 
     ghost invariant = { λ a. AreTexts (noted a.ordered) × AreAmong a.seen (noted a.ordered) };
-}
-
-/// The texts of a set as names.
-fn names_of(alloc: Global, texts: &BTreeSet<&str>) -> Result<Items<Name>, AllocError>
-    ensures { IfOk result (λ names. names ≡ noted_in texts.now) }
-{
-    let mut names = Items::new(alloc);
-    for text in texts {
-        names.push(Name::of(String::from_str(alloc, text)?))?;
-    }
-    Ok(names)
 }
 
 impl<'a> Noted<'a> {
@@ -71,6 +59,10 @@ impl<'a> Noted<'a> {
     pub(crate) fn names(&self, alloc: Global) -> Result<Items<Name>, AllocError>
         ensures { IfOk result (λ names. names ≡ self.now) }
     {
-        names_of(alloc, &self.ordered)
+        let mut names = Items::new(alloc);
+        for text in &self.ordered {
+            names.push(Name::of(String::from_str(alloc, text)?))?;
+        }
+        Ok(names)
     }
 }

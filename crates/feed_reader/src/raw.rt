@@ -1,8 +1,8 @@
 //! What a table file and a feed say, before texts have ranks.
 
+use crate::cell_text::CellText;
 use crate::row_cells::RowCells;
 use tick_model::items::Items;
-use tick_model::name::Name;
 use tick_model::update::{KeyRange, ShiftRange};
 
 /// A cell as it is written.
@@ -10,7 +10,7 @@ use tick_model::update::{KeyRange, ShiftRange};
 pub enum RawCell {
     Null,
     Long(i64),
-    Text(Name),
+    Text(CellText),
 }
 
 /// A row under its key.

@@ -4,6 +4,7 @@ ghost use Rattle.std.specs.Prelude.{◌≡◌, ◌++◌, ◌∷◌, [], IfOk, On
 ghost use Rattle.feed_reader.specs.Coding.{cell_texts, coded_cell, with_texts};
 ghost use Rattle.feed_reader.specs.RowCells.{IsTelling};
 
+use crate::cell_text::CellText;
 use crate::noted::Noted;
 use crate::ranks::Ranks;
 use crate::raw::RawCell;
@@ -11,13 +12,12 @@ use std::alloc::{AllocError, Global};
 use std::marker::Model;
 use tick_model::formula::NULL;
 use tick_model::items::Items;
-use tick_model::name::Name;
 
 /// A text of a row, and the place of its cell.
 #[derive(Drop)]
 pub(crate) struct PlacedText {
     place: usize,
-    text: Name,
+    text: CellText,
 }
 
 /// The cells of a row as they will stand in the run, and its texts beside them until they have ranks: what is no text is coded as it
