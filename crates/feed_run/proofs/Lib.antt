@@ -1,4 +1,5 @@
 pub mod OkLemmas
+pub mod AskLemmas
 pub mod PlainRuns
 pub mod PlainTexts
 pub mod PlainWatches

@@ -1,7 +1,9 @@
 -- The tables that sources open with, one after the other.
-use Rattle.std.proofs.Common.{◌≡◌, ℕ, List, [], ◌∷◌, ◌++◌, drop, Bool, Some, None, Ok, Err, refl, sym, ap, ◌∙◌, subst, append_assoc}
-use Rattle.std.specs.Prelude.{IsTrue}
+use Rattle.std.proofs.Common.{◌≡◌, ℕ, List, [], ◌∷◌, ◌++◌, drop, Bool, Option, Some, None, Ok, Err, refl, sym, ap, ◌∙◌, subst, append_assoc}
+use Rattle.std.proofs.lemmas.List.{append-nil}
+use Rattle.std.specs.Prelude.{IsTrue, MatchOption}
 use Rattle.std.specs.Option.{option_to_list}
+use Rattle.tick_io.specs.Asked.{AsksFor}
 use Rattle.tick_model.specs.declared.plan.Node.{Node}
 use Rattle.script_reader.specs.declared.script.SourceFile.{SourceFile}
 use Rattle.feed_reader.specs.declared.raw.RawTable.{RawTable}
@@ -11,12 +13,9 @@ use Rattle.feed_run.specs.declared.refusal.Stop.TheVariants.{Memory, Unread, Ref
 use Rattle.feed_run.specs.Found.{Found, after, names_after}
 use Rattle.feed_run.specs.Headline.{IsOneOf}
 use Rattle.feed_run.specs.Readings.{Content, first_file, opening_by, with_table, tables_found, tables_read}
-use Rattle.feed_run.specs.Stops.{Reads}
+use Rattle.feed_run.specs.Stops.{AsksUntil, Reads}
+use Rattle.feed_run.proofs.AskLemmas.{asked_both, asked_same, until_after, until_all, until_stopped}
 use Rattle.feed_run.proofs.StopLemmas.{one_of_front, one_of_back}
-
-append-nil : {X : Type 0} (xs : List X) → xs ++ [] ≡ xs
-append-nil [] = refl
-append-nil (x ∷ xs) = ap (λ ys. x ∷ ys) (append-nil xs)
 
 -- the tables so far, before the later ones
 abbrev pub onto : List RawTable → List RawTable → Found (List RawTable)
@@ -72,3 +71,47 @@ module _ (told : Bool) (content : Content) (all : List Node) (all_files : List S
 
   pub opens_are : (files : List SourceFile) (tables : List RawTable) → Opens told content all all_files [] files tables → AreTablesOf all tables
   opens_are files tables opens = subst (AreTablesOf all) (append-nil tables) (opens.are [] tt)
+
+-- the file of a source was asked for, where it has one
+pub first_asked : (old new : Option (List (List ℕ))) (file : Option (List ℕ)) → MatchOption file (new ≡ old) (λ name. AsksFor old new (name ∷ [])) → AsksFor old new (option_to_list file)
+first_asked old new None same = asked_same old new same
+first_asked old new (Some file) is = is
+
+-- these sources are left with these files, and the files of those before them were asked for
+pub record AsksOn (told : Bool) (content : Content) (all : List Node) (all_files : List SourceFile) (sources : List Node) (files : List SourceFile) (old mid : Option (List (List ℕ))) : Type 0 where
+  pub names : List (List ℕ)
+  pub asked : AsksFor old mid names
+  pub rest : IsTrue told → names ++ tables_read content sources files ≡ tables_read content all all_files
+
+module _ (told : Bool) (content : Content) (all : List Node) (all_files : List SourceFile) (old : Option (List (List ℕ))) where
+  pub asks_begin : AsksOn told content all all_files all all_files old old
+  asks_begin = record { names = []; asked = asked_same old old refl; rest = λ t. refl }
+
+  pub asks_end : (files : List SourceFile) (mid : Option (List (List ℕ))) → AsksOn told content all all_files [] files old mid → IsTrue told → AsksFor old mid (tables_read content all all_files)
+  asks_end files mid on t = subst (AsksFor old mid) (sym (append-nil on.names) ∙ on.rest t) on.asked
+
+  module _ (source : Node) (sources : List Node) (files : List SourceFile) (mid new : Option (List (List ℕ))) (is : MatchOption (first_file files) (new ≡ mid) (λ file. AsksFor mid new (file ∷ []))) (on : AsksOn told content all all_files (source ∷ sources) files old mid) where
+    abbrev file : List (List ℕ)
+    file = option_to_list (first_file files)
+
+    abbrev later : RawTable → List (List ℕ)
+    later table = tables_read content sources (drop 1 files)
+
+    asked_file : AsksFor mid new file
+    asked_file = first_asked mid new (first_file files) is
+
+    pub asks_next : (table : RawTable) → (IsTrue told → opening_by content source (first_file files) ≡ Some (Ok table)) → AsksOn told content all all_files sources (drop 1 files) old new
+    asks_next table opening = record {
+      names = on.names ++ file;
+      asked = asked_both new mid old on.names file on.asked asked_file;
+      rest = λ t.
+          append_assoc on.names file (tables_read content sources (drop 1 files))
+          ∙ ap (λ (of : Found RawTable). on.names ++ (file ++ names_after of later)) (sym (opening t))
+          ∙ on.rest t;
+    }
+
+    -- the source's table was not read, or memory ran out behind it
+    pub asks_stop : (failed read : List ℕ → Type 0) (stop : Stop) → Reads {X = RawTable} told failed read (opening_by content source (first_file files)) (λ table. table) (Err stop) → AsksUntil told old new (tables_read content all all_files) stop
+    asks_stop failed read stop reads =
+        until_after told old new mid (tables_read content all all_files) on.names (tables_read content (source ∷ sources) files) on.rest (λ t. on.asked) stop
+        (until_stopped told mid new failed read file (opening_by content source (first_file files)) later (λ (table : RawTable). table) stop reads (until_all told mid new file stop asked_file))

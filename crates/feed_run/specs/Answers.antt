@@ -1,6 +1,7 @@
 -- What the parts of the program say of what they wrote and of their status.
 use Rattle.std.specs.Prelude.{◌≡◌, ◌<◌, ◌≤◌, ◌⊎◌, ℕ, Bool, IsTrue, List, [], Option, Some, Result, Ok, Err}
 use Rattle.std.specs.Io.KnownBytes.{append_known}
+use Rattle.tick_io.specs.Asked.{AsksFor, AsksSome}
 use Rattle.tick_io.specs.Written.{AppendsPrefix}
 use Rattle.tick_model.specs.declared.feed.Run.{Run}
 use Rattle.tick_model.specs.Texts.{record_text}
@@ -13,6 +14,7 @@ use Rattle.feed_run.specs.declared.refusal.Stop.{Stop}
 use Rattle.feed_run.specs.declared.refusal.Stop.TheVariants.{Memory as OutOfMemory, Unread, Refused}
 use Rattle.tick_model.specs.Spoiled.{first_spoiled}
 use Rattle.watched_run.specs.declared.watch.Watch.{Watch}
+use Rattle.feed_run.specs.Headline.{IsOfVerdict}
 use Rattle.feed_run.specs.Verdicts.{Verdict, refusal_status, run_verdict, status_of, watched_steps_verdict}
 use Rattle.feed_run.specs.Wholes.{refusal_record, unread_record, whole, IsLawful}
 
@@ -50,6 +52,12 @@ EndsByRun run knobs failed old new answer = (of : Verdict) × (run_verdict run k
 -- a watched run was run to its end, and reported
 abbrev pub EndsByWatch : Run → Watch → Type 0 → Option (List ℕ) → Option (List ℕ) → ℕ → Type 0
 EndsByWatch run watch failed old new answer = (of : Verdict) × (watched_steps_verdict run watch (first_spoiled run) ≡ Some of) × EndsBy of failed old new answer
+
+-- these names were asked for, in their order: all of them with a status of a verdict, and then no load failed
+pub record HasAsked (told : Bool) (old new : Option (List (List ℕ))) (names : List (List ℕ)) (none_failed : Type 0) (status : ℕ) : Type 0 where
+  pub some : IsTrue told → AsksSome old new names
+  pub all : IsOfVerdict status → IsTrue told → AsksFor old new names
+  pub steady : IsOfVerdict status → none_failed
 
 -- the program ended with a verdict, or with a load that failed, or out of memory before it wrote anything
 abbrev pub EndsByVerdict : Bool → Option Verdict → Type 0 → Option (List ℕ) → Option (List ℕ) → ℕ → Type 0

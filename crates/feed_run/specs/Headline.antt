@@ -29,6 +29,10 @@ IsRead words content = IsOneOf (files words content)
 abbrev pub LoadFailed : {I : Type 0} → (I → List ℕ → ℕ) → I → I → List ℕ → Type 0
 LoadFailed failures old new name = Rose (failures old name) (failures new name)
 
+-- no such count changed
+abbrev pub NoLoadFailed : {I : Type 0} → (I → List ℕ → ℕ) → I → I → Type 0
+NoLoadFailed failures old new = (name : List ℕ) → failures new name ≡ failures old name
+
 abbrev pub SomeName : (List ℕ → Type 0) → Type 0
 SomeName failed = (name : List ℕ) × failed name
 

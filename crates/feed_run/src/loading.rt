@@ -1,8 +1,10 @@
 //! The bytes of files, up to a limit.
 
-ghost use Rattle.std.specs.Prelude.{◌≡◌, ◌≤◌, ℕ, List};
+ghost use Rattle.std.specs.Prelude.{◌≡◌, ◌≤◌, ◌∷◌, [], ℕ, List};
+ghost use Rattle.tick_io.specs.Asked.{AsksFor};
 ghost use Rattle.tick_io.specs.Counts.{Rose};
-ghost use Rattle.feed_run.specs.Stops.{IsUnread, Loads};
+ghost use Rattle.feed_run.specs.Headline.{NoLoadFailed};
+ghost use Rattle.feed_run.specs.Stops.{IsUnread, Loads, OnFound};
 
 use crate::refusal::Stop;
 use std::alloc::Global;
@@ -36,6 +38,8 @@ pub(crate) fn load<I: Inputs>(
         (Rose (I.failures inputs.old name.now) (I.failures inputs.new name.now)) name.now result }
     ensures never_falls { (other : List ℕ) → I.failures inputs.old other ≤ I.failures inputs.new other }
     ensures kept { I.content inputs.new ≡ I.content inputs.old }
+    ensures asks { AsksFor (I.asked inputs.old) (I.asked inputs.new) (name.now ∷ []) }
+    ensures steady { OnFound result (NoLoadFailed I.failures inputs.old inputs.new) }
 {
     match inputs.load(alloc, name, most) {
         Ok(bytes) => Ok(Some(bytes)),

@@ -4,9 +4,10 @@ ghost use Rattle.std.specs.Prelude.{◌≡◌, ◌<◌, ◌≤◌, ◌^◌, ◌�
 ghost use Rattle.feed_reader.specs.Assembled.{IsTableOf};
 ghost use Rattle.feed_reader.specs.Feeds.{feed_of};
 ghost use Rattle.script_reader.specs.Plain.{plain_script};
-ghost use Rattle.feed_run.specs.Headline.{IsOneOf, LoadFailed};
+ghost use Rattle.tick_io.specs.Asked.{AsksFor};
+ghost use Rattle.feed_run.specs.Headline.{IsOneOf, LoadFailed, NoLoadFailed};
 ghost use Rattle.feed_run.specs.Readings.{feed_in, script_in, table_in};
-ghost use Rattle.feed_run.specs.Stops.{IsRefusal, Reads, Says};
+ghost use Rattle.feed_run.specs.Stops.{IsRefusal, OnFound, Reads, Says};
 ghost use Rattle.feed_run.specs.declared.refusal.Refusal.TheVariants.{Table};
 
 use crate::loading::{MOST_BYTES, MOST_SCRIPT_BYTES, load};
@@ -45,6 +46,8 @@ pub(crate) fn load_script<I: Inputs>(
     ensures script { IfOk result (λ script. (bytes : List ℕ) × (script_in bytes ≡ Ok (plain_script script))) }
     ensures never_falls { (other : List ℕ) → I.failures inputs.old other ≤ I.failures inputs.new other }
     ensures kept { I.content inputs.new ≡ I.content inputs.old }
+    ensures asks { AsksFor (I.asked inputs.old) (I.asked inputs.new) (name.now ∷ []) }
+    ensures steady { OnFound result (NoLoadFailed I.failures inputs.old inputs.new) }
 {
     match load(alloc, inputs, name, MOST_SCRIPT_BYTES)? {
         Some(bytes) => spelled_script(alloc, bytes.as_slice()),
@@ -92,6 +95,8 @@ pub(crate) fn load_table<I: Inputs>(
     ensures table { IfOk result (IsTableOf source.now.columns) }
     ensures never_falls { (other : List ℕ) → I.failures inputs.old other ≤ I.failures inputs.new other }
     ensures kept { I.content inputs.new ≡ I.content inputs.old }
+    ensures asks { AsksFor (I.asked inputs.old) (I.asked inputs.new) (name.now ∷ []) }
+    ensures steady { OnFound result (NoLoadFailed I.failures inputs.old inputs.new) }
 {
     match load(alloc, inputs, name, MOST_BYTES)? {
         Some(bytes) => spelled_table(alloc, source, bytes.as_slice()),
@@ -126,6 +131,8 @@ pub(crate) fn load_feed<I: Inputs>(
     ensures feed { IfOk result (λ feed. (bytes : List ℕ) × (feed_of plan.now bytes ≡ Ok feed)) }
     ensures never_falls { (other : List ℕ) → I.failures inputs.old other ≤ I.failures inputs.new other }
     ensures kept { I.content inputs.new ≡ I.content inputs.old }
+    ensures asks { AsksFor (I.asked inputs.old) (I.asked inputs.new) (name.now ∷ []) }
+    ensures steady { OnFound result (NoLoadFailed I.failures inputs.old inputs.new) }
 {
     match load(alloc, inputs, name, MOST_BYTES)? {
         Some(bytes) => spelled_feed(alloc, plan, bytes.as_slice()),

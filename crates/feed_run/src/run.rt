@@ -3,12 +3,13 @@
 ghost use Rattle.std.specs.Prelude.{◌≡◌, ◌≤◌, ◌<◌, ◌^◌, ◌∷◌, [], ℕ, List, Ok, IfOk, length};
 ghost use Rattle.feed_reader.specs.Assembled.{AreTablesOf, plain_run};
 ghost use Rattle.script_reader.specs.Plain.{plain_script};
+ghost use Rattle.tick_io.specs.Asked.{AsksFor};
 ghost use Rattle.tick_io.specs.Counts.{Rose};
 ghost use Rattle.tick_model.specs.LawfulRuns.{IsLawfulRun, sources_of};
 ghost use Rattle.feed_run.specs.Answers.{EndsByRun};
-ghost use Rattle.feed_run.specs.Headline.{IsOneOf, LoadFailed};
+ghost use Rattle.feed_run.specs.Headline.{IsOneOf, LoadFailed, NoLoadFailed};
 ghost use Rattle.feed_run.specs.Readings.{feed_found, files_read, plan_found, plan_read, run_found, script_in};
-ghost use Rattle.feed_run.specs.Stops.{Reads};
+ghost use Rattle.feed_run.specs.Stops.{Asks, OnFound, Reads};
 
 use crate::fault_records::{
     batch_record, done_record, kept_record, node_record, publication_record,
@@ -51,6 +52,8 @@ fn read_feed_run<I: Inputs>(
     ensures nodes { IfOk result (λ run. length run.plan.nodes ≡ length script.plan.nodes) }
     ensures never_falls { (other : List ℕ) → I.failures inputs.old other ≤ I.failures inputs.new other }
     ensures kept { I.content inputs.new ≡ I.content inputs.old }
+    ensures asks { AsksFor (I.asked inputs.old) (I.asked inputs.new) (feed_name.now ∷ []) }
+    ensures steady { OnFound result (NoLoadFailed I.failures inputs.old inputs.new) }
 {
     let feed = load_feed(alloc, inputs, &script.plan, feed_name)?;
     let assembled = assemble(alloc, script, tables, feed)?;
@@ -73,6 +76,9 @@ pub(crate) fn read_plan_run<I: Inputs>(
     ensures nodes { IfOk result (λ run. length run.plan.nodes ≡ length script.plan.nodes) }
     ensures never_falls { (other : List ℕ) → I.failures inputs.old other ≤ I.failures inputs.new other }
     ensures kept { I.content inputs.new ≡ I.content inputs.old }
+    ensures asks { Asks I.told (I.asked inputs.old) (I.asked inputs.new)
+        (plan_read (I.content inputs.old) (plain_script script) feed_name.now) result }
+    ensures steady { OnFound result (NoLoadFailed I.failures inputs.old inputs.new) }
 {
     let tables = load_tables(
         alloc,
@@ -95,6 +101,9 @@ pub fn read_run<I: Inputs>(
         (IsOneOf (files_read (I.content inputs.old) script_name.now feed_name.now))
         (run_found (I.content inputs.old) script_name.now feed_name.now) plain_run result }
     ensures lawful { IfOk result IsLawfulRun }
+    ensures asks { Asks I.told (I.asked inputs.old) (I.asked inputs.new)
+        (files_read (I.content inputs.old) script_name.now feed_name.now) result }
+    ensures steady { OnFound result (NoLoadFailed I.failures inputs.old inputs.new) }
 {
     let script = load_script(alloc, inputs, script_name)?;
     read_plan_run(alloc, inputs, script, feed_name)

@@ -1,12 +1,13 @@
 //! The tables that sources open with.
 
-ghost use Rattle.std.specs.Prelude.{◌≡◌, ◌≤◌, ℕ, List, IfOk, drop, map};
+ghost use Rattle.std.specs.Prelude.{◌≡◌, ◌≤◌, ◌∷◌, [], ℕ, List, IfOk, MatchOption, drop, map};
 ghost use Rattle.std.specs.Option.{option_to_list};
 ghost use Rattle.feed_reader.specs.Assembled.{AreTablesOf, IsTableOf};
+ghost use Rattle.tick_io.specs.Asked.{AsksFor};
 ghost use Rattle.tick_model.specs.LawfulRuns.{sources_of};
-ghost use Rattle.feed_run.specs.Headline.{IsOneOf, LoadFailed};
+ghost use Rattle.feed_run.specs.Headline.{IsOneOf, LoadFailed, NoLoadFailed};
 ghost use Rattle.feed_run.specs.Readings.{first_file, no_rows as no_rows_at_all, opening_by, tables_found, tables_read};
-ghost use Rattle.feed_run.specs.Stops.{Reads};
+ghost use Rattle.feed_run.specs.Stops.{Asks, OnFound, Reads};
 
 use crate::readings::load_table;
 use crate::refusal::Stop;
@@ -38,6 +39,9 @@ fn opening<I: Inputs>(
     ensures table { IfOk result (IsTableOf source.now.columns) }
     ensures never_falls { (other : List ℕ) → I.failures inputs.old other ≤ I.failures inputs.new other }
     ensures kept { I.content inputs.new ≡ I.content inputs.old }
+    ensures asks { MatchOption (first_file files.now) (I.asked inputs.new ≡ I.asked inputs.old)
+        (λ file. AsksFor (I.asked inputs.old) (I.asked inputs.new) (file ∷ [])) }
+    ensures steady { OnFound result (NoLoadFailed I.failures inputs.old inputs.new) }
 {
     let [first, ..] = files else {
         return Ok(no_rows(alloc));
@@ -83,6 +87,9 @@ fn open_sources<I: Inputs>(
     ensures tables { IfOk result (AreTablesOf (map (λ source. source.now) sources.now)) }
     ensures never_falls { (other : List ℕ) → I.failures inputs.old other ≤ I.failures inputs.new other }
     ensures kept { I.content inputs.new ≡ I.content inputs.old }
+    ensures asks { Asks I.told (I.asked inputs.old) (I.asked inputs.new)
+        (tables_read (I.content inputs.old) (map (λ source. source.now) sources.now) files.now) result }
+    ensures steady { OnFound result (NoLoadFailed I.failures inputs.old inputs.new) }
 {
     let mut tables = Items::new(alloc);
     let mut left = files;
@@ -106,6 +113,9 @@ pub(crate) fn load_tables<I: Inputs>(
     ensures tables { IfOk result (AreTablesOf (sources_of nodes.now)) }
     ensures never_falls { (other : List ℕ) → I.failures inputs.old other ≤ I.failures inputs.new other }
     ensures kept { I.content inputs.new ≡ I.content inputs.old }
+    ensures asks { Asks I.told (I.asked inputs.old) (I.asked inputs.new)
+        (tables_read (I.content inputs.old) (sources_of nodes.now) files.now) result }
+    ensures steady { OnFound result (NoLoadFailed I.failures inputs.old inputs.new) }
 {
     let sources = sources_among(alloc, nodes)?;
     open_sources(alloc, inputs, sources.as_slice(), files)

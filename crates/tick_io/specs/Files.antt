@@ -1,5 +1,5 @@
 -- Files in memory, and what a load of one answers.
-use Rattle.std.specs.Prelude.{◌≡◌, ◌||◌, ℕ, Bool, List, [], ◌∷◌, Option, None, Some, Result, Ok, Err, if◌then◌else◌, is_none, IsOk, length, nat_lt, String, string_bytes}
+use Rattle.std.specs.Prelude.{◌≡◌, ◌||◌, ℕ, Bool, List, [], ◌∷◌, Option, None, Some, Result, Ok, Err, if◌then◌else◌, is_none, option_map, IsOk, length, map, nat_lt, String, string_bytes}
 use Rattle.std.specs.Global.{Global, Vec}
 use Rattle.std.specs.Str.{bytes_eq}
 use Rattle.tick_io.specs.Calls.{Calls, next_fails}
@@ -11,14 +11,19 @@ pub record File : Type 0 where
   pub name : List ℕ
   pub bytes : List ℕ
 
--- files, and the calls that were made of them
+-- files, the calls that were made of them, and the names that were asked for, where they are told
 pub record Shelf : Type 0 where
   pub files : List File
   pub calls : Calls
+  pub asked : Option (List (List ℕ))
 
 -- a file as the program has it
 abbrev pub file_of : String Global × Vec ℕ → File
 file_of (name, bytes) = record { name = string_bytes name; bytes = bytes.items }
+
+-- names as the program has them
+abbrev pub names_told : Option (Vec (String Global)) → Option (List (List ℕ))
+names_told asked = option_map (λ names. map string_bytes names.items) asked
 
 -- the bytes of the first file of a name
 abbrev pub content_of : List File → List ℕ → Option (List ℕ)

@@ -9,3 +9,10 @@ IfTooLong (Ok loaded) P = ⊤
 IfTooLong (Err Memory) P = ⊤
 IfTooLong (Err (TooLong seen)) P = P seen
 IfTooLong (Err Failed) P = ⊤
+
+-- this holds unless the load failed
+abbrev pub UnlessFailed : {T : Type 0} → Result T LoadFault → Type 0 → Type 0
+UnlessFailed (Ok loaded) P = P
+UnlessFailed (Err Memory) P = P
+UnlessFailed (Err (TooLong seen)) P = P
+UnlessFailed (Err Failed) P = ⊤

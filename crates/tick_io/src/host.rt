@@ -1,5 +1,5 @@
 //! The files and the standard output of the process. What a file held and what a terminal showed no contract knows, so neither tells
-//! its bytes.
+//! its bytes, nor the names that were asked for.
 ghost use Rattle.std.specs.Prelude.{◌≡◌, ◌+◌, ◌≤◌, false, None, IfOk, IfSome, length, vec_len};
 ghost use Rattle.tick_io.specs.Loads.{IfTooLong};
 
@@ -43,6 +43,8 @@ impl<R: Files + Sync> Inputs for HostInputs<'_, R> {
     ghost content = { λ _ _. None };
 
     ghost failures = { λ failures _. failures };
+
+    ghost asked = { λ _. None };
 
     fn load(&mut self, alloc: Global, name: &str, most: usize) -> Result<Vec<u8>, LoadFault> {
         let loaded = read_file(alloc, self.rt, name, most);

@@ -1,7 +1,8 @@
 //! Files by name, as the engine loads them.
-ghost use Rattle.std.specs.Prelude.{◌≡◌, ◌<◌, ◌≤◌, ℕ, Bool, List, Option, Some, IfOk, OnOk, IsErrOf, IsSomeAnd, IsTrue, length, vec_len};
+ghost use Rattle.std.specs.Prelude.{◌≡◌, ◌<◌, ◌≤◌, ◌∷◌, [], ℕ, Bool, List, Option, Some, IfOk, IsErrOf, IsSomeAnd, IsTrue, length, vec_len};
+ghost use Rattle.tick_io.specs.Asked.{AsksFor};
 ghost use Rattle.tick_io.specs.Counts.{Rose};
-ghost use Rattle.tick_io.specs.Loads.{IfTooLong};
+ghost use Rattle.tick_io.specs.Loads.{IfTooLong, UnlessFailed};
 ghost use Rattle.tick_io.specs.declared.inputs.LoadFault.TheVariants.{Memory};
 
 use std::alloc::{AllocError, AllocFailed, Global};
@@ -44,10 +45,13 @@ pub trait Inputs {
     /// How many loads of a name have failed. One counter may serve for all names.
     ghost failures: { Self → List ℕ → ℕ };
 
+    /// The names that were asked for, one after the other, or `None` where they are not told, or no longer.
+    ghost asked: { Self → Option (List (List ℕ)) };
+
     /// All the bytes of a file that has at most `most` of them.
     ///
-    /// `TooLong` comes only where there are more, and `Failed` only where the count of this name rose in this call. Where the bytes are
-    /// given no count rises. No load changes what any name has.
+    /// `TooLong` comes only where there are more, and `Failed` only where the count of this name rose in this call. With any other answer
+    /// no count rises. Whatever it answers, this name was asked for, and no other. No load changes what any name has.
     fn load(&mut self, alloc: Global, name: &str, most: usize) -> Result<Vec<u8>, LoadFault>
         ensures within { IfOk result (λ loaded. vec_len loaded ≤ most) }
         ensures whole { IfOk result (λ loaded. IsTrue told → content self.old name.now ≡ Some loaded.items) }
@@ -57,6 +61,7 @@ pub trait Inputs {
         ensures failed { IsErrOf result LoadFault.Failed → Rose (failures self.old name.now) (failures self.new name.now) }
 
         ensures never_falls { (other : List ℕ) → failures self.old other ≤ failures self.new other }
-        ensures steady { OnOk result ((other : List ℕ) → failures self.new other ≡ failures self.old other) }
+        ensures steady { UnlessFailed result ((other : List ℕ) → failures self.new other ≡ failures self.old other) }
+        ensures asks { AsksFor (asked self.old) (asked self.new) (name.now ∷ []) }
         ensures kept { content self.new ≡ content self.old };
 }

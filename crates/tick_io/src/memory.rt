@@ -1,47 +1,67 @@
 //! Inputs and sinks in memory, whose calls fail where they are told to.
-ghost use Rattle.std.specs.Prelude.{◌≡◌, ◌<◌, ◌≤◌, [], ◌++◌, true, None, Some, IfOk, OnOk, OnErr, IfErr, IsErrOf, IsTrue, length, ◌↔◌, map};
+ghost use Rattle.std.specs.Prelude.{◌≡◌, ◌<◌, ◌≤◌, [], ◌∷◌, ◌++◌, true, None, Some, IfOk, OnOk, OnErr, IfErr, IsErrOf, IsTrue, length, ◌↔◌, map, option_map, string_bytes};
 ghost use Rattle.std.specs.Option.{option_copied};
 ghost use Rattle.tick_io.specs.Counts.{Rose};
 ghost use Rattle.tick_io.specs.Calls.{no_calls, next_fails, after_call};
-ghost use Rattle.tick_io.specs.Files.{content_of, file_of, load_fails, answer_to, answer_unless, AnswersUnlessMemory};
+ghost use Rattle.tick_io.specs.Files.{content_of, file_of, load_fails, names_told, answer_to, answer_unless, AnswersUnlessMemory};
+ghost use Rattle.tick_io.specs.Asked.{AsksFor};
+ghost use Rattle.tick_io.specs.Loads.{UnlessFailed};
 
 use crate::calls::CallCounter;
 use crate::{Inputs, LoadFault, Sink, SinkFault};
-use std::alloc::Global;
+use std::alloc::{AllocError, Global};
 use std::marker::Model;
 
 /// Files in memory, of which the first of a name counts.
 ///
-/// A load fails where its number, from 1, is in a list, or where there is no file of its name.
+/// A load fails where its number, from 1, is in a list, or where there is no file of its name. The names that are asked for are told,
+/// until there is no memory for one.
 pub struct MemoryInputs {
     files: Vec<(String, Vec<u8>)>,
     calls: CallCounter,
+    asked: Option<Vec<String>>,
 }
 
 impl Drop for MemoryInputs {
     fn drop(self) {
-        let Self { files: _, calls: _ } = self;
+        let Self {
+            files: _,
+            calls: _,
+            asked: _,
+        } = self;
     }
 }
 
 impl Model for MemoryInputs {
     ghost use Rattle.std.specs.Prelude.{map};
-    ghost use Rattle.tick_io.specs.Files.{Shelf, file_of};
+    ghost use Rattle.tick_io.specs.Files.{Shelf, file_of, names_told};
 
     ghost Value = { Shelf };
 
-    ghost view = { λ i. record { files = map file_of i.files.items; calls = i.calls } };
+    ghost view = { λ i. record { files = map file_of i.files.items; calls = i.calls; asked = names_told i.asked } };
 }
 
 impl MemoryInputs {
     /// These files, and the numbers of the loads that are to fail. It takes no memory.
-    pub fn new(_alloc: Global, files: Vec<(String, Vec<u8>)>, failing: Vec<u64>) -> Self
+    pub fn new(alloc: Global, files: Vec<(String, Vec<u8>)>, failing: Vec<u64>) -> Self
         ensures files { result.files ≡ map file_of files.items }
         ensures calls { result.calls ≡ no_calls failing.items }
+        ensures asked { result.asked ≡ Some [] }
     {
         MemoryInputs {
             files,
             calls: CallCounter::new(failing),
+            asked: Some(Vec::new(alloc)),
+        }
+    }
+
+    /// The names that were asked for, one after the other, or `None` where there was no memory for one of them.
+    pub fn asked(&self) -> Option<&[String]>
+        ensures { option_map (λ names. map string_bytes names.now) result ≡ self.now.asked }
+    {
+        match &self.asked {
+            Some(names) => Some(names.as_slice()),
+            None => None,
         }
     }
 }
@@ -53,6 +73,8 @@ impl Inputs for MemoryInputs {
 
     ghost failures = { λ shelf _. shelf.calls.failures };
 
+    ghost asked = { λ shelf. shelf.asked };
+
     /// Fails exactly where the call is one that is to fail or where there is no file of the name. Else it is too long exactly
     /// where the file is longer than `most`.
     fn load(&mut self, alloc: Global, name: &str, most: usize) -> Result<Vec<u8>, LoadFault>
@@ -60,15 +82,34 @@ impl Inputs for MemoryInputs {
         ensures answer { AnswersUnlessMemory result (answer_to self.old name.now most) }
         ensures files { self.new.files ≡ self.old.files }
         ensures calls { self.new.calls ≡ after_call (load_fails self.old name.now) self.old.calls }
+        ensures asks { AsksFor self.old.asked self.new.asked (name.now ∷ []) }
 
         ensures failed { IsErrOf result LoadFault.Failed → Rose self.old.calls.failures self.new.calls.failures }
         ensures never_falls { self.old.calls.failures ≤ self.new.calls.failures }
-        ensures steady { OnOk result (self.new.calls.failures ≡ self.old.calls.failures) }
+        ensures steady { UnlessFailed result (self.new.calls.failures ≡ self.old.calls.failures) }
     {
         let answer = answer(alloc, &self.files, self.calls.next_fails(), name, most);
         self.calls.count(matches!(answer, Err(LoadFault::Failed)));
+        self.asked = noted(alloc, self.asked.take(), name);
         answer
     }
+}
+
+/// Names with one more.
+fn with_name(alloc: Global, names: Vec<String>, name: &str) -> Result<Vec<String>, AllocError>
+    ensures { IfOk result (λ more. map string_bytes more.items ≡ map string_bytes names.items ++ name.now ∷ []) }
+{
+    let mut names = names;
+    names.push(String::from_str(alloc, name)?)?;
+    Ok(names)
+}
+
+/// The names that were asked for with one more, or `None` where there is no memory for it, or was none before.
+fn noted(alloc: Global, asked: Option<Vec<String>>, name: &str) -> Option<Vec<String>>
+    ensures { AsksFor (names_told asked) (names_told result) (name.now ∷ []) }
+{
+    let names = asked?;
+    with_name(alloc, names, name).ok()
 }
 
 /// What a load answers where the call is to fail or not.

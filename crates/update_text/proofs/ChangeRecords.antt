@@ -1,10 +1,10 @@
 -- The records of a change, part by part.
-use Rattle.std.proofs.Common.{◌≡◌, refl, ap, sym, ◌∙◌, Bool, true, false, cond, ◌||◌, ℕ, zero, suc, ◌+◌, ◌-◌, ◌*◌, ◌<◌, ◌≤◌, arith, List, [], ◌∷◌, ◌++◌, length, map, take, drop, get_or, append_assoc, length-append, eq-eqb, ne_eqb, inl, inr}
+use Rattle.std.proofs.Common.{◌≡◌, refl, ap, sym, ◌∙◌, Bool, true, false, cond, ◌||◌, ℕ, zero, suc, ◌+◌, ◌-◌, ◌*◌, ◌<◌, ◌≤◌, arith, List, [], ◌∷◌, ◌++◌, length, map, drop, get_or, append_assoc, length-append, eq-eqb, ne_eqb, inl, inr}
 use Rattle.std.specs.Prelude.{ℤ, codes, filter, flat_map, ◌==◌}
 use Rattle.std.specs.List.{AllByRecursion, range_with_len}
 use Rattle.std.proofs.lemmas.Bool.{cases_eq, cond-false}
 use Rattle.std.proofs.lemmas.Grind.{flat_map-append}
-use Rattle.std.proofs.lemmas.List.{get_or-map, length-map, map-append}
+use Rattle.std.proofs.lemmas.List.{get_or-map, length-map}
 use Rattle.key_lists.specs.Keys.{is_among, IsRising, run_with, runs}
 use Rattle.key_lists.proofs.Every.{every_weaker, map_map}
 use Rattle.key_lists.proofs.Rising.{as_filter}
@@ -13,8 +13,7 @@ use Rattle.row_set.specs.Ranges.{preceded, ranges_of}
 use Rattle.row_set.proofs.Held.{range_rises}
 use Rattle.tick_model.specs.declared.plan.ColumnSpec.{ColumnSpec}
 use Rattle.tick_model.specs.Changes.{Change, is_empty, is_none, rows_under}
-use Rattle.tick_model.specs.Texts.{change_records, column_name, columns_record, comma_before, record_text, records_text, removed_record, row_record, shift_record, step_record}
-use Rattle.tick_table.proofs.Puts.{rows_under-append}
+use Rattle.tick_model.specs.Texts.{change_records, column_name, columns_record, comma_before, records_text, removed_record, row_record, shift_record, step_record}
 use Rattle.update_text.specs.Told.{parts_shown, range_record, records_of}
 
 abbrev Record : Type 0
@@ -104,7 +103,7 @@ length-parts columns texts change =
 abbrev pub chosen_from : List ℕ → ℕ → ℕ → List ℕ
 chosen_from chosen place end = filter (λ column. is_among column chosen) (range_with_len place (end - place))
 
-pub among_range : (first count key : ℕ) → first ≤ key → key < first + count → is_among key (range_with_len first count) ≡ true
+among_range : (first count key : ℕ) → first ≤ key → key < first + count → is_among key (range_with_len first count) ≡ true
 among_range first zero key low high = absurd (omega arith)
 among_range first (suc count) key low high =
     (elim (cases_eq first key) as (λ _. ((first == key) || is_among key (range_with_len (first + 1) count)) ≡ true) [
@@ -140,30 +139,3 @@ chosen_next columns chosen place name text is_chosen less said named =
 pub column_named : (columns : List ColumnSpec) (place : ℕ) (column : ColumnSpec) → place < length columns → column ≡ get_or columns place column → column.name ≡ column_name columns place
 column_named columns place column less same =
     ap (λ (spec : ColumnSpec). spec.name) same ∙ sym (get_or-map (λ (spec : ColumnSpec). spec.name) columns place column [] less)
-
--- one row, and the rows of one range, on
-pub rows_next : (tag : List ℕ) (texts : List (List ℕ)) (columns : List ColumnSpec) (key end : ℕ) (cells : List ℤ) (text : List ℕ) → key < end →
-    let width = length columns in
-    (text ++ record_text (row_record tag texts columns (record { key = key; cells = take width cells })))
-    ++ records_text (map (row_record tag texts columns) (rows_under width (range_with_len (key + 1) (end - (key + 1))) (drop width cells)))
-    ≡ text ++ records_text (map (row_record tag texts columns) (rows_under width (range_with_len key (end - key)) cells))
-rows_next tag texts columns key end cells text h =
-    let width = length columns in
-    let more : end - key ≡ suc (end - (key + 1)) = omega arith in
-    append_assoc text (record_text (row_record tag texts columns (record { key = key; cells = take width cells }))) (records_text (map (row_record tag texts columns) (rows_under width (range_with_len (key + 1) (end - (key + 1))) (drop width cells))))
-    ∙ ap (λ n. text ++ records_text (map (row_record tag texts columns) (rows_under width (range_with_len key n) cells))) (sym more)
-
-pub records_two : (tag : List ℕ) (texts : List (List ℕ)) (columns : List ColumnSpec) (first second : List ℕ) (cells : List ℤ) (text : List ℕ) →
-    let width = length columns in
-    (text ++ records_text (map (row_record tag texts columns) (rows_under width first cells)))
-    ++ records_text (map (row_record tag texts columns) (rows_under width second (drop (length first * width) cells)))
-    ≡ text ++ records_text (map (row_record tag texts columns) (rows_under width (first ++ second) cells))
-records_two tag texts columns first second cells text =
-    let width = length columns in
-    let told = row_record tag texts columns in
-    let mine = rows_under width first cells in
-    let its = rows_under width second (drop (length first * width) cells) in
-    append_assoc text (records_text (map told mine)) (records_text (map told its))
-    ∙ ap (λ more. text ++ more) (sym (flat_map-append record_text (map told mine) (map told its)))
-    ∙ ap (λ records. text ++ records_text records) (sym (map-append told mine its))
-    ∙ ap (λ rows. text ++ records_text (map told rows)) (sym (rows_under-append width first second cells))

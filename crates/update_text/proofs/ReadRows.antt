@@ -1,12 +1,12 @@
 -- Rows, their cells and their keys, read back.
-use Rattle.std.proofs.Common.{◌≡◌, refl, ap, sym, ◌∙◌, subst, Bool, true, false, true≢false, cond, ◌&&◌, ◌==◌, ℕ, zero, suc, ◌+◌, ◌-◌, ◌^◌, ◌<◌, ◌≤◌, arith, List, [], ◌∷◌, ◌++◌, length, take, drop, get_or, map, append_assoc, inl, inr, ◌||◌, eq-eqb, eqb-true}
-use Rattle.std.specs.Prelude.{ℤ, pos, negsuc, FitsSigned, flat_map, Option, Some, None, Result, Ok, Err, MatchResult, ◌⊎◌, slice_get, nat_lt}
+use Rattle.std.proofs.Common.{◌≡◌, refl, ap, sym, ◌∙◌, subst, Bool, true, false, true≢false, cond, ◌&&◌, ◌==◌, ℕ, zero, suc, ◌+◌, ◌-◌, ◌<◌, ◌≤◌, arith, List, [], ◌∷◌, ◌++◌, length, take, drop, get_or, map, append_assoc, inl, inr, ◌||◌, eq-eqb, eqb-true}
+use Rattle.std.specs.Prelude.{ℤ, FitsSigned, Some, None, Result, Ok, Err, ◌⊎◌, slice_get}
 use Rattle.std.specs.Int.{w64}
 use Rattle.std.specs.List.{AllByRecursion, range_with_len}
 use Rattle.std.specs.List.Sorted.{IsBinarySearchResult, IsSearchInRange}
 use Rattle.std.specs.Result.{result_ok, IsErrAnd}
 use Rattle.std.specs.Ordering.{nat_cmp, is_lt, ordering_index, ordering_reverse}
-use Rattle.std.specs.Cmp.Lexicographic.{slice_cmp, nat_list_cmp_total, bytes_decides}
+use Rattle.std.specs.Cmp.Lexicographic.{slice_cmp, nat_list_cmp_total}
 use Rattle.std.specs.declared.cmp.Ordering.{Ordering}
 use Rattle.std.specs.declared.cmp.Ordering.TheVariants.{Less, Equal, Greater}
 use Rattle.std.proofs.lemmas.Bool.{and_parts, or_from, cases_eq, cases_lt}
@@ -31,7 +31,6 @@ use Rattle.update_text.specs.declared.printed.PrintedFault.TheVariants.{Memory}
 use Rattle.update_text.specs.Reading.{AreAhead, Gives, has_tag, next_fields}
 use Rattle.update_text.proofs.Digits.{field_text-plain}
 use Rattle.update_text.proofs.Quoting.{record_before}
-use Rattle.update_text.proofs.RowsUnder.{every_back}
 use Rattle.update_text.proofs.RowsBack.{known_is_some}
 
 -- an earlier text is less than a later one
@@ -246,11 +245,6 @@ tagged_text tag field fields u plain =
 
 pub tagged_here : (tag : ℕ) (field : List ℕ) (fields : List (List ℕ)) (u : List ℕ) → needs_quotes tag ≡ false → has_tag tag (record_text ((tag ∷ []) ∷ field ∷ fields) ++ u) ≡ true
 tagged_here tag field fields u plain = ap (has_tag tag) (tagged_text tag field fields u plain) ∙ ap (λ b. b && true) (eq-eqb tag tag refl)
-
--- rising keys before a key are below it
-pub rising_before : (ks : List ℕ) (key : ℕ) (later : List ℕ) → IsRising (ks ++ key ∷ later) → AllByRecursion (λ k. k < key) ks
-rising_before [] key later h = tt
-rising_before (k ∷ ks) key later h = ((every_back (λ other. k < other) ks (key ∷ later) h.0).0, rising_before ks key later h.1)
 
 some_at : (keys : List ℕ) (place : ℕ) → place < length keys → None ≡ slice_get keys place → ⊥
 some_at [] place less e = absurd (omega arith)

@@ -1,9 +1,7 @@
 //! The text of a change, given by its update and the cells of the rows that it tells.
-ghost use Rattle.std.specs.Prelude.{◌≡◌, ◌*◌, ◌^◌, ◌<◌, ◌≤◌, ◌++◌, OnOk, IfOk, drop, flat_map, length, map, false, if◌then◌else◌, [], List};
+ghost use Rattle.std.specs.Prelude.{◌≡◌, ◌*◌, ◌<◌, ◌≤◌, ◌++◌, OnOk, IfOk, drop, flat_map, length, map, false, if◌then◌else◌, []};
 ghost use Rattle.std.specs.List.{AllByRecursion};
-ghost use Rattle.std.specs.Fmt.{signed_decimal};
 ghost use Rattle.key_lists.specs.Keys.{IsRising};
-ghost use Rattle.row_set.specs.Ranges.{keys_from};
 ghost use Rattle.tick_model.specs.Changes.{is_empty, rows_under};
 ghost use Rattle.tick_model.specs.Printable.{IsPrintable};
 ghost use Rattle.tick_model.specs.Texts.{column_name, columns_record, comma_before, record_text, records_text, row_record, shift_record, step_record};
@@ -124,31 +122,6 @@ fn push_columns(
     Ok(())
 }
 
-/// Appends the records of the rows under the keys of a range, whose cells come first among these. It gives the cells behind them.
-fn push_range<'a>(
-    text: &mut Vec<u8>,
-    tag: &[u8],
-    texts: &[Name],
-    columns: &[ColumnSpec],
-    range: Range,
-    cells: &'a [i64],
-) -> Result<&'a [i64], AllocError>
-    requires order { range.first ≤ range.last }
-    requires small { range.last < 2 ^ 62 }
-    requires whole { length (keys_from range.first range.last) * length columns.now ≤ length cells.now }
-    ensures text { OnOk result (text.new.items ≡ text.old.items ++ records_text (map (row_record tag.now texts.now columns.now)
-        (rows_under (length columns.now) (keys_from range.first range.last) cells.now))) }
-    ensures rest { IfOk result (λ rest. rest.now ≡ drop (length (keys_from range.first range.last) * length columns.now) cells.now) }
-{
-    let mut rest = cells;
-    for key in range.first..range.last + 1 {
-        let (row, others) = rest.split_at(columns.len());
-        push_row(text, tag, texts, columns, key, row)?;
-        rest = others;
-    }
-    Ok(rest)
-}
-
 /// Appends the records of the rows under these keys, whose cells come first among these. It gives the cells behind them.
 fn push_told<'a>(
     text: &mut Vec<u8>,
@@ -164,8 +137,10 @@ fn push_told<'a>(
     ensures rest { IfOk result (λ rest. rest.now ≡ drop (length keys.now * length columns.now) cells.now) }
 {
     let mut rest = cells;
-    for range in keys.ranges() {
-        rest = push_range(text, tag, texts, columns, *range, rest)?;
+    for key in keys {
+        let (row, others) = rest.split_at(columns.len());
+        push_row(text, tag, texts, columns, key, row)?;
+        rest = others;
     }
     Ok(rest)
 }

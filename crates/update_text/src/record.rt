@@ -56,6 +56,7 @@ pub fn write_fields<S: Sink>(
     ensures failed { IsErrOf result WriteFault.Failed
         → Rose (S.failures sink.old) (S.failures sink.new) }
     ensures never_falls { S.failures sink.old ≤ S.failures sink.new }
+    ensures steady { OnOk result (S.failures sink.new ≡ S.failures sink.old) }
 {
     let mut text = Vec::new(alloc);
     push_fields(&mut text, fields)?;

@@ -163,6 +163,7 @@ pub fn write_snapshot<S: Sink>(
     ensures failed { IsErrOf result WriteFault.Failed
         → Rose (S.failures sink.old) (S.failures sink.new) }
     ensures never_falls { S.failures sink.old ≤ S.failures sink.new }
+    ensures steady { OnOk result (S.failures sink.new ≡ S.failures sink.old) }
 {
     let text = snapshot_text(alloc, caller, call, step, shown, texts, words)?;
     put_all(sink, text.as_slice())?;

@@ -1,13 +1,12 @@
 //! The cells of the rows that a ticking table's update tells.
-ghost use Rattle.std.specs.Prelude.{◌≡◌, ◌<◌, ◌≤◌, ◌^◌, ◌++◌, OnOk, IfOk, IsTrue, true};
+ghost use Rattle.std.specs.Prelude.{◌≡◌, ◌<◌, ◌++◌, OnOk, IfOk, IsTrue, true};
 ghost use Rattle.std.specs.List.{AllByRecursion};
 ghost use Rattle.key_lists.specs.Keys.{is_among};
-ghost use Rattle.row_set.specs.Ranges.{keys_from};
 ghost use Rattle.tick_model.specs.Changes.{told_keys};
 ghost use Rattle.tick_model.specs.Tables.{cells_at, keys as row_keys};
 ghost use Rattle.update_text.specs.Told.{cells_under};
 
-use row_set::{Range, RowSet};
+use row_set::RowSet;
 use std::alloc::{AllocError, Global};
 use std::marker::Brand;
 use std::sync::ledger::{Blank, Ledger};
@@ -30,23 +29,6 @@ fn push_row_cells<L: Ledger>(
     Ok(())
 }
 
-/// Appends the cells of the rows under the keys of a range.
-fn push_range_cells<L: Ledger>(
-    cells: &mut Vec<i64>,
-    table: &TickTable,
-    range: Range,
-    reads: &mut Steps<L>,
-) -> Result<(), AllocError>
-    requires small { range.last < 2 ^ 62 }
-    requires here { AllByRecursion (λ key. is_among key (row_keys table.now.new.rows) ≡ true) (keys_from range.first range.last) }
-    ensures { OnOk result (cells.new.items ≡ cells.old.items ++ cells_under table.now.new.rows (keys_from range.first range.last)) }
-{
-    for key in range.first..range.last + 1 {
-        push_row_cells(cells, table, key, reads)?;
-    }
-    Ok(())
-}
-
 /// Appends the cells of the rows under these keys.
 fn push_cells_under<L: Ledger>(
     cells: &mut Vec<i64>,
@@ -57,8 +39,8 @@ fn push_cells_under<L: Ledger>(
     requires { AllByRecursion (λ key. is_among key (row_keys table.now.new.rows) ≡ true) keys.now }
     ensures { OnOk result (cells.new.items ≡ cells.old.items ++ cells_under table.now.new.rows keys.now) }
 {
-    for range in keys.ranges() {
-        push_range_cells(cells, table, *range, reads)?;
+    for key in keys {
+        push_row_cells(cells, table, key, reads)?;
     }
     Ok(())
 }

@@ -65,6 +65,7 @@ pub fn write_added<S: Sink>(
     ensures failed { IsErrOf result WriteFault.Failed
         → Rose (S.failures sink.old) (S.failures sink.new) }
     ensures never_falls { S.failures sink.old ≤ S.failures sink.new }
+    ensures steady { OnOk result (S.failures sink.new ≡ S.failures sink.old) }
 {
     let added = rows.as_slice();
     if added.is_empty() {
@@ -98,6 +99,7 @@ pub fn write_update<S: Sink>(
     ensures failed { IsErrOf result WriteFault.Failed
         → Rose (S.failures sink.old) (S.failures sink.new) }
     ensures never_falls { S.failures sink.old ≤ S.failures sink.new }
+    ensures steady { OnOk result (S.failures sink.new ≡ S.failures sink.old) }
 {
     let update = table.update();
     if update.is_empty() {

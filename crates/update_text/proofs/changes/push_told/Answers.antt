@@ -1,56 +1,59 @@
-use Rattle.std.proofs.Common.{◌≡◌, sym, ap, ◌∙◌, subst, arith, ◌+◌, ◌*◌, ◌≤◌, ◌++◌, length, drop, ℤ, List, ◌∷◌, slice_index_or, map}
-use Rattle.std.proofs.lemmas.List.{drop_all}
-use Rattle.row_set.specs.declared.ranges.Range.{Range}
-use Rattle.row_set.specs.Ranges.{keys_of, keys_in}
+use Rattle.std.proofs.Common.{◌≡◌, sym, ap, ◌∙◌, subst, arith, ◌*◌, ◌≤◌, ◌++◌, length, drop, take, ℕ, ℤ, List, ◌∷◌, map, append_assoc, append-nil, zero-mul}
+use Rattle.tick_model.specs.declared.table.PlainRow.{PlainRow}
 use Rattle.tick_model.specs.Changes.{rows_under}
-use Rattle.tick_model.specs.Texts.{records_text, row_record}
-use Rattle.tick_table.proofs.RangePuts.{range_ascends, range_small, range_seam, range_fits, ranges_fit, rest_ranges}
-use Rattle.update_text.proofs.ChangeRecords.{records_two}
+use Rattle.tick_model.specs.Texts.{record_text, records_text, row_record}
+use Rattle.tick_table.proofs.Puts.{rest_next, room_next, row_fits}
 use Rattle.update_text.proofs.changes.push_told.Goals as goal
 
-pub push_range-requires-clause-order : goal.push_range-requires-clause-order
-push_range-requires-clause-order c = range_ascends 0 c.ranges-range-items.result.now c.ranges-range-items.ensures.apart c.loop-range.range-index _ c.loop-range-test.true
+pub loop-key-init : goal.loop-key-init
+loop-key-init c =
+    let columns = c.args.columns.now in
+    let all = c.into_iter-key-iterator.ensures.into_iter_gives.0 in record {
+      room = subst (λ (ks : List ℕ). length ks * length columns ≤ length c.args.cells.now) (sym all) c.requires;
+      rest = ap (λ (ks : List ℕ). drop (length ks * length columns) c.args.cells.now) all;
+      written = ap (λ (ks : List ℕ). c.args.text.now.items ++ records_text (map (row_record c.args.tag.now c.args.texts.now columns) (rows_under (length columns) ks c.args.cells.now))) all;
+    }
 
-pub push_range-requires-clause-small : goal.push_range-requires-clause-small
-push_range-requires-clause-small c = range_small 0 c.ranges-range-items.result.now c.ranges-range-items.ensures.apart c.loop-range.range-index _ c.loop-range-test.true
-
-pub push_range-requires-clause-whole : goal.push_range-requires-clause-whole
-push_range-requires-clause-whole c =
-    let ranges = c.ranges-range-items.result.now in
-    let at = c.loop-range.range-index in
-    let none : Range = record { first = 0; last = 0 } in
-    let others = drop (at + 1) ranges in
-    let rest = c.loop-range.rest.now in
+pub split_at-requires : goal.split_at-requires
+split_at-requires c =
     let width = length c.args.columns.now in
-    range_fits width (slice_index_or ranges at none) others rest
-    (subst (λ (some : List Range). length (keys_of some) * width ≤ length rest) (range_seam ranges at none c.loop-range-test.true) c.loop-range.invariant.room)
+    let cells = c.loop-key.rest.now in
+    omega (arith, row_fits (length c.next.new.self) width (length cells) (subst (λ (ks : List ℕ). length ks * width ≤ length cells) c.in-Some.ensures.steps c.loop-key.invariant.room))
 
-pub loop-range-preserved : goal.loop-range-preserved
-loop-range-preserved c =
-    let ranges = c.ranges-range-items.result.now in
-    let at = c.loop-range.range-index in
-    let none : Range = record { first = 0; last = 0 } in
-    let range = slice_index_or ranges at none in
-    let others = drop (at + 1) ranges in
+pub loop-key-preserved : goal.loop-key-preserved
+loop-key-preserved c =
     let columns = c.args.columns.now in
     let width = length columns in
-    let rest = c.loop-range.rest.now in
+    let key = c.in-Some.key in
+    let left = c.next.new.self in
+    let steps : c.loop-key.key-iterator ≡ key ∷ left = c.in-Some.ensures.steps in
+    let rest = c.loop-key.rest.now in
+    let text = c.loop-key.text.items in
     let told = row_record c.args.tag.now c.args.texts.now columns in
-    let seam : drop at ranges ≡ range ∷ others = range_seam ranges at none c.loop-range-test.true in
-    let room : length (keys_of (range ∷ others)) * width ≤ length rest = subst (λ (some : List Range). length (keys_of some) * width ≤ length rest) seam c.loop-range.invariant.room in record {
-      room = subst (λ (rest : List ℤ). length (keys_of others) * width ≤ length rest) (sym c.in_ok-rest.ensures.rest) (ranges_fit width range others rest room);
-      rest = ap (drop (length (keys_of others) * width)) c.in_ok-rest.ensures.rest ∙ rest_ranges width range others rest ∙ ap (λ (some : List Range). drop (length (keys_of some) * width) rest) (sym seam) ∙ c.loop-range.invariant.rest;
+    let row = λ (cells : List ℤ). let row : PlainRow = record { key = key; cells = cells } in row in
+    let back : c.split_at.result.1.now ≡ drop width rest = c.split_at.ensures.back in
+    record {
+      room =
+          subst (λ (rest : List ℤ). length left * width ≤ length rest) (sym back)
+          (room_next (length left) width rest (subst (λ (ks : List ℕ). length ks * width ≤ length rest) steps c.loop-key.invariant.room));
+      rest = ap (drop (length left * width)) back ∙ rest_next (length left) width rest ∙ ap (λ (ks : List ℕ). drop (length ks * width) rest) (sym steps) ∙ c.loop-key.invariant.rest;
       written =
-          ap (λ text. text ++ records_text (map told (rows_under width (keys_of others) c.in_ok-rest.rest.now))) c.in_ok-rest.ensures.text
-          ∙ ap (λ (cells : List ℤ). (c.loop-range.text.items ++ records_text (map told (rows_under width (keys_in range) rest))) ++ records_text (map told (rows_under width (keys_of others) cells))) c.in_ok-rest.ensures.rest
-          ∙ records_two c.args.tag.now c.args.texts.now columns (keys_in range) (keys_of others) rest c.loop-range.text.items
-          ∙ ap (λ (some : List Range). c.loop-range.text.items ++ records_text (map told (rows_under width (keys_of some) rest))) (sym seam)
-          ∙ c.loop-range.invariant.written;
+          ap (λ text. text ++ records_text (map told (rows_under width left c.split_at.result.1.now))) c.in_ok-push_row.ensures
+          ∙ ap (λ (others : List ℤ). (text ++ record_text (told (row c.split_at.result.0.now))) ++ records_text (map told (rows_under width left others))) back
+          ∙ ap (λ (cells : List ℤ). (text ++ record_text (told (row cells))) ++ records_text (map told (rows_under width left (drop width rest)))) c.split_at.ensures.front
+          ∙ append_assoc text (record_text (told (row (take width rest)))) (records_text (map told (rows_under width left (drop width rest))))
+          ∙ ap (λ (ks : List ℕ). text ++ records_text (map told (rows_under width ks rest))) (sym steps)
+          ∙ c.loop-key.invariant.written;
     }
+
+pub returns-clause-text : goal.returns-clause-text
+returns-clause-text c =
+    let columns = c.args.columns.now in
+    sym (append-nil c.loop-key.text.items)
+    ∙ ap (λ (ks : List ℕ). c.loop-key.text.items ++ records_text (map (row_record c.args.tag.now c.args.texts.now columns) (rows_under (length columns) ks c.loop-key.rest.now))) (sym c.in-None.ensures.steps.0)
+    ∙ c.loop-key.invariant.written
 
 pub returns-clause-rest : goal.returns-clause-rest
 returns-clause-rest c =
-    let none : 0 ≡ 0 * length c.args.columns.now = omega arith in
-    ap (λ n. drop n c.loop-range.rest.now) none
-    ∙ sym (ap (λ (some : List Range). drop (length (keys_of some) * length c.args.columns.now) c.loop-range.rest.now) (drop_all c.loop-range.range-index c.ranges-range-items.result.now c.loop-range-test.false))
-    ∙ c.loop-range.invariant.rest
+    let width = length c.args.columns.now in
+    ap (λ n. drop n c.loop-key.rest.now) (sym (zero-mul width)) ∙ ap (λ (ks : List ℕ). drop (length ks * width) c.loop-key.rest.now) (sym c.in-None.ensures.steps.0) ∙ c.loop-key.invariant.rest

@@ -1,14 +1,14 @@
 use Rattle.std.proofs.Common.{◌≡◌, ap, sym, ◌∙◌, subst, ◌∷◌, ◌++◌, ◌<◌, [], List, ℕ, true, false, length, map, arith, append_assoc}
-use Rattle.std.specs.Prelude.{Some, None, Option}
+use Rattle.std.specs.Prelude.{Some, None}
 use Rattle.std.specs.List.{AllByRecursion}
 use Rattle.std.proofs.lemmas.List.{append-nil}
 use Rattle.key_lists.specs.Keys.{IsRising}
 use Rattle.row_set.specs.Sets.{with_key}
 use Rattle.row_set.proofs.United.{with_key_rises, every-united}
+use Rattle.row_set.proofs.Windows.{rising_before}
 use Rattle.tick_model.specs.Texts.{column_name}
-use Rattle.update_text.specs.Reading.{Gives, has_comma, next_fields}
 use Rattle.update_text.proofs.ReadColumns.{gives_both, names_ahead, names_done}
-use Rattle.update_text.proofs.ReadRows.{gives_memory, rising_before, united_behind}
+use Rattle.update_text.proofs.ReadRows.{gives_memory, united_behind}
 use Rattle.update_text.proofs.read_changes.read_names.Goals as goal
 
 some_same : (a b : ℕ) → Some a ≡ Some b → a ≡ b
