@@ -1,9 +1,11 @@
 -- The keys of two lists.
-use Rattle.std.proofs.Common.{◌≡◌, refl, ap, sym, ◌∙◌, Bool, true, false, cond, ◌==◌, ◌||◌, ℕ, ◌<◌, arith, List, [], ◌∷◌, ltb, ltb-true, ltb-false, eqb-true}
-use Rattle.std.specs.List.{AllByRecursion}
+use Rattle.std.proofs.Common.{◌≡◌, refl, ap, sym, ◌∙◌, Bool, true, false, cond, ◌==◌, ◌||◌, ℕ, ◌+◌, ◌-◌, ◌<◌, ◌≤◌, arith, List, [], ◌∷◌, get_or, length, take, ltb, ltb-true, ltb-false, eqb-true}
+use Rattle.std.specs.List.{AllByRecursion, range_with_len}
 use Rattle.std.proofs.lemmas.Bool.{eqb-false as neq-from}
+use Rattle.std.proofs.lemmas.List.Folds.{list_any_more}
 use Rattle.key_lists.specs.Keys.{is_among, IsRising}
 use Rattle.key_lists.proofs.Every.{every_weaker}
+use Rattle.row_set.specs.Ranges.{keys_from}
 use Rattle.row_set.specs.Sets.{with_key, united}
 
 or_twice : (a b : Bool) → (a || b) ≡ (a || (a || b))
@@ -69,3 +71,34 @@ united_rises (key ∷ keys) others h = with_key_rises key (united keys others) (
 pub every-united : (P : ℕ → Type 0) (keys others : List ℕ) → AllByRecursion P keys → AllByRecursion P others → AllByRecursion P (united keys others)
 every-united P [] others h k = k
 every-united P (key ∷ keys) others h k = every-with_key P key (united keys others) h.0 (every-united P keys others h.1 k)
+
+length-with_key : (key : ℕ) (keys : List ℕ) → length (with_key key keys) ≤ 1 + length keys
+length-with_key key [] = omega arith
+length-with_key key (first ∷ rest) =
+    elim (ltb key first) as (λ b. length (cond b (key ∷ first ∷ rest) (cond (key == first) (first ∷ rest) (first ∷ with_key key rest))) ≤ 1 + length (first ∷ rest)) [
+      | true ↦ omega arith
+      | false ↦ elim (key == first) as (λ b. length (cond b (first ∷ rest) (first ∷ with_key key rest)) ≤ 1 + length (first ∷ rest)) [ true ↦ omega arith | false ↦ omega (arith, length-with_key key rest) ]
+    ]
+
+pub length-united : (keys others : List ℕ) → length (united keys others) ≤ length keys + length others
+length-united [] others = omega arith
+length-united (key ∷ keys) others = omega (arith, length-with_key key (united keys others), length-united keys others)
+
+-- the range of one key, and a set with one key more
+pub one_key : (key : ℕ) → keys_from key key ≡ key ∷ []
+one_key key = let one : key + 1 - key ≡ 1 = omega arith in ap (range_with_len key) one
+
+pub among_more : (key : ℕ) (keys set : List ℕ) (n : ℕ) → n < length keys → is_among key set ≡ is_among key (take n keys) → is_among key (united (keys_from (get_or keys n 0) (get_or keys n 0)) set) ≡ is_among key (take (n + 1) keys)
+among_more key keys set n within so_far =
+    let more = get_or keys n 0 in
+    ap (λ ks. is_among key (united ks set)) (one_key more)
+    ∙ among-with_key key more set
+    ∙ ap (λ b. (more == key) || b) so_far
+    ∙ or_flip (more == key) (is_among key (take n keys))
+    ∙ sym (list_any_more (λ other. other == key) keys n 0 within)
+  where
+    or_flip : (a b : Bool) → (a || b) ≡ (b || a)
+    or_flip true true = refl
+    or_flip true false = refl
+    or_flip false true = refl
+    or_flip false false = refl

@@ -1,5 +1,5 @@
 //! The set itself: what it is made of, what it answers and how it is edited.
-ghost use Rattle.std.specs.Prelude.{◌≡◌, ◌^◌, ◌<◌, ◌≤◌, ◌==◌, List, [], length, find, nat_le, IfOk, OnOk, OnErr, slice_get, take, drop};
+ghost use Rattle.std.specs.Prelude.{◌≡◌, ℕ, ◌^◌, ◌<◌, ◌≤◌, ◌==◌, List, [], length, find, nat_le, IfOk, OnOk, OnErr, slice_get, take, drop};
 ghost use Rattle.std.specs.List.{AllByRecursion};
 ghost use Rattle.key_lists.specs.Keys.{IsRising, is_among, without};
 ghost use Rattle.row_set.specs.Ranges.{AreApart, holds, keys_from, keys_of, ranges_of};
@@ -64,6 +64,21 @@ impl RowSet {
             ranges: Vec::with_capacity(alloc, ranges)?,
             starts: Vec::with_capacity(alloc, ranges)?,
         })
+    }
+
+    /// The set of these keys, in any order.
+    pub fn from_keys(alloc: Global, mut keys: Vec<u64>) -> Result<RowSet, AllocError>
+        requires small { AllByRecursion (λ key. key < 2 ^ 62) keys.items }
+        ensures keys { IfOk result (λ set. (key : ℕ) → is_among key set ≡ is_among key keys.items) }
+        ensures set { IfOk result IsKeySet }
+        ensures no_more { IfOk result (λ set. length set ≤ length keys.items) }
+    {
+        keys.sort_unstable();
+        let mut set = RowSet::new(alloc);
+        for key in &keys {
+            set.insert_range(*key, *key)?;
+        }
+        Ok(set)
     }
 
     /// Whether the key is in the set.
