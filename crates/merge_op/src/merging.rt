@@ -101,7 +101,7 @@ impl MergeOp {
         let MergeOp {
             count,
             width,
-            mut shown,
+            shown,
         } = self;
         let rows = rows_of(inputs);
         if rows > u64::from(MOST_ROWS) {
@@ -111,7 +111,7 @@ impl MergeOp {
         let touched = touched_rows(alloc, inputs, &shown)?;
         let merged = MergedRows { inputs, width };
         let change = change_of_touched(alloc, &merged, width, touched, reads)?;
-        change.update.apply_to_keys(&mut shown)?;
+        let shown = change.update.apply_to_keys(shown)?;
         Ok((
             MergeOp {
                 count,

@@ -1,5 +1,5 @@
 //! The keys of a set moved in place.
-ghost use Rattle.std.specs.Prelude.{◌≡◌, ◌-◌, ◌^◌, ◌<◌, ◌≤◌, pos, negsuc, ◌<ℤ◌, [], ◌∷◌, IfSome, IfNone, OnOk};
+ghost use Rattle.std.specs.Prelude.{◌≡◌, ◌-◌, ◌^◌, ◌<◌, ◌≤◌, pos, negsuc, ◌<ℤ◌, [], ◌∷◌, IfSome, IfNone, IfOk, OnOk};
 ghost use Rattle.row_set.specs.Choice.{AreAhead};
 ghost use Rattle.row_set.specs.Ranges.{keys_of};
 ghost use Rattle.row_set.specs.Sets.{IsKeySet};
@@ -17,21 +17,21 @@ use row_set::{Range, RowSet};
 use std::alloc::{AllocError, Global};
 use tick_model::update::ShiftRange;
 
-/// Moves the keys. Those of a lone range move where they lie. Of several, where few ranges of keys move, these are taken out
+/// The keys, moved. Those of a lone range move where they lie. Of several, where few ranges of keys move, these are taken out
 /// and put in where they land, and where many do, all are put down anew.
 pub(crate) fn move_keys(
     alloc: Global,
     shifts: &[ShiftRange],
-    keys: &mut RowSet,
-) -> Result<(), AllocError>
+    keys: RowSet,
+) -> Result<RowSet, AllocError>
     requires shifts { IsShiftList shifts.now }
-    requires lawful { IsLawful shifts.now keys.old }
-    ensures { OnOk result (keys.new ≡ landed shifts.now keys.old) }
+    requires lawful { IsLawful shifts.now keys }
+    ensures { IfOk result (λ places. places ≡ landed shifts.now keys) }
 {
     match shifts {
-        [] => Ok(()),
+        [] => Ok(keys),
         [range] => move_one(*range, keys),
-        _ if many_move(shifts, keys.ranges()) => move_all(alloc, shifts, keys),
+        _ if many_move(shifts, keys.ranges()) => moved_keys(alloc, shifts, &keys),
         _ => move_parts(alloc, shifts, keys),
     }
 }
@@ -60,37 +60,29 @@ fn count_met(range: ShiftRange, runs: &[Range]) -> usize {
     begun.saturating_sub(before)
 }
 
-/// Puts those to which the keys move in their place.
-fn move_all(alloc: Global, shifts: &[ShiftRange], keys: &mut RowSet) -> Result<(), AllocError>
-    requires shifts { IsShiftList shifts.now }
-    requires lawful { IsLawful shifts.now keys.old }
-    ensures { OnOk result (keys.new ≡ landed shifts.now keys.old) }
-{
-    *keys = moved_keys(alloc, shifts, keys)?;
-    Ok(())
-}
-
-/// Moves the keys that one range holds.
-fn move_one(range: ShiftRange, keys: &mut RowSet) -> Result<(), AllocError>
+/// The keys, of which those that one range holds are moved.
+fn move_one(range: ShiftRange, mut keys: RowSet) -> Result<RowSet, AllocError>
     requires order { range.begin ≤ range.end }
     requires range { IsShiftRange (2 ^ 62) range }
-    requires lawful { IsLawful (range ∷ []) keys.old }
-    ensures { OnOk result (keys.new ≡ landed (range ∷ []) keys.old) }
+    requires lawful { IsLawful (range ∷ []) keys }
+    ensures { IfOk result (λ places. places ≡ landed (range ∷ []) keys) }
 {
-    keys.shift_range(range.begin, range.end, range.delta)
+    keys.shift_range(range.begin, range.end, range.delta)?;
+    Ok(keys)
 }
 
-/// Moves the keys part by part: those that a range holds are taken out and put in where they land.
-fn move_parts(alloc: Global, shifts: &[ShiftRange], keys: &mut RowSet) -> Result<(), AllocError>
+/// The keys, moved part by part: those that a range holds are taken out and put in where they land.
+fn move_parts(alloc: Global, shifts: &[ShiftRange], mut keys: RowSet) -> Result<RowSet, AllocError>
     requires shifts { IsShiftList shifts.now }
-    requires lawful { IsLawful shifts.now keys.old }
-    ensures { OnOk result (keys.new ≡ landed shifts.now keys.old) }
+    requires lawful { IsLawful shifts.now keys }
+    ensures { IfOk result (λ places. places ≡ landed shifts.now keys) }
 {
     let mut left = RowSet::with_capacity(alloc, 0)?;
     let mut came = RowSet::with_capacity(alloc, 0)?;
-    part_keys(shifts, keys, &mut left, &mut came)?;
+    part_keys(shifts, &keys, &mut left, &mut came)?;
     keys.remove_all(&left)?;
-    keys.insert_all(&came)
+    keys.insert_all(&came)?;
+    Ok(keys)
 }
 
 /// Puts the keys that move into one empty set, and those to which they move into another. The ranges of both are gone over

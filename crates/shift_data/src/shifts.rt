@@ -164,11 +164,11 @@ impl ShiftData {
         moved_keys(*self.ranges.allocator(), &self.ranges, keys)
     }
 
-    /// Moves the keys in place. Ranges of keys that stay are gone over only where there are few of them, about eight, for each
-    /// that moves or each of the shift. After a refusal some of the keys that move may be absent.
-    pub fn apply_in_place(&self, keys: &mut RowSet) -> Result<(), AllocError>
-        requires { IsLawful self.now keys.old }
-        ensures { OnOk result (keys.new ≡ landed self.now keys.old) }
+    /// The same keys, moved where they lie. Ranges of keys that stay are gone over only where there are few of them, about
+    /// eight, for each that moves or each of the shift. After a refusal the keys are gone.
+    pub fn apply_in_place(&self, keys: RowSet) -> Result<RowSet, AllocError>
+        requires { IsLawful self.now keys }
+        ensures { IfOk result (λ places. places ≡ landed self.now keys) }
     {
         move_keys(*self.ranges.allocator(), &self.ranges, keys)
     }

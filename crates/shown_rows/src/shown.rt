@@ -12,6 +12,7 @@ use crate::rows::{Chooses, ChosenRows};
 use row_changes::{Touched, change_of_touched};
 use row_set::RowSet;
 use std::alloc::{AllocError, Global};
+use std::mem;
 use std::sync::ledger::Ledger;
 use tick_table::{Change, Steps, TickTable};
 
@@ -51,6 +52,7 @@ pub fn shown_change<L: Ledger, C: Chooses>(
     };
     let rows = ChosenRows { input, choice };
     let change = change_of_touched(alloc, &rows, input.width(), touched, reads)?;
-    change.update.apply_to_keys(shown)?;
+    let keys = mem::replace(shown, RowSet::new(alloc));
+    *shown = change.update.apply_to_keys(keys)?;
     Ok(change)
 }

@@ -125,17 +125,18 @@ impl Update {
         })
     }
 
-    /// Makes the keys of a table those that it has after the update. After a refusal the keys are to be given up.
-    pub fn apply_to_keys(&self, keys: &mut RowSet) -> Result<(), AllocError>
-        requires { update_fault (2 ^ 62) keys.old self.now ≡ None }
-        ensures { OnOk result (keys.new ≡ keys_after keys.old self.now) }
+    /// The keys of a table, made those that it has after the update. After a refusal they are gone.
+    pub fn apply_to_keys(&self, mut keys: RowSet) -> Result<RowSet, AllocError>
+        requires { update_fault (2 ^ 62) keys self.now ≡ None }
+        ensures { IfOk result (λ after. after ≡ keys_after keys self.now) }
     {
         let removed = self.removed();
         let added = self.added();
         let shifted = self.shifted();
         keys.remove_all(removed)?;
-        shifted.apply_in_place(keys)?;
-        keys.insert_all(added)
+        let mut moved = shifted.apply_in_place(keys)?;
+        moved.insert_all(added)?;
+        Ok(moved)
     }
 
     /// The keys that a table with these keys has after the update.
@@ -143,9 +144,7 @@ impl Update {
         requires { update_fault (2 ^ 62) old.now self.now ≡ None }
         ensures { IfOk result (λ keys. keys ≡ keys_after old.now self.now) }
     {
-        let mut keys = old.copy()?;
-        self.apply_to_keys(&mut keys)?;
-        Ok(keys)
+        self.apply_to_keys(old.copy()?)
     }
 
     /// The old keys of the modified rows.

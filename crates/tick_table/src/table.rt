@@ -37,6 +37,8 @@ pub struct TickTable {
     slot_rows: SlotRows,
     /// How the rows of before became those of now.
     update: Update,
+    /// How often the table was copied whole since it was made.
+    copies: u32,
 }
 
 impl Drop for TickTable {
@@ -46,6 +48,7 @@ impl Drop for TickTable {
             prev_rows: _,
             slot_rows: _,
             update: _,
+            copies: _,
         } = self;
     }
 }
@@ -77,6 +80,7 @@ impl TickTable {
             prev_rows: RowSet::new(alloc),
             slot_rows: SlotRows::new(alloc, width as usize),
             update: Update::none(alloc),
+            copies: 0,
         })
     }
 
@@ -171,7 +175,13 @@ impl TickTable {
         Ok(())
     }
 
-    /// An equal table, with its rows before and its update.
+    /// How often the table was copied whole since it was made: 0 as long as each change was applied where the rows lie. A
+    /// contract sees no difference between a table and its copy.
+    pub fn copies(&self) -> u32 {
+        self.copies
+    }
+
+    /// An equal table, with its rows before and its update. It is counted as a copy.
     pub fn copy(&self) -> Result<TickTable, AllocError>
         ensures { IfOk result (λ table. table ≡ self.now) }
     {
@@ -180,6 +190,7 @@ impl TickTable {
             prev_rows: self.prev_rows.copy()?,
             slot_rows: self.slot_rows.copy()?,
             update: self.update.copy()?,
+            copies: self.copies.saturating_add(1),
         })
     }
 
@@ -195,16 +206,17 @@ impl TickTable {
         ensures exact { IfOk result (λ table. (tick : Tick) → IsTick tick → self.new ≡ tick.old → change ≡ change_of tick → table ≡ ticking tick) }
     {
         let TickTable {
-            mut rows,
-            mut prev_rows,
+            rows,
+            prev_rows,
             mut slot_rows,
             update: last,
+            copies,
         } = self;
         let Change { update, cells } = change;
         let cells = cells.as_slice();
-        bring_all_on(
-            &mut rows,
-            &mut prev_rows,
+        let (rows, prev_rows) = bring_all_on(
+            rows,
+            prev_rows,
             &mut slot_rows,
             &last,
             &update,
@@ -215,6 +227,7 @@ impl TickTable {
             prev_rows,
             slot_rows,
             update,
+            copies,
         })
     }
 }
@@ -228,21 +241,22 @@ fn read_all<L: Ledger>(row: &[i64], reads: &mut Steps<L>)
     }
 }
 
-/// Brings the keys from before the step on by the last update, and the keys and the rows of now by the next one.
+/// The keys of now and those from before the step, brought on by the next update and by the last one. The rows of now are
+/// brought on by the next one.
 fn bring_all_on(
-    rows: &mut RowSet,
-    prev_rows: &mut RowSet,
+    rows: RowSet,
+    prev_rows: RowSet,
     slot_rows: &mut SlotRows,
     last: &Update,
     next: &Update,
     cells: &[i64],
-) -> Result<(), AllocError>
-    requires last { update_fault (2 ^ 62) prev_rows.old last.now ≡ None }
-    requires next { update_fault (2 ^ 62) rows.old next.now ≡ None }
-    requires keys { rows.old ≡ keys slot_rows.old.now }
+) -> Result<(RowSet, RowSet), AllocError>
+    requires last { update_fault (2 ^ 62) prev_rows last.now ≡ None }
+    requires next { update_fault (2 ^ 62) rows next.now ≡ None }
+    requires keys { rows ≡ keys slot_rows.old.now }
     requires whole { length cells.now ≡ length (told_keys next.now) * slot_rows.old.width }
-    ensures rows { OnOk result (rows.new ≡ keys_after rows.old next.now) }
-    ensures prev_rows { OnOk result (prev_rows.new ≡ keys_after prev_rows.old last.now) }
+    ensures rows { IfOk result (λ brought. brought.0 ≡ keys_after rows next.now) }
+    ensures prev_rows { IfOk result (λ brought. brought.1 ≡ keys_after prev_rows last.now) }
     ensures width { OnOk result (slot_rows.new.width ≡ slot_rows.old.width) }
     ensures now { OnOk result (slot_rows.new.now ≡ stepped next.now (rows_under slot_rows.old.width (told_keys next.now) cells.now) slot_rows.old.now) }
     ensures before { OnOk result (slot_rows.new.before ≡ slot_rows.old.now) }
@@ -251,7 +265,8 @@ fn bring_all_on(
 {
     let _added = next.added();
     let _modified = next.modified();
-    last.apply_to_keys(prev_rows)?;
-    next.apply_to_keys(rows)?;
-    bring_on(slot_rows, next, cells)
+    let prev_rows = last.apply_to_keys(prev_rows)?;
+    let rows = next.apply_to_keys(rows)?;
+    bring_on(slot_rows, next, cells)?;
+    Ok((rows, prev_rows))
 }

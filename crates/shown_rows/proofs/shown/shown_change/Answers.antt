@@ -43,7 +43,7 @@ apply_to_keys-requires g c =
     let change_is : c.in_ok-change.change ≡ change_of (through choice (tick_of t)) =
     c.in_ok-change.ensures.change (through choice (tick_of t)).kept (parts_shown t c.requires.exact choice c.requires.old_part c.requires.new_part _ c.requires.leaving c.requires.coming shifts olds news) in
     let update_is : c.change.inside.update ≡ between (through choice (tick_of t)) = ap (λ (change : Change). change.update) (c.change.view_is ∙ change_is) in
-    rw (update_is, c.requires.shown) (lawful_shown t c.requires.exact choice c.requires.old_part c.requires.new_part)
+    rw (update_is, c.replace-keys.ensures.value, c.requires.shown) (lawful_shown t c.requires.exact choice c.requires.old_part c.requires.new_part)
 
 pub returns-clause-shown : goal.returns-clause-shown
 returns-clause-shown g c =
@@ -58,7 +58,7 @@ returns-clause-shown g c =
     let change_is : c.in_ok-change.change ≡ change_of (through choice (tick_of t)) =
     c.in_ok-change.ensures.change (through choice (tick_of t)).kept (parts_shown t c.requires.exact choice c.requires.old_part c.requires.new_part _ c.requires.leaving c.requires.coming shifts olds news) in
     let update_is : c.change.inside.update ≡ between (through choice (tick_of t)) = ap (λ (change : Change). change.update) (c.change.view_is ∙ change_is) in
-    c.in_ok-apply_to_keys.ensures ∙ ap₂ keys_after c.requires.shown update_is ∙ keys_shown t c.requires.exact choice c.requires.old_part c.requires.new_part
+    c.in_ok-shown.ensures ∙ ap₂ keys_after (c.replace-keys.ensures.value ∙ c.requires.shown) update_is ∙ keys_shown t c.requires.exact choice c.requires.old_part c.requires.new_part
 
 pub returns-clause-change : goal.returns-clause-change
 returns-clause-change g c =

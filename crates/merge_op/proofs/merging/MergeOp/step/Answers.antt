@@ -87,7 +87,7 @@ returns-clause-stands g c =
     let change_is : c.in_ok-change.change ≡ change_of tick = c.in_ok-change.ensures.change tick.kept c.in_ok-touched.ensures.parts in
     let update_is : c.change.inside.update ≡ between tick = ap (λ (change : Change). change.update) (c.change.view_is ∙ change_is) in
     ap (λ (shown : List ℕ). let merger : Merger = record { count = c.self.inside.count; width = c.self.inside.width; shown = shown } in merger)
-    (c.in_ok-apply_to_keys.ensures ∙ ap₂ keys_after stands update_is ∙ keys_after_between tick c.in_ok-touched.ensures.parts.tick)
+    (c.in_ok-shown.ensures ∙ ap₂ keys_after stands update_is ∙ keys_after_between tick c.in_ok-touched.ensures.parts.tick)
     ∙ ap (λ (merger : Merger). let after : Merger = record { count = merger.count; width = merger.width; shown = keys tick.new.rows } in after) c.self.view_is
 
 pub returns-clause-change : goal.returns-clause-change

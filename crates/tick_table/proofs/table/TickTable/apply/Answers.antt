@@ -51,10 +51,10 @@ invariant_of-result c =
     subst (λ (change : Change). length change.cells ≡ length (told_keys change.update) * versions.width) (sym c.change.view_is)
     (subst (λ (table : Ticking). length c.args.change.cells ≡ length (told_keys c.args.change.update) * table.new.width) (sym c.self.view_is) c.requires.whole) in
     let new = c.bring_all_on.new.slot_rows in
-    let now = c.in_ok-bring_all_on.ensures.now ∙ ap (λ (cells : List ℤ). stepped update (rows_under versions.width (told_keys update) cells) versions.now) c.as_slice-cells.ensures in
-    let gone = c.in_ok-bring_all_on.ensures.prev_rows ∙ sym c.self.invariant.after in
-    kept_is rows versions update cells c.self.invariant.now_table c.self.invariant.now_keys lawful c.in_ok-bring_all_on.ensures.added c.in_ok-bring_all_on.ensures.modified whole
-    new c.bring_all_on.new.rows c.bring_all_on.new.prev_rows c.in_ok-bring_all_on.ensures.width now c.in_ok-bring_all_on.ensures.before c.in_ok-bring_all_on.ensures.rows gone c.self.invariant.some c.self.invariant.few
+    let now = c.in_ok-rows.ensures.now ∙ ap (λ (cells : List ℤ). stepped update (rows_under versions.width (told_keys update) cells) versions.now) c.as_slice-cells.ensures in
+    let gone = c.in_ok-rows.ensures.prev_rows ∙ sym c.self.invariant.after in
+    kept_is rows versions update cells c.self.invariant.now_table c.self.invariant.now_keys lawful c.in_ok-rows.ensures.added c.in_ok-rows.ensures.modified whole
+    new c.in_ok-rows.rows c.in_ok-rows.prev_rows c.in_ok-rows.ensures.width now c.in_ok-rows.ensures.before c.in_ok-rows.ensures.rows gone c.self.invariant.some c.self.invariant.few
 
 pub returns-clause-old : goal.returns-clause-old
 returns-clause-old c =
@@ -70,10 +70,10 @@ returns-clause-old c =
     subst (λ (change : Change). length change.cells ≡ length (told_keys change.update) * versions.width) (sym c.change.view_is)
     (subst (λ (table : Ticking). length c.args.change.cells ≡ length (told_keys c.args.change.update) * table.new.width) (sym c.self.view_is) c.requires.whole) in
     let new = c.bring_all_on.new.slot_rows in
-    let now = c.in_ok-bring_all_on.ensures.now ∙ ap (λ (cells : List ℤ). stepped update (rows_under versions.width (told_keys update) cells) versions.now) c.as_slice-cells.ensures in
-    let gone = c.in_ok-bring_all_on.ensures.prev_rows ∙ sym c.self.invariant.after in
-    old_is rows versions update cells c.self.invariant.now_table c.self.invariant.now_keys lawful c.in_ok-bring_all_on.ensures.added c.in_ok-bring_all_on.ensures.modified whole
-    new c.bring_all_on.new.rows c.bring_all_on.new.prev_rows c.in_ok-bring_all_on.ensures.width now c.in_ok-bring_all_on.ensures.before c.in_ok-bring_all_on.ensures.rows gone
+    let now = c.in_ok-rows.ensures.now ∙ ap (λ (cells : List ℤ). stepped update (rows_under versions.width (told_keys update) cells) versions.now) c.as_slice-cells.ensures in
+    let gone = c.in_ok-rows.ensures.prev_rows ∙ sym c.self.invariant.after in
+    old_is rows versions update cells c.self.invariant.now_table c.self.invariant.now_keys lawful c.in_ok-rows.ensures.added c.in_ok-rows.ensures.modified whole
+    new c.in_ok-rows.rows c.in_ok-rows.prev_rows c.in_ok-rows.ensures.width now c.in_ok-rows.ensures.before c.in_ok-rows.ensures.rows gone
     ∙ ap (λ (table : Ticking). table.new) c.self.view_is
 
 pub returns-clause-new : goal.returns-clause-new
@@ -90,10 +90,10 @@ returns-clause-new c =
     subst (λ (change : Change). length change.cells ≡ length (told_keys change.update) * versions.width) (sym c.change.view_is)
     (subst (λ (table : Ticking). length c.args.change.cells ≡ length (told_keys c.args.change.update) * table.new.width) (sym c.self.view_is) c.requires.whole) in
     let new = c.bring_all_on.new.slot_rows in
-    let now = c.in_ok-bring_all_on.ensures.now ∙ ap (λ (cells : List ℤ). stepped update (rows_under versions.width (told_keys update) cells) versions.now) c.as_slice-cells.ensures in
-    let gone = c.in_ok-bring_all_on.ensures.prev_rows ∙ sym c.self.invariant.after in
-    new_is rows versions update cells c.self.invariant.now_table c.self.invariant.now_keys lawful c.in_ok-bring_all_on.ensures.added c.in_ok-bring_all_on.ensures.modified whole
-    new c.bring_all_on.new.rows c.bring_all_on.new.prev_rows c.in_ok-bring_all_on.ensures.width now c.in_ok-bring_all_on.ensures.before c.in_ok-bring_all_on.ensures.rows gone
+    let now = c.in_ok-rows.ensures.now ∙ ap (λ (cells : List ℤ). stepped update (rows_under versions.width (told_keys update) cells) versions.now) c.as_slice-cells.ensures in
+    let gone = c.in_ok-rows.ensures.prev_rows ∙ sym c.self.invariant.after in
+    new_is rows versions update cells c.self.invariant.now_table c.self.invariant.now_keys lawful c.in_ok-rows.ensures.added c.in_ok-rows.ensures.modified whole
+    new c.in_ok-rows.rows c.in_ok-rows.prev_rows c.in_ok-rows.ensures.width now c.in_ok-rows.ensures.before c.in_ok-rows.ensures.rows gone
     ∙ ap₂ changed (ap (λ (table : Ticking). table.new) c.self.view_is) c.change.view_is
 
 pub returns-clause-update : goal.returns-clause-update
