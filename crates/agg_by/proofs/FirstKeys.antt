@@ -1,22 +1,18 @@
 -- The first rows of touched groups, found by the key cells of touched rows.
-use Rattle.std.proofs.Common.{◌≡◌, refl, ap, ap₂, sym, ◌∙◌, subst, Bool, true, false, ◌&&◌, ◌||◌, ◌==◌, ℕ, zero, suc, ◌+◌, ◌-◌, ◌^◌, ◌<◌, ◌≤◌, nat_lt, arith, List, [], ◌∷◌, ◌++◌, filter, get_or, length, take, Option, Some, None, option_map, unwrap_or, is_some, ℤ, int_lt, true≢false, if◌then◌else◌}
+use Rattle.std.proofs.Common.{◌≡◌, refl, ap, ap₂, sym, ◌∙◌, subst, Bool, true, false, ◌&&◌, ◌||◌, ◌==◌, ℕ, zero, suc, ◌+◌, ◌^◌, ◌<◌, ◌≤◌, arith, List, [], ◌∷◌, ◌++◌, filter, get_or, length, Option, Some, None, option_map, unwrap_or, is_some, ℤ, int_lt, true≢false, if◌then◌else◌}
 use Rattle.std.specs.Cmp.Rules.{signed_items}
-use Rattle.std.specs.List.{AllByRecursion, list_any, range_with_len}
-use Rattle.std.specs.List.Sorted.{IsPermutation}
-use Rattle.std.proofs.lemmas.List.Sorted.{list_any-IsPermutation}
+use Rattle.std.specs.List.{AllByRecursion, list_any}
 use Rattle.std.specs.Option.{option_map_or}
 use Rattle.std.specs.Prelude.{slice_get}
 use Rattle.std.proofs.lemmas.Bool.{eqb-true}
 use Rattle.std.proofs.lemmas.Option.{none-some, same_Some}
 use Rattle.key_lists.specs.Keys.{is_among, IsRising}
-use Rattle.key_lists.proofs.Among.{among-append, among-filter, each_among, of_among}
-use Rattle.key_lists.proofs.Every.{every_both, every_weaker, every-filter, every-map, every_unmapped, filter_passes}
+use Rattle.key_lists.proofs.Among.{among-append, among-filter}
+use Rattle.key_lists.proofs.Every.{every_both, every-filter, every-map, every_unmapped, filter_passes}
 use Rattle.key_lists.proofs.Rising.{rising-filter, rising_same, rising_some}
 use Rattle.row_groups.specs.Members.{AreGrouped, Grouped, Member, by_at, group_of, keys_of, member_under, placed}
-use Rattle.row_set.specs.Ranges.{keys_from}
-use Rattle.row_set.specs.Sets.{united, with_key}
-use Rattle.row_set.proofs.United.{among-with_key, with_key_rises}
-use Rattle.shown_rows.proofs.Walks.{take_next}
+use Rattle.row_set.specs.Sets.{with_key}
+use Rattle.row_set.proofs.United.{among-with_key, length-united, with_key_rises}
 use Rattle.tick_model.proofs.Among.{rows_among}
 use Rattle.tick_model.specs.Agg.{is_first, key_cells}
 use Rattle.tick_model.specs.declared.table.PlainRow.{PlainRow}
@@ -69,39 +65,6 @@ found_one first key keys group e =
 
 pub found_none : (first : ℕ) (keys : List ℕ) (group : List ℕ) → slice_get group 0 ≡ None → is_among first keys ≡ (is_among first keys || option_map_or (λ k. k == first) (slice_get group 0) false)
 found_none first keys group e = sym (ap (λ o. is_among first keys || option_map_or (λ k. k == first) o false) e ∙ or_none (is_among first keys))
-
--- a set with one key more
-as_one : (key : ℕ) (set : List ℕ) → united (keys_from key key) set ≡ with_key key set
-as_one key set = ap (λ count. united (range_with_len key count) set) (let one : key + 1 - key ≡ 1 = omega arith in one)
-
-pub length-with_key : (key : ℕ) (keys : List ℕ) → length (with_key key keys) ≤ suc (length keys)
-length-with_key key [] = omega arith
-length-with_key key (other ∷ others) = by (nat_lt key other) (key == other) (length-with_key key others)
-  where
-    by : (b c : Bool) → length (with_key key others) ≤ suc (length others) → length (if b then key ∷ other ∷ others else (if c then other ∷ others else other ∷ with_key key others)) ≤ suc (length (other ∷ others))
-    by true c h = omega arith
-    by false true h = omega arith
-    by false false h = omega (arith, h)
-
-pub among_more : (key other : ℕ) (set keys : List ℕ) (n : ℕ) → slice_get keys n ≡ Some other → is_among key set ≡ is_among key (take n keys) → is_among key (united (keys_from other other) set) ≡ is_among key (take (n + 1) keys)
-among_more key other set keys n here so_far =
-    ap (is_among key) (as_one other set)
-    ∙ among-with_key key other set
-    ∙ ap (λ b. (other == key) || b) so_far
-    ∙ swapped (other == key) (is_among key (take n keys))
-    ∙ sym (ap (is_among key) (take_next keys n other here) ∙ among-append key (take n keys) (other ∷ []))
-  where
-    swapped : (a b : Bool) → (a || b) ≡ (b || (a || false))
-    swapped true true = refl
-    swapped true false = refl
-    swapped false true = refl
-    swapped false false = refl
-
-pub rises_more : (key : ℕ) (set keys : List ℕ) (n : ℕ) → slice_get keys n ≡ Some key → IsRising set → IsRising (united (keys_from key key) set)
-rises_more key set keys n here rising = subst IsRising (sym (as_one key set)) (with_key_rises key set rising)
-
-pub few_more : (key : ℕ) (set keys : List ℕ) (n : ℕ) → slice_get keys n ≡ Some key → length set ≤ n → length (united (keys_from key key) set) ≤ n + 1
-few_more key set keys n here h = subst (λ (more : List ℕ). length more ≤ n + 1) (sym (as_one key set)) (let most = length-with_key key set in omega (arith, h, most))
 
 -- the first row of a group that has the key
 head_has : (P : PlainRow → Type 0) (key : ℕ) (some : List PlainRow) → AllByRecursion P some → option_map_or (λ (first : PlainRow). first.key == key) (slice_get some 0) false ≡ true → (row : PlainRow) × (P row × (row.key ≡ key))
@@ -195,7 +158,9 @@ few_led ms (cells ∷ touched) = by (slice_get (keys_of (group_of cells ms)) 0) 
   where
     by : (first : Option ℕ) → length (led_keys ms touched) ≤ length touched → length (option_map_or (λ key. with_key key (led_keys ms touched)) first (led_keys ms touched)) ≤ length (cells ∷ touched)
     by None h = omega (arith, h)
-    by (Some key) h = omega (arith, h, length-with_key key (led_keys ms touched))
+    by (Some key) h =
+        let most : length (with_key key (led_keys ms touched)) ≤ 1 + length (led_keys ms touched) = length-united (key ∷ []) (led_keys ms touched) in
+        omega (arith, h, most)
 
 among-led : (first : ℕ) (ms : List Member) (touched : List (List ℤ)) → is_among first (led_keys ms touched) ≡ list_any (starts ms first) touched
 among-led first ms [] = refl
@@ -210,19 +175,8 @@ pub few_firsts : (ms : List Member) (touched : List (List ℤ)) (firsts : List �
 few_firsts ms touched firsts rising found =
     subst (λ (keys : List ℕ). length keys ≤ length touched) (sym (rising_same firsts (led_keys ms touched) rising (led_rise ms touched) (λ first. found first ∙ sym (among-led first ms touched)))) (few_led ms touched)
 
--- an element that is there, and all of them
+-- an element that is there
 pub get_index : {X : Type 0} (xs : List X) (n : ℕ) (other : X) → n < length xs → slice_get xs n ≡ Some (get_or xs n other)
 get_index [] n other h = absurd (omega arith)
 get_index (x ∷ xs) zero other h = refl
 get_index (x ∷ xs) (suc n) other h = get_index xs n other (omega arith)
-
-pub take_all : {X : Type 0} (xs : List X) (n : ℕ) → length xs ≤ n → take n xs ≡ xs
-take_all [] zero h = refl
-take_all [] (suc n) h = refl
-take_all (x ∷ xs) zero h = absurd (omega arith)
-take_all (x ∷ xs) (suc n) h = ap (λ rest. x ∷ rest) (take_all xs n (omega arith))
-
--- what holds of all numbers holds of them in another order
-pub every_permuted : (P : ℕ → Type 0) (xs ys : List ℕ) → IsPermutation xs ys → AllByRecursion P xs → AllByRecursion P ys
-every_permuted P xs ys same h =
-    every_weaker (λ y. is_among y ys ≡ true) P ys (λ y own. of_among P y xs h (list_any-IsPermutation (λ other. other == y) xs ys same ∙ own)) (each_among ys)

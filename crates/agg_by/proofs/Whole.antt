@@ -9,7 +9,7 @@ use Rattle.key_lists.proofs.Among.{each_among}
 use Rattle.key_lists.proofs.Every.{every_unmapped, every_weaker, every-filter, every-map, filter_passes}
 use Rattle.key_lists.proofs.Rising.{as_filter, rising-filter, rising_some}
 use Rattle.row_groups.specs.Members.{Grouped, Numbered, groups_of}
-use Rattle.row_set.specs.Sets.{united}
+use Rattle.row_set.proofs.United.{length-united}
 use Rattle.shown_rows.proofs.Restricted.{kept, modified_even}
 use Rattle.table_update.specs.Kept.{old_modified}
 use Rattle.tick_model.specs.declared.plan.Agg.{Agg}
@@ -31,7 +31,7 @@ use Rattle.agg_by.specs.Answers.{IsWithin}
 use Rattle.agg_by.specs.Kept.{AnswerAll, Are, IsMade, Keeps, agg_of, indexed}
 use Rattle.agg_by.specs.Steps.{come, first_keys, gone, is_touched, kept_cells, key_at, starts, staying, stays, touched_cells, touched_firsts}
 use Rattle.agg_by.proofs.Answering.{own_cells}
-use Rattle.agg_by.proofs.FirstKeys.{first_keys_rise, firsts_are, length-with_key}
+use Rattle.agg_by.proofs.FirstKeys.{first_keys_rise, firsts_are}
 use Rattle.agg_by.proofs.GroupParts.{is_tick, staying_is, tick, touched}
 use Rattle.agg_by.proofs.GroupRows.{keys-agg}
 use Rattle.agg_by.proofs.Touching.{gone_there}
@@ -58,10 +58,6 @@ begun_keeps old new rows made same begun indexed_rows are = record {
   running = subst (λ (by : List ℕ). AnswerAll by new.rows.names new.aggs rows new.running.items) (sym made.by)
       (subst (λ (aggs : List Agg). AnswerAll old.by new.rows.names aggs rows new.running.items) (sym made.aggs) (subst (λ (kept : Numbered). AnswerAll old.by kept.names old.aggs rows new.running.items) (sym same) (begun rows are)));
 }
-
-length-united : (xs ys : List ℕ) → length (united xs ys) ≤ length xs + length ys
-length-united [] ys = omega arith
-length-united (x ∷ xs) ys = omega (arith, length-with_key x (united xs ys), length-united xs ys)
 
 -- the touched rows are counted
 pub touched_count : (t : Ticking) → IsExact t → length (gone t) + length (come t) ≤ counted t.update

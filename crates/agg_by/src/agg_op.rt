@@ -28,6 +28,7 @@ use row_set::RowSet;
 use shown_rows::KeyPairs;
 use std::alloc::{AllocError, Global};
 use std::marker::Model;
+use std::mem;
 use std::sync::ledger::Ledger;
 use tick_model::items::Items;
 use tick_model::plan::Agg;
@@ -209,7 +210,8 @@ fn grouped_step<L: Ledger>(
         notes: &notes,
     };
     let change = group_change(alloc, &rows, firsts, shown, reads)?;
-    change.update.apply_to_keys(shown)?;
+    let keys = mem::replace(shown, RowSet::new(alloc));
+    *shown = change.update.apply_to_keys(keys)?;
     Ok((change, notes.into_cells()))
 }
 

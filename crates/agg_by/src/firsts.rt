@@ -1,6 +1,6 @@
 //! The first rows of the groups that a step touches.
 
-ghost use Rattle.std.specs.Prelude.{◌≡◌, ℕ, ◌^◌, ◌<◌, ◌≤◌, ◌||◌, OnOk, IfOk, length};
+ghost use Rattle.std.specs.Prelude.{◌≡◌, ℕ, ◌^◌, ◌<◌, ◌||◌, OnOk, IfOk};
 ghost use Rattle.std.specs.List.{AllByRecursion, list_any};
 ghost use Rattle.agg_by.specs.Steps.{is_led};
 ghost use Rattle.agg_by.specs.Touched.{starts_numbered};
@@ -26,22 +26,7 @@ pub(crate) fn firsts_of(
             put_first(&group, &mut firsts)?;
         }
     }
-    key_set(alloc, firsts)
-}
-
-/// The set of some keys. They are put in order first, so that each comes behind those before it.
-fn key_set(alloc: Global, mut keys: Vec<u64>) -> Result<RowSet, AllocError>
-    requires { AllByRecursion (λ key. key < 2 ^ 62) keys.items }
-    ensures keys { IfOk result (λ set. (key : ℕ) → is_among key set ≡ is_among key keys.items) }
-    ensures rising { IfOk result (λ set. IsRising set) }
-    ensures few { IfOk result (λ set. length set ≤ length keys.items) }
-{
-    keys.sort_unstable();
-    let mut set = RowSet::new(alloc);
-    for key in &keys {
-        set.insert_range(*key, *key)?;
-    }
-    Ok(set)
+    RowSet::from_keys(alloc, firsts)
 }
 
 /// Puts the key of the first row of a group behind others, if the group has rows.

@@ -1,16 +1,14 @@
 -- Walks over keys, notes and pairs: one element more.
-use Rattle.std.proofs.Common.{◌≡◌, refl, ap, ap₂, sym, ◌∙◌, Bool, true, false, cond, ◌||◌, ◌==◌, ℕ, zero, suc, ◌+◌, ◌*◌, ◌-◌, ◌<◌, ◌≤◌, arith, List, [], ◌∷◌, ◌++◌, map, take, length, Option, Some, None, ℤ, pos, true≢false}
+use Rattle.std.proofs.Common.{◌≡◌, refl, ap, ap₂, sym, ◌∙◌, Bool, true, false, cond, ◌||◌, ◌==◌, ℕ, zero, suc, ◌+◌, ◌*◌, ◌<◌, ◌≤◌, arith, List, [], ◌∷◌, ◌++◌, map, take, length, Option, Some, None, ℤ, pos, true≢false}
 use Rattle.std.specs.Prelude.{find, flat_map, fold, is_some, option_map, slice_get, slice_index_or, unwrap_or}
-use Rattle.std.specs.List.{AllByRecursion, range_with_len}
-use Rattle.std.specs.List.Sorted.{IsPermutation}
-use Rattle.std.proofs.lemmas.List.Sorted.{list_any-IsPermutation}
+use Rattle.std.specs.List.{AllByRecursion}
 use Rattle.std.proofs.lemmas.Bool.{eqb-true}
 use Rattle.std.proofs.lemmas.Grind.{flat_map-append}
 use Rattle.std.proofs.lemmas.List.{append-nil, length-map, map-append}
 use Rattle.std.proofs.lemmas.List.Sums.{fold-append}
 use Rattle.std.proofs.lemmas.Option.{none-some}
 use Rattle.key_lists.specs.Keys.{is_among, IsRising}
-use Rattle.key_lists.proofs.Among.{among-append, each_among, of_among}
+use Rattle.key_lists.proofs.Among.{among-append}
 use Rattle.key_lists.proofs.Every.{every_weaker, filter_all, map_same}
 use Rattle.lookup_join.specs.declared.keyed.Side.{Side}
 use Rattle.lookup_join.specs.declared.keyed.Side.TheVariants.{Right}
@@ -20,9 +18,6 @@ use Rattle.lookup_join.specs.Keyed.{column_of, indexed, key_cells, keyed, member
 use Rattle.lookup_join.specs.Notes.{Note, NoteList, Spot, fresh_note, noting, spot_under, with_note}
 use Rattle.lookup_join.specs.Taken.{spot_at}
 use Rattle.row_groups.specs.Members.{Grouped, Member, keys_of, member_of, member_under}
-use Rattle.row_set.proofs.United.{among-with_key}
-use Rattle.row_set.specs.Ranges.{keys_from}
-use Rattle.row_set.specs.Sets.{united}
 use Rattle.shown_rows.proofs.Walks.{below_keys, take_next}
 use Rattle.tick_model.specs.declared.plan.OnPair.{OnPair}
 use Rattle.tick_model.specs.declared.table.PlainRow.{PlainRow}
@@ -137,35 +132,6 @@ get_index (x ∷ xs) (suc n) other h = get_index xs n other (omega arith)
 pub some_of : {X Y : Type 0} (f : X → Y) (o : Option X) (y : Y) → option_map f o ≡ Some y → is_some o ≡ true
 some_of f None y e = absurd (none-some y e)
 some_of f (Some x) y e = refl
-
-pub take_all : {X : Type 0} (xs : List X) (n : ℕ) → length xs ≤ n → take n xs ≡ xs
-take_all [] zero h = refl
-take_all [] (suc n) h = refl
-take_all (x ∷ xs) zero h = absurd (omega arith)
-take_all (x ∷ xs) (suc n) h = ap (λ rest. x ∷ rest) (take_all xs n (omega arith))
-
--- what holds of all numbers holds of them in another order
-pub every_permuted : (P : ℕ → Type 0) (xs ys : List ℕ) → IsPermutation xs ys → AllByRecursion P xs → AllByRecursion P ys
-every_permuted P xs ys same h =
-    every_weaker (λ y. is_among y ys ≡ true) P ys (λ y own. of_among P y xs h (list_any-IsPermutation (λ other. other == y) xs ys same ∙ own)) (each_among ys)
-
-pub among_permuted : (key : ℕ) (xs ys : List ℕ) → IsPermutation xs ys → is_among key xs ≡ is_among key ys
-among_permuted key xs ys same = list_any-IsPermutation (λ other. other == key) xs ys same
-
--- one key more in a set
-pub among_more : (key other : ℕ) (set keys : List ℕ) (n : ℕ) → slice_get keys n ≡ Some other → is_among key set ≡ is_among key (take n keys) → is_among key (united (keys_from other other) set) ≡ is_among key (take (n + 1) keys)
-among_more key other set keys n here so_far =
-    ap (λ count. is_among key (united (range_with_len other count) set)) (let one : other + 1 - other ≡ 1 = omega arith in one)
-    ∙ among-with_key key other set
-    ∙ ap (λ b. (other == key) || b) so_far
-    ∙ swapped (other == key) (is_among key (take n keys))
-    ∙ sym (ap (is_among key) (take_next keys n other here) ∙ among-append key (take n keys) (other ∷ []))
-  where
-    swapped : (a b : Bool) → (a || b) ≡ (b || (a || false))
-    swapped true true = refl
-    swapped true false = refl
-    swapped false true = refl
-    swapped false false = refl
 
 pub some_is : {X : Type 0} {x y : X} → Some x ≡ Some y → x ≡ y
 some_is e = some_same e

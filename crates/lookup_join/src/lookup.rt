@@ -14,7 +14,7 @@ use crate::keyed::{Buffers, Side, bring_on, rekeyed};
 use crate::notes::{Notes, touched_places};
 use crate::pick::Pick;
 use crate::rows::MatchedRows;
-use crate::turned::{key_set, turned_rows};
+use crate::turned::turned_rows;
 use row_changes::mapped;
 use row_groups::Groups;
 use row_set::RowSet;
@@ -165,7 +165,7 @@ fn matched_change<L: Ledger>(
         alloc, rows.pick, rows.take, left_rows, rows.index, rows.right, rows.notes, reads,
     )?;
     let update = rows.left.update();
-    let set = key_set(alloc, turned)?;
+    let set = RowSet::from_keys(alloc, turned)?;
     let touched = set.union(update.modified())?;
     let now = touched.minus(update.added())?;
     let before = update

@@ -1,8 +1,7 @@
 //! The left rows that a step touches since a right row does.
 
-ghost use Rattle.std.specs.Prelude.{◌≡◌, ℕ, ◌+◌, ◌*◌, ◌<◌, ◌≤◌, ◌++◌, ◌^◌, filter, length, IfOk, OnOk};
+ghost use Rattle.std.specs.Prelude.{◌≡◌, ◌+◌, ◌*◌, ◌<◌, ◌≤◌, ◌++◌, filter, length, IfOk, OnOk};
 ghost use Rattle.std.specs.List.{AllByRecursion};
-ghost use Rattle.key_lists.specs.Keys.{is_among};
 ghost use Rattle.lookup_join.specs.Latest.{count_before, during};
 ghost use Rattle.lookup_join.specs.Taken.{IsFrom, end_of as end_of_note, turned_members};
 ghost use Rattle.row_groups.specs.Members.{group_of, keys_of};
@@ -12,7 +11,6 @@ use crate::matches::Match;
 use crate::notes::Notes;
 use crate::pick::Pick;
 use row_groups::{Group, Groups};
-use row_set::RowSet;
 use std::alloc::{AllocError, Global};
 use std::sync::ledger::Ledger;
 use tick_table::{Steps, TickTable};
@@ -82,17 +80,4 @@ pub(crate) fn turned_rows<L: Ledger>(
         }
     }
     Ok(keys)
-}
-
-/// The set of some keys. They are put in order first, so that each comes behind those before it.
-pub(crate) fn key_set(alloc: Global, mut keys: Vec<u64>) -> Result<RowSet, AllocError>
-    requires { AllByRecursion (λ key. key < 2 ^ 62) keys.items }
-    ensures { IfOk result (λ set. (key : ℕ) → is_among key set ≡ is_among key keys.items) }
-{
-    keys.sort_unstable();
-    let mut set = RowSet::new(alloc);
-    for key in &keys {
-        set.insert_range(*key, *key)?;
-    }
-    Ok(set)
 }

@@ -1,5 +1,5 @@
 -- The positions of some entries, and the set of them.
-use Rattle.std.proofs.Common.{◌≡◌, refl, ap, ap₂, sym, ◌∙◌, subst, Bool, true, false, cond, ◌||◌, ◌==◌, ℕ, zero, suc, ◌+◌, ◌-◌, ◌<◌, ◌≤◌, arith, List, [], ◌∷◌, ◌++◌, filter, take, length, get_or, Option, Some, None, Ok, Err, inl, inr, true≢false, take_all}
+use Rattle.std.proofs.Common.{◌≡◌, refl, ap, sym, ◌∙◌, Bool, true, false, cond, ◌||◌, ◌==◌, ℕ, zero, suc, ◌+◌, ◌-◌, ◌<◌, ◌≤◌, arith, List, [], ◌∷◌, ◌++◌, filter, take, length, get_or, Option, Some, None, Ok, Err, inl, inr, true≢false, take_all}
 use Rattle.std.specs.Prelude.{filter_map, nat_lt, option_map, slice_get}
 use Rattle.std.specs.List.{AllByRecursion, cons_option, position_or_len, range_with_len}
 use Rattle.std.specs.Option.{ok_or, option_map_or}
@@ -7,10 +7,10 @@ use Rattle.std.proofs.lemmas.Bool.{cases_eq, lt-ltb, ltb-true, ne_eqb}
 use Rattle.std.proofs.lemmas.List.Elements.{filter_map-append}
 use Rattle.std.proofs.lemmas.Option.{none-some, slice_get-get_or, slice_get-map}
 use Rattle.key_lists.specs.Keys.{IsRising, is_among}
-use Rattle.key_lists.proofs.Among.{among-append, of_among}
+use Rattle.key_lists.proofs.Among.{of_among}
 use Rattle.key_lists.proofs.Every.{every_weaker}
 use Rattle.row_set.specs.Ranges.{keys_from}
-use Rattle.row_set.specs.Sets.{count_below, found, united, with_key}
+use Rattle.row_set.specs.Sets.{count_below, found, united}
 use Rattle.row_set.proofs.Held.{range_rises}
 use Rattle.row_set.proofs.United.{among-united, united_rises}
 use Rattle.key_lists.proofs.Rising.{rising_same}
@@ -38,37 +38,6 @@ found_next entries some n entry made here so_far =
 
 pub found_all : (entries some : List Entry) (found : List ℕ) (n : ℕ) → found ≡ filter_map (λ entry. place_of entry entries) (take n some) → length some ≤ n → found ≡ filter_map (λ entry. place_of entry entries) some
 found_all entries some found n are past = are ∙ ap (filter_map (λ entry. place_of entry entries)) (take_all n some past)
-
--- the range of one key
-one_key : (key : ℕ) → keys_from key key ≡ key ∷ []
-one_key key = let one : key + 1 - key ≡ 1 = omega arith in ap (range_with_len key) one
-
--- one key more in a set
-pub set_next : (keys : List ℕ) (n key : ℕ) (set more : List ℕ) → slice_get keys n ≡ Some key → ((k : ℕ) → is_among k set ≡ is_among k (take n keys)) → more ≡ united (keys_from key key) set → (k : ℕ) → is_among k more ≡ is_among k (take (n + 1) keys)
-set_next keys n key set more here so_far last k =
-    ap (is_among k) last
-    ∙ among-united k (keys_from key key) set
-    ∙ ap₂ (λ ks b. is_among k ks || b) (one_key key) (so_far k)
-    ∙ swap (is_among k (key ∷ [])) (is_among k (take n keys))
-    ∙ sym (ap (is_among k) (take_next keys n key here) ∙ among-append k (take n keys) (key ∷ []))
-  where
-    swap : (a b : Bool) → (a || b) ≡ (b || a)
-    swap true true = refl
-    swap true false = refl
-    swap false true = refl
-    swap false false = refl
-
-length-with_key : (key : ℕ) (keys : List ℕ) → length (with_key key keys) ≤ length keys + 1
-length-with_key key [] = omega arith
-length-with_key key (other ∷ others) =
-    let rest = length-with_key key others in
-    elim (nat_lt key other) as (λ b. length (cond b (key ∷ other ∷ others) (cond (key == other) (other ∷ others) (other ∷ with_key key others))) ≤ length (other ∷ others) + 1) [
-      | true ↦ omega arith
-      | false ↦ elim (key == other) as (λ b. length (cond b (other ∷ others) (other ∷ with_key key others)) ≤ length (other ∷ others) + 1) [ true ↦ omega arith | false ↦ omega (arith, rest) ]
-    ]
-
-pub length_next : (key : ℕ) (set : List ℕ) → length (united (keys_from key key) set) ≤ length set + 1
-length_next key set = subst (λ ks. length (united ks set) ≤ length set + 1) (sym (one_key key)) (length-with_key key set)
 
 -- the positions below a number
 pub all_below : (count : ℕ) (all : List ℕ) → 0 < count → all ≡ united (keys_from 0 (count - 1)) [] → all ≡ range_with_len 0 count

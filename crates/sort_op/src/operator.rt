@@ -21,7 +21,7 @@ ghost use Rattle.sort_op.specs.Sorter.{sorted};
 
 use crate::entry::Entry;
 use crate::order::SortOrder;
-use crate::positions::{keys_of, others, positions_of, rising_set};
+use crate::positions::{keys_of, others, positions_of};
 use crate::reading::{Edits, RowPair, read_edits};
 use crate::rows::SortedRows;
 use row_changes::{Touched, change_of_touched};
@@ -209,7 +209,7 @@ fn bring_on(
     order.remove_found(gone);
     order.rekey(input.update().shifted());
     let positions = order.insert_found(came)?;
-    rising_set(alloc, &positions)
+    RowSet::from_keys(alloc, positions)
 }
 
 /// The positions of the rows that leave or come, of those that stay and may differ, and of all that stay.

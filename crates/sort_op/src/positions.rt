@@ -1,7 +1,6 @@
 //! Positions in an order, as sets of keys of the rows that a sort shows.
-ghost use Rattle.std.specs.Prelude.{◌≡◌, ℕ, ◌^◌, ◌<◌, ◌≤◌, ◌++◌, [], length, IfOk, OnOk};
+ghost use Rattle.std.specs.Prelude.{◌≡◌, ◌^◌, ◌≤◌, ◌++◌, [], length, IfOk, OnOk};
 ghost use Rattle.std.specs.List.{AllByRecursion, cons_option, range_with_len};
-ghost use Rattle.key_lists.specs.Keys.{is_among};
 ghost use Rattle.row_set.specs.Sets.{IsKeySet};
 ghost use Rattle.sort_op.specs.Entries.{IsWhole, entries, place_of};
 ghost use Rattle.sort_op.specs.Places.{AreFound, key_at, keys_at, other_places};
@@ -27,8 +26,7 @@ pub(crate) fn positions_of(
     for entry in some {
         put_position(order, entry, &mut found)?;
     }
-    found.sort_unstable();
-    rising_set(alloc, &found)
+    RowSet::from_keys(alloc, found)
 }
 
 /// Puts the position of an entry behind others, if it is in the order.
@@ -40,21 +38,6 @@ fn put_position(order: &SortOrder, entry: &Entry, found: &mut Vec<u64>) -> Resul
         Ok(position) => Ok(found.push(position)?),
         Err(_) => Ok(()),
     }
-}
-
-/// The set of these keys, which come in order.
-pub(crate) fn rising_set(alloc: Global, keys: &[u64]) -> Result<RowSet, AllocError>
-    requires { AllByRecursion (λ key. key < 2 ^ 62) keys.now }
-    ensures keys { IfOk result (λ set. (key : ℕ) → is_among key set ≡ is_among key keys.now) }
-    ensures set { IfOk result (λ set. IsKeySet set) }
-    ensures no_more { IfOk result (λ set. length set ≤ length keys.now) }
-{
-    let mut set = RowSet::new(alloc);
-    for key in keys {
-        set.insert_range(*key, *key)?;
-    }
-    let _count = set.len();
-    Ok(set)
 }
 
 /// The key of the entry at a position, or 0 past the end.

@@ -63,7 +63,7 @@ apply_to_keys-requires g c =
     let e = c.requires.exact in
     let by = c.bring_on.new.self.by in
     let aggs = c.bring_on.new.self.aggs in
-    let shown : c.args.shown.now ≡ first_keys by t.old.rows = c.requires.shown ∙ ap (λ (by : List ℕ). first_keys by t.old.rows) (sym (c.in_ok-bring_on.ensures.made.by ∙ c.in_ok-begin.ensures.made.by)) in
+    let shown : c.replace-keys.result ≡ first_keys by t.old.rows = c.replace-keys.ensures.value ∙ c.requires.shown ∙ ap (λ (by : List ℕ). first_keys by t.old.rows) (sym (c.in_ok-bring_on.ensures.made.by ∙ c.in_ok-begin.ensures.made.by)) in
     let update : c.change.inside.update ≡ between (tick by aggs t e) = ap (λ (change : Change). change.update) (c.change.view_is ∙ c.in_ok-change.ensures.change) in
     rw (update, shown) (shown_lawful by aggs t e)
 
@@ -74,9 +74,9 @@ returns-clause-shown g c =
     let by = c.bring_on.new.self.by in
     let aggs = c.bring_on.new.self.aggs in
     let same : by ≡ c.args.kept.now.by = c.in_ok-bring_on.ensures.made.by ∙ c.in_ok-begin.ensures.made.by in
-    let shown : c.args.shown.now ≡ first_keys by t.old.rows = c.requires.shown ∙ ap (λ (by : List ℕ). first_keys by t.old.rows) (sym same) in
+    let shown : c.replace-keys.result ≡ first_keys by t.old.rows = c.replace-keys.ensures.value ∙ c.requires.shown ∙ ap (λ (by : List ℕ). first_keys by t.old.rows) (sym same) in
     let update : c.change.inside.update ≡ between (tick by aggs t e) = ap (λ (change : Change). change.update) (c.change.view_is ∙ c.in_ok-change.ensures.change) in
-    c.in_ok-apply_to_keys.ensures ∙ ap₂ keys_after shown update ∙ shown_after by aggs t e ∙ ap (λ (by : List ℕ). first_keys by t.new.rows) same
+    c.in_ok-shown.ensures ∙ ap₂ keys_after shown update ∙ shown_after by aggs t e ∙ ap (λ (by : List ℕ). first_keys by t.new.rows) same
 
 pub returns-clause-change : goal.returns-clause-change
 returns-clause-change g c =

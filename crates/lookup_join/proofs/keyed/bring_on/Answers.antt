@@ -6,9 +6,9 @@ use Rattle.key_lists.specs.Keys.{IsRising, is_among}
 use Rattle.lookup_join.specs.Keyed.{IsRowOf, keyed}
 use Rattle.lookup_join.specs.Taken.{rekeyed_pairs}
 use Rattle.lookup_join.proofs.Brought.{brought, brought_rising, brought_rows, came, came_absent, came_there, grouped_is, lawful_left}
-use Rattle.lookup_join.proofs.Counts.{length-united}
 use Rattle.row_changes.specs.Parts.{AreThere}
 use Rattle.row_groups.specs.Members.{Grouped, Member, keys_of, left_members, moved_members}
+use Rattle.row_set.proofs.United.{length-united}
 use Rattle.row_set.specs.Sets.{united}
 use Rattle.tick_model.specs.declared.update.KeyPair.{KeyPair}
 use Rattle.tick_model.specs.declared.update.ShiftRange.{ShiftRange}

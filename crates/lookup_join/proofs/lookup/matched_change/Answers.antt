@@ -47,8 +47,8 @@ turned_rows-requires-clause-there g c =
     (subst (λ (members : List Member). AllByRecursion (IsFrom rows.pick members right.old right.new) (step_notes rows.on.now rows.pick right)) (sym (ap (λ (index : Grouped). index.members) c.requires.matched.rows))
     (notes_from rows.on.now rows.pick right c.requires.matched.right_exact))
 
-pub key_set-requires : goal.key_set-requires
-key_set-requires g c =
+pub from_keys-requires : goal.from_keys-requires
+from_keys-requires g c =
     let rows = c.args.rows.now in
     let left = rows.left.now in
     let right = rows.right.now in
@@ -56,7 +56,7 @@ key_set-requires g c =
     let f = c.requires.matched.right_exact in
     let turned_are : c.in_ok-turned.turned.items ≡ turned rows.on.now rows.pick rows.take.now left e right f =
     c.in_ok-turned.ensures.keys ∙ turned_same _ _ _ _ _ _ _ _ _ _ (ap (λ (index : Grouped). index.members) c.requires.left_rows) (ap (λ (index : Grouped). index.members) c.requires.matched.rows) c.requires.notes in
-    subst (AllByRecursion (λ key. key < 2 ^ 62)) (sym turned_are) (turned_small rows.on.now rows.pick rows.take.now left e right f)
+    record { small = subst (AllByRecursion (λ key. key < 2 ^ 62)) (sym turned_are) (turned_small rows.on.now rows.pick rows.take.now left e right f) }
 
 pub unapply_without-requires : goal.unapply_without-requires
 unapply_without-requires g c =
@@ -79,7 +79,7 @@ mapped-requires-clause-compared g c =
     let f = c.requires.matched.right_exact in
     let turned_are : c.in_ok-turned.turned.items ≡ turned rows.on.now rows.pick rows.take.now left e right f =
     c.in_ok-turned.ensures.keys ∙ turned_same _ _ _ _ _ _ _ _ _ _ (ap (λ (index : Grouped). index.members) c.requires.left_rows) (ap (λ (index : Grouped). index.members) c.requires.matched.rows) c.requires.notes in
-    let set_is : (key : ℕ) → is_among key c.in_ok-set.set ≡ is_among key (turned rows.on.now rows.pick rows.take.now left e right f) = λ key. c.in_ok-set.ensures key ∙ ap (is_among key) turned_are in
+    let set_is : (key : ℕ) → is_among key c.in_ok-set.set ≡ is_among key (turned rows.on.now rows.pick rows.take.now left e right f) = λ key. c.in_ok-set.ensures.keys key ∙ ap (is_among key) turned_are in
     let now_are : c.in_ok-now.now ≡ without left.update.added (united c.in_ok-set.set left.update.modified) =
     c.in_ok-now.ensures ∙ ap₂ without (c.added.ensures.keys ∙ ap (λ (update : Update). update.added) c.update-update.ensures) (c.in_ok-touched.ensures ∙ ap (united c.in_ok-set.set) (c.modified.ensures.keys ∙ ap (λ (update : Update). update.modified) c.update-update.ensures)) in
     let before_are : c.in_ok-before.before ≡ unapplied left.update.shifted (without left.update.removed (keys left.old.rows)) c.in_ok-now.now =
@@ -97,7 +97,7 @@ returns-clause-reads g c =
     let f = c.requires.matched.right_exact in
     let turned_are : c.in_ok-turned.turned.items ≡ turned rows.on.now rows.pick rows.take.now left e right f =
     c.in_ok-turned.ensures.keys ∙ turned_same _ _ _ _ _ _ _ _ _ _ (ap (λ (index : Grouped). index.members) c.requires.left_rows) (ap (λ (index : Grouped). index.members) c.requires.matched.rows) c.requires.notes in
-    let set_is : (key : ℕ) → is_among key c.in_ok-set.set ≡ is_among key (turned rows.on.now rows.pick rows.take.now left e right f) = λ key. c.in_ok-set.ensures key ∙ ap (is_among key) turned_are in
+    let set_is : (key : ℕ) → is_among key c.in_ok-set.set ≡ is_among key (turned rows.on.now rows.pick rows.take.now left e right f) = λ key. c.in_ok-set.ensures.keys key ∙ ap (is_among key) turned_are in
     let now_are : c.in_ok-now.now ≡ without left.update.added (united c.in_ok-set.set left.update.modified) =
     c.in_ok-now.ensures ∙ ap₂ without (c.added.ensures.keys ∙ ap (λ (update : Update). update.added) c.update-update.ensures) (c.in_ok-touched.ensures ∙ ap (united c.in_ok-set.set) (c.modified.ensures.keys ∙ ap (λ (update : Update). update.modified) c.update-update.ensures)) in
     let few = compared_few rows.on.now rows.pick rows.take.now left e right f c.in_ok-set.set c.in_ok-now.now set_is now_are in

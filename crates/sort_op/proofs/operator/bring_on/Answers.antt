@@ -1,7 +1,8 @@
-use Rattle.std.proofs.Common.{◌≡◌, ◌∙◌, ◌^◌, ◌<◌, ℕ, ap, subst, sym, List}
+use Rattle.std.proofs.Common.{◌≡◌, ◌∙◌, ℕ, ap, subst, sym, List}
 use Rattle.std.specs.List.{AllByRecursion}
 use Rattle.std.proofs.lemmas.Result.{IfOk-weaker}
 use Rattle.key_lists.specs.Keys.{is_among}
+use Rattle.row_set.specs.Sets.{IsKeySet}
 use Rattle.tick_model.specs.Updates.{Update}
 use Rattle.sort_op.specs.declared.entry.Entry.{Entry}
 use Rattle.sort_op.specs.Entries.{AreDistinct, IsWhole, entries}
@@ -31,14 +32,13 @@ insert_found-requires-clause-absent c =
 pub insert_found-requires-clause-distinct : goal.insert_found-requires-clause-distinct
 insert_found-requires-clause-distinct c = subst AreDistinct (sym c.requires.came) (coming_distinct c.args.order.now.by c.args.input.now c.requires.exact)
 
-pub rising_set-requires : goal.rising_set-requires
-rising_set-requires c =
+pub from_keys-requires : goal.from_keys-requires
+from_keys-requires c =
     let now_is =
     brought_on c.args.order.now.by c.args.input.now c.requires.exact (entries c.args.order.now) c.args.gone.now c.requires.stands c.requires.gone
     c.remove_found.new.self c.rekey.new.self c.shifted.result.now c.args.came.items c.remove_found.ensures.entries (c.shifted.ensures ∙ ap (λ (update : Update). update.shifted) c.update.ensures) c.rekey.ensures.chunks c.requires.came
     c.insert_found.new.self c.insert_found.ensures.order (c.insert_found.ensures.by ∙ c.rekey.ensures.by ∙ c.remove_found.ensures.by) c.in_ok-positions.ensures.entries in
-    subst (AllByRecursion (λ key. key < 2 ^ 62)) (sym c.deref.ensures.value)
-    (arrived_small c.args.order.now.by c.args.input.now c.requires.exact c.insert_found.new.self c.args.came.items c.in_ok-positions.positions.items c.insert_found.ensures.order now_is c.in_ok-positions.ensures.positions)
+    record { small = arrived_small c.args.order.now.by c.args.input.now c.requires.exact c.insert_found.new.self c.args.came.items c.in_ok-positions.positions.items c.insert_found.ensures.order now_is c.in_ok-positions.ensures.positions }
 
 pub returns-clause-stands : goal.returns-clause-stands
 returns-clause-stands c =
@@ -46,11 +46,11 @@ returns-clause-stands c =
     brought_on c.args.order.now.by c.args.input.now c.requires.exact (entries c.args.order.now) c.args.gone.now c.requires.stands c.requires.gone
     c.remove_found.new.self c.rekey.new.self c.shifted.result.now c.args.came.items c.remove_found.ensures.entries (c.shifted.ensures ∙ ap (λ (update : Update). update.shifted) c.update.ensures) c.rekey.ensures.chunks c.requires.came
     c.insert_found.new.self c.insert_found.ensures.order (c.insert_found.ensures.by ∙ c.rekey.ensures.by ∙ c.remove_found.ensures.by) c.in_ok-positions.ensures.entries in
-    IfOk-weaker c.rising_set.result (λ set. (key : ℕ) → is_among key set ≡ is_among key c.deref.result.now) (λ _. entries c.insert_found.new.self ≡ entries_of c.args.order.now.by c.args.input.now.new.rows) (λ set are. now_is) c.rising_set.ensures.keys
+    IfOk-weaker c.from_keys.result IsKeySet (λ _. entries c.insert_found.new.self ≡ entries_of c.args.order.now.by c.args.input.now.new.rows) (λ set is. now_is) c.from_keys.ensures.set
 
 pub returns-clause-places : goal.returns-clause-places
 returns-clause-places c =
     let now = entries c.insert_found.new.self in
     let came = coming c.args.order.now.by c.args.input.now in
-    IfOk-weaker c.rising_set.result (λ set. (key : ℕ) → is_among key set ≡ is_among key c.deref.result.now) (λ positions. (position : ℕ) → is_among position positions ≡ is_place now came position)
-    (λ set are position. are position ∙ ap (is_among position) c.deref.ensures.value ∙ c.in_ok-positions.ensures.positions position ∙ ap (λ (some : List Entry). is_place now some position) c.requires.came) c.rising_set.ensures.keys
+    IfOk-weaker c.from_keys.result (λ set. (key : ℕ) → is_among key set ≡ is_among key c.in_ok-positions.positions.items) (λ positions. (position : ℕ) → is_among position positions ≡ is_place now came position)
+    (λ set are position. are position ∙ c.in_ok-positions.ensures.positions position ∙ ap (λ (some : List Entry). is_place now some position) c.requires.came) c.from_keys.ensures.keys

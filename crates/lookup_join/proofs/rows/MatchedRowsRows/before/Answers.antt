@@ -1,12 +1,13 @@
 use Rattle.std.proofs.Common.{◌≡◌, refl, ap, ap₂, sym, ◌∙◌, subst, rules, w64, SFits, true, List, ◌++◌, ℤ, map, drop, length}
 use Rattle.std.specs.Prelude.{OnOk}
 use Rattle.std.proofs.lemmas.Int.{to_z-of_z}
+use Rattle.std.proofs.lemmas.List.{take_rest}
 use Rattle.key_lists.specs.Keys.{is_among}
 use Rattle.lookup_join.specs.declared.keyed.Side.TheVariants.{Left}
 use Rattle.lookup_join.specs.declared.matches.Match.{Match}
 use Rattle.lookup_join.specs.Keyed.{key_cells, time_of}
 use Rattle.lookup_join.specs.Taken.{IsThere, cell_of, match_as_before}
-use Rattle.lookup_join.proofs.Reading.{key_behind, last_part, row_behind, row_read}
+use Rattle.lookup_join.proofs.Reading.{key_behind, row_behind, row_read}
 use Rattle.lookup_join.proofs.Compared.{cells_old, matched_keys}
 use Rattle.tick_model.specs.Tables.{cells_at, keys}
 use Rattle.lookup_join.proofs.rows.MatchedRowsRows.before.Goals as goal
@@ -33,7 +34,7 @@ put_cells-requires-clause-there g c =
     let end : c.len-end.result ≡ length read = search rules in
     let fits : SFits w64 c.time_from-time.result = search rules in
     let when = to_z-of_z w64 c.time_from-time.result fits ∙ c.time_from-time.ensures ∙ ap (time_of Left rows.pick) (ap (drop c.len-start.result) c.deref.ensures.value ∙ row_read rows.on.now rows.pick others cells read keyed_cells c.len-start.result c.len-end.result start c.in_ok-prev_row.ensures.cells end c.in_ok-put_key_cells.ensures) in
-    let behind = last_part c.deref-2.result.now c.len-end.result ∙ ap (drop c.len-end.result) c.deref-2.ensures.value ∙ key_behind rows.on.now rows.pick others cells read keyed_cells c.len-start.result c.len-end.result start c.in_ok-prev_row.ensures.cells end c.in_ok-put_key_cells.ensures in
+    let behind = take_rest c.deref-2.result.now c.len-end.result ∙ ap (drop c.len-end.result) c.deref-2.ensures.value ∙ key_behind rows.on.now rows.pick others cells read keyed_cells c.len-start.result c.len-end.result start c.in_ok-prev_row.ensures.cells end c.in_ok-put_key_cells.ensures in
     let found : c.match_before-taken.result ≡ match_as_before rows.pick rows.index.now.members rows.notes.now.notes (key_cells Left rows.on.now cells) (time_of Left rows.pick cells) = c.match_before-taken.ensures ∙ ap₂ (match_as_before rows.pick rows.index.now.members rows.notes.now.notes) behind when in
     subst (IsThere right.old right.new) (sym found) (ready.there (key_cells Left rows.on.now cells) (time_of Left rows.pick cells))
 
@@ -55,7 +56,7 @@ returns-clause-cells g c =
     let end : c.len-end.result ≡ length read = search rules in
     let fits : SFits w64 c.time_from-time.result = search rules in
     let when = to_z-of_z w64 c.time_from-time.result fits ∙ c.time_from-time.ensures ∙ ap (time_of Left rows.pick) (ap (drop c.len-start.result) c.deref.ensures.value ∙ row_read rows.on.now rows.pick others cells read keyed_cells c.len-start.result c.len-end.result start c.in_ok-prev_row.ensures.cells end c.in_ok-put_key_cells.ensures) in
-    let behind = last_part c.deref-2.result.now c.len-end.result ∙ ap (drop c.len-end.result) c.deref-2.ensures.value ∙ key_behind rows.on.now rows.pick others cells read keyed_cells c.len-start.result c.len-end.result start c.in_ok-prev_row.ensures.cells end c.in_ok-put_key_cells.ensures in
+    let behind = take_rest c.deref-2.result.now c.len-end.result ∙ ap (drop c.len-end.result) c.deref-2.ensures.value ∙ key_behind rows.on.now rows.pick others cells read keyed_cells c.len-start.result c.len-end.result start c.in_ok-prev_row.ensures.cells end c.in_ok-put_key_cells.ensures in
     let found : c.match_before-taken.result ≡ match_as_before rows.pick rows.index.now.members rows.notes.now.notes (key_cells Left rows.on.now cells) (time_of Left rows.pick cells) = c.match_before-taken.ensures ∙ ap₂ (match_as_before rows.pick rows.index.now.members rows.notes.now.notes) behind when in
     let taken = ap (λ (m : Match). map (cell_of right.old.rows right.new.rows m) rows.take.now) found ∙ ready.before (key_cells Left rows.on.now cells) (time_of Left rows.pick cells) in
     let whole = row_behind rows.on.now rows.pick others cells read keyed_cells c.len-start.result c.len-end.result start c.in_ok-prev_row.ensures.cells end c.in_ok-put_key_cells.ensures rows.take.now right.old.rows right.old.rows right.new.rows c.match_before-taken.result c.truncate.new.self.items _ c.truncate.ensures.items taken refl

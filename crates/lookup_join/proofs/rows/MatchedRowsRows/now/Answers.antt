@@ -1,6 +1,7 @@
 use Rattle.std.proofs.Common.{◌≡◌, refl, ap, ap₂, sym, ◌∙◌, subst, rules, w64, SFits, true, List, ◌++◌, ℤ, map, drop, length}
 use Rattle.std.specs.Prelude.{OnOk}
 use Rattle.std.proofs.lemmas.Int.{to_z-of_z}
+use Rattle.std.proofs.lemmas.List.{take_rest}
 use Rattle.key_lists.specs.Keys.{is_among}
 use Rattle.lookup_join.specs.declared.keyed.Side.TheVariants.{Left, Right}
 use Rattle.lookup_join.specs.declared.matches.Match.{Match}
@@ -8,7 +9,7 @@ use Rattle.lookup_join.specs.Keyed.{key_cells, keyed, time_of}
 use Rattle.lookup_join.specs.Notes.{taken_key}
 use Rattle.lookup_join.specs.Taken.{IsThere, cell_of, match_now}
 use Rattle.lookup_join.proofs.Taking.{is_there_now, taken_now}
-use Rattle.lookup_join.proofs.Reading.{key_behind, last_part, row_behind, row_read}
+use Rattle.lookup_join.proofs.Reading.{key_behind, row_behind, row_read}
 use Rattle.lookup_join.proofs.Compared.{cells_new, matched_keys}
 use Rattle.row_groups.specs.Members.{Grouped}
 use Rattle.tick_model.specs.Tables.{cells_at, keys}
@@ -36,7 +37,7 @@ put_cells-requires-clause-there g c =
     let end : c.len-end.result ≡ length read = search rules in
     let fits : SFits w64 c.time_from-time.result = search rules in
     let when = to_z-of_z w64 c.time_from-time.result fits ∙ c.time_from-time.ensures ∙ ap (time_of Left rows.pick) (ap (drop c.len-start.result) c.deref.ensures.value ∙ row_read rows.on.now rows.pick others cells read keyed_cells c.len-start.result c.len-end.result start c.in_ok-row.ensures.cells end c.in_ok-put_key_cells.ensures) in
-    let behind = last_part c.deref-2.result.now c.len-end.result ∙ ap (drop c.len-end.result) c.deref-2.ensures.value ∙ key_behind rows.on.now rows.pick others cells read keyed_cells c.len-start.result c.len-end.result start c.in_ok-row.ensures.cells end c.in_ok-put_key_cells.ensures in
+    let behind = take_rest c.deref-2.result.now c.len-end.result ∙ ap (drop c.len-end.result) c.deref-2.ensures.value ∙ key_behind rows.on.now rows.pick others cells read keyed_cells c.len-start.result c.len-end.result start c.in_ok-row.ensures.cells end c.in_ok-put_key_cells.ensures in
     let found : c.match_now-taken.result ≡ match_now (taken_key rows.pick (keyed Right rows.on.now rows.pick right.new.rows) (key_cells Left rows.on.now cells) (time_of Left rows.pick cells)) =
     c.match_now-taken.ensures ∙ ap₂ (λ group time. match_now (taken_key rows.pick rows.index.now.members group time)) behind when ∙ ap (λ (index : Grouped). match_now (taken_key rows.pick index.members (key_cells Left rows.on.now cells) (time_of Left rows.pick cells))) ready.rows in
     subst (IsThere right.old right.new) (sym found) (is_there_now rows.on.now rows.pick rows.take.now right.new ready.right_exact.tick.new_table.rising (key_cells Left rows.on.now cells) (time_of Left rows.pick cells) right.old)
@@ -59,7 +60,7 @@ returns-clause-cells g c =
     let end : c.len-end.result ≡ length read = search rules in
     let fits : SFits w64 c.time_from-time.result = search rules in
     let when = to_z-of_z w64 c.time_from-time.result fits ∙ c.time_from-time.ensures ∙ ap (time_of Left rows.pick) (ap (drop c.len-start.result) c.deref.ensures.value ∙ row_read rows.on.now rows.pick others cells read keyed_cells c.len-start.result c.len-end.result start c.in_ok-row.ensures.cells end c.in_ok-put_key_cells.ensures) in
-    let behind = last_part c.deref-2.result.now c.len-end.result ∙ ap (drop c.len-end.result) c.deref-2.ensures.value ∙ key_behind rows.on.now rows.pick others cells read keyed_cells c.len-start.result c.len-end.result start c.in_ok-row.ensures.cells end c.in_ok-put_key_cells.ensures in
+    let behind = take_rest c.deref-2.result.now c.len-end.result ∙ ap (drop c.len-end.result) c.deref-2.ensures.value ∙ key_behind rows.on.now rows.pick others cells read keyed_cells c.len-start.result c.len-end.result start c.in_ok-row.ensures.cells end c.in_ok-put_key_cells.ensures in
     let found : c.match_now-taken.result ≡ match_now (taken_key rows.pick (keyed Right rows.on.now rows.pick right.new.rows) (key_cells Left rows.on.now cells) (time_of Left rows.pick cells)) =
     c.match_now-taken.ensures ∙ ap₂ (λ group time. match_now (taken_key rows.pick rows.index.now.members group time)) behind when ∙ ap (λ (index : Grouped). match_now (taken_key rows.pick index.members (key_cells Left rows.on.now cells) (time_of Left rows.pick cells))) ready.rows in
     let taken = ap (λ (m : Match). map (cell_of right.old.rows right.new.rows m) rows.take.now) found ∙ taken_now rows.on.now rows.pick rows.take.now right.new ready.right_exact.tick.new_table.rising (key_cells Left rows.on.now cells) (time_of Left rows.pick cells) right.old.rows in
