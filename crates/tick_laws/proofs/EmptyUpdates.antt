@@ -13,7 +13,7 @@ use Rattle.key_lists.proofs.Every.{every, filter_all, filter_none, map_own}
 use Rattle.tick_laws.proofs.Carried.{carry-between}
 use Rattle.tick_laws.proofs.ToldRows.{map_id}
 
-nothing : {X : Type 0} (xs : List X) → is_none xs ≡ true → xs ≡ []
+pub nothing : {X : Type 0} (xs : List X) → is_none xs ≡ true → xs ≡ []
 nothing [] h = refl
 nothing (x ∷ xs) h = absurd (true≢false (sym h))
 

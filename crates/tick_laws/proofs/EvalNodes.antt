@@ -70,7 +70,7 @@ result_same (Head input rows) t u h = ap (λ x. result (Head input rows) (λ _. 
 result_same (Tail input rows) t u h = ap (λ x. result (Tail input rows) (λ _. x)) h.0
 result_same (AsOf left right on at taken) t u h = ap₂ (λ x y. asof_table on at taken x y) h.0 h.1.0
 
-fault_same : (op : Op) (t u : ℕ → PlainTable) → AllByRecursion (λ n. t n ≡ u n) (inputs_of op) → fault_of op t ≡ fault_of op u
+pub fault_same : (op : Op) (t u : ℕ → PlainTable) → AllByRecursion (λ n. t n ≡ u n) (inputs_of op) → fault_of op t ≡ fault_of op u
 fault_same Source t u h = refl
 fault_same (Keep input test) t u h = refl
 fault_same (View input exprs) t u h = refl

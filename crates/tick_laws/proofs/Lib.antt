@@ -29,6 +29,7 @@ pub mod ResultTables
 pub mod RunTicks
 pub mod SliceTicks
 pub mod SourceTicks
+pub mod StillTicks
 pub mod TickNodes
 pub mod ToldRows
 pub mod WholeUpdates

@@ -1,12 +1,14 @@
 //! Laws of operators: what they make of tables, and of the changes of tables.
 
-ghost use Rattle.std.specs.Prelude.{ℕ};
+ghost use Rattle.std.specs.Prelude.{◌≡◌, ℕ, true};
 ghost use Rattle.tick_model.specs.Numbers.{HasOpNumbers};
 ghost use Rattle.tick_laws.specs.Operated.{EachInput, operated};
 ghost use Rattle.tick_laws.specs.Room.{HasRoom};
+ghost use Rattle.tick_model.specs.Changes.{is_empty};
 ghost use Rattle.tick_model.specs.Evaluation.{result as result_of};
 ghost use Rattle.tick_model.specs.Tables.{HasCells, IsTable};
-ghost use Rattle.tick_model.specs.Updates.{Tick, IsTick};
+ghost use Rattle.tick_model.specs.Sources.{unchanged};
+ghost use Rattle.tick_model.specs.Updates.{Tick, IsTick, between};
 ghost use Rattle.tick_model.specs.declared.plan.Op.{Op};
 ghost use Rattle.tick_model.specs.declared.table.PlainTable.{PlainTable};
 
@@ -31,4 +33,12 @@ pub fn operators_keep()
     ensures { (op : Op) (tick : ℕ → Tick) → EachInput op (λ input. IsTick (tick input))
         → HasRoom op (λ n. (tick n).old) → HasRoom op (λ n. (tick n).new)
         → IsTick (operated op tick) }
+{}
+
+/// Where no input of an operator changes, neither does its table, and each of its rows stays where it is.
+pub fn still_inputs_change_nothing()
+    ensures { (op : Op) (tick : ℕ → Tick) → EachInput op (λ input. IsTick (tick input))
+        → HasRoom op (λ n. (tick n).old)
+        → EachInput op (λ input. is_empty (between (tick input)) ≡ true)
+        → operated op tick ≡ unchanged (result_of op (λ n. (tick n).old)) }
 {}
