@@ -1,5 +1,6 @@
 pub mod Behind
 pub mod Carrying
+pub mod Counts
 pub mod Faulted
 pub mod Followed
 pub mod Gathered

@@ -1,5 +1,6 @@
 -- A step that takes a block.
-use Rattle.std.proofs.Common.{◌≡◌, sym, ◌∙◌, not, None}
+use Rattle.std.proofs.Common.{◌≡◌, ap, sym, ◌∙◌, not, ◌+◌, ◌*◌, ◌≤◌, arith, length, None}
+use Rattle.std.proofs.Math.Nat.{mul-le-mul_left}
 use Rattle.key_lists.specs.Keys.{is_among, IsRising, without}
 use Rattle.key_lists.proofs.Rising.{rising_some}
 use Rattle.std.proofs.Common.{subst}
@@ -10,10 +11,14 @@ use Rattle.tick_model.specs.Tables.{keys}
 use Rattle.tick_model.specs.Updates.{new_keys}
 use Rattle.source_changes.specs.Blocks.{IsReadable}
 use Rattle.source_changes.specs.Faults.{keys_fault}
-use Rattle.source_changes.specs.Stepping.{IsStepping, Stands, Stepping, stepped, ticked}
+use Rattle.source_changes.specs.Reads.{read_rows, step_reads}
+use Rattle.source_changes.specs.Stepping.{IsStepping, Stands, Stepping, stepped, ticked, update_after}
+use Rattle.table_update.specs.Coalesced.{Follow}
+use Rattle.source_changes.proofs.Counts.{length-added, length-modified}
 use Rattle.source_changes.proofs.Faulted.{block_keys_fault}
+use Rattle.source_changes.proofs.Followed.{after_added, after_modified}
 use Rattle.source_changes.proofs.Gathered.{ranges_rise}
-use Rattle.source_changes.proofs.Standing.{stands_on, told_moves}
+use Rattle.source_changes.proofs.Standing.{follow, stands_on, told_moves}
 use Rattle.source_changes.proofs.Ticked.{stepping, tick_is}
 
 module _ (step : Stepping) (h : IsStepping step) (block : Block) (r : IsReadable block) (l : IsBlock step.old.width block) where
@@ -44,3 +49,23 @@ module _ (step : Stepping) (h : IsStepping step) (block : Block) (r : IsReadable
 
     pub ticks_on : ticked (stepped step block) ≡ carry_on (ticked step) block
     ticks_on = sym (tick_is (carry_on (ticked step) block) (stepped step block) stands)
+
+    -- the rows that the block has read
+    follows : Follow (keys step.old.rows) step.update (update_of block)
+    follows = follow (ticked step) step h block l unbroken removed_rise h.is_tick.old_table.rising added_rise
+
+    few_rows : read_rows (update_after (keys step.old.rows) step.update (update_of block)) ≤ read_rows step.update + read_rows (update_of block)
+    few_rows =
+        let old = keys step.old.rows in
+        let f = follows.applies in
+        let n = follows.follows in
+        omega (
+          arith,
+          ap length (after_added old step.update (update_of block) f n h.is_tick.old_table.rising added_rise h.modified_rise removed_rise l.rising_added l.rising_modified),
+          ap length (after_modified old step.update (update_of block) f n h.is_tick.old_table.rising added_rise h.modified_rise removed_rise l.rising_added l.rising_modified),
+          length-added old step.update (update_of block) f n added_rise l.rising_added,
+          length-modified old step.update (update_of block) f n added_rise h.modified_rise l.rising_modified,
+        )
+
+    pub reads_on : step_reads (stepped step block) ≤ step_reads step + step.old.width * read_rows (update_of block)
+    reads_on = omega (arith, mul-le-mul_left step.old.width few_rows)

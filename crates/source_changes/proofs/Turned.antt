@@ -1,5 +1,5 @@
 -- A source that takes a block: its keys, and the step after it.
-use Rattle.std.proofs.Common.{◌≡◌, refl, ap, ap₂, sym, ◌∙◌, subst, Option, ℕ, ◌^◌, ◌<◌, List, [], length, Some, None}
+use Rattle.std.proofs.Common.{◌≡◌, refl, ap, ap₂, sym, ◌∙◌, subst, Option, ℕ, ◌+◌, ◌*◌, ◌^◌, ◌<◌, ◌≤◌, List, [], length, Some, None}
 use Rattle.std.specs.List.{AllByRecursion}
 use Rattle.std.specs.Option.{option_or}
 use Rattle.std.specs.Prelude.{option_map}
@@ -24,6 +24,7 @@ use Rattle.source_changes.specs.declared.gathering.Gathered.{Gathered}
 use Rattle.source_changes.specs.declared.taking.TakenBlocks.{TakenBlocks}
 use Rattle.source_changes.specs.Blocks.{IsReadable}
 use Rattle.source_changes.specs.Faults.{IsKeysBelow, keys_fault}
+use Rattle.source_changes.specs.Reads.{read_rows, step_reads}
 use Rattle.source_changes.specs.Stepping.{IsStepping, Stepping, stepped, ticked, told_after, update_after}
 use Rattle.source_changes.specs.Taking.{IsTaking, taking}
 use Rattle.source_changes.specs.Waiting.{AreSets, AreSetsOf, IsGathered, Waits, joined, keys_with}
@@ -31,7 +32,7 @@ use Rattle.source_changes.proofs.Followed.{unmoved}
 use Rattle.source_changes.proofs.Joining.{keys_joined}
 use Rattle.source_changes.proofs.Reading.{new_step}
 use Rattle.source_changes.proofs.Standing.{after_is, first_applies, lawful_wider, stands_unchanged}
-use Rattle.source_changes.proofs.Taken.{moves, same_fault, steps_on, ticks_on, unbroken}
+use Rattle.source_changes.proofs.Taken.{moves, reads_on as step_reads_on, same_fault, steps_on, ticks_on, unbroken}
 
 pub table_set : (table : PlainTable) → IsTable table → IsKeySet (keys table.rows)
 table_set table h = record {
@@ -134,3 +135,6 @@ module _ (source : TakenBlocks) (h : IsTaking source) where
 
           pub ticked_on : ticked (taking new) ≡ carry_on (ticked step) block
           ticked_on = ap ticked step_is ∙ ticks_on step h.stepping block r l fine_now
+
+          pub reads_on : step_reads (taking new) ≤ step_reads step + step.old.width * read_rows (update_of block)
+          reads_on = subst (λ (made : Stepping). step_reads made ≤ step_reads step + step.old.width * read_rows (update_of block)) (sym step_is) (step_reads_on step h.stepping block r l fine_now)

@@ -1,23 +1,27 @@
 -- The sources of a batch, of which each takes its blocks in turn.
-use Rattle.std.proofs.Common.{◌≡◌, refl, ap, ap₂, sym, ◌∙◌, subst, ℕ, zero, suc, ◌<◌, ◌≤◌, ◌^◌, arith, List, [], ◌∷◌, ◌++◌, map, length, get_or, set, take, drop, ◌+◌, None}
+use Rattle.std.proofs.Common.{◌≡◌, refl, ap, ap₂, sym, ◌∙◌, subst, ℕ, zero, suc, ◌<◌, ◌≤◌, ◌*◌, ◌^◌, arith, List, [], ◌∷◌, ◌++◌, map, length, get_or, set, take, drop, ◌+◌, None}
+use Rattle.std.specs.Prelude.{sum_by}
 use Rattle.std.specs.List.{AllByRecursion}
 use Rattle.std.proofs.Math.ListN.{drop_of_length-le}
 use Rattle.std.proofs.lemmas.List.{append-nil, length-map}
+use Rattle.std.proofs.lemmas.List.Sums.{sum_by-drop_more, sum_by-set}
 use Rattle.key_lists.proofs.Every.{map_map}
 use Rattle.tick_model.specs.declared.feed.Block.{Block}
 use Rattle.tick_model.specs.declared.plan.Plan.{Plan}
 use Rattle.tick_model.specs.declared.table.PlainTable.{PlainTable}
 use Rattle.tick_model.specs.Evaluation.{source_number}
 use Rattle.tick_model.specs.LawfulRuns.{IsLawfulBlock, sources_of}
-use Rattle.tick_model.specs.Sources.{IsBlock, after_blocks, block_fault, blocks_fault, carry_on, unchanged}
+use Rattle.tick_model.specs.Plans.{columns_at}
+use Rattle.tick_model.specs.Sources.{IsBlock, after_blocks, block_fault, blocks_fault, carry_on, unchanged, update_of}
 use Rattle.tick_model.specs.Tables.{keys}
 use Rattle.tick_model.specs.Updates.{Tick}
 use Rattle.source_changes.specs.declared.faults.BatchFault.{BatchFault}
 use Rattle.source_changes.specs.declared.taking.TakenBlocks.{TakenBlocks}
 use Rattle.source_changes.specs.Faults.{IsFault, record_fault}
+use Rattle.source_changes.specs.Reads.{block_reads, read_rows, step_reads}
 use Rattle.source_changes.specs.Stepping.{Stepping, ticked}
 use Rattle.source_changes.specs.Taking.{IsTaking, taking}
-use Rattle.source_changes.proofs.Walked.{AreSources, below_at, fault_at, faults_next, get-map, map-set, sources_next, steps_in, ticks_next, whole_at}
+use Rattle.source_changes.proofs.Walked.{AreSources, below_at, fault_at, faults_next, get-map, map-set, sources_next, steps_in, ticks_next, whole_at, width_at}
 
 pub every_set : {X : Type 0} (P : X → Type 0) (xs : List X) (place : ℕ) (x : X) → AllByRecursion P xs → P x → AllByRecursion P (set xs place x)
 every_set P [] place x h p = tt
@@ -57,6 +61,24 @@ module _ (plan : Plan) (texts : ℕ) (blocks : List Block) (i : ℕ) (block : Bl
   fault_there fault f =
       fault_at plan texts blocks i block steps (taking d) p lawful is less h here fault
       (subst (λ step. IsFault (record_fault block (block_fault (ticked step).new block)) fault) (sym same) f)
+
+  width_there : (taking source).old.width ≡ length (columns_at plan.nodes block.table)
+  width_there = ap (λ (step : Stepping). step.old.width) (sym same) ∙ width_at plan texts blocks i block steps (taking d) p lawful is less h here
+
+  -- what is read of the sources so far, and of the blocks that are still to come
+  pub reads_follow : (new : TakenBlocks) (most : ℕ) → step_reads (taking new) ≤ step_reads (taking source) + (taking source).old.width * read_rows (update_of block)
+      → sum_by (λ (step : TakenBlocks). step_reads (taking step)) sources + sum_by (block_reads plan) (drop i blocks) ≤ most
+      → sum_by (λ (step : TakenBlocks). step_reads (taking step)) (set sources p new) + sum_by (block_reads plan) (drop (i + 1) blocks) ≤ most
+  reads_follow new most few so_far =
+      omega (
+        arith,
+        few,
+        so_far,
+        sum_by-set (λ (step : TakenBlocks). step_reads (taking step)) sources p new d bound,
+        sum_by-drop_more (block_reads plan) blocks i block less,
+        ap (λ width. width * read_rows (update_of block)) width_there,
+        ap (block_reads plan) is,
+      )
 
   module _ (new : TakenBlocks) (on : ticked (taking new) ≡ carry_on (ticked (taking source)) block) (takes : IsTaking new) (fine : block_fault (ticked (taking source)).new block ≡ None) where
     step_on : ticked (taking new) ≡ carry_on (ticked (get_or steps p (taking d))) block

@@ -207,6 +207,11 @@ module _ (plan : Plan) (texts : ℕ) (blocks : List Block) (i : ℕ) (block : Bl
   pub whole_at : IsBlock step_at.old.width block
   whole_at = subst (λ width. IsBlock width block) (ap (λ q. length (get_or (sources_of plan.nodes) q no_node).columns) (sym here) ∙ sym source_here.width_is) (is_block plan texts block l)
 
+  -- the width of the source is what the plan says of the block's
+  pub width_at : step_at.old.width ≡ length (columns_at plan.nodes block.table)
+  width_at =
+      source_here.width_is ∙ ap (λ q. length (get_or (sources_of plan.nodes) q no_node).columns) here ∙ ap length (sym (columns_are plan texts block l))
+
   seam : drop i blocks ≡ block ∷ drop (i + 1) blocks
   seam = drop_more blocks i block less ∙ ap (λ first. first ∷ drop (i + 1) blocks) (sym is)
 

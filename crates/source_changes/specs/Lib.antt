@@ -1,6 +1,7 @@
 pub mod Blocks
 pub mod Faults
 pub mod Openings
+pub mod Reads
 pub mod Ready
 pub mod Stepping
 pub mod Taking

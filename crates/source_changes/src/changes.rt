@@ -1,9 +1,10 @@
 //! The keys of the sources, and the changes that a batch makes of them.
 
-ghost use Rattle.std.specs.Prelude.{◌≡◌, ℕ, ◌+◌, ◌<◌, ◌≤◌, None, length, map, IfErr, IfOk, OnOk};
+ghost use Rattle.std.specs.Prelude.{◌≡◌, ℕ, ◌+◌, ◌<◌, ◌≤◌, None, length, map, sum_by, IfErr, IfOk, OnOk};
 ghost use Rattle.std.specs.List.{AllByRecursion};
 ghost use Rattle.source_changes.specs.Faults.{IsFault};
 ghost use Rattle.source_changes.specs.Openings.{IsOpenedTable};
+ghost use Rattle.source_changes.specs.Reads.{block_reads, step_reads};
 ghost use Rattle.source_changes.specs.Stepping.{ticked};
 ghost use Rattle.source_changes.specs.Taking.{IsTaking, taking};
 ghost use Rattle.tick_laws.specs.Bounded.{AreSourceTables};
@@ -20,12 +21,13 @@ use row_set::RowSet;
 use std::alloc::{AllocError, Global};
 use std::marker::Model;
 use std::mem;
+use std::sync::ledger::Ledger;
 use tick_model::feed::{Batch, Block};
 use tick_model::items::Items;
 use tick_model::plan::{Node, Plan};
 use tick_model::sources::is_source;
 use tick_model::table::PlainTable;
-use tick_table::{Change, TickTable};
+use tick_table::{Change, Steps, TickTable};
 
 /// The keys of every source, in order of the sources. A contract sees a list of lists of keys.
 pub struct SourceKeys {
@@ -64,6 +66,7 @@ fn unchanged_steps<'t, 'b>(
     requires { sets.items ≡ map (λ table. keys table.now.new.rows) tables.now }
     ensures taking { IfOk result (λ steps. AllByRecursion IsTaking steps.items) }
     ensures ticks { IfOk result (λ steps. map (λ step. ticked (taking step)) steps.items ≡ map (λ table. unchanged table.now.new) tables.now) }
+    ensures reads { IfOk result (λ steps. sum_by (λ step. step_reads (taking step)) steps.items ≡ 0) }
 {
     let mut steps = Vec::with_capacity(alloc, tables.len())?;
     for keys in sets {
@@ -81,15 +84,20 @@ struct Closed {
 }
 
 /// The changes of the sources, when all blocks are taken, and their keys.
-fn close_steps(alloc: Global, steps: Vec<TakenBlocks<'_, '_>>) -> Result<Closed, AllocError>
+fn close_steps<L: Ledger>(
+    alloc: Global,
+    steps: Vec<TakenBlocks<'_, '_>>,
+    reads: &mut Steps<L>,
+) -> Result<Closed, AllocError>
     requires { AllByRecursion IsTaking steps.items }
     ensures changes { IfOk result (λ closed. closed.changes.items ≡ map (λ step. change_of (ticked (taking step))) steps.entry.items) }
     ensures keys { IfOk result (λ closed. closed.sets.items ≡ map (λ step. keys (ticked (taking step)).new.rows) steps.entry.items) }
+    ensures reads { OnOk result (reads.new ≤ reads.old + sum_by (λ step. step_reads (taking step)) steps.entry.items) }
 {
     let mut changes = Vec::with_capacity(alloc, steps.len())?;
     let mut sets = Vec::with_capacity(alloc, steps.len())?;
     for step in steps {
-        let ClosedSource { change, keys } = step.close(alloc)?;
+        let ClosedSource { change, keys } = step.close(alloc, reads)?;
         changes.push(change)?;
         sets.push(keys)?;
     }
@@ -109,6 +117,7 @@ fn take_blocks<'t, 'b>(
     ensures lawful { OnOk result (blocks_fault plan.now (map (λ step. ticked (taking step)) steps.old) blocks.now ≡ None) }
     ensures taking { OnOk result (AllByRecursion IsTaking steps.new) }
     ensures ticks { OnOk result (map (λ step. ticked (taking step)) steps.new ≡ after_blocks plan.now (map (λ step. ticked (taking step)) steps.old) blocks.now) }
+    ensures reads { OnOk result (sum_by (λ step. step_reads (taking step)) steps.new ≤ sum_by (λ step. step_reads (taking step)) steps.old + sum_by (block_reads plan.now) blocks.now) }
     ensures cause { IfErr result (IsFault (blocks_fault plan.now (map (λ step. ticked (taking step)) steps.old) blocks.now)) }
 {
     for block in blocks {
@@ -134,14 +143,15 @@ impl SourceKeys {
         Ok(SourceKeys { sets })
     }
 
-    /// The change that a batch makes of each source, in order of the sources, where these are their tables before the step.
-    /// After a refusal the keys are to be given up.
-    pub fn changes<'t, 'b>(
+    /// The change that a batch makes of each source, in order of the sources, where these are their tables before the step. It
+    /// reads the rows that the blocks add, and twice those that they modify. After a refusal the keys are to be given up.
+    pub fn changes<'t, 'b, L: Ledger>(
         &mut self,
         alloc: Global,
         plan: &Plan,
         batch: &'b Batch,
         tables: &[&'t TickTable],
+        reads: &mut Steps<L>,
     ) -> Result<Vec<Change>, BatchFault>
         requires blocks { (texts : ℕ) × AllByRecursion (IsLawfulBlock plan.now texts) batch.now.blocks }
         requires tables { AreSourceTables (sources_of plan.now.nodes) (map (λ table. table.now.new) tables.now) }
@@ -149,12 +159,13 @@ impl SourceKeys {
         ensures lawful { OnOk result (blocks_fault plan.now (map (λ table. unchanged table.now.new) tables.now) batch.now.blocks ≡ None) }
         ensures changes { IfOk result (λ changes. changes.items ≡ map change_of (after_blocks plan.now (map (λ table. unchanged table.now.new) tables.now) batch.now.blocks)) }
         ensures keys { OnOk result (self.new ≡ map (λ tick. keys tick.new.rows) (after_blocks plan.now (map (λ table. unchanged table.now.new) tables.now) batch.now.blocks)) }
+        ensures reads { OnOk result (reads.new ≤ reads.old + sum_by (block_reads plan.now) batch.now.blocks) }
         ensures cause { IfErr result (IsFault (blocks_fault plan.now (map (λ table. unchanged table.now.new) tables.now) batch.now.blocks)) }
     {
         let sets = mem::replace(&mut self.sets, Vec::new(alloc));
         let mut steps = unchanged_steps(alloc, tables, sets)?;
         take_blocks(alloc, plan, batch.blocks.as_slice(), &mut steps)?;
-        let Closed { changes, sets } = close_steps(alloc, steps)?;
+        let Closed { changes, sets } = close_steps(alloc, steps, reads)?;
         self.sets = sets;
         Ok(changes)
     }

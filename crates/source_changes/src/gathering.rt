@@ -143,7 +143,9 @@ impl Gathered {
     {
         let _ = old.len();
         see_keys(&next);
-        next.apply_to_keys(&mut self.keys)?;
+        let keys = mem::replace(&mut self.keys, RowSet::new(alloc));
+        let keys = next.apply_to_keys(keys)?;
+        self.keys = keys;
         let update = mem::replace(&mut self.update, Update::none(alloc));
         let after = update_after(update, next, old)?;
         see_keys(&after);

@@ -1,8 +1,9 @@
 //! A source after the blocks of a step, whose rows are read.
 
-ghost use Rattle.std.specs.Prelude.{◌≡◌, ◌^◌, ◌<◌, option_map, IfOk};
+ghost use Rattle.std.specs.Prelude.{◌≡◌, ◌+◌, ◌^◌, ◌<◌, ◌≤◌, option_map, IfOk, OnOk};
 ghost use Rattle.key_lists.specs.Keys.{without};
 ghost use Rattle.shift_data.specs.Moves.{IsLawful};
+ghost use Rattle.source_changes.specs.Reads.{step_reads};
 ghost use Rattle.source_changes.specs.Stepping.{IsStepping, key_before as key_of_before, ticked, touched_by};
 ghost use Rattle.tick_model.specs.Changes.{change_of};
 ghost use Rattle.tick_model.specs.Tables.{keys as table_keys, row_at};
@@ -11,8 +12,8 @@ use crate::told::ToldRows;
 use row_changes::{Touched, change_of_touched};
 use row_set::RowSet;
 use std::alloc::{AllocError, Global};
-use std::marker::{Brand, Model};
-use std::sync::ledger::{Blank, Ledger};
+use std::marker::Model;
+use std::sync::ledger::Ledger;
 use table_update::Update;
 use tick_table::{Change, Steps, TickTable};
 
@@ -81,25 +82,18 @@ impl<'t, 'b> SourceStep<'t, 'b> {
     }
 
     /// The change of the source.
-    pub(crate) fn change(&self, alloc: Global) -> Result<Change, AllocError>
+    pub(crate) fn change<L: Ledger>(
+        &self,
+        alloc: Global,
+        reads: &mut Steps<L>,
+    ) -> Result<Change, AllocError>
         requires { IsStepping self.now }
-        ensures { IfOk result (λ change. change ≡ change_of (ticked self.now)) }
+        ensures change { IfOk result (λ change. change ≡ change_of (ticked self.now)) }
+        ensures reads { OnOk result (reads.new ≤ reads.old + step_reads self.now) }
     {
-        self.counted_change::<Brand>(alloc, Blank::new(1))
-    }
-
-    /// The change of the source, of which the reads are counted.
-    fn counted_change<L: Ledger>(&self, alloc: Global, blank: Blank) -> Result<Change, AllocError>
-        requires stepping { IsStepping self.now }
-        requires name { blank.name ≡ L.name }
-        requires parts { blank.parts ≡ L.parts }
-        requires some { 0 < blank.parts }
-        ensures { IfOk result (λ change. change ≡ change_of (ticked self.now)) }
-    {
-        let mut reads = Steps::<L>::new(blank);
         let width = self.table.width();
         let touched = self.touched()?;
-        let change = change_of_touched(alloc, self, width, touched, &mut reads)?;
+        let change = change_of_touched(alloc, self, width, touched, reads)?;
         Ok(change)
     }
 

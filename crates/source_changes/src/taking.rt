@@ -1,9 +1,10 @@
 //! A source that takes the blocks of a step.
 
-ghost use Rattle.std.specs.Prelude.{◌≡◌, ◌^◌, ◌<◌, None, IfErr, IfOk, OnOk};
+ghost use Rattle.std.specs.Prelude.{◌≡◌, ◌+◌, ◌*◌, ◌^◌, ◌<◌, ◌≤◌, None, IfErr, IfOk, OnOk};
 ghost use Rattle.std.specs.List.{AllByRecursion};
 ghost use Rattle.source_changes.specs.Blocks.{IsReadable};
 ghost use Rattle.source_changes.specs.Faults.{IsFault, IsKeysBelow, keys_fault, record_fault};
+ghost use Rattle.source_changes.specs.Reads.{read_rows, step_reads};
 ghost use Rattle.source_changes.specs.Stepping.{ticked};
 ghost use Rattle.source_changes.specs.Taking.{IsTaking, taking};
 ghost use Rattle.source_changes.specs.Waiting.{MayFollow, Waits, keys_with};
@@ -19,9 +20,10 @@ use crate::steps::SourceStep;
 use crate::told::ToldRows;
 use row_set::RowSet;
 use std::alloc::{AllocError, Global};
+use std::sync::ledger::Ledger;
 use table_update::Update;
 use tick_model::feed::Block;
-use tick_table::{Change, TickTable};
+use tick_table::{Change, Steps, TickTable};
 
 /// What the blocks of a step have changed of a source so far: of its table before the step, and the rows that they told.
 #[derive(Drop)]
@@ -44,6 +46,7 @@ impl<'t, 'b> TakenBlocks<'t, 'b> {
         requires { keys ≡ table_keys table.now.new.rows }
         ensures taking { IsTaking result }
         ensures tick { ticked (taking result) ≡ unchanged table.now.new }
+        ensures reads { step_reads (taking result) ≡ 0 }
     {
         let _rows = table.rows();
         TakenBlocks {
@@ -62,6 +65,7 @@ impl<'t, 'b> TakenBlocks<'t, 'b> {
         ensures lawful { OnOk result (block_fault (ticked (taking self.old)).new block.now ≡ None) }
         ensures taking { OnOk result (IsTaking self.new) }
         ensures tick { OnOk result (ticked (taking self.new) ≡ carry_on (ticked (taking self.old)) block.now) }
+        ensures reads { OnOk result (step_reads (taking self.new) ≤ step_reads (taking self.old) + (taking self.old).old.width * read_rows (update_said block.now)) }
         ensures cause { IfErr result (IsFault (record_fault block.now (block_fault (ticked (taking self.old)).new block.now))) }
     {
         let next = update_of(alloc, block)?;
@@ -77,10 +81,15 @@ impl<'t, 'b> TakenBlocks<'t, 'b> {
     }
 
     /// The change that the blocks make of the source, and its keys then.
-    pub(crate) fn close(mut self, alloc: Global) -> Result<ClosedSource, AllocError>
+    pub(crate) fn close<L: Ledger>(
+        mut self,
+        alloc: Global,
+        reads: &mut Steps<L>,
+    ) -> Result<ClosedSource, AllocError>
         requires { IsTaking self }
         ensures change { IfOk result (λ closed. closed.change ≡ change_of (ticked (taking self.entry))) }
         ensures keys { IfOk result (λ closed. closed.keys ≡ table_keys (ticked (taking self.entry)).new.rows) }
+        ensures reads { OnOk result (reads.new ≤ reads.old + step_reads (taking self.entry)) }
     {
         let old = self.table.rows();
         self.gathered.settle(alloc, old)?;
@@ -95,7 +104,7 @@ impl<'t, 'b> TakenBlocks<'t, 'b> {
             waiting: _,
         } = gathered;
         let step = SourceStep::new(table, update, told);
-        let change = step.change(alloc)?;
+        let change = step.change(alloc, reads)?;
         Ok(ClosedSource { change, keys })
     }
 }

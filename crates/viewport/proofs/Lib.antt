@@ -1,5 +1,6 @@
 pub mod ExampleTicks
 pub mod KeptRows
+pub mod MessageReads
 pub mod Messages
 pub mod Mirroring
 pub mod SliceCells

@@ -1,6 +1,6 @@
 //! The viewport itself: what it keeps between two messages, and what it tells.
 
-ghost use Rattle.std.specs.Prelude.{◌≡◌, ◌<◌, ◌≤◌, List, IfOk, length};
+ghost use Rattle.std.specs.Prelude.{◌≡◌, ◌+◌, ◌*◌, ◌≤◌, List, IfOk, OnOk, length};
 ghost use Rattle.row_changes.specs.Parts.{AreParts, tick_along};
 ghost use Rattle.tick_model.specs.declared.update.KeyPair.{KeyPair};
 ghost use Rattle.tick_model.specs.Changes.{change_of};
@@ -15,9 +15,9 @@ use crate::slice::Slice;
 use crate::touched::{step_of_kept, touched_rows};
 use row_changes::{Touched, change_of_touched};
 use std::alloc::{AllocError, Global};
-use std::marker::{Brand, Model};
+use std::marker::Model;
 use std::snapshot::Snapshot;
-use std::sync::ledger::{Blank, Ledger};
+use std::sync::ledger::Ledger;
 use table_update::Update;
 use tick_model::items::Items;
 use tick_table::{Change, Steps, TickTable};
@@ -68,14 +68,16 @@ impl Model for Viewport {
 
 impl Viewport {
     /// A subscription that begins with the rows of a table, and its first message, to which all rows of the slice come.
-    pub fn start(
+    pub fn start<L: Ledger>(
         alloc: Global,
         slice: Slice,
         table: &TickTable,
+        reads: &mut Steps<L>,
     ) -> Result<(Viewport, Change), AllocError>
         requires { IsSlice table.now.new.width slice }
         ensures stands { IfOk result (λ out. out.0 ≡ started slice table.now.new) }
         ensures message { IfOk result (λ out. out.1 ≡ change_of (opened (cut slice table.now.new))) }
+        ensures reads { OnOk result (reads.new ≤ reads.old + length slice.columns * (2 * length (cut slice table.now.new).rows)) }
     {
         let _rows = table.rows();
         let last = TickTable::new(alloc, width_of(&slice, table))?;
@@ -86,7 +88,7 @@ impl Viewport {
             last,
             kept: Update::none(alloc),
         };
-        viewport.message(table)
+        viewport.message(table, reads)
     }
 
     /// The subscription after a step of the table, which must stand for the rows before it. After a refusal it is given up.
@@ -114,11 +116,16 @@ impl Viewport {
     }
 
     /// The subscription after a message, and the message: how the slice changed since the last one. It must stand for the rows
-    /// of the table. After a refusal it is given up.
-    pub fn message(self, table: &TickTable) -> Result<(Viewport, Change), AllocError>
+    /// of the table. Only rows of the slice are read, each at most twice. After a refusal it is given up.
+    pub fn message<L: Ledger>(
+        self,
+        table: &TickTable,
+        reads: &mut Steps<L>,
+    ) -> Result<(Viewport, Change), AllocError>
         requires { self.table ≡ table.now.new }
         ensures stands { IfOk result (λ out. out.0 ≡ started self.slice table.now.new) }
         ensures change { IfOk result (λ out. out.1 ≡ change_of (message_tick self)) }
+        ensures reads { OnOk result (reads.new ≤ reads.old + length self.slice.columns * (2 * length (cut self.slice table.now.new).rows)) }
     {
         let Viewport {
             alloc,
@@ -129,7 +136,7 @@ impl Viewport {
         } = self;
         let _rows = table.rows();
         let touched = touched_rows(alloc, &slice, &last, &kept, table)?;
-        let change = changed(alloc, &slice, &last, table, touched)?;
+        let change = changed(alloc, &slice, &last, table, touched, reads)?;
         let told = copied(alloc, &change)?;
         let last = last.apply(told)?;
         let viewport = Viewport {
@@ -156,41 +163,22 @@ fn width_of(slice: &Slice, table: &TickTable) -> u32
 }
 
 /// The change from the rows that the last message left to the slice of the table.
-fn changed(
+fn changed<L: Ledger>(
     alloc: Global,
     slice: &Slice,
     last: &TickTable,
     table: &TickTable,
     touched: Touched,
+    reads: &mut Steps<L>,
 ) -> Result<Change, AllocError>
     requires asked { IsSlice table.now.new.width slice.now }
     requires parts { (kept : List KeyPair) × AreParts last.now.new (cut slice.now table.now.new) touched kept }
-    ensures { IfOk result (λ change. (kept : List KeyPair) → AreParts last.now.new (cut slice.now table.now.new) touched kept
+    ensures change { IfOk result (λ change. (kept : List KeyPair) → AreParts last.now.new (cut slice.now table.now.new) touched kept
         → change ≡ change_of (tick_along last.now.new (cut slice.now table.now.new) kept)) }
+    ensures reads { OnOk result (reads.new ≤ reads.old + length slice.now.columns * (2 * length (cut slice.now table.now.new).rows)) }
 {
-    counted::<Brand>(alloc, slice, last, table, touched, Blank::new(1))
-}
-
-/// The same, with reads that are counted from a blank.
-fn counted<L: Ledger>(
-    alloc: Global,
-    slice: &Slice,
-    last: &TickTable,
-    table: &TickTable,
-    touched: Touched,
-    blank: Blank,
-) -> Result<Change, AllocError>
-    requires name { blank.name ≡ L.name }
-    requires blank_parts { blank.parts ≡ L.parts }
-    requires some { 0 < blank.parts }
-    requires asked { IsSlice table.now.new.width slice.now }
-    requires parts { (kept : List KeyPair) × AreParts last.now.new (cut slice.now table.now.new) touched kept }
-    ensures { IfOk result (λ change. (kept : List KeyPair) → AreParts last.now.new (cut slice.now table.now.new) touched kept
-        → change ≡ change_of (tick_along last.now.new (cut slice.now table.now.new) kept)) }
-{
-    let mut reads = Steps::<L>::new(blank);
     let rows = SliceRows { last, table, slice };
-    change_of_touched(alloc, &rows, last.width(), touched, &mut reads)
+    change_of_touched(alloc, &rows, last.width(), touched, reads)
 }
 
 /// An equal change.

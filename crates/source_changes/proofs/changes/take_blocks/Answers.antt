@@ -1,4 +1,5 @@
-use Rattle.std.proofs.Common.{◌≡◌, ap, sym, ◌∙◌, subst, ◌<◌, List, length, map}
+use Rattle.std.proofs.Common.{◌≡◌, ap, sym, ◌∙◌, subst, arith, ◌+◌, ◌<◌, List, length, map}
+use Rattle.std.specs.Prelude.{sum_by}
 use Rattle.std.proofs.Math.ListN.{drop_of_length-le}
 use Rattle.key_lists.proofs.Every.{every_weaker, every-map, map_map}
 use Rattle.tick_laws.specs.Bounded.{AreSourceTables}
@@ -8,10 +9,11 @@ use Rattle.tick_model.specs.LawfulRuns.{sources_of}
 use Rattle.tick_model.specs.Sources.{after_blocks, blocks_fault}
 use Rattle.source_changes.specs.declared.taking.TakenBlocks.{TakenBlocks}
 use Rattle.source_changes.specs.Faults.{IsFault}
+use Rattle.source_changes.specs.Reads.{block_reads, step_reads}
 use Rattle.source_changes.specs.Stepping.{IsStepping, Stepping, ticked}
 use Rattle.source_changes.specs.Taking.{IsTaking, taking}
 use Rattle.source_changes.proofs.Gathered.{every_at}
-use Rattle.source_changes.proofs.Turns.{below_there, bound, every_set, fault_there, faults_follow, sources_follow, steps_in_turn, ticks_follow, whole_there}
+use Rattle.source_changes.proofs.Turns.{below_there, bound, every_set, fault_there, faults_follow, reads_follow, sources_follow, steps_in_turn, ticks_follow, whole_there}
 use Rattle.source_changes.proofs.Walked.{node_at, readable_at, sources_from}
 use Rattle.source_changes.proofs.changes.take_blocks.Goals as goal
 
@@ -26,6 +28,7 @@ loop-block-init c =
           (subst (AreSourceTables (sources_of c.args.plan.now.nodes)) (sym (map_map (λ (step : Stepping). (ticked step).new) taking c.args.steps.now)) c.requires.tables);
       ticks = ap (λ ticks. after_blocks c.args.plan.now ticks c.args.blocks.now) ticks;
       faults = ap (λ ticks. blocks_fault c.args.plan.now ticks c.args.blocks.now) ticks;
+      reads = omega arith;
     }
 
 pub place_of-place-requires : goal.place_of-place-requires
@@ -77,6 +80,8 @@ loop-block-preserved c =
       sources = sources_follow c.args.plan.now c.requires.blocks.0 c.args.blocks.now c.loop-block.block-index c.block-item.result c.loop-block.steps c.index-steps-place.result c.place_of-place.result c.requires.blocks.1 c.block-item.is c.loop-block-test.true c.loop-block.invariant.sources here c.take.new.self c.in-Ok.ensures.tick c.in-Ok.ensures.taking c.in-Ok.ensures.lawful;
       ticks = ticks_follow c.args.plan.now c.requires.blocks.0 c.args.blocks.now c.loop-block.block-index c.block-item.result c.loop-block.steps c.index-steps-place.result c.place_of-place.result c.requires.blocks.1 c.block-item.is c.loop-block-test.true c.loop-block.invariant.sources here c.take.new.self c.in-Ok.ensures.tick c.in-Ok.ensures.taking c.in-Ok.ensures.lawful ∙ c.loop-block.invariant.ticks;
       faults = faults_follow c.args.plan.now c.requires.blocks.0 c.args.blocks.now c.loop-block.block-index c.block-item.result c.loop-block.steps c.index-steps-place.result c.place_of-place.result c.requires.blocks.1 c.block-item.is c.loop-block-test.true c.loop-block.invariant.sources here c.take.new.self c.in-Ok.ensures.tick c.in-Ok.ensures.taking c.in-Ok.ensures.lawful ∙ c.loop-block.invariant.faults;
+      reads = reads_follow c.args.plan.now c.requires.blocks.0 c.args.blocks.now c.loop-block.block-index c.block-item.result c.loop-block.steps c.index-steps-place.result c.place_of-place.result c.requires.blocks.1 c.block-item.is c.loop-block-test.true c.loop-block.invariant.sources here c.take.new.self
+          (sum_by (λ (step : TakenBlocks). step_reads (taking step)) c.args.steps.now + sum_by (block_reads c.args.plan.now) c.args.blocks.now) c.in-Ok.ensures.reads c.loop-block.invariant.reads;
     }
 
 pub returns-clause-taking : goal.returns-clause-taking
@@ -92,3 +97,6 @@ returns-clause-ticks c =
     sym (map_map ticked taking c.loop-block.steps)
     ∙ sym (ap (after_blocks c.args.plan.now (map ticked (map taking c.loop-block.steps))) (drop_of_length-le c.args.blocks.now c.loop-block-test.false))
     ∙ c.loop-block.invariant.ticks
+
+pub returns-clause-reads : goal.returns-clause-reads
+returns-clause-reads c = omega (arith, c.loop-block.invariant.reads)

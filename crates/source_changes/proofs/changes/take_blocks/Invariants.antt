@@ -1,8 +1,10 @@
-use Rattle.std.proofs.Common.{◌≡◌, drop, map}
+use Rattle.std.proofs.Common.{◌≡◌, ◌+◌, ◌≤◌, drop, map}
+use Rattle.std.specs.Prelude.{sum_by}
 use Rattle.std.specs.List.{AllByRecursion}
 use Rattle.tick_model.specs.LawfulRuns.{sources_of}
 use Rattle.tick_model.specs.Sources.{after_blocks, blocks_fault}
 use Rattle.source_changes.specs.declared.taking.TakenBlocks.{TakenBlocks}
+use Rattle.source_changes.specs.Reads.{block_reads, step_reads}
 use Rattle.source_changes.specs.Stepping.{ticked}
 use Rattle.source_changes.specs.Taking.{IsTaking, taking}
 use Rattle.source_changes.proofs.Walked.{AreSources}
@@ -14,4 +16,5 @@ invariant-loop-block l = record {
   sources : AreSources (sources_of l.plan.nodes) (map taking l.steps);
   ticks : after_blocks l.plan (map ticked (map taking l.steps)) (drop l.block-index l.blocks) ≡ after_blocks l.plan (map (λ (step : TakenBlocks). ticked (taking step)) l.fn.steps) l.blocks;
   faults : blocks_fault l.plan (map ticked (map taking l.steps)) (drop l.block-index l.blocks) ≡ blocks_fault l.plan (map (λ (step : TakenBlocks). ticked (taking step)) l.fn.steps) l.blocks;
+  reads : sum_by (λ (step : TakenBlocks). step_reads (taking step)) l.steps + sum_by (block_reads l.plan) (drop l.block-index l.blocks) ≤ sum_by (λ (step : TakenBlocks). step_reads (taking step)) l.fn.steps + sum_by (block_reads l.plan) l.blocks;
 }

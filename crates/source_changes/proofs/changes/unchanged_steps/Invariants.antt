@@ -1,8 +1,10 @@
 use Rattle.std.proofs.Common.{◌≡◌, length, map, take, vec_len, Bor}
 use Rattle.std.specs.List.{AllByRecursion}
+use Rattle.std.specs.Prelude.{sum_by}
 use Rattle.tick_model.specs.Sources.{unchanged}
 use Rattle.tick_table.specs.Ticking.{Ticking}
 use Rattle.source_changes.specs.declared.taking.TakenBlocks.{TakenBlocks}
+use Rattle.source_changes.specs.Reads.{step_reads}
 use Rattle.source_changes.specs.Stepping.{ticked}
 use Rattle.source_changes.specs.Taking.{IsTaking, taking}
 use Rattle.source_changes.proofs.changes.unchanged_steps.Given as goal
@@ -11,5 +13,6 @@ abbrev pub invariant-loop-keys : goal.invariant-loop-keys
 invariant-loop-keys l = record {
   all_taking : AllByRecursion IsTaking l.steps.items;
   ticks : map (λ (step : TakenBlocks). ticked (taking step)) l.steps.items ≡ map (λ (table : Bor Ticking). unchanged table.now.new) (take (length l.yielded) l.tables);
+  reads : sum_by (λ (step : TakenBlocks). step_reads (taking step)) l.steps.items ≡ 0;
   count : vec_len l.steps ≡ length l.yielded;
 }

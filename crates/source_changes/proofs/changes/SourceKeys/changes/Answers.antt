@@ -1,4 +1,5 @@
 use Rattle.std.proofs.Common.{◌≡◌, ap, ap₂, sym, ◌∙◌, subst, arith, List, map, length, Bor}
+use Rattle.std.specs.Prelude.{sum_by}
 use Rattle.key_lists.proofs.Every.{map_map}
 use Rattle.tick_laws.specs.Bounded.{AreSourceTables}
 use Rattle.tick_model.specs.declared.feed.Block.{Block}
@@ -9,19 +10,20 @@ use Rattle.tick_model.specs.Tables.{keys}
 use Rattle.tick_model.specs.Updates.{Tick}
 use Rattle.tick_table.specs.Ticking.{Ticking}
 use Rattle.source_changes.specs.declared.taking.TakenBlocks.{TakenBlocks}
+use Rattle.source_changes.specs.Reads.{block_reads, step_reads}
 use Rattle.source_changes.specs.Stepping.{ticked}
 use Rattle.source_changes.specs.Taking.{taking}
 use Rattle.source_changes.proofs.Turns.{news_follow, whole}
 use Rattle.source_changes.proofs.changes.SourceKeys.changes.Goals as goal
 
 pub take_blocks-requires-clause-tables : goal.take_blocks-requires-clause-tables
-take_blocks-requires-clause-tables c =
+take_blocks-requires-clause-tables g c =
     subst (AreSourceTables (sources_of c.args.plan.now.nodes))
     (sym (ap (map (λ (step : TakenBlocks). (ticked (taking step)).new)) c.deref_mut.ensures.value ∙ news_follow (λ (table : Bor Ticking). table.now.new) c.args.tables.now c.in_ok-steps.steps.items c.in_ok-steps.ensures.ticks))
     c.requires.tables
 
 pub returns-clause-changes : goal.returns-clause-changes
-returns-clause-changes c =
+returns-clause-changes g c =
     let items = c.in_ok-steps.steps.items in
     let new = c.take_blocks.new.steps in
     let was : length c.deref_mut.result.now ≡ length items = ap length c.deref_mut.ensures.value in
@@ -37,7 +39,7 @@ returns-clause-changes c =
     ∙ ap (map change_of) ticks
 
 pub returns-clause-keys : goal.returns-clause-keys
-returns-clause-keys c =
+returns-clause-keys g c =
     let items = c.in_ok-steps.steps.items in
     let new = c.take_blocks.new.steps in
     let was : length c.deref_mut.result.now ≡ length items = ap length c.deref_mut.ensures.value in
@@ -51,3 +53,21 @@ returns-clause-keys c =
     ∙ ap (map (λ (step : TakenBlocks). keys (ticked (taking step)).new.rows)) all
     ∙ sym (map_map (λ (tick : Tick). keys tick.new.rows) (λ (step : TakenBlocks). ticked (taking step)) new)
     ∙ ap (map (λ (tick : Tick). keys tick.new.rows)) ticks
+
+pub returns-clause-reads : goal.returns-clause-reads
+returns-clause-reads g c =
+    let items = c.in_ok-steps.steps.items in
+    let new = c.take_blocks.new.steps in
+    let cost = sum_by (λ (step : TakenBlocks). step_reads (taking step)) in
+    let was : length c.deref_mut.result.now ≡ length items = ap length c.deref_mut.ensures.value in
+    let same : length new ≡ length items = omega (arith, was, c.take_blocks.auto.steps) in
+    let len : c.in_ok-steps.steps.len ≡ length items = omega arith in
+    omega (
+      arith,
+      c.in_ok-changes.ensures.reads,
+      ap cost (whole c.in_ok-steps.steps.len new items same len),
+      c.in_ok-take_blocks.ensures.reads,
+      ap cost c.deref_mut.ensures.value,
+      c.in_ok-steps.ensures.reads,
+      ap (sum_by (block_reads c.args.plan.now)) c.as_slice.ensures,
+    )

@@ -23,6 +23,9 @@ returns-clause-gathered c =
     let h = subst (λ (waiting : Option Update). IsGathered c.args.old.now (made g.keys g.update waiting)) c.requires.none c.requires.gathered in
     let after : c.in_ok-after.after ≡ update_after c.args.old.now g.update c.args.next = c.in_ok-after.ensures ∙ ap (λ (update : Update). update_after c.args.old.now update c.args.next) c.replace-update.ensures.value in
     let joins = next_joins c.args.old.now c.len.ensures.keys g.keys g.update c.args.next h c.see_keys.ensures c.requires.lawful c.requires.plain (subst AreSets after c.see_keys-2.ensures) in
-    subst (λ (waiting : Option Update). IsGathered c.args.old.now (made c.apply_to_keys.new.keys c.in_ok-after.after waiting)) (sym c.requires.none)
-    (subst (λ (ks : List ℕ). IsGathered c.args.old.now (made ks c.in_ok-after.after None)) (sym c.in_ok-apply_to_keys.ensures)
+    subst (λ (waiting : Option Update). IsGathered c.args.old.now (made c.in_ok-keys.keys c.in_ok-after.after waiting)) (sym c.requires.none)
+    (subst (λ (ks : List ℕ). IsGathered c.args.old.now (made ks c.in_ok-after.after None)) (sym (c.in_ok-keys.ensures ∙ ap (λ (ks : List ℕ). keys_after ks c.args.next) c.replace-keys.ensures.value))
     (subst (λ (update : Update). IsGathered c.args.old.now (made (keys_after g.keys c.args.next) update None)) (sym after) joins))
+
+pub returns-clause-keys : goal.returns-clause-keys
+returns-clause-keys c = c.in_ok-keys.ensures ∙ ap (λ (ks : List ℕ). keys_after ks c.args.next) c.replace-keys.ensures.value

@@ -6,7 +6,7 @@ use Rattle.source_changes.specs.declared.taking.TakenBlocks.{TakenBlocks}
 use Rattle.source_changes.specs.Faults.{IsFault, record_fault}
 use Rattle.source_changes.specs.Stepping.{update_after}
 use Rattle.source_changes.specs.Waiting.{IsGathered, joined, keys_with}
-use Rattle.source_changes.proofs.Turned.{block_fine, fault_is, may_apply, now_below, takes_on, ticked_on, told_moves}
+use Rattle.source_changes.proofs.Turned.{block_fine, fault_is, may_apply, now_below, reads_on, takes_on, ticked_on, told_moves}
 use Rattle.source_changes.proofs.taking.TakenBlocks.take.Goals as goal
 
 pub check-requires-clause-below : goal.check-requires-clause-below
@@ -55,3 +55,14 @@ returns-clause-tick c =
     let joins = subst (λ (ks : List ℕ). joined ks c.put.new.self.update c.put.new.self.waiting ≡ update_after ks (joined ks g.update g.waiting) c.in_ok-next.next) old
     (c.in_ok-put.ensures.joined ∙ ap (λ (update : Update). update_after c.rows-old.result.now update c.in_ok-next.next) c.in_ok-make_way.ensures.joined) in
     ticked_on c.args.self.now c.requires.taking ks c.in_ok-make_way.ensures.keys c.args.block.now c.requires.readable c.requires.whole c.in_ok-next.next c.in_ok-next.ensures c.in-Ok.ensures.lawful new refl gathers joins c.in_ok-tell.ensures
+
+pub returns-clause-reads : goal.returns-clause-reads
+returns-clause-reads c =
+    let ks = keys_with c.make_way.new.self.keys c.make_way.new.self.waiting in
+    let new : TakenBlocks = record { table = c.args.self.now.table; gathered = c.put.new.self; told = c.tell.new.self } in
+    let old : c.rows-old.result.now ≡ keys c.args.self.now.table.now.new.rows = c.rows-old.ensures.keys in
+    let gathers = subst (λ (ks : List ℕ). IsGathered ks c.put.new.self) old c.in_ok-put.ensures.gathered in
+    let g = c.args.self.now.gathered in
+    let joins = subst (λ (ks : List ℕ). joined ks c.put.new.self.update c.put.new.self.waiting ≡ update_after ks (joined ks g.update g.waiting) c.in_ok-next.next) old
+    (c.in_ok-put.ensures.joined ∙ ap (λ (update : Update). update_after c.rows-old.result.now update c.in_ok-next.next) c.in_ok-make_way.ensures.joined) in
+    reads_on c.args.self.now c.requires.taking ks c.in_ok-make_way.ensures.keys c.args.block.now c.requires.readable c.requires.whole c.in_ok-next.next c.in_ok-next.ensures c.in-Ok.ensures.lawful new refl gathers joins c.in_ok-tell.ensures

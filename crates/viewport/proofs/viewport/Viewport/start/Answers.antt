@@ -13,7 +13,7 @@ use Rattle.viewport.proofs.Messages.{empty_stands}
 use Rattle.viewport.proofs.viewport.Viewport.start.Goals as goal
 
 pub invariant_of-viewport : goal.invariant_of-viewport
-invariant_of-viewport c =
+invariant_of-viewport g c =
     let slice = c.args.slice in
     let table = c.args.table.now.new in
     let last_is : c.in_ok-last.last ≡ fresh (length c.args.slice.columns) = c.in_ok-last.ensures ∙ ap fresh c.width_of.ensures.width in
@@ -22,10 +22,10 @@ invariant_of-viewport c =
     (subst (λ update. IsStanding slice (fresh (length c.args.slice.columns)).new table update) (sym c.none.ensures) (empty_stands slice table c.requires c.rows-rows.ensures.table)))
 
 pub message-requires : goal.message-requires
-message-requires c = ap (λ (seen : Ticking). seen.new) c.of.ensures
+message-requires g c = ap (λ (seen : Ticking). seen.new) c.of.ensures
 
 pub returns-clause-message : goal.returns-clause-message
-returns-clause-message c =
+returns-clause-message g c =
     let slice = c.args.slice in
     let table = c.args.table.now.new in
     let last_is : c.in_ok-last.last ≡ fresh (length c.args.slice.columns) = c.in_ok-last.ensures ∙ ap fresh c.width_of.ensures.width in

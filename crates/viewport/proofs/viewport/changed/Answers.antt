@@ -1,7 +1,8 @@
-use Rattle.std.proofs.Common.{sym, ◌∙◌}
+use Rattle.std.proofs.Common.{sym, ◌∙◌, length}
 use Rattle.row_changes.proofs.MadeChange.{parts_there}
 use Rattle.viewport.specs.Slices.{cut}
-use Rattle.viewport.proofs.viewport.counted.Goals as goal
+use Rattle.viewport.proofs.MessageReads.{few_reads}
+use Rattle.viewport.proofs.viewport.changed.Goals as goal
 
 pub change_of_touched-requires-clause-ready : goal.change_of_touched-requires-clause-ready
 change_of_touched-requires-clause-ready g c = (c.requires.asked.columns, sym c.requires.parts.1.tick.one_width)
@@ -24,5 +25,8 @@ change_of_touched-requires-clause-before g c = (parts_there c.args.last.now.new 
 pub change_of_touched-requires-clause-now : goal.change_of_touched-requires-clause-now
 change_of_touched-requires-clause-now g c = (parts_there c.args.last.now.new (cut c.args.slice.now c.args.table.now.new) c.args.touched c.requires.parts.0 c.requires.parts.1).2
 
-pub returns : goal.returns
-returns g c = c.change_of_touched.ensures.change
+pub returns-clause-change : goal.returns-clause-change
+returns-clause-change g c = c.change_of_touched.ensures.change
+
+pub returns-clause-reads : goal.returns-clause-reads
+returns-clause-reads g c = few_reads c.args.last.now.new (cut c.args.slice.now c.args.table.now.new) c.args.touched c.requires.parts.0 c.requires.parts.1 (length c.args.slice.now.columns) c.args.reads.now c.change_of_touched.result c.change_of_touched.new.reads c.change_of_touched.ensures.reads

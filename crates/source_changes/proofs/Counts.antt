@@ -1,0 +1,49 @@
+-- How many keys two lists have together, and how many two updates.
+use Rattle.std.proofs.Common.{◌≡◌, ap, true, false, cond, ℕ, ◌+◌, ◌≤◌, ◌^◌, ◌==◌, arith, List, [], ◌∷◌, length, not, None}
+use Rattle.std.proofs.lemmas.List.{length-map}
+use Rattle.std.specs.Prelude.{nat_lt}
+use Rattle.key_lists.specs.Keys.{is_among, IsRising, without}
+use Rattle.row_set.specs.Sets.{united, with_key}
+use Rattle.tick_laws.specs.Checked.{keys_after}
+use Rattle.tick_laws.proofs.ResultCells.{length-filter_most}
+use Rattle.tick_model.specs.Rules.{landed, update_fault}
+use Rattle.tick_model.specs.Shifts.{as_key, moved}
+use Rattle.tick_model.specs.Updates.{Update}
+use Rattle.table_update.specs.Coalesced.{added_by_both, modified_by_both}
+use Rattle.table_update.proofs.CoalescedKeys.{united_added, united_modified}
+
+length-with_key : (key : ℕ) (ks : List ℕ) → length (with_key key ks) ≤ 1 + length ks
+length-with_key key [] = omega arith
+length-with_key key (other ∷ ks) =
+    elim (nat_lt key other) as (λ b. length (cond b (key ∷ other ∷ ks) (cond (key == other) (other ∷ ks) (other ∷ with_key key ks))) ≤ 1 + length (other ∷ ks)) [
+      | true ↦ omega arith
+      | false ↦ elim (key == other) as (λ b. length (cond b (other ∷ ks) (other ∷ with_key key ks)) ≤ 1 + length (other ∷ ks)) [ true ↦ omega arith | false ↦ omega (arith, length-with_key key ks) ]
+    ]
+
+pub length-united : (xs ys : List ℕ) → length (united xs ys) ≤ length xs + length ys
+length-united [] ys = omega arith
+length-united (x ∷ xs) ys = omega (arith, length-with_key x (united xs ys), length-united xs ys)
+
+-- where keys move that stay
+length-staying : (next : Update) (keys : List ℕ) → length (landed next.shifted (without next.removed keys)) ≤ length keys
+length-staying next keys =
+    omega (arith, length-map (without next.removed keys) (λ key. as_key (moved next.shifted key)), length-filter_most (λ key. not (is_among key next.removed)) keys)
+
+module _ (old : List ℕ) (first next : Update) (f : update_fault (2 ^ 62) old first ≡ None) (n : update_fault (2 ^ 62) (keys_after old first) next ≡ None)
+    (added_rise : IsRising first.added) where
+  abbrev carried : List ℕ
+  carried = landed next.shifted (without next.removed first.added)
+
+  pub length-added : IsRising next.added → length (added_by_both old first next) ≤ length first.added + length next.added
+  length-added next_rise =
+      omega (arith, ap length (united_added old first next f n added_rise next_rise), length-united carried next.added, length-staying next first.added)
+
+  pub length-modified : IsRising first.modified → IsRising next.modified → length (modified_by_both old first next) ≤ length first.modified + length next.modified
+  length-modified rise next_rise =
+      omega (
+        arith,
+        ap length (united_modified old first next f n added_rise rise next_rise),
+        length-united (landed next.shifted (without next.removed first.modified)) (without carried next.modified),
+        length-staying next first.modified,
+        length-filter_most (λ key. not (is_among key carried)) next.modified,
+      )
