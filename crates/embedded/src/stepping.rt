@@ -9,11 +9,14 @@ use crate::fault::Fault;
 use crate::rows::print_rows;
 use std::alloc::{AllocError, Global};
 use std::io::Print;
+use std::marker::Brand;
+use std::sync::ledger::{Blank, Ledger};
 use std::thread::Threads;
 use tick_io::OpenGate;
 use tick_model::feed::Run;
 use tick_model::items::Items;
 use tick_model::plan::Plan;
+use tick_table::Steps;
 use update_graph::Graph;
 use viewport::{Mirror, Slice, Viewport};
 
@@ -48,8 +51,12 @@ fn first_rows(alloc: Global) -> Result<Slice, AllocError>
     })
 }
 
-/// The graph of a run at its opening, with the screen of a table that has two columns or more.
-fn opened(alloc: Global, run: &Run, node: u32) -> Result<Stepping, Fault>
+/// The graph of a run at its opening, with the screen of a table that has two columns or more. The blank is that of a count of
+/// the cells that are read.
+fn opened<L: Ledger>(alloc: Global, run: &Run, node: u32, blank: Blank) -> Result<Stepping, Fault>
+    requires name { blank.name ≡ L.name }
+    requires parts { blank.parts ≡ L.parts }
+    requires some { 0 < blank.parts }
     requires lawful { IsLawfulRun run.now }
     requires node { node < length run.now.plan.nodes }
     ensures run { IfOk result (λ opened. opened.graph.run ≡ run.now) }
@@ -63,7 +70,8 @@ fn opened(alloc: Global, run: &Run, node: u32) -> Result<Stepping, Fault>
         return Err(Fault::NoTable);
     }
     let slice = first_rows(alloc)?;
-    let (viewport, message) = Viewport::start(alloc, slice, table)?;
+    let mut reads = Steps::<L>::new(blank);
+    let (viewport, message) = Viewport::start(alloc, slice, table, &mut reads)?;
     let mirror = Mirror::new(alloc, 2)?.apply(message)?;
     Ok(Stepping {
         graph,
@@ -73,13 +81,17 @@ fn opened(alloc: Global, run: &Run, node: u32) -> Result<Stepping, Fault>
 }
 
 /// The graph after the next step. The viewport takes the step in, and the mirror takes its message.
-fn advanced<R: Threads + Sync>(
+fn advanced<R: Threads + Sync, L: Ledger>(
     rt: &R,
     alloc: Global,
     run: &Run,
     node: u32,
     stepping: Stepping,
+    blank: Blank,
 ) -> Result<Stepping, Fault>
+    requires name { blank.name ≡ L.name }
+    requires parts { blank.parts ≡ L.parts }
+    requires some { 0 < blank.parts }
     requires lawful { IsLawfulRun run.now }
     requires node { node < length run.now.plan.nodes }
     requires run { stepping.graph.run ≡ run.now }
@@ -98,7 +110,8 @@ fn advanced<R: Threads + Sync>(
     let _step = graph.step();
     let table = graph.table(node);
     let passed = viewport.pass(table)?;
-    let (viewport, message) = passed.message(table)?;
+    let mut reads = Steps::<L>::new(blank);
+    let (viewport, message) = passed.message(table, &mut reads)?;
     let mirror = mirror.apply(message)?;
     Ok(Stepping {
         graph,
@@ -132,10 +145,11 @@ pub(crate) fn print_steps<R: Print + Threads + Sync>(
     requires lawful { IsLawfulRun run.now }
     requires node { node < length run.now.plan.nodes }
 {
-    let opening = opened(alloc, run, node)?;
+    let opening = opened::<Brand>(alloc, run, node, Blank::new(1))?;
     let mut stepping = opening;
     for _step in 0..run.batches.len() {
-        stepping = advanced(rt, alloc, run, node, stepping)?;
+        let blank = Blank::new(1);
+        stepping = advanced::<R, Brand>(rt, alloc, run, node, stepping, blank)?;
         print_step(rt, alloc, node, &stepping)?;
     }
     Ok(())

@@ -204,3 +204,12 @@ module _ (run : Run) (step : ℕ) (e : IsEntered run step) where
 -- at a step before one that a run enters all nodes have tables
 pub all_before : (run : Run) (step : ℕ) → IsEntered run (step + 1) → (n : ℕ) → n < length run.plan.nodes → is_defined run step n ≡ true
 all_before run step e n within = (reached_tables run e.lawful step (reached_one run step (subst (IsEntered run) (add-one step) e))).each n within
+
+-- the step before one that a run enters is entered
+pub before_entered : (run : Run) (step : ℕ) → IsEntered run (step + 1) → IsEntered run step
+before_entered run step e = record {
+  lawful = e.lawful;
+  within = omega (arith, e.within);
+  batches = λ s below. e.batches s (omega (arith, below));
+  nodes = λ s below. e.nodes s (omega (arith, below));
+}

@@ -15,6 +15,7 @@ mod Numbering
 mod OperatorLaws
 mod PlanEdges
 mod PlanLimits
+mod Staying
 mod StepInputs
 mod Sweeping
 mod Walking

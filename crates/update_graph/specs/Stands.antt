@@ -1,6 +1,7 @@
 -- What a node keeps from step to step, and what it hands to its dependents.
 --     is_defined run step node      whether the node has a table at the step
 --     shown run step node      its table at the step, with its update
+--     Stays run step node      the node has a table, which the step does not change
 --     IsHanded run step node table      this is the node's table at the step, or it has none
 --     AreHanded shares tables      these are the tables that they hand on, or one of them has none
 --     IsReady run tables node operator table      the operator is the node's, and stands for its inputs' tables; the table is the node's own
@@ -15,6 +16,7 @@ use Rattle.operators.specs.Operating.{Operating, StandsFor}
 use Rattle.operators.specs.Planned.{input_widths}
 use Rattle.tick_model.specs.declared.feed.Run.{Run}
 use Rattle.tick_model.specs.declared.table.PlainTable.{PlainTable}
+use Rattle.tick_model.specs.Changes.{is_empty}
 use Rattle.tick_model.specs.Evaluation.{Fault, NoInput, has_table, inputs_of, outcome_at, table_at}
 use Rattle.tick_model.specs.States.{state, tick}
 use Rattle.tick_table.specs.Exact.{ticking}
@@ -28,6 +30,9 @@ is_defined run step node = has_table (outcome_at (state run step) node)
 
 abbrev pub shown : Run → ℕ → ℕ → Ticking
 shown run step node = ticking (tick run step node)
+
+abbrev pub Stays : Run → ℕ → ℕ → Type 0
+Stays run step node = (is_defined run step node ≡ true) × (is_empty (shown run step node).update ≡ true)
 
 abbrev pub IsHanded : Run → ℕ → ℕ → Option (Arc Ticking Global) → Type 0
 IsHanded run step node (Some table) = (is_defined run step node ≡ true) × (arc_value {X = Ticking} table ≡ shown run step node)
@@ -45,6 +50,6 @@ pub record IsReady (run : Run) (tables : ℕ → PlainTable) (node : ℕ) (opera
 
 abbrev pub IsKept : Run → ℕ → ℕ → State → Type 0
 IsKept run step node Source = (is_operator run node ≡ false) × (is_defined run step node ≡ true)
-IsKept run step node (Defined ready) = (is_defined run step node ≡ true) × IsReady run (table_at (state run step)) node ready.operator ready.table × (arc_value {X = Ticking} ready.table ≡ shown run step node)
+IsKept run step node (Defined ready) = (is_defined run step node ≡ true) × IsReady run (table_at (state run step)) node ready.value.operator ready.value.table × (arc_value {X = Ticking} ready.value.table ≡ shown run step node)
 IsKept run step node (Failed fault) = outcome_at (state run step) node ≡ Fault fault
 IsKept run step node Undefined = outcome_at (state run step) node ≡ NoInput

@@ -33,14 +33,14 @@ use source_changes::SourceKeys;
 use std::alloc::{AllocError, Global};
 use std::marker::{Brand, Model};
 use std::snapshot::Snapshot;
-use std::sync::ledger::Blank;
+use std::sync::ledger::{Blank, Ledger};
 use std::thread::Threads;
 use steal_workers::Crew;
 use tick_io::Gate;
 use tick_model::feed::Run;
 use tick_model::items::Items;
 use tick_model::table::NodeFault;
-use tick_table::{Change, Shared, TickTable};
+use tick_table::{Change, Shared, Steps, TickTable};
 
 /// The nodes of a lawful run, all of which stand at one step of it. A contract sees the run, the step, and the nodes with an
 /// operator that were worked for the step.
@@ -91,14 +91,18 @@ impl Drop for Graph {
     }
 }
 
-/// The changes of the sources at the next step, by its batch.
-fn changes_of(
+/// The changes of the sources at the next step, by its batch, with reads that are counted from a blank.
+fn changes_of<L: Ledger>(
     alloc: Global,
     run: &Run,
     step: u64,
     keys: &mut SourceKeys,
     sources: &[Shared],
+    blank: Blank,
 ) -> Result<Vec<Change>, Stop>
+    requires name { blank.name ≡ L.name }
+    requires parts { blank.parts ≡ L.parts }
+    requires some { 0 < blank.parts }
     requires lawful { IsLawfulRun run.now }
     requires reached { IsReached run.now step }
     requires next { step < length run.now.batches }
@@ -111,7 +115,8 @@ fn changes_of(
 {
     let batch = &run.batches.as_slice()[step as usize];
     let known = referred(alloc, sources)?;
-    match keys.changes(alloc, &run.plan, batch, &known) {
+    let mut reads = Steps::<L>::new(blank);
+    match keys.changes(alloc, &run.plan, batch, &known, &mut reads) {
         Ok(changes) => Ok(changes),
         Err(fault) => Err(refused(step + 1, fault)),
     }
@@ -232,7 +237,7 @@ fn next<G: Gate>(
     ensures cause { IfErr result (IsStop run.now (step + 1)) }
 {
     let mut keys = keys;
-    let changes = changes_of(alloc, run, step, &mut keys, &sources)?;
+    let changes = changes_of::<Brand>(alloc, run, step, &mut keys, &sources, Blank::new(1))?;
     let sources = changed_sources(alloc, run, step + 1, sources, changes)?;
     let blank = Blank::new(1);
     let sweep = advance_all::<G, Brand>(alloc, run, step + 1, works, &sources, gate, blank)?;
@@ -269,7 +274,7 @@ fn next_by<R: Threads + Sync, G: Gate>(
     ensures size { crew.new.size ≡ crew.old.size }
 {
     let mut keys = keys;
-    let changes = changes_of(alloc, run, step, &mut keys, &sources)?;
+    let changes = changes_of::<Brand>(alloc, run, step, &mut keys, &sources, Blank::new(1))?;
     let sources = changed_sources(alloc, run, step + 1, sources, changes)?;
     let works = crew_step(
         rt,

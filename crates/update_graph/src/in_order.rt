@@ -7,7 +7,7 @@ ghost use Rattle.update_graph.specs.Graphs.{sources_shown};
 ghost use Rattle.update_graph.specs.Sweeps.{IsSwept};
 ghost use Rattle.update_graph.specs.Tags.{tag, tags};
 
-use crate::sweep::{Sweep, shares_for};
+use crate::sweep::{Sweep, inputs_stay, shares_for};
 use crate::work::Work;
 use std::alloc::{AllocError, Global};
 use std::sync::ledger::{Blank, Ledger};
@@ -41,6 +41,13 @@ fn advance_node<G: Gate, L: Ledger>(
         return sweep.put_source(run, step, sources);
     }
     let number = sweep.works.len() as u32;
+    if inputs_stay(run, step, &node.op, &sweep.shares) {
+        gate.enter(number);
+        let stayed = work.stay(alloc, run);
+        gate.leave(number);
+        let (work, share) = stayed?;
+        return sweep.put(run, step, work, share);
+    }
     let shares = shares_for(alloc, run, step, &node.op, &sweep.shares)?;
     gate.enter(number);
     let worked = work.advance(alloc, run, shares, reads);

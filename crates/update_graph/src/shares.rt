@@ -1,7 +1,8 @@
 //! What a node hands to its dependents.
 
-ghost use Rattle.std.specs.Prelude.{◌≡◌, IfOk, option_map};
-ghost use Rattle.update_graph.specs.Stands.{AreHanded, IsHanded};
+ghost use Rattle.std.specs.Prelude.{◌≡◌, IfOk, option_map, true};
+ghost use Rattle.std.specs.List.{AllByRecursion};
+ghost use Rattle.update_graph.specs.Stands.{AreHanded, IsHanded, Stays};
 ghost use Rattle.update_graph.specs.Tags.{tag};
 
 use graph_words::Tagged;
@@ -71,6 +72,16 @@ impl Share {
         Ok(Share::new(run, self.node, self.step, table))
     }
 
+    /// Whether the node has a table that the step does not change.
+    pub(crate) fn stays(&self) -> bool
+        ensures { result ≡ true → Stays self.now.run self.now.step self.now.node }
+    {
+        match &self.table {
+            Some(table) => table.update().is_empty(),
+            None => false,
+        }
+    }
+
     /// The table that is handed on.
     pub(crate) fn into_table(self) -> Option<Shared>
         ensures { IsHanded self.run self.step self.node result }
@@ -83,6 +94,18 @@ impl Share {
         } = self;
         table
     }
+}
+
+/// Whether each of the nodes has a table that the step does not change.
+pub(crate) fn shares_stay(shares: &[Share]) -> bool
+    ensures { result ≡ true → AllByRecursion (λ share. Stays share.run share.step share.node) shares.now }
+{
+    for share in shares {
+        if !share.stays() {
+            return false;
+        }
+    }
+    true
 }
 
 /// The tables that nodes hand on, or `None` where one of them has none.

@@ -7,10 +7,10 @@ ghost use Rattle.source_changes.specs.Openings.{IsOpenedTable};
 ghost use Rattle.tick_model.specs.Changes.{change_of, told_keys};
 ghost use Rattle.tick_model.specs.LawfulRuns.{IsLawfulRun};
 ghost use Rattle.tick_model.specs.Rules.{update_fault};
-ghost use Rattle.tick_model.specs.Sources.{opened, source_ticks};
+ghost use Rattle.tick_model.specs.Sources.{opened, source_ticks, unchanged};
 ghost use Rattle.tick_model.specs.Tables.{keys};
 ghost use Rattle.tick_model.specs.Updates.{IsTick, Tick};
-ghost use Rattle.tick_table.specs.Exact.{ticking};
+ghost use Rattle.tick_table.specs.Exact.{IsExact, ticking};
 ghost use Rattle.tick_table.specs.Ticking.{Ticking};
 ghost use Rattle.update_graph.specs.Entered.{IsEntered};
 ghost use Rattle.update_graph.specs.Graphs.{sources_shown};
@@ -18,7 +18,9 @@ ghost use Rattle.update_graph.specs.Graphs.{sources_shown};
 use source_changes::opening_change;
 use std::alloc::{AllocError, Global};
 use std::sync::Arc;
+use table_update::Update;
 use tick_model::feed::Run;
+use tick_model::items::Items;
 use tick_model::table::PlainTable;
 use tick_table::{Change, Shared, TickTable};
 
@@ -35,6 +37,19 @@ pub(crate) fn applied(alloc: Global, table: Shared, change: Change) -> Result<Sh
     };
     let changed = own.apply(change)?;
     Ok(Arc::new(alloc, changed)?)
+}
+
+/// A table after a step in which nothing changes.
+pub(crate) fn rested(alloc: Global, table: Shared) -> Result<Shared, AllocError>
+    requires { IsExact (arc_value {X = Ticking} table) }
+    ensures { IfOk result (λ shared. arc_value {X = Ticking} shared ≡ ticking (unchanged (arc_value {X = Ticking} table).new)) }
+{
+    let change = Change {
+        update: Update::none(alloc),
+        cells: Items::new(alloc),
+    };
+    let rested = applied(alloc, table, change)?;
+    Ok(rested)
 }
 
 /// The table of a source after the opening.

@@ -7,6 +7,7 @@ ghost use Rattle.tick_model.specs.Evaluation.{inputs_of as inputs_in, source_num
 ghost use Rattle.tick_model.specs.LawfulRuns.{IsLawfulRun};
 ghost use Rattle.update_graph.specs.Entered.{IsEntered};
 ghost use Rattle.update_graph.specs.Graphs.{AreSources, sources_shown};
+ghost use Rattle.update_graph.specs.Stands.{Stays};
 ghost use Rattle.update_graph.specs.Sweeps.{IsSwept};
 ghost use Rattle.update_graph.specs.Tags.{is_operator, op_at, tag, tags};
 
@@ -54,6 +55,52 @@ pub(crate) fn shares_for(
         handed.push(share)?;
     }
     Ok(handed)
+}
+
+/// Whether a node has a table that a step does not change.
+fn node_stays(run: &Run, step: u64, node: u32, shares: &[Share]) -> bool
+    requires shares { shares.now ≡ tags run.now step (length shares.now) }
+    requires node { node < length shares.now }
+    ensures { result ≡ true → Stays run.now step node }
+{
+    let _ = run;
+    let _ = step;
+    shares[node as usize].stays()
+}
+
+/// Whether no input of an operator changes in a step. Each of them has a table then.
+pub(crate) fn inputs_stay(run: &Run, step: u64, op: &Op, shares: &[Share]) -> bool
+    requires shares { shares.now ≡ tags run.now step (length shares.now) }
+    requires inputs { AllByRecursion (λ input. input < length shares.now) (inputs_in op.now) }
+    ensures { result ≡ true → AllByRecursion (Stays run.now step) (inputs_in op.now) }
+{
+    match op {
+        Op::Source => false,
+        Op::Keep { input, .. }
+        | Op::View { input, .. }
+        | Op::Agg { input, .. }
+        | Op::Sort { input, .. }
+        | Op::Head { input, .. }
+        | Op::Tail { input, .. } => node_stays(run, step, *input, shares),
+        Op::Join { left, right, .. } | Op::AsOf { left, right, .. } => {
+            node_stays(run, step, *left, shares) && node_stays(run, step, *right, shares)
+        }
+        Op::Merge { inputs } => all_stay(run, step, inputs.as_slice(), shares),
+    }
+}
+
+/// Whether none of these nodes changes in a step. Each of them has a table then.
+fn all_stay(run: &Run, step: u64, nodes: &[u32], shares: &[Share]) -> bool
+    requires shares { shares.now ≡ tags run.now step (length shares.now) }
+    requires nodes { AllByRecursion (λ node. node < length shares.now) nodes.now }
+    ensures { result ≡ true → AllByRecursion (Stays run.now step) nodes.now }
+{
+    for node in nodes {
+        if !node_stays(run, step, *node, shares) {
+            return false;
+        }
+    }
+    true
 }
 
 /// What a source keeps and hands on at a step.

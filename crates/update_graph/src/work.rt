@@ -1,22 +1,24 @@
 //! What a node keeps from step to step, and how a step advances it.
 
-ghost use Rattle.std.specs.Prelude.{◌≡◌, ◌+◌, ◌<◌, ◌≤◌, IfOk, OnOk, false, length, map, true};
+ghost use Rattle.std.specs.Prelude.{◌≡◌, ◌+◌, ◌<◌, ◌≤◌, IfOk, None, OnOk, false, length, map, true};
 ghost use Rattle.std.specs.Arc.{arc_value};
 ghost use Rattle.std.specs.List.{AllByRecursion};
 ghost use Rattle.merge_op.specs.Merged.{tables};
 ghost use Rattle.tick_laws.specs.Reached.{table_before};
-ghost use Rattle.tick_model.specs.Evaluation.{Fault, inputs_of, outcome_at, table_at};
+ghost use Rattle.tick_model.specs.Evaluation.{Fault, fault_of, inputs_of, outcome_at, table_at};
+ghost use Rattle.tick_model.specs.Sources.{unchanged};
 ghost use Rattle.tick_model.specs.States.{state as state_of};
 ghost use Rattle.tick_model.specs.declared.table.NodeFault.{NodeFault};
+ghost use Rattle.tick_table.specs.Exact.{IsExact, ticking};
 ghost use Rattle.tick_table.specs.Ticking.{Ticking};
 ghost use Rattle.update_graph.specs.Entered.{IsEntered};
 ghost use Rattle.update_graph.specs.Faults.{fault_in};
 ghost use Rattle.update_graph.specs.Reads.{all_defined, most_reads};
-ghost use Rattle.update_graph.specs.Stands.{IsKept, IsReady, is_defined, shown};
+ghost use Rattle.update_graph.specs.Stands.{IsKept, IsReady, Stays, is_defined, shown};
 ghost use Rattle.update_graph.specs.Tags.{is_operator, op_at, tag};
 
-use crate::shares::{Share, tables_of};
-use crate::sources::applied;
+use crate::shares::{Share, shares_stay, tables_of};
+use crate::sources::{applied, rested};
 use graph_words::Tagged;
 use operators::{Operator, StepFault};
 use std::alloc::{AllocError, Global};
@@ -40,8 +42,8 @@ pub(crate) struct Ready {
 pub(crate) enum State {
     /// It is a source, of which nothing is kept here.
     Source,
-    /// It has a table.
-    Defined(Ready),
+    /// It has a table. What it keeps lies in a place of its own, which changes hands where the node is idle.
+    Defined(Box<Ready>),
     /// It has none although its inputs have theirs.
     Failed(NodeFault),
     /// It has none since an input has none.
@@ -116,7 +118,7 @@ impl Work {
     }
 
     /// What is kept of a node with an operator at the next step, and what it hands on. Its operator steps once, or not at all
-    /// where a share says that its node has no table. After a refusal the work is given up.
+    /// where no input changes or one has no table. After a refusal the work is given up.
     pub fn advance<L: Ledger>(
         self,
         alloc: Global,
@@ -134,6 +136,10 @@ impl Work {
         ensures reads { OnOk result (is_defined run.now (self.step + 1) self.node ≡ true → reads.new ≤ reads.old + most_reads run.now (self.step + 1) self.node) }
         ensures none { OnOk result (all_defined shares ≡ false → reads.new ≡ reads.old) }
     {
+        if shares_stay(shares.as_slice()) {
+            drop(shares);
+            return self.stay(alloc, run);
+        }
         let Work {
             run: _,
             node,
@@ -141,7 +147,34 @@ impl Work {
             state,
         } = self;
         match state {
-            State::Defined(ready) => worked(alloc, run, node, step + 1, ready, shares, reads),
+            State::Defined(ready) => {
+                let ready = Box::into_inner(ready);
+                worked(alloc, run, node, step + 1, ready, shares, reads)
+            }
+            State::Source => unreachable!(),
+            State::Failed(_) => unreachable!(),
+            State::Undefined => unreachable!(),
+        }
+    }
+
+    /// What is kept of a node none of whose inputs changes in the next step, and what it hands on. Its operator takes no step.
+    pub(crate) fn stay(self, alloc: Global, run: &Run) -> Result<(Work, Share), AllocError>
+        requires run { self.run ≡ run.now }
+        requires entered { IsEntered run.now (self.step + 1) }
+        requires node { self.node < length run.now.plan.nodes }
+        requires operator { is_operator run.now self.node ≡ true }
+        requires inputs { AllByRecursion (Stays run.now (self.step + 1)) (inputs_of (op_at run.now self.node)) }
+        ensures work { IfOk result (λ out. out.0 ≡ tag run.now (self.step + 1) self.node) }
+        ensures share { IfOk result (λ out. out.1 ≡ tag run.now (self.step + 1) self.node) }
+    {
+        let Work {
+            run: _,
+            node,
+            step,
+            state,
+        } = self;
+        match state {
+            State::Defined(ready) => stayed(alloc, run, node, step + 1, ready),
             State::Source => unreachable!(),
             State::Failed(_) => unreachable!(),
             State::Undefined => unreachable!(),
@@ -190,10 +223,28 @@ fn without_table(run: &Run, node: u32, step: u64, state: State) -> (Work, Share)
 }
 
 /// A node that has a table.
-fn with_table(run: &Run, node: u32, step: u64, ready: Ready) -> Result<(Work, Share), AllocError>
+fn with_table(
+    alloc: Global,
+    run: &Run,
+    node: u32,
+    step: u64,
+    ready: Ready,
+) -> Result<(Work, Share), AllocError>
     requires defined { is_defined run.now step node ≡ true }
     requires ready { IsReady run.now (table_at (state_of run.now step)) node ready.operator ready.table }
     requires table { arc_value {X = Ticking} ready.table ≡ shown run.now step node }
+    ensures work { IfOk result (λ out. out.0 ≡ tag run.now step node) }
+    ensures share { IfOk result (λ out. out.1 ≡ tag run.now step node) }
+{
+    let held = Box::new(alloc, ready)?;
+    holding(run, node, step, held)
+}
+
+/// A node that has a table, with its operator where it lies.
+fn holding(run: &Run, node: u32, step: u64, ready: Box<Ready>) -> Result<(Work, Share), AllocError>
+    requires defined { is_defined run.now step node ≡ true }
+    requires ready { IsReady run.now (table_at (state_of run.now step)) node ready.value.operator ready.value.table }
+    requires table { arc_value {X = Ticking} ready.value.table ≡ shown run.now step node }
     ensures work { IfOk result (λ out. out.0 ≡ tag run.now step node) }
     ensures share { IfOk result (λ out. out.1 ≡ tag run.now step node) }
 {
@@ -202,6 +253,43 @@ fn with_table(run: &Run, node: u32, step: u64, ready: Ready) -> Result<(Work, Sh
         Work::new(run, node, step, State::Defined(ready)),
         Share::new(run, node, step, Some(table)),
     ))
+}
+
+/// What a node keeps after a step in which its table does not change: the same, but that its table tells of no change.
+fn rest(alloc: Global, ready: Box<Ready>) -> Result<Box<Ready>, AllocError>
+    requires { IsExact (arc_value {X = Ticking} ready.value.table) }
+    ensures operator { IfOk result (λ resting. resting.value.operator ≡ ready.value.operator) }
+    ensures table { IfOk result (λ resting. arc_value {X = Ticking} resting.value.table ≡ ticking (unchanged (arc_value {X = Ticking} ready.value.table).new)) }
+{
+    if ready.table.update().is_empty() {
+        return Ok(ready);
+    }
+    let Ready { operator, table } = Box::into_inner(ready);
+    let table = rested(alloc, table)?;
+    let resting = Box::new(alloc, Ready { operator, table })?;
+    Ok(resting)
+}
+
+/// A node none of whose inputs changes in a step: its operator stays as it is, and its table, too.
+fn stayed(
+    alloc: Global,
+    run: &Run,
+    node: u32,
+    step: u64,
+    ready: Box<Ready>,
+) -> Result<(Work, Share), AllocError>
+    requires entered { IsEntered run.now step }
+    requires node { node < length run.now.plan.nodes }
+    requires operator { is_operator run.now node ≡ true }
+    requires clear { fault_of (op_at run.now node) (table_before run.now step) ≡ None }
+    requires ready { IsReady run.now (table_before run.now step) node ready.value.operator ready.value.table }
+    requires exact { IsExact (arc_value {X = Ticking} ready.value.table) }
+    requires inputs { AllByRecursion (Stays run.now step) (inputs_of (op_at run.now node)) }
+    ensures work { IfOk result (λ out. out.0 ≡ tag run.now step node) }
+    ensures share { IfOk result (λ out. out.1 ≡ tag run.now step node) }
+{
+    let ready = rest(alloc, ready)?;
+    holding(run, node, step, ready)
 }
 
 /// A node with an operator after a step, from what it has before it, and what it hands on. The shares are those of its inputs.
@@ -279,7 +367,7 @@ fn stepped<L: Ledger>(
     match operator.step(alloc, inputs, reads) {
         Ok((operator, change)) => {
             let table = applied(alloc, table, change)?;
-            with_table(run, node, step, Ready { operator, table })
+            with_table(alloc, run, node, step, Ready { operator, table })
         }
         Err(fault) => without_step(run, node, step, fault),
     }

@@ -9,3 +9,9 @@ invariant-loop-step g l = record {
   step : l.stepping.graph.step ≡ l._step;
   seen : l.stepping.viewport.table ≡ table_at (state l.run l.stepping.graph.step) l.node;
 }
+
+abbrev pub ghosts-opened : goal.ghosts-opened
+ghosts-opened g a = record { name = a.blank.name; parts = a.blank.parts }
+
+abbrev pub ghosts-advanced : goal.ghosts-advanced
+ghosts-advanced g a = record { name = a.blank.name; parts = a.blank.parts }

@@ -13,7 +13,7 @@ use Rattle.update_graph.proofs.Changing.{at_place}
 use Rattle.update_graph.proofs.graph.changes_of.Goals as goal
 
 pub changes-requires-clause-blocks : goal.changes-requires-clause-blocks
-changes-requires-clause-blocks c =
+changes-requires-clause-blocks g c =
     let run = c.args.run.now in (
       length run.texts,
       at_place (λ (batch : Batch). AllByRecursion (IsLawfulBlock run.plan (length run.texts)) batch.blocks) run.batches c.as_slice.result.now c.requires.lawful.batches c.as_slice.ensures c.args.step c.index-as_slice-step.result
@@ -21,37 +21,37 @@ changes-requires-clause-blocks c =
     )
 
 pub changes-requires-clause-tables : goal.changes-requires-clause-tables
-changes-requires-clause-tables c =
+changes-requires-clause-tables g c =
     let run = c.args.run.now in
     subst (AreSourceTables (sources_of run.plan.nodes)) (sym (known_are run c.args.step c.deref.result.now (tables c.args.sources.now) (ap (map _) c.deref.ensures.value ∙ c.in_ok-known.ensures) c.requires.sources))
     (sources_bounded run c.requires.lawful c.args.step c.requires.reached.batches)
 
 pub changes-requires-clause-keys : goal.changes-requires-clause-keys
-changes-requires-clause-keys c =
+changes-requires-clause-keys g c =
     c.requires.keys ∙ sym (known_keys c.args.run.now c.args.step c.deref.result.now (tables c.args.sources.now) (ap (map _) c.deref.ensures.value ∙ c.in_ok-known.ensures) c.requires.sources)
 
 pub returns-in-Ok-clause-entered : goal.returns-in-Ok-clause-entered
-returns-in-Ok-clause-entered c =
+returns-in-Ok-clause-entered g c =
     let run = c.args.run.now in
     let there = c.index-as_slice-step.is ∙ ap (λ batches. get_or batches c.args.step c.index-as_slice-step.result) c.as_slice.ensures in
     entered_next run c.args.step c.requires.lawful c.requires.reached c.requires.next
     (fault_is run c.args.step c.deref.result.now (tables c.args.sources.now) (ap (map _) c.deref.ensures.value ∙ c.in_ok-known.ensures) c.requires.sources c.requires.next c.index-as_slice-step.result there ∙ c.in-Ok.ensures.lawful)
 
 pub returns-in-Ok-clause-changes : goal.returns-in-Ok-clause-changes
-returns-in-Ok-clause-changes c =
+returns-in-Ok-clause-changes g c =
     let run = c.args.run.now in
     let there = c.index-as_slice-step.is ∙ ap (λ batches. get_or batches c.args.step c.index-as_slice-step.result) c.as_slice.ensures in
     c.in-Ok.ensures.changes
     ∙ ap (map change_of) (sym (ticks_are run c.args.step c.deref.result.now (tables c.args.sources.now) (ap (map _) c.deref.ensures.value ∙ c.in_ok-known.ensures) c.requires.sources c.requires.next c.index-as_slice-step.result there))
 
 pub returns-in-Ok-clause-keys : goal.returns-in-Ok-clause-keys
-returns-in-Ok-clause-keys c =
+returns-in-Ok-clause-keys g c =
     let run = c.args.run.now in
     let there = c.index-as_slice-step.is ∙ ap (λ batches. get_or batches c.args.step c.index-as_slice-step.result) c.as_slice.ensures in
     c.in-Ok.ensures.keys ∙ keys_after run c.args.step c.deref.result.now (tables c.args.sources.now) (ap (map _) c.deref.ensures.value ∙ c.in_ok-known.ensures) c.requires.sources c.requires.next c.index-as_slice-step.result there
 
 pub returns-clause-cause : goal.returns-clause-cause
-returns-clause-cause c =
+returns-clause-cause g c =
     let run = c.args.run.now in
     let there = c.index-as_slice-step.is ∙ ap (λ batches. get_or batches c.args.step c.index-as_slice-step.result) c.as_slice.ensures in
     c.refused.ensures run

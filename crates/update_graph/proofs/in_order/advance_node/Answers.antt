@@ -11,14 +11,24 @@ use Rattle.update_graph.proofs.EnteredTicks.{lesser}
 use Rattle.update_graph.proofs.Sweeping.{any_default, length-tags}
 use Rattle.update_graph.proofs.in_order.advance_node.Goals as goal
 
-pub shares_for-requires-clause-inputs : goal.shares_for-requires-clause-inputs
-shares_for-requires-clause-inputs g c =
+pub inputs_stay-requires-clause-inputs : goal.inputs_stay-requires-clause-inputs
+inputs_stay-requires-clause-inputs g c =
     let run = c.args.run.now in
     let n = length c.args.sweep.now.works.items in
     let count = c.len.ensures ∙ c.args.sweep.now.works.ok.0 in
     let handed = ap length (c.deref.ensures.value ∙ c.requires.swept.shares) ∙ length-tags run c.args.step n in
     let node = c.index-as_slice-len.is ∙ ap (λ all. get_or all c.len.result c.index-as_slice-len.result) c.as_slice.ensures ∙ ap (λ k. get_or run.plan.nodes k c.index-as_slice-len.result) count ∙ any_default run.plan.nodes n c.index-as_slice-len.result no_node c.requires.node in
     subst (λ (own : Node). AllByRecursion (λ input. input < length c.deref.result.now) (inputs_of own.op)) (sym node)
+    (subst (λ m. AllByRecursion (λ input. input < m) (inputs_of (get_or run.plan.nodes n no_node).op)) (sym handed) (lesser run c.requires.entered.lawful n c.requires.node))
+
+pub shares_for-requires-clause-inputs : goal.shares_for-requires-clause-inputs
+shares_for-requires-clause-inputs g c =
+    let run = c.args.run.now in
+    let n = length c.args.sweep.now.works.items in
+    let count = c.len.ensures ∙ c.args.sweep.now.works.ok.0 in
+    let handed = ap length (c.deref-2.ensures.value ∙ c.requires.swept.shares) ∙ length-tags run c.args.step n in
+    let node = c.index-as_slice-len.is ∙ ap (λ all. get_or all c.len.result c.index-as_slice-len.result) c.as_slice.ensures ∙ ap (λ k. get_or run.plan.nodes k c.index-as_slice-len.result) count ∙ any_default run.plan.nodes n c.index-as_slice-len.result no_node c.requires.node in
+    subst (λ (own : Node). AllByRecursion (λ input. input < length c.deref-2.result.now) (inputs_of own.op)) (sym node)
     (subst (λ m. AllByRecursion (λ input. input < m) (inputs_of (get_or run.plan.nodes n no_node).op)) (sym handed) (lesser run c.requires.entered.lawful n c.requires.node))
 
 pub advance-worked-requires-clause-run : goal.advance-worked-requires-clause-run
@@ -51,11 +61,25 @@ put-requires-clause-work g c =
     let run = c.args.run.now in
     let work = c.args.work in
     advanced run c.args.step (length c.args.sweep.now.works.items) c.requires.later work c.requires.work c.in_ok-work.work
-    (subst (λ found. IfOk found (λ (out : Tag × Tag). out.0 ≡ tag run (work.step + 1) work.node)) c.in_ok-work.was c.advance-worked.ensures.work)
+    (subst (λ found. IfOk found (λ (out : Tag × Tag). out.0 ≡ tag run (work.step + 1) work.node)) c.in_ok-work.was c.stay-stayed.ensures.work)
 
 pub put-requires-clause-share : goal.put-requires-clause-share
 put-requires-clause-share g c =
     let run = c.args.run.now in
     let work = c.args.work in
     advanced run c.args.step (length c.args.sweep.now.works.items) c.requires.later work c.requires.work c.in_ok-work.share
-    (subst (λ found. IfOk found (λ (out : Tag × Tag). out.1 ≡ tag run (work.step + 1) work.node)) c.in_ok-work.was c.advance-worked.ensures.share)
+    (subst (λ found. IfOk found (λ (out : Tag × Tag). out.1 ≡ tag run (work.step + 1) work.node)) c.in_ok-work.was c.stay-stayed.ensures.share)
+
+pub put-requires-2-clause-work : goal.put-requires-2-clause-work
+put-requires-2-clause-work g c =
+    let run = c.args.run.now in
+    let work = c.args.work in
+    advanced run c.args.step (length c.args.sweep.now.works.items) c.requires.later work c.requires.work c.in_ok-work-2.work
+    (subst (λ found. IfOk found (λ (out : Tag × Tag). out.0 ≡ tag run (work.step + 1) work.node)) c.in_ok-work-2.was c.advance-worked.ensures.work)
+
+pub put-requires-2-clause-share : goal.put-requires-2-clause-share
+put-requires-2-clause-share g c =
+    let run = c.args.run.now in
+    let work = c.args.work in
+    advanced run c.args.step (length c.args.sweep.now.works.items) c.requires.later work c.requires.work c.in_ok-work-2.share
+    (subst (λ found. IfOk found (λ (out : Tag × Tag). out.1 ≡ tag run (work.step + 1) work.node)) c.in_ok-work-2.was c.advance-worked.ensures.share)
