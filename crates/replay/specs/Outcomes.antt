@@ -1,10 +1,11 @@
 -- What the run of a feed ends with, and what it writes.
 --     IsVerdict run knobs outcome      the outcome is the one that the definitions give to the run and to how it is run
 --     IsTold outcome      memory did not run out, and the sink did not fail
+--     OnTold result P      this holds where a value is given, or an outcome that is told
 --     IsComplete run knobs outcome      memory ran out, or the outcome is that of the run
 --     WritesWhole run knobs old new      the whole text was written, with the snapshots of a choice that callers may make
 --     WritesPrefix run knobs old new      a prefix of such a text was written
-use Rattle.std.specs.Prelude.{◌≡◌, ℕ, ◌<◌, ◌≤◌, ◌++◌, List, [], Option, Some, None, length, map, nat_lt, slice_index_or, if◌then◌else◌}
+use Rattle.std.specs.Prelude.{◌≡◌, ℕ, ◌<◌, ◌≤◌, ◌++◌, List, [], Option, Some, None, Result, Ok, Err, length, map, nat_lt, slice_index_or, if◌then◌else◌}
 use Rattle.std.specs.Io.KnownBytes.{append_known}
 use Rattle.tick_io.specs.Written.{AppendsPrefix}
 use Rattle.tick_model.specs.declared.feed.Run.{Run}
@@ -57,6 +58,10 @@ abbrev pub IsTold : Outcome → Type 0
 IsTold Memory = ⊥
 IsTold Write = ⊥
 IsTold outcome = Unit {0}
+
+abbrev pub OnTold : {T : Type 0} → Result T Outcome → Type 0 → Type 0
+OnTold (Ok value) P = P
+OnTold (Err outcome) P = IsTold outcome → P
 
 abbrev pub IsComplete : Run → Knobs → Outcome → Type 0
 IsComplete run knobs Memory = Unit {0}

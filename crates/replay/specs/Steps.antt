@@ -18,3 +18,4 @@ pub record HasRun (run : Run) (outcome : Outcome) (last : ℕ) (old new : Option
   pub prefix : AppendsPrefix old new (text_from run 1)
   pub failed : outcome ≡ Write → Rose before after
   pub never_falls : before ≤ after
+  pub steady : IsTold outcome → after ≡ before

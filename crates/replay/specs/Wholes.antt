@@ -46,3 +46,4 @@ pub record HasEndedFrom (run : Run) (knobs : Knobs) (step : ℕ) (outcome : Outc
   pub prefix : WritesSome run knobs step old new
   pub failed : outcome ≡ Write → Rose before after
   pub never_falls : before ≤ after
+  pub steady : IsTold outcome → after ≡ before

@@ -13,7 +13,7 @@ ghost use Rattle.tick_model.specs.Texts.{records_text, step_records};
 ghost use Rattle.tick_table.specs.Ticking.{Ticking};
 ghost use Rattle.replay.specs.Causes.{IsCause};
 ghost use Rattle.replay.specs.Opened.{IsOpened, IsStarted};
-ghost use Rattle.replay.specs.Outcomes.{IsTold};
+ghost use Rattle.replay.specs.Outcomes.{IsTold, OnTold};
 ghost use Rattle.replay.specs.Snapshots.{EachReader, IsReader, callers_of};
 ghost use Rattle.replay.specs.Standing.{IsAt, IsWithin};
 ghost use Rattle.replay.specs.ToCome.{text_from};
@@ -139,6 +139,7 @@ pub(crate) fn open_run<S: Sink>(
     ensures prefix { OnErr result (AppendsPrefix (S.bytes out.old) (S.bytes out.new) (text_from run.now 0)) }
     ensures failed { IsErrOf result Outcome.Write → Rose (S.failures out.old) (S.failures out.new) }
     ensures never_falls { S.failures out.old ≤ S.failures out.new }
+    ensures steady { OnTold result (S.failures out.new ≡ S.failures out.old) }
 {
     let progress = Progress::open(alloc, run, out)?;
     let callers = caller_count(run.plan.published.as_slice(), knobs.callers);

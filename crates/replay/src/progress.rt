@@ -7,7 +7,7 @@ ghost use Rattle.tick_io.specs.Written.{AppendsPrefix};
 ghost use Rattle.tick_model.specs.LawfulRuns.{IsLawfulRun};
 ghost use Rattle.tick_model.specs.Texts.{records_text, step_records};
 ghost use Rattle.replay.specs.Causes.{IsCause};
-ghost use Rattle.replay.specs.Outcomes.{IsEnd, IsTold};
+ghost use Rattle.replay.specs.Outcomes.{IsEnd, IsTold, OnTold};
 ghost use Rattle.replay.specs.Standing.{IsAt, IsWriterAt};
 ghost use Rattle.replay.specs.ToCome.{text_from};
 
@@ -47,6 +47,7 @@ impl Progress {
         ensures prefix { OnErr result (AppendsPrefix (S.bytes out.old) (S.bytes out.new) (text_from run.now 0)) }
         ensures failed { IsErrOf result Outcome.Write → Rose (S.failures out.old) (S.failures out.new) }
         ensures never_falls { S.failures out.old ≤ S.failures out.new }
+        ensures steady { OnTold result (S.failures out.new ≡ S.failures out.old) }
     {
         let printed = printed_nodes(alloc, run)?;
         let graph = Graph::start(alloc, run)?;
@@ -86,6 +87,7 @@ impl Progress {
         ensures prefix { OnErr result (AppendsPrefix (S.bytes out.old) (S.bytes out.new) (text_from run.now (self.graph.step + 1))) }
         ensures failed { IsErrOf result Outcome.Write → Rose (S.failures out.old) (S.failures out.new) }
         ensures never_falls { S.failures out.old ≤ S.failures out.new }
+        ensures steady { OnTold result (S.failures out.new ≡ S.failures out.old) }
     {
         let Progress {
             graph,

@@ -47,6 +47,7 @@ fn ended<R: Wait, S: Sink>(
     ensures prefix { AddsPrefix run.now knobs.now publication.writer.step (S.bytes out.old) (S.bytes out.new) }
     ensures failed { result ≡ Outcome.Write → Rose (S.failures out.old) (S.failures out.new) }
     ensures never_falls { S.failures out.old ≤ S.failures out.new }
+    ensures steady { IsTold result → S.failures out.new ≡ S.failures out.old }
 {
     let published = run.plan.published.len() as u32;
     let all = match last_snapshots(rt, alloc, knobs, published, publication) {
@@ -155,6 +156,7 @@ pub fn run_feed<R: Threads + Wait + Sync, S: Sink, G: Gate>(
     ensures prefix { WritesPrefix run.now knobs.now (S.bytes out.old) (S.bytes out.new) }
     ensures complete { (Rose (S.failures out.old) (S.failures out.new) → ⊥) → IsComplete run.now knobs.now result }
     ensures never_falls { S.failures out.old ≤ S.failures out.new }
+    ensures steady { IsTold result → S.failures out.new ≡ S.failures out.old }
 {
     let words = kept_words(run, knobs);
     if words > MOST_WORDS {

@@ -40,6 +40,7 @@ fn write_call<S: Sink>(
     ensures err { OnErr result (AppendsPrefix (S.bytes out.old) (S.bytes out.new) (records_text (snapshot_records run.now caller call kept.now.step))) }
     ensures failed { IsErrOf result WriteFault.Failed → Rose (S.failures out.old) (S.failures out.new) }
     ensures never_falls { S.failures out.old ≤ S.failures out.new }
+    ensures steady { OnOk result (S.failures out.new ≡ S.failures out.old) }
 {
     let number = (caller + call) as usize % published.len();
     let shown = &published[number].shown;
@@ -75,6 +76,7 @@ fn write_caller<S: Sink>(
     ensures err { OnErr result (AppendsPrefix (S.bytes out.old) (S.bytes out.new) (records_text (calls_records run.now caller 0 (steps_of kept.now)))) }
     ensures failed { IsErrOf result WriteFault.Failed → Rose (S.failures out.old) (S.failures out.new) }
     ensures never_falls { S.failures out.old ≤ S.failures out.new }
+    ensures steady { OnOk result (S.failures out.new ≡ S.failures out.old) }
 {
     for (call, snapshot) in kept.iter().enumerate() {
         write_call(alloc, out, run, published, caller, call as u32, snapshot)?;
@@ -99,6 +101,7 @@ fn write_callers<S: Sink>(
     ensures err { OnErr result (AppendsPrefix (S.bytes out.old) (S.bytes out.new) (records_text (callers_records run.now 0 (all_steps all.now)))) }
     ensures failed { IsErrOf result WriteFault.Failed → Rose (S.failures out.old) (S.failures out.new) }
     ensures never_falls { S.failures out.old ≤ S.failures out.new }
+    ensures steady { OnOk result (S.failures out.new ≡ S.failures out.old) }
 {
     for (caller, kept) in all.iter().enumerate() {
         write_caller(alloc, out, run, published, caller as u32, kept.as_slice())?;
@@ -121,6 +124,7 @@ pub(crate) fn write_snapshots<S: Sink>(
     ensures err { OnErr result (AppendsPrefix (S.bytes out.old) (S.bytes out.new) (records_text (callers_records run.now 0 (all_steps all.now)))) }
     ensures failed { IsErrOf result WriteFault.Failed → Rose (S.failures out.old) (S.failures out.new) }
     ensures never_falls { S.failures out.old ≤ S.failures out.new }
+    ensures steady { OnOk result (S.failures out.new ≡ S.failures out.old) }
 {
     let published = published_nodes(alloc, run)?;
     write_callers(alloc, out, run, published.as_slice(), all)

@@ -5,7 +5,7 @@ ghost use Rattle.snapshot_store.specs.Models.{IsOf};
 ghost use Rattle.tick_io.specs.Counts.{Rose};
 ghost use Rattle.tick_io.specs.Written.{AppendsPrefix};
 ghost use Rattle.tick_model.specs.LawfulRuns.{IsLawfulRun};
-ghost use Rattle.replay.specs.Outcomes.{IsEnd, IsTold};
+ghost use Rattle.replay.specs.Outcomes.{IsEnd, IsTold, OnTold};
 ghost use Rattle.replay.specs.Standing.{IsAt, IsLast, IsWriterAt};
 ghost use Rattle.replay.specs.Steps.{HasRun};
 ghost use Rattle.replay.specs.ToCome.{text_from};
@@ -46,6 +46,7 @@ fn bring_to_end<R: Threads + Wait + Sync, S: Sink, G: Gate>(
     ensures prefix { OnErr result (AppendsPrefix (S.bytes out.old) (S.bytes out.new) (text_from run.now 1)) }
     ensures failed { IsErrOf result Outcome.Write → Rose (S.failures out.old) (S.failures out.new) }
     ensures never_falls { S.failures out.old ≤ S.failures out.new }
+    ensures steady { OnTold result (S.failures out.new ≡ S.failures out.old) }
 {
     let mut progress = progress;
     for _step in 0..run.batches.len() {

@@ -30,6 +30,7 @@ fn write_node<S: Sink>(
     ensures err { OnErr result (AppendsPrefix (S.bytes out.old) (S.bytes out.new) (records_text (node_records graph.now.run graph.now.step printed.now.node))) }
     ensures failed { IsErrOf result WriteFault.Failed → Rose (S.failures out.old) (S.failures out.new) }
     ensures never_falls { S.failures out.old ≤ S.failures out.new }
+    ensures steady { OnOk result (S.failures out.new ≡ S.failures out.old) }
 {
     let step = graph.step();
     let table = graph.table(printed.node);
@@ -51,6 +52,7 @@ pub(crate) fn write_step<S: Sink>(
     ensures err { OnErr result (AppendsPrefix (S.bytes out.old) (S.bytes out.new) (records_text (step_records graph.now.run graph.now.step))) }
     ensures failed { IsErrOf result WriteFault.Failed → Rose (S.failures out.old) (S.failures out.new) }
     ensures never_falls { S.failures out.old ≤ S.failures out.new }
+    ensures steady { OnOk result (S.failures out.new ≡ S.failures out.old) }
 {
     let _step = graph.step();
     let mut records = 0;

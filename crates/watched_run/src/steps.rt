@@ -11,7 +11,7 @@ ghost use Rattle.tick_model.specs.Spoiled.{first_spoiled, good};
 ghost use Rattle.tick_model.specs.States.{state, tick};
 ghost use Rattle.tick_table.specs.Exact.{ticking};
 ghost use Rattle.replay.specs.Causes.{IsCause};
-ghost use Rattle.replay.specs.Outcomes.{IsTold};
+ghost use Rattle.replay.specs.Outcomes.{IsTold, OnTold};
 ghost use Rattle.replay.specs.Standing.{IsGood};
 ghost use Rattle.watched_run.specs.Messages.{IsWatch};
 ghost use Rattle.watched_run.specs.Standing.{GoesOn, IsTeller, IsWatchedAt};
@@ -22,6 +22,8 @@ use crate::teller::Teller;
 use crate::watch::Watch;
 use replay::{Hands, Outcome, check_limits};
 use std::alloc::{AllocError, Global};
+use std::marker::Brand;
+use std::sync::ledger::Blank;
 use std::thread::Threads;
 use tick_io::{Gate, Sink};
 use tick_model::feed::Run;
@@ -92,12 +94,14 @@ fn rest_told<S: Sink>(
     ensures no_cause { IfErr result (λ outcome. IsTold outcome → ⊥) }
     ensures failed { IsErrOf result Outcome.Write → Rose (S.failures out.old) (S.failures out.new) }
     ensures never_falls { S.failures out.old ≤ S.failures out.new }
+    ensures steady { OnTold result (S.failures out.new ≡ S.failures out.old) }
 {
     if teller.since == 0 {
         drop(teller);
         return Ok(());
     }
-    let _last = teller.message(alloc, out, run, watch, table)?;
+    let blank = Blank::new(1);
+    let _last = teller.message::<S, Brand>(alloc, out, run, watch, table, blank)?;
     Ok(())
 }
 
@@ -137,6 +141,7 @@ fn ended<S: Sink>(
     ensures untold { (IsTold outcome → ⊥) → S.bytes out.new ≡ S.bytes out.old }
     ensures failed { result ≡ Outcome.Write → Rose (S.failures out.old) (S.failures out.new) }
     ensures never_falls { S.failures out.old ≤ S.failures out.new }
+    ensures steady { IsTold result → S.failures out.new ≡ S.failures out.old }
 {
     if let Outcome::Memory = outcome {
         drop(teller);
@@ -165,9 +170,12 @@ impl Watching {
         ensures prefix { OnErr result (AppendsPrefix (S.bytes out.old) (S.bytes out.new) (watch_until run.now watch.now (good run.now))) }
         ensures failed { IsErrOf result Outcome.Write → Rose (S.failures out.old) (S.failures out.new) }
         ensures never_falls { S.failures out.old ≤ S.failures out.new }
+        ensures steady { OnTold result (S.failures out.new ≡ S.failures out.old) }
     {
         let graph = opened(alloc, run)?;
-        let teller = Teller::start(alloc, out, run, watch, graph.table(watch.node))?;
+        let table = graph.table(watch.node);
+        let blank = Blank::new(1);
+        let teller = Teller::start::<S, Brand>(alloc, out, run, watch, table, blank)?;
         Ok(Watching { graph, teller })
     }
 
@@ -193,6 +201,7 @@ impl Watching {
         ensures prefix { OnErr result (AppendsPrefix (S.bytes out.old) (S.bytes out.new) (text_from run.now watch.now self.teller.last self.teller.since)) }
         ensures failed { IsErrOf result Outcome.Write → Rose (S.failures out.old) (S.failures out.new) }
         ensures never_falls { S.failures out.old ≤ S.failures out.new }
+        ensures steady { OnTold result (S.failures out.new ≡ S.failures out.old) }
     {
         let Watching { graph, teller } = self;
         let held = held_table(&graph, watch.node, teller.since)?;
@@ -231,6 +240,7 @@ fn next_told<S: Sink>(
     ensures prefix { OnErr result (AppendsPrefix (S.bytes out.old) (S.bytes out.new) (text_from run.now watch.now teller.last teller.since)) }
     ensures failed { IsErrOf result Outcome.Write → Rose (S.failures out.old) (S.failures out.new) }
     ensures never_falls { S.failures out.old ≤ S.failures out.new }
+    ensures steady { OnTold result (S.failures out.new ≡ S.failures out.old) }
 {
     let table = graph.table(watch.node);
     let passed = teller.pass(run, watch, table)?;
@@ -240,7 +250,8 @@ fn next_told<S: Sink>(
             teller: passed,
         });
     }
-    let told = passed.message(alloc, out, run, watch, table)?;
+    let blank = Blank::new(1);
+    let told = passed.message::<S, Brand>(alloc, out, run, watch, table, blank)?;
     Ok(Watching {
         graph,
         teller: told,
@@ -272,6 +283,7 @@ pub fn watch_feed<R: Threads + Sync, S: Sink, G: Gate>(
     ensures prefix { OnErr result (AppendsPrefix (S.bytes out.old) (S.bytes out.new) (watch_until run.now watch.now (good run.now))) }
     ensures failed { IsErrOf result Outcome.Write → Rose (S.failures out.old) (S.failures out.new) }
     ensures never_falls { S.failures out.old ≤ S.failures out.new }
+    ensures steady { OnTold result (S.failures out.new ≡ S.failures out.old) }
 {
     let mut hands = Hands::new(alloc, workers)?;
     let opening = Watching::open(alloc, run, watch, out)?;

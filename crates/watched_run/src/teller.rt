@@ -10,7 +10,7 @@ ghost use Rattle.tick_model.specs.LawfulRuns.{IsLawfulRun};
 ghost use Rattle.tick_model.specs.States.{state, tick};
 ghost use Rattle.tick_model.specs.Texts.{records_text};
 ghost use Rattle.tick_table.specs.Exact.{ticking};
-ghost use Rattle.replay.specs.Outcomes.{IsTold};
+ghost use Rattle.replay.specs.Outcomes.{IsTold, OnTold};
 ghost use Rattle.watched_run.specs.Messages.{IsWatch, first_records, message_records};
 ghost use Rattle.watched_run.specs.Standing.{IsTeller};
 
@@ -18,9 +18,10 @@ use crate::told::tell;
 use crate::watch::{Watch, slice_of};
 use replay::{Outcome, PrintedNode, printed_node};
 use std::alloc::{AllocError, Global};
+use std::sync::ledger::{Blank, Ledger};
 use tick_io::Sink;
 use tick_model::feed::Run;
-use tick_table::TickTable;
+use tick_table::{Steps, TickTable};
 use viewport::{Mirror, Viewport};
 
 /// The node as it is printed, the subscription to its rows, and a mirror that has taken every message so far.
@@ -36,14 +37,18 @@ pub(crate) struct Teller {
 }
 
 impl Teller {
-    /// Tells the rows of the opening.
-    pub(crate) fn start<S: Sink>(
+    /// Tells the rows of the opening, with reads that are counted from a blank.
+    pub(crate) fn start<S: Sink, L: Ledger>(
         alloc: Global,
         out: &mut S,
         run: &Run,
         watch: &Watch,
         table: &TickTable,
+        blank: Blank,
     ) -> Result<Teller, Outcome>
+        requires name { blank.name ≡ L.name }
+        requires parts { blank.parts ≡ L.parts }
+        requires some { 0 < blank.parts }
         requires lawful { IsLawfulRun run.now }
         requires reached { IsReached run.now 0 }
         requires watch { IsWatch run.now watch.now }
@@ -56,11 +61,13 @@ impl Teller {
         ensures no_cause { IfErr result (λ outcome. IsTold outcome → ⊥) }
         ensures failed { IsErrOf result Outcome.Write → Rose (S.failures out.old) (S.failures out.new) }
         ensures never_falls { S.failures out.old ≤ S.failures out.new }
+        ensures steady { OnTold result (S.failures out.new ≡ S.failures out.old) }
     {
         let width = table.width();
         let printed = printed_node(alloc, run, watch.node)?;
         let slice = slice_of(alloc, watch, width)?;
-        let (viewport, message) = Viewport::start(alloc, slice, table)?;
+        let mut reads = Steps::<L>::new(blank);
+        let (viewport, message) = Viewport::start(alloc, slice, table, &mut reads)?;
         let empty = Mirror::new(alloc, width)?;
         let mirror = tell(alloc, out, 0, &printed.shown, &run.texts, empty, message)?;
         Ok(Teller {
@@ -106,15 +113,19 @@ impl Teller {
         })
     }
 
-    /// Tells what became of the rows since the last message.
-    pub(crate) fn message<S: Sink>(
+    /// Tells what became of the rows since the last message, with reads that are counted from a blank.
+    pub(crate) fn message<S: Sink, L: Ledger>(
         self,
         alloc: Global,
         out: &mut S,
         run: &Run,
         watch: &Watch,
         table: &TickTable,
+        blank: Blank,
     ) -> Result<Teller, Outcome>
+        requires name { blank.name ≡ L.name }
+        requires parts { blank.parts ≡ L.parts }
+        requires some { 0 < blank.parts }
         requires lawful { IsLawfulRun run.now }
         requires watch { IsWatch run.now watch.now }
         requires stands { IsTeller run.now watch.now self }
@@ -129,6 +140,7 @@ impl Teller {
         ensures no_cause { IfErr result (λ outcome. IsTold outcome → ⊥) }
         ensures failed { IsErrOf result Outcome.Write → Rose (S.failures out.old) (S.failures out.new) }
         ensures never_falls { S.failures out.old ≤ S.failures out.new }
+        ensures steady { OnTold result (S.failures out.new ≡ S.failures out.old) }
     {
         let Teller {
             printed,
@@ -138,7 +150,8 @@ impl Teller {
             since,
         } = self;
         let step = last + since as u64;
-        let (viewport, message) = viewport.message(table)?;
+        let mut reads = Steps::<L>::new(blank);
+        let (viewport, message) = viewport.message(table, &mut reads)?;
         let mirror = tell(
             alloc,
             out,

@@ -6,7 +6,7 @@ ghost use Rattle.tick_io.specs.Counts.{Rose};
 ghost use Rattle.tick_io.specs.Written.{AppendsPrefix};
 ghost use Rattle.tick_model.specs.Changes.{changed};
 ghost use Rattle.tick_model.specs.Texts.{change_records, records_text};
-ghost use Rattle.replay.specs.Outcomes.{IsTold};
+ghost use Rattle.replay.specs.Outcomes.{IsTold, OnTold};
 ghost use Rattle.watched_run.specs.Told.{IsMessage};
 
 use replay::Outcome;
@@ -37,6 +37,7 @@ pub(crate) fn tell<S: Sink>(
     ensures no_cause { IfErr result (λ outcome. IsTold outcome → ⊥) }
     ensures failed { IsErrOf result Outcome.Write → Rose (S.failures out.old) (S.failures out.new) }
     ensures never_falls { S.failures out.old ≤ S.failures out.new }
+    ensures steady { OnTold result (S.failures out.new ≡ S.failures out.old) }
 {
     let mirror = match mirror.apply(message) {
         Ok(mirror) => mirror,

@@ -1,4 +1,4 @@
-use Rattle.std.proofs.Common.{◌≡◌, arith, sym, subst}
+use Rattle.std.proofs.Common.{◌≡◌, ◌∙◌, arith, sym, subst}
 use Rattle.tick_io.proofs.RisingCounts.{rose_earlier}
 use Rattle.replay.specs.Wholes.{WritesRest}
 use Rattle.replay.proofs.Spoils.{cause_ends}
@@ -20,6 +20,7 @@ returns-in-Ok g c =
       prefix = some_after_opening run knobs good old mid new c.in-Ok.ensures.whole rest.prefix;
       failed = λ is. rose_earlier (g.S.Sink.failures c.args.out.now) (g.S.Sink.failures c.open_run.new.out) (g.S.Sink.failures c.run_opened.new.out) c.in-Ok.ensures.never_falls (rest.failed is);
       never_falls = omega (arith, c.in-Ok.ensures.never_falls, rest.never_falls);
+      steady = λ told. rest.steady told ∙ c.in-Ok.ensures.steady;
     }
 
 pub returns-in-Err : goal.returns-in-Err
@@ -35,4 +36,5 @@ returns-in-Err g c =
       prefix = some_updates run knobs 0 old new c.in-Err.ensures.prefix;
       failed = λ is. c.in-Err.ensures.failed (cc);
       never_falls = c.in-Err.ensures.never_falls;
+      steady = λ told. c.in-Err.ensures.steady told;
     }

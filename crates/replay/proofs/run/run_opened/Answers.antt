@@ -1,4 +1,4 @@
-use Rattle.std.proofs.Common.{◌≡◌, ◌≤◌, ap, sym, subst, arith, rules, length}
+use Rattle.std.proofs.Common.{◌≡◌, ◌≤◌, ◌∙◌, ap, sym, subst, arith, rules, length}
 use Rattle.tick_io.proofs.RisingCounts.{rose_earlier}
 use Rattle.replay.specs.Outcomes.{IsEnd, IsTold}
 use Rattle.replay.specs.Snapshots.{EachReader, HasRead}
@@ -16,6 +16,7 @@ returns-then-not-is_told g c =
       prefix = some_updates c.args.run.now c.args.knobs.now 1 (g.S.Sink.bytes c.args.out.now) (g.S.Sink.bytes c.run_beside-outcome.new.out) ran.prefix;
       failed = ran.failed;
       never_falls = ran.never_falls;
+      steady = λ told. absurd (untold told);
     }
 
 pub ended-requires-clause-read : goal.ended-requires-clause-read
@@ -41,4 +42,5 @@ returns g c =
       prefix = some_after_updates run knobs 1 last (ran.last_is told).good_is old mid new (ran.whole told) c.ended.ensures.prefix;
       failed = λ is. rose_earlier (g.S.Sink.failures c.args.out.now) (g.S.Sink.failures c.run_beside-outcome.new.out) (g.S.Sink.failures c.ended.new.out) ran.never_falls (c.ended.ensures.failed is);
       never_falls = omega (arith, ran.never_falls, c.ended.ensures.never_falls);
+      steady = λ still. c.ended.ensures.steady still ∙ ran.steady told;
     }

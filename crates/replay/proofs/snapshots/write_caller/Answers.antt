@@ -3,7 +3,7 @@ use Rattle.std.specs.Io.KnownBytes.{append_known}
 use Rattle.std.proofs.lemmas.List.{append-nil}
 use Rattle.std.proofs.lemmas.Result.{err_from_is_err_and}
 use Rattle.tick_io.proofs.Prefixes.{prefix_within}
-use Rattle.tick_io.proofs.RisingCounts.{rose_earlier}
+use Rattle.tick_io.specs.Counts.{Rose}
 use Rattle.tick_model.specs.Texts.{records_text, snapshot_records}
 use Rattle.replay.proofs.CallTexts.{call_next, call_reached, call_taken, calls_end, calls_text, comes_next}
 use Rattle.replay.proofs.Exits.{nothing_appended}
@@ -11,7 +11,7 @@ use Rattle.replay.proofs.Prints.{on_err, written_more}
 use Rattle.replay.proofs.snapshots.write_caller.Goals as goal
 
 pub loop-call-init : goal.loop-call-init
-loop-call-init g c = ([], sym (nothing_appended (g.S.Sink.bytes c.args.out.now)), refl, omega arith)
+loop-call-init g c = ([], sym (nothing_appended (g.S.Sink.bytes c.args.out.now)), refl, refl)
 
 pub write_call-requires-clause-few : goal.write_call-requires-clause-few
 write_call-requires-clause-few g c κs within = omega (arith, c.requires.few, c.requires.few_calls, c.loop-call-test.true)
@@ -40,7 +40,7 @@ returns-in_err-write_call-clause-err g c =
 pub returns-in_err-write_call-clause-failed : goal.returns-in_err-write_call-clause-failed
 returns-in_err-write_call-clause-failed g c is =
     let p = err_from_is_err_and c.from_residual.result c.from_residual.ensures.1 in
-    rose_earlier (g.S.Sink.failures c.args.out.now) (g.S.Sink.failures c.loop-call.out) (g.S.Sink.failures c.write_call.new.out) c.loop-call.invariant.3 (c.in_err-write_call.ensures.failed (cc))
+    subst (λ n. Rose n (g.S.Sink.failures c.write_call.new.out)) c.loop-call.invariant.3 (c.in_err-write_call.ensures.failed (cc))
 
 pub returns-in_err-write_call-clause-never_falls : goal.returns-in_err-write_call-clause-never_falls
 returns-in_err-write_call-clause-never_falls g c = omega (arith, c.loop-call.invariant.3, c.in_err-write_call.ensures.never_falls)
@@ -57,7 +57,7 @@ loop-call-preserved g c =
       written_more (g.S.Sink.bytes c.args.out.now) (g.S.Sink.bytes c.loop-call.out) (g.S.Sink.bytes c.write_call.new.out) so_far.0 piece (so_far.0 ++ piece) so_far.1 c.in_ok-write_call.ensures.whole refl,
       comes_next so_far.0 piece (calls_text run caller (i + 1) (drop (i + 1) kept)) (calls_text run caller i (drop i kept)) (calls_text run caller 0 kept) so_far.2
           (call_next run caller i kept c.index-kept-call.result c.loop-call-test.true c.index-kept-call.is),
-      omega (arith, so_far.3, c.in_ok-write_call.ensures.never_falls),
+      c.in_ok-write_call.ensures.steady ∙ so_far.3,
     )
 
 pub returns-clause-whole : goal.returns-clause-whole

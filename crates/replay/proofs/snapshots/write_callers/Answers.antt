@@ -5,7 +5,7 @@ use Rattle.std.proofs.lemmas.List.{append-nil}
 use Rattle.std.proofs.lemmas.Result.{err_from_is_err_and}
 use Rattle.tick_io.specs.Written.{AppendsPrefix}
 use Rattle.tick_io.proofs.Prefixes.{prefix_within}
-use Rattle.tick_io.proofs.RisingCounts.{rose_earlier}
+use Rattle.tick_io.specs.Counts.{Rose}
 use Rattle.tick_laws.specs.Reached.{IsReached}
 use Rattle.replay.specs.declared.readers.KeptSnapshot.{KeptSnapshot}
 use Rattle.replay.specs.Snapshots.{AreTaken}
@@ -15,7 +15,7 @@ use Rattle.replay.proofs.Prints.{on_err, written_more}
 use Rattle.replay.proofs.snapshots.write_callers.Goals as goal
 
 pub loop-caller-init : goal.loop-caller-init
-loop-caller-init g c = ([], sym (nothing_appended (g.S.Sink.bytes c.args.out.now)), refl, omega arith)
+loop-caller-init g c = ([], sym (nothing_appended (g.S.Sink.bytes c.args.out.now)), refl, refl)
 
 pub write_caller-requires-clause-some : goal.write_caller-requires-clause-some
 write_caller-requires-clause-some g c κs within = c.requires.some (omega (arith, c.loop-caller-test.true))
@@ -58,7 +58,7 @@ returns-in_err-write_caller-clause-err g c =
 pub returns-in_err-write_caller-clause-failed : goal.returns-in_err-write_caller-clause-failed
 returns-in_err-write_caller-clause-failed g c is =
     let p = err_from_is_err_and c.from_residual.result c.from_residual.ensures.1 in
-    rose_earlier (g.S.Sink.failures c.args.out.now) (g.S.Sink.failures c.loop-caller.out) (g.S.Sink.failures c.write_caller.new.out) c.loop-caller.invariant.3 (c.in_err-write_caller.ensures.failed (cc))
+    subst (λ n. Rose n (g.S.Sink.failures c.write_caller.new.out)) c.loop-caller.invariant.3 (c.in_err-write_caller.ensures.failed (cc))
 
 pub returns-in_err-write_caller-clause-never_falls : goal.returns-in_err-write_caller-clause-never_falls
 returns-in_err-write_caller-clause-never_falls g c = omega (arith, c.loop-caller.invariant.3, c.in_err-write_caller.ensures.never_falls)
@@ -75,7 +75,7 @@ loop-caller-preserved g c =
           (c.in_ok-write_caller.ensures.whole ∙ ap (λ (kept : List KeptSnapshot). append_known (g.S.Sink.bytes c.loop-caller.out) (calls_text run i 0 kept)) c.as_slice.ensures) refl,
       comes_next so_far.0 piece (callers_text run (i + 1) (drop (i + 1) all)) (callers_text run i (drop i all)) (callers_text run 0 all) so_far.2
           (caller_next run i all c.index-all-caller.result c.loop-caller-test.true c.index-all-caller.is),
-      omega (arith, so_far.3, c.in_ok-write_caller.ensures.never_falls),
+      c.in_ok-write_caller.ensures.steady ∙ so_far.3,
     )
 
 pub returns-clause-whole : goal.returns-clause-whole

@@ -1,4 +1,4 @@
-use Rattle.std.proofs.Common.{◌≡◌, ◌++◌, ◌≤◌, ℕ, List, drop}
+use Rattle.std.proofs.Common.{◌≡◌, ◌++◌, ℕ, List, drop}
 use Rattle.std.specs.Io.KnownBytes.{append_known}
 use Rattle.replay.proofs.CallTexts.{callers_text}
 use Rattle.replay.proofs.snapshots.write_callers.Given as goal
@@ -8,4 +8,4 @@ abbrev pub invariant-loop-caller : goal.invariant-loop-caller
 invariant-loop-caller g l =
     (done : List ℕ) × (g.S.Sink.bytes l.out ≡ append_known (g.S.Sink.bytes l.initial.out) done)
     × (done ++ callers_text l.run l.caller (drop l.caller l.all) ≡ callers_text l.run 0 l.all)
-    × (g.S.Sink.failures l.initial.out ≤ g.S.Sink.failures l.out)
+    × (g.S.Sink.failures l.out ≡ g.S.Sink.failures l.initial.out)

@@ -1,6 +1,6 @@
 use Rattle.std.proofs.Common.{◌≡◌, ◌+◌, ◌++◌, ◌∙◌, [], refl, ap, sym, subst, arith, length, Some}
 use Rattle.std.proofs.lemmas.Result.{err_from_is_err_and}
-use Rattle.tick_io.proofs.RisingCounts.{rose_earlier}
+use Rattle.tick_io.specs.Counts.{Rose}
 use Rattle.tick_laws.specs.Reached.{IsReached}
 use Rattle.tick_model.specs.Texts.{records_text, step_records}
 use Rattle.replay.specs.Standing.{IsAt, IsWriterAt}
@@ -11,7 +11,7 @@ use Rattle.replay.proofs.Spoils.{cause_ends, cause_spoils, cause_there, good_bef
 use Rattle.replay.proofs.steps.bring_to_end.Goals as goal
 
 pub loop-step-init : goal.loop-step-init
-loop-step-init g c = ([], sym (nothing_appended (g.S.Sink.bytes c.args.out.now)), refl, c.requires.stands, omega arith, c.requires.writer)
+loop-step-init g c = ([], sym (nothing_appended (g.S.Sink.bytes c.args.out.now)), refl, c.requires.stands, refl, c.requires.writer)
 
 pub advance-requires-clause-stands : goal.advance-requires-clause-stands
 advance-requires-clause-stands g c κs within =
@@ -73,10 +73,15 @@ returns-in_err-progress-clause-prefix g c =
 pub returns-in_err-progress-clause-failed : goal.returns-in_err-progress-clause-failed
 returns-in_err-progress-clause-failed g c is =
     let p = err_from_is_err_and c.from_residual.result c.from_residual.ensures.1 in
-    rose_earlier (g.S.Sink.failures c.args.out.now) (g.S.Sink.failures c.loop-step.out) (g.S.Sink.failures c.advance.new.out) c.loop-step.invariant.4 (c.in_err-progress.ensures.failed (cc))
+    subst (λ n. Rose n (g.S.Sink.failures c.advance.new.out)) c.loop-step.invariant.4 (c.in_err-progress.ensures.failed (cc))
 
 pub returns-in_err-progress-clause-never_falls : goal.returns-in_err-progress-clause-never_falls
 returns-in_err-progress-clause-never_falls g c = omega (arith, c.loop-step.invariant.4, c.in_err-progress.ensures.never_falls)
+
+pub returns-in_err-progress-clause-steady : goal.returns-in_err-progress-clause-steady
+returns-in_err-progress-clause-steady g c =
+    let p = err_from_is_err_and c.from_residual.result c.from_residual.ensures.1 in
+    rw (p.1, p.2) (λ told. c.in_err-progress.ensures.steady told ∙ c.loop-step.invariant.4)
 
 pub loop-step-preserved : goal.loop-step-preserved
 loop-step-preserved g c =
@@ -89,7 +94,7 @@ loop-step-preserved g c =
       step_after run n c.loop-step.progress.graph.step at.3.step_is (g.S.Sink.bytes c.args.out.now) (g.S.Sink.bytes c.loop-step.out) at.0 (text_from run 1) at.1 at.2 (g.S.Sink.bytes c.advance.new.out) next.whole,
       splits_after run n c.loop-step.progress.graph.step at.3.step_is (g.S.Sink.bytes c.args.out.now) (g.S.Sink.bytes c.loop-step.out) at.0 (text_from run 1) at.1 at.2 (omega (arith, c.loop-step-test.true, c.len-step-end.ensures)) (good_before_next run (n + 1) stands.good),
       stands,
-      omega (arith, at.4, next.never_falls),
+      next.steady ∙ at.4,
       subst (λ k. IsWriterAt c.args.store.now (k + 1) c.advance.new.writer) at.3.step_is next.writer,
     )
 

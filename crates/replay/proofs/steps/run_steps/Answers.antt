@@ -15,6 +15,7 @@ returns-in-Err-clause-ran g c = record {
   prefix = none_written (g.S.Sink.bytes c.args.out.now) (text_from c.args.run.now 1);
   failed = λ is. absurd (cc);
   never_falls = omega arith;
+  steady = λ told. absurd told;
 }
 
 pub returns-in-Ok-done-clause-ran : goal.returns-in-Ok-done-clause-ran
@@ -31,6 +32,7 @@ returns-in-Ok-done-clause-ran g c =
       prefix = all_written _ _ _ made.whole;
       failed = λ is. absurd (subst (IsEnd run) is c.in-Ok-done.ensures);
       never_falls = made.never_falls;
+      steady = λ told. made.steady;
     }
 
 pub returns-clause-ran : goal.returns-clause-ran
@@ -43,4 +45,5 @@ returns-clause-ran g c =
       prefix = all_written _ _ _ made.whole;
       failed = λ is. absurd (cc);
       never_falls = made.never_falls;
+      steady = λ told. absurd told;
     }

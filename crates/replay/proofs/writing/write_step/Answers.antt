@@ -1,4 +1,4 @@
-use Rattle.std.proofs.Common.{◌+◌, ◌^◌, ◌<◌, arith, rules}
+use Rattle.std.proofs.Common.{◌+◌, ◌^◌, ◌<◌, ◌∙◌, arith, rules}
 use Rattle.tick_io.proofs.Prefixes.{prefix_within}
 use Rattle.tick_model.specs.Texts.{node_records, records_text}
 use Rattle.replay.proofs.Prints.{count_fits, count_more, node_shown, node_there, number_at, on_err, place_within, text_more, text_splits, written_more}
@@ -44,5 +44,5 @@ loop-node-preserved g c =
       omega (arith, count_more run step i node less number, so_far.0, c.in_ok-records.ensures.count),
       written_more (g.S.Sink.bytes c.args.out.now) (g.S.Sink.bytes c.loop-node.out) (g.S.Sink.bytes c.write_node.new.out) _ (records_text (node_records run step node)) _ so_far.1 c.in_ok-records.ensures.whole
           (text_more run step i node less number),
-      omega (arith, so_far.2, c.in_ok-records.ensures.never_falls),
+      c.in_ok-records.ensures.steady ∙ so_far.2,
     )

@@ -1,6 +1,6 @@
 use Rattle.std.proofs.Common.{◌≡◌, ◌+◌, ◌<◌, ◌≤◌, ◌∙◌, refl, sym, ap, subst, arith, length}
 use Rattle.std.proofs.lemmas.Result.{err_from_is_err_and}
-use Rattle.tick_io.proofs.RisingCounts.{rose_earlier}
+use Rattle.tick_io.specs.Counts.{Rose}
 use Rattle.tick_laws.specs.Reached.{IsReached}
 use Rattle.tick_model.specs.Spoiled.{good}
 use Rattle.replay.specs.Causes.{IsCause}
@@ -34,7 +34,7 @@ pub returns-in_err-opening-clause-prefix : goal.returns-in_err-opening-clause-pr
 returns-in_err-opening-clause-prefix g c = on_err c.from_residual-in_err-opening.result c.in_err-opening.ensures.prefix
 
 pub loop-step-init : goal.loop-step-init
-loop-step-init g c = record { stands = c.in_ok-opening.ensures.stands; told = c.in_ok-opening.ensures.told; never_falls = c.in_ok-opening.ensures.never_falls }
+loop-step-init g c = record { stands = c.in_ok-opening.ensures.stands; told = c.in_ok-opening.ensures.told; steady = c.in_ok-opening.ensures.steady }
 
 pub advance-requires-clause-stands : goal.advance-requires-clause-stands
 advance-requires-clause-stands g c κs within =
@@ -70,6 +70,11 @@ returns-in_err-watching-clause-prefix g c =
     on_err c.from_residual-in_err-watching.result
     (some_told run watch (watch_until run watch (good run)) (g.S.Sink.bytes c.args.out.now) (g.S.Sink.bytes c.loop-step.out) c.loop-step.watching c.loop-step.invariant.told (g.S.Sink.bytes c.advance.new.out) _ refl c.in_err-watching.ensures.prefix)
 
+pub returns-in_err-watching-clause-steady : goal.returns-in_err-watching-clause-steady
+returns-in_err-watching-clause-steady g c =
+    let p = err_from_is_err_and c.from_residual-in_err-watching.result c.from_residual-in_err-watching.ensures.1 in
+    rw (p.1, p.2) (λ told. c.in_err-watching.ensures.steady told ∙ c.loop-step.invariant.steady)
+
 pub loop-step-preserved : goal.loop-step-preserved
 loop-step-preserved g c =
     let run = c.args.run.now in
@@ -79,7 +84,7 @@ loop-step-preserved g c =
     record {
       stands = subst (λ k. IsWatchedAt run watch (k + 1) c.in_ok-watching.watching) at.stands.step_is next.stands;
       told = goes_further run watch (watch_until run watch (good run)) (g.S.Sink.bytes c.args.out.now) (g.S.Sink.bytes c.loop-step.out) c.loop-step.watching at.told (g.S.Sink.bytes c.advance.new.out) c.in_ok-watching.watching next.told;
-      never_falls = omega (arith, at.never_falls, next.never_falls);
+      steady = next.steady ∙ at.steady;
     }
 
 pub table-requires : goal.table-requires
@@ -112,6 +117,11 @@ returns-in_err-rest_told-clause-told g c =
     let p = err_from_is_err_and c.from_residual-in_err-rest_told.result c.from_residual-in_err-rest_told.ensures.1 in
     rw (p.1, p.2) (λ told. absurd (c.in_err-rest_told.ensures.no_cause told))
 
+pub returns-in_err-rest_told-clause-steady : goal.returns-in_err-rest_told-clause-steady
+returns-in_err-rest_told-clause-steady g c =
+    let p = err_from_is_err_and c.from_residual-in_err-rest_told.result c.from_residual-in_err-rest_told.ensures.1 in
+    rw (p.1, p.2) (λ told. absurd (c.in_err-rest_told.ensures.no_cause told))
+
 pub returns-in_err-rest_told-clause-prefix : goal.returns-in_err-rest_told-clause-prefix
 returns-in_err-rest_told-clause-prefix g c =
     let run = c.args.run.now in
@@ -126,12 +136,12 @@ returns-in_err-rest_told-clause-prefix g c =
 pub returns-in_err-rest_told-clause-failed : goal.returns-in_err-rest_told-clause-failed
 returns-in_err-rest_told-clause-failed g c is =
     let p = err_from_is_err_and c.from_residual-in_err-rest_told.result c.from_residual-in_err-rest_told.ensures.1 in
-    rose_earlier (g.S.Sink.failures c.args.out.now) (g.S.Sink.failures c.loop-step.out) (g.S.Sink.failures c.rest_told.new.out) c.loop-step.invariant.never_falls (c.in_err-rest_told.ensures.failed (cc))
+    subst (λ n. Rose n (g.S.Sink.failures c.rest_told.new.out)) c.loop-step.invariant.steady (c.in_err-rest_told.ensures.failed (cc))
 
 pub returns-in_err-watching-clause-failed : goal.returns-in_err-watching-clause-failed
 returns-in_err-watching-clause-failed g c is =
     let p = err_from_is_err_and c.from_residual-in_err-watching.result c.from_residual-in_err-watching.ensures.1 in
-    rose_earlier (g.S.Sink.failures c.args.out.now) (g.S.Sink.failures c.loop-step.out) (g.S.Sink.failures c.advance.new.out) c.loop-step.invariant.never_falls (c.in_err-watching.ensures.failed (cc))
+    subst (λ n. Rose n (g.S.Sink.failures c.advance.new.out)) c.loop-step.invariant.steady (c.in_err-watching.ensures.failed (cc))
 
 pub returns-clause-done : goal.returns-clause-done
 returns-clause-done g c =
@@ -152,3 +162,6 @@ returns-clause-ok g c =
     let last : c.loop-step._step ≡ length run.batches = omega (arith, c.loop-step-test.false, c.loop-step.auto._step-end, c.len-step-end.ensures) in
     all_told run watch (watch_until run watch (good run)) (g.S.Sink.bytes c.args.out.now) (g.S.Sink.bytes c.loop-step.out) own at.told (g.S.Sink.bytes c.rest_told.new.out) _
     (rests_at_end run watch own.teller.last own.teller.since (at.stands.here ∙ last) (subst (IsGood run) last at.stands.good)) c.in_ok-rest_told.ensures.whole
+
+pub returns-clause-steady : goal.returns-clause-steady
+returns-clause-steady g c = c.in_ok-rest_told.ensures.steady ∙ c.loop-step.invariant.steady

@@ -1,4 +1,4 @@
-use Rattle.std.proofs.Common.{◌≤◌}
+use Rattle.std.proofs.Common.{◌≡◌}
 use Rattle.tick_model.specs.Spoiled.{good}
 use Rattle.watched_run.specs.Standing.{GoesOn, IsWatchedAt}
 use Rattle.watched_run.specs.ToCome.{watch_until}
@@ -9,5 +9,5 @@ abbrev pub invariant-loop-step : goal.invariant-loop-step
 invariant-loop-step g l = record {
   stands : IsWatchedAt l.run l.watch l._step l.watching;
   told : GoesOn l.run l.watch (watch_until l.run l.watch (good l.run)) (g.S.Sink.bytes l.fn.out) (g.S.Sink.bytes l.out) l.watching;
-  never_falls : g.S.Sink.failures l.fn.out ≤ g.S.Sink.failures l.out;
+  steady : g.S.Sink.failures l.out ≡ g.S.Sink.failures l.fn.out;
 }

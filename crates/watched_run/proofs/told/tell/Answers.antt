@@ -39,6 +39,11 @@ returns-in_err-write_update-clause-no_cause g c =
     let p = err_from_is_err_and c.from_residual.result c.from_residual.ensures.1 in
     rw (p.1, p.2) (write_untold c.in_err-write_update.field-0.0)
 
+pub returns-in_err-write_update-clause-steady : goal.returns-in_err-write_update-clause-steady
+returns-in_err-write_update-clause-steady g c =
+    let p = err_from_is_err_and c.from_residual.result c.from_residual.ensures.1 in
+    rw (p.1, p.2) (λ told. absurd (write_untold c.in_err-write_update.field-0.0 told))
+
 pub returns-clause-whole : goal.returns-clause-whole
 returns-clause-whole g c =
     let shown = c.args.shown.now in

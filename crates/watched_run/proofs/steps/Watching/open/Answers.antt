@@ -10,15 +10,15 @@ use Rattle.watched_run.proofs.TextsTold.{first_begun, opens}
 use Rattle.watched_run.proofs.Stood.{node_of, table_of}
 use Rattle.watched_run.proofs.steps.Watching.open.Goals as goal
 
-pub table-requires : goal.table-requires
-table-requires g c = node_of c.args.run.now c.args.watch.now c.requires.watch c.in_ok-graph.graph.run c.in_ok-graph.ensures.run
+pub table-table-requires : goal.table-table-requires
+table-table-requires g c = node_of c.args.run.now c.args.watch.now c.requires.watch c.in_ok-graph.graph.run c.in_ok-graph.ensures.run
 
 pub start-requires-clause-reached : goal.start-requires-clause-reached
 start-requires-clause-reached g c κs within = c.in_ok-graph.ensures.good.reached
 
 pub start-requires-clause-table : goal.start-requires-clause-table
 start-requires-clause-table g c κs within =
-    table_of c.args.run.now c.requires.lawful c.args.watch.now c.requires.watch 0 c.in_ok-graph.ensures.good.reached c.in_ok-graph.graph.run c.in_ok-graph.graph.step c.table.result.now c.in_ok-graph.ensures.run c.in_ok-graph.ensures.step c.table.ensures
+    table_of c.args.run.now c.requires.lawful c.args.watch.now c.requires.watch 0 c.in_ok-graph.ensures.good.reached c.in_ok-graph.graph.run c.in_ok-graph.graph.step c.table-table.result.now c.in_ok-graph.ensures.run c.in_ok-graph.ensures.step c.table-table.ensures
 
 pub returns-in_err-graph-clause-prefix : goal.returns-in_err-graph-clause-prefix
 returns-in_err-graph-clause-prefix g c =
