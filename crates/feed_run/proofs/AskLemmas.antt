@@ -105,9 +105,6 @@ module _ (told : Bool) (old new : Option (List (List ℕ))) (names : List (List 
   pub asked_all : (IsTrue told → AsksFor old new names) → none_failed → HasAsked told old new names none_failed status
   asked_all is steady = record { some = λ t. some_of_all old new names (is t); all = λ of t. is t; steady = λ of. steady }
 
-  pub asked_nothing : status ≡ 1 → new ≡ old → HasAsked told old new names none_failed status
-  asked_nothing one same = record { some = λ t. some_of_none old new names same; all = λ of. absurd (of.0 one); steady = λ of. absurd (of.0 one) }
-
   -- a load failed, or memory ran out
   asked_some : (status ≡ 1) ⊎ ((status ≡ 3) ⊎ (status ≡ 10)) → (IsTrue told → AsksSome old new names) → HasAsked told old new names none_failed status
   asked_some (inl one) some = record { some = some; all = λ of. absurd (of.0 one); steady = λ of. absurd (of.0 one) }

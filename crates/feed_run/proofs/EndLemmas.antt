@@ -1,7 +1,6 @@
 -- How a run ends, and the text that goes with it.
-use Rattle.std.proofs.Common.{◌≡◌, ◌≤◌, ℕ, ◌+◌, List, ◌++◌, Bool, true, false, cond, ltb, Option, Some, None, Result, Ok, Err, refl, sym, ap, ◌∙◌, subst, inl, inr, length, [], ◌∷◌}
-use Rattle.std.proofs.lemmas.Bool.{le-ltb, lt-ltb, ltb-false}
-use Rattle.std.specs.Prelude.{OnOk, OnErr, find, is_some, option_map}
+use Rattle.std.proofs.Common.{◌≡◌, ◌≤◌, ℕ, ◌+◌, List, ◌++◌, Bool, true, false, cond, ltb, Option, Some, None, refl, sym, ap, ◌∙◌, subst, inl, inr, length, [], ◌∷◌}
+use Rattle.std.specs.Prelude.{find, is_some, option_map}
 use Rattle.std.specs.Io.KnownBytes.{append_known}
 use Rattle.std.specs.List.{range_with_len}
 use Rattle.tick_io.specs.Counts.{Rose}
@@ -9,22 +8,14 @@ use Rattle.tick_io.specs.Written.{AppendsPrefix}
 use Rattle.tick_io.proofs.RisingCounts.{rose_earlier}
 use Rattle.tick_io.proofs.Prefixes.{append_known-append_known, prefix_after, prefix_longer}
 use Rattle.tick_model.specs.declared.feed.Run.{Run}
-use Rattle.tick_model.specs.Spoiled.{Cause, ByBatch, ByNode, ByPublication, first_spoiled, spoiled_by, step_before, good}
+use Rattle.tick_model.specs.Spoiled.{Cause, first_spoiled, spoiled_by, step_before, good}
 use Rattle.tick_model.specs.Texts.{record_text, done_record}
-use Rattle.update_text.specs.declared.fault.WriteFault.{WriteFault}
-use Rattle.update_text.specs.declared.fault.WriteFault.TheVariants.{Memory, Failed}
 use Rattle.replay.specs.declared.outcome.Knobs.{Knobs}
 use Rattle.replay.specs.Kept.{kept_words, most_words}
-use Rattle.replay.specs.Outcomes.{IsDone, IsFirstSpoiled, IsLawfulChoice, WritesPrefix, WritesWhole, last_written, text_until}
-use Rattle.feed_run.specs.Answers.{status_of_write, Ends, EndsByRun}
+use Rattle.replay.specs.Outcomes.{IsFirstSpoiled, IsLawfulChoice, WritesPrefix, WritesWhole, last_written, text_until}
+use Rattle.feed_run.specs.Answers.{Ends, EndsByRun}
 use Rattle.feed_run.specs.Verdicts.{Verdict, Kept, Spoiled, Done, steps_verdict, run_verdict, status_of}
 use Rattle.feed_run.specs.Wholes.{kept_record, cause_record, whole, IsLawful}
-
--- the status after a write
-pub ends_from : (status : ℕ) (text : List ℕ) (failed : Type 0) (old new : Option (List ℕ)) (written : Result (Unit {0}) WriteFault) → OnOk written (new ≡ append_known old text) → OnErr written (AppendsPrefix old new text) → (written ≡ Err Failed → failed) → Ends status text failed old new (status_of_write status written)
-ends_from status text failed old new (Ok done) ok err fails = inl (refl, ok)
-ends_from status text failed old new (Err Memory) ok err fails = inr (inl (refl, err))
-ends_from status text failed old new (Err Failed) ok err fails = inr (inr (refl, fails refl, err))
 
 -- a record was written after what was written before
 pub ends_after : (status : ℕ) (before record_of all : List ℕ) (later failed : Type 0) (old mid new : Option (List ℕ)) (answer : ℕ) → all ≡ before ++ record_of → mid ≡ append_known old before → (later → failed) → Ends status record_of later mid new answer → Ends status all failed old new answer

@@ -1,5 +1,5 @@
 -- What the program's answers come to.
-use Rattle.std.proofs.Common.{◌≡◌, ℕ, List, [], Bool, Option, Some, None, Ok, Err, refl, sym, ap, ◌∙◌, subst, inl, inr, arith, ◌≤◌}
+use Rattle.std.proofs.Common.{◌≡◌, ℕ, List, [], Bool, Option, Ok, Err, refl, sym, ap, ◌∙◌, subst, inl, inr}
 use Rattle.std.specs.Prelude.{IsTrue, option_map}
 use Rattle.tick_model.specs.declared.feed.Run.{Run}
 use Rattle.feed_reader.specs.Assembled.{plain_run}

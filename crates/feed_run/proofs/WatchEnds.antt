@@ -14,7 +14,7 @@ use Rattle.tick_model.specs.Spoiled.{Cause, ByBatch, ByNode, ByPublication, firs
 use Rattle.tick_model.specs.Texts.{done_record, record_text}
 use Rattle.replay.specs.declared.outcome.Outcome.{Outcome}
 use Rattle.replay.specs.declared.outcome.Outcome.TheVariants as Outcomes
-use Rattle.replay.specs.Outcomes.{IsFirstSpoiled, IsTold, limit_at}
+use Rattle.replay.specs.Outcomes.{IsFirstSpoiled, IsTold}
 use Rattle.watched_run.specs.declared.watch.Watch.{Watch}
 use Rattle.watched_run.specs.Stopped.{IsStopped}
 use Rattle.watched_run.specs.ToCome.{watch_until}

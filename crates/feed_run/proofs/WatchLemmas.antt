@@ -2,6 +2,7 @@
 use Rattle.std.proofs.Common.{◌≡◌, refl, sym, ap, ◌∙◌, subst, ℕ, inl, inr, Bool, List, [], ◌∷◌, Option, Some, None, Result, Ok, Err}
 use Rattle.std.specs.Prelude.{IsTrue, option_map}
 use Rattle.std.specs.Str.{bytes_eq}
+use Rattle.tick_io.specs.Asked.{AsksFor}
 use Rattle.tick_model.specs.declared.feed.Run.{Run}
 use Rattle.tick_model.specs.declared.plan.Node.{Node}
 use Rattle.tick_model.specs.declared.plan.Plan.{Plan}
@@ -17,9 +18,10 @@ use Rattle.feed_run.specs.Answers.{Answers, Ends, EndsByStop, EndsByWatch}
 use Rattle.feed_run.specs.Found.{Found, names_after}
 use Rattle.feed_run.specs.Headline.{IsOneOf}
 use Rattle.feed_run.specs.Readings.{Content, plan_found, plan_read, script_in}
-use Rattle.feed_run.specs.Stops.{Reads}
+use Rattle.feed_run.specs.Stops.{Asks, AsksUntil, Reads}
 use Rattle.feed_run.specs.Verdicts.{Refused, Unnamed, named_files, named_verdict, node_named, status_of, watch_files, watch_verdict, watched_verdict}
 use Rattle.feed_run.specs.Wholes.{unnamed_record, whole}
+use Rattle.feed_run.proofs.AskLemmas.{asks_after, until_all, until_stopped}
 use Rattle.feed_run.proofs.PlainVerdicts.{lawful_plain, plainly, status_plain, watched_plain, whole_plain}
 use Rattle.feed_run.proofs.StopLemmas.{one_of_front, one_of_later}
 
@@ -92,3 +94,28 @@ module _ (told : Bool) (unread : List ℕ → Type 0) (failed : Type 0) (old new
             subst (λ (status : ℕ). Ends status (whole (plainly of) choice) failed old new answer) (sym (status_plain of)) (subst (λ (text : List ℕ). Ends (status_of of) text failed old new answer) (sym (whole_plain of choice)) ends),
           ),
         )
+
+-- what was asked for
+module _ (told : Bool) (content : Content) (script feed name : List ℕ) (old : Option (List (List ℕ))) where
+  abbrev read_next : Script → List (List ℕ)
+  read_next read = named_files content feed read (node_named name read.plan)
+
+  pub script_asked : (failed : List ℕ → Type 0) (new : Option (List (List ℕ))) (stop : Stop) → Reads {X = Script} told failed (IsOneOf (script ∷ [])) (option_map script_in (content script)) plain_script (Err stop) → AsksFor old new (script ∷ []) → AsksUntil told old new (watch_files content script feed name) stop
+  script_asked failed new stop reads is =
+      until_stopped told old new failed (IsOneOf (script ∷ [])) (script ∷ []) (option_map script_in (content script)) read_next plain_script stop reads (until_all told old new (script ∷ []) stop is)
+
+  module _ (own : Script) (read : IsTrue told → option_map script_in (content script) ≡ Some (Ok (plain_script own))) where
+    names_are : (o : Option ℕ) → node_named name own.plan ≡ o → IsTrue told → script ∷ named_files content feed (plain_script own) o ≡ watch_files content script feed name
+    names_are o is t =
+        ap (λ (n : Option ℕ). script ∷ named_files content feed (plain_script own) n) (sym (named_plain name own.plan ∙ is))
+        ∙ ap (λ (f : Found Script). script ∷ names_after f read_next) (sym (read t))
+
+    -- there is no node of the name
+    pub unnamed_asked : (new : Option (List (List ℕ))) → node_named name own.plan ≡ None → AsksFor old new (script ∷ []) → IsTrue told → AsksFor old new (watch_files content script feed name)
+    unnamed_asked new is asked t = subst (AsksFor old new) (names_are None is t) asked
+
+    -- there is one
+    pub named_asks : (mid new : Option (List (List ℕ))) (node : ℕ) (later : Content) (result : Result Run Stop) → node_named name own.plan ≡ Some node → AsksFor old mid (script ∷ []) → later ≡ content → Asks told mid new (plan_read later (plain_script own) feed) result → Asks told old new (watch_files content script feed name) result
+    named_asks mid new node later result is asked kept asks =
+        asks_after told old new mid (watch_files content script feed name) (script ∷ []) (plan_read content (plain_script own) feed) (names_are (Some node) is) (λ t. asked) result
+        (subst (λ (of : Content). Asks told mid new (plan_read of (plain_script own) feed) result) kept asks)

@@ -39,6 +39,10 @@ SomeName failed = (name : List ℕ) × failed name
 abbrev pub NoneFailed : (List ℕ → Type 0) → (List ℕ → Type 0) → Type 0
 NoneFailed failed read = (name : List ℕ) → read name → failed name → ⊥
 
+-- a status with which all was written: memory did not run out, and no write failed
+abbrev pub IsWritten : ℕ → Type 0
+IsWritten status = (status ≡ 1 → ⊥) × (status ≡ 10 → ⊥)
+
 -- a status that a verdict has: memory did not run out, no load failed and no write
 abbrev pub IsOfVerdict : ℕ → Type 0
 IsOfVerdict status = (status ≡ 1 → ⊥) × (status ≡ 3 → ⊥) × (status ≡ 10 → ⊥)

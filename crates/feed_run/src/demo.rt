@@ -9,6 +9,7 @@ ghost use Rattle.tick_io.specs.Counts.{Rose};
 ghost use Rattle.tick_model.specs.LawfulRuns.{IsLawfulRun};
 ghost use Rattle.tick_model.specs.Spoiled.{first_spoiled};
 ghost use Rattle.feed_run.specs.Answers.{EndsBy};
+ghost use Rattle.feed_run.specs.Headline.{IsWritten};
 ghost use Rattle.feed_run.specs.Verdicts.{Summary};
 
 use crate::reports::report_all;
@@ -76,7 +77,8 @@ pub(crate) fn demo<R: Threads + Wait + Sync, S: Sink, G: Gate>(
     requires few_workers { knobs.now.workers ≤ 64 }
     requires few_callers { knobs.now.callers ≤ 16 }
     requires few_snaps { knobs.now.snaps ≤ 64 }
-    ensures { EndsBy (Summary steps) (Rose (S.failures out.old) (S.failures out.new)) (S.bytes out.old) (S.bytes out.new) result }
+    ensures ends { EndsBy (Summary steps) (Rose (S.failures out.old) (S.failures out.new)) (S.bytes out.old) (S.bytes out.new) result }
+    ensures steady { IsWritten result → S.failures out.new ≡ S.failures out.old }
 {
     let Ok(run) = lawful_made_run(alloc, steps) else {
         return 1;

@@ -1,10 +1,11 @@
 //! All that the program does.
 
 ghost use Rattle.std.specs.Prelude.{◌≡◌, ◌≤◌, IsTrue, map, string_bytes};
+ghost use Rattle.tick_io.specs.Asked.{AsksFor, AsksSome};
 ghost use Rattle.tick_io.specs.Counts.{Rose};
-ghost use Rattle.feed_run.specs.Answers.{Answers, IsInRange};
-ghost use Rattle.feed_run.specs.Headline.{IsComplete, IsOneOf, IsRead, IsStatus, IsTaskStatus, LoadFailed, NoneFailed, SomeName, TellsLoadFault, TellsVerdict, WritesPrefix, WritesPrefixOrNothing};
-ghost use Rattle.feed_run.specs.Verdicts.{are_told, knobs_of as knobs_of_command, task_files, task_told, task_verdict, verdict};
+ghost use Rattle.feed_run.specs.Answers.{Answers, HasAsked, IsInRange};
+ghost use Rattle.feed_run.specs.Headline.{IsComplete, IsOfVerdict, IsOneOf, IsRead, IsStatus, IsTaskStatus, IsWritten, LoadFailed, NoLoadFailed, NoneFailed, SomeName, TellsLoadFault, TellsVerdict, WritesPrefix, WritesPrefixOrNothing};
+ghost use Rattle.feed_run.specs.Verdicts.{are_told, files, knobs_of as knobs_of_command, task_files, task_told, task_verdict, verdict};
 
 use crate::demo::demo;
 use crate::refusal::{Refusal, Stop};
@@ -52,6 +53,9 @@ fn run_task<R: Threads + Wait + Sync, I: Inputs, S: Sink, G: Gate>(
         (LoadFailed I.failures inputs.old inputs.new) (IsOneOf (task_files (I.content inputs.old) task.now))
         (Rose (S.failures out.old) (S.failures out.new)) (S.bytes out.old) (S.bytes out.new) result }
     ensures status { IsTaskStatus task.now result }
+    ensures asks { HasAsked (task_told I.told task.now) (I.asked inputs.old) (I.asked inputs.new)
+        (task_files (I.content inputs.old) task.now) (NoLoadFailed I.failures inputs.old inputs.new) result }
+    ensures steady { IsWritten result → S.failures out.new ≡ S.failures out.old }
 {
     let (script, feed) = match task {
         Task::Run { script, feed } => (script.as_str(), feed.as_str()),
@@ -94,6 +98,9 @@ fn answer<R: Threads + Wait + Sync, I: Inputs, S: Sink, G: Gate>(
         (LoadFailed I.failures inputs.old inputs.new) (IsRead (map string_bytes words.now) (I.content inputs.old))
         (Rose (S.failures out.old) (S.failures out.new)) (S.bytes out.old) (S.bytes out.new) result }
     ensures status { IsStatus (map string_bytes words.now) result }
+    ensures asks { HasAsked (are_told I.told (map string_bytes words.now)) (I.asked inputs.old) (I.asked inputs.new)
+        (files (map string_bytes words.now) (I.content inputs.old)) (NoLoadFailed I.failures inputs.old inputs.new) result }
+    ensures steady { IsWritten result → S.failures out.new ≡ S.failures out.old }
 {
     let command = match read_words(alloc, words) {
         Ok(Some(command)) => command,
@@ -130,6 +137,17 @@ pub fn tick_main<R: Threads + Wait + Sync, I: Inputs, S: Sink, G: Gate>(
     ensures verdict { IsTrue (are_told I.told (map string_bytes words.now))
         → TellsVerdict (verdict (map string_bytes words.now) (I.content inputs.old)) result
         (S.bytes out.old) (S.bytes out.new) }
+
+    ensures no_load_failed { IsOfVerdict result → NoLoadFailed I.failures inputs.old inputs.new }
+    ensures no_write_failed { IsWritten result → S.failures out.new ≡ S.failures out.old }
+
+    // The files that have to be read are asked for in their order, and no other: all of them with a status of a verdict.
+    ensures asked_in_order { IsTrue (are_told I.told (map string_bytes words.now))
+        → AsksSome (I.asked inputs.old) (I.asked inputs.new)
+        (files (map string_bytes words.now) (I.content inputs.old)) }
+    ensures all_asked { IsTrue (are_told I.told (map string_bytes words.now)) → IsOfVerdict result
+        → AsksFor (I.asked inputs.old) (I.asked inputs.new)
+        (files (map string_bytes words.now) (I.content inputs.old)) }
 
     // Where a file could not be read.
     ensures load_counted { result ≡ 3 → SomeName (LoadFailed I.failures inputs.old inputs.new) }

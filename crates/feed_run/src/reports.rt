@@ -6,6 +6,7 @@ ghost use Rattle.tick_io.specs.Counts.{Rose};
 ghost use Rattle.tick_io.specs.Written.{AppendsPrefix};
 ghost use Rattle.tick_model.specs.Texts.{record_text, records_text};
 ghost use Rattle.feed_run.specs.Answers.{Ends, EndsByStop, status_of_write};
+ghost use Rattle.feed_run.specs.Headline.{IsWritten};
 
 use crate::fault_records::{refusal_record, refusal_status, unread_record};
 use crate::fields::Fields;
@@ -33,8 +34,9 @@ pub(crate) fn report<S: Sink>(
     status: u8,
     fields: Result<Fields, AllocError>,
 ) -> u8
-    ensures { (told : List (List ℕ)) → IfOk fields (λ own. own ≡ told)
+    ensures ends { (told : List (List ℕ)) → IfOk fields (λ own. own ≡ told)
         → Ends status (record_text told) (Rose (S.failures out.old) (S.failures out.new)) (S.bytes out.old) (S.bytes out.new) result }
+    ensures steady { IsWritten result → S.failures out.new ≡ S.failures out.old }
 {
     match fields {
         Ok(fields) => {
@@ -51,6 +53,7 @@ fn write_records<S: Sink>(alloc: Global, out: &mut S, records: &[Fields]) -> Res
     ensures err { OnErr result (AppendsPrefix (S.bytes out.old) (S.bytes out.new) (records_text records.now)) }
     ensures failed { IsErrOf result WriteFault.Failed → Rose (S.failures out.old) (S.failures out.new) }
     ensures never_falls { S.failures out.old ≤ S.failures out.new }
+    ensures steady { OnOk result (S.failures out.new ≡ S.failures out.old) }
 {
     for fields in records {
         write_fields(alloc, out, fields.as_slice())?;
@@ -65,8 +68,9 @@ pub(crate) fn report_all<S: Sink>(
     status: u8,
     records: Result<Items<Fields>, AllocError>,
 ) -> u8
-    ensures { (told : List ℕ) → IfOk records (λ own. records_text own ≡ told)
+    ensures ends { (told : List ℕ) → IfOk records (λ own. records_text own ≡ told)
         → Ends status told (Rose (S.failures out.old) (S.failures out.new)) (S.bytes out.old) (S.bytes out.new) result }
+    ensures steady { IsWritten result → S.failures out.new ≡ S.failures out.old }
 {
     match records {
         Ok(records) => {
@@ -79,7 +83,8 @@ pub(crate) fn report_all<S: Sink>(
 
 /// Reports why there is no run.
 pub(crate) fn report_stop<S: Sink>(alloc: Global, out: &mut S, stop: &Stop) -> u8
-    ensures { EndsByStop stop.now (Rose (S.failures out.old) (S.failures out.new)) (S.bytes out.old) (S.bytes out.new) result }
+    ensures ends { EndsByStop stop.now (Rose (S.failures out.old) (S.failures out.new)) (S.bytes out.old) (S.bytes out.new) result }
+    ensures steady { IsWritten result → S.failures out.new ≡ S.failures out.old }
 {
     match stop {
         Stop::Memory => 1,

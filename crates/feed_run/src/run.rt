@@ -7,7 +7,7 @@ ghost use Rattle.tick_io.specs.Asked.{AsksFor};
 ghost use Rattle.tick_io.specs.Counts.{Rose};
 ghost use Rattle.tick_model.specs.LawfulRuns.{IsLawfulRun, sources_of};
 ghost use Rattle.feed_run.specs.Answers.{EndsByRun};
-ghost use Rattle.feed_run.specs.Headline.{IsOneOf, LoadFailed, NoLoadFailed};
+ghost use Rattle.feed_run.specs.Headline.{IsOneOf, IsWritten, LoadFailed, NoLoadFailed};
 ghost use Rattle.feed_run.specs.Readings.{feed_found, files_read, plan_found, plan_read, run_found, script_in};
 ghost use Rattle.feed_run.specs.Stops.{Asks, OnFound, Reads};
 
@@ -123,7 +123,8 @@ pub(crate) fn run_to_end<R: Threads + Wait + Sync, S: Sink, G: Gate>(
     requires few_workers { knobs.now.workers ≤ 64 }
     requires few_callers { knobs.now.callers ≤ 16 }
     requires few_snaps { knobs.now.snaps ≤ 64 }
-    ensures { EndsByRun run.now knobs.now (Rose (S.failures out.old) (S.failures out.new)) (S.bytes out.old) (S.bytes out.new) result }
+    ensures ends { EndsByRun run.now knobs.now (Rose (S.failures out.old) (S.failures out.new)) (S.bytes out.old) (S.bytes out.new) result }
+    ensures steady { IsWritten result → S.failures out.new ≡ S.failures out.old }
 {
     match run_feed(rt, alloc, run, knobs, out, gate) {
         Outcome::Done { step, .. } => report(alloc, out, 0, done_record(alloc, step)),

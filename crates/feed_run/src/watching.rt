@@ -5,8 +5,8 @@ ghost use Rattle.std.specs.Str.{bytes_eq};
 ghost use Rattle.tick_io.specs.Counts.{Rose};
 ghost use Rattle.tick_model.specs.LawfulRuns.{IsLawfulRun};
 ghost use Rattle.watched_run.specs.Messages.{IsWatch};
-ghost use Rattle.feed_run.specs.Answers.{Answers, EndsByWatch};
-ghost use Rattle.feed_run.specs.Headline.{IsOneOf, LoadFailed};
+ghost use Rattle.feed_run.specs.Answers.{Answers, EndsByWatch, HasAsked};
+ghost use Rattle.feed_run.specs.Headline.{IsOneOf, IsWritten, LoadFailed, NoLoadFailed};
 ghost use Rattle.feed_run.specs.Readings.{script_in};
 ghost use Rattle.feed_run.specs.Verdicts.{node_named as first_named, watch_files, watch_of, watch_verdict};
 
@@ -70,7 +70,8 @@ fn watch_to_end<R: Threads + Sync, S: Sink, G: Gate>(
     requires watch { IsWatch run.now watch.now }
     requires some_workers { 1 ≤ workers }
     requires few_workers { workers ≤ 64 }
-    ensures { EndsByWatch run.now watch.now (Rose (S.failures out.old) (S.failures out.new)) (S.bytes out.old) (S.bytes out.new) result }
+    ensures ends { EndsByWatch run.now watch.now (Rose (S.failures out.old) (S.failures out.new)) (S.bytes out.old) (S.bytes out.new) result }
+    ensures steady { IsWritten result → S.failures out.new ≡ S.failures out.old }
 {
     let outcome = match watch_feed(rt, alloc, run, watch, workers, out, gate) {
         Ok(step) => return report(alloc, out, 0, done_record(alloc, step)),
@@ -120,9 +121,12 @@ pub(crate) fn watch<R: Threads + Sync, I: Inputs, S: Sink, G: Gate>(
     requires few_steps { asked.every ≤ 100000 }
     requires some_workers { 1 ≤ workers }
     requires few_workers { workers ≤ 64 }
-    ensures { Answers I.told (watch_verdict (I.content inputs.old) (watch_of asked.entry.first asked.entry.count asked.entry.every) asked.entry.feed.now asked.entry.name.now (option_map script_in (I.content inputs.old asked.entry.script.now)))
+    ensures answers { Answers I.told (watch_verdict (I.content inputs.old) (watch_of asked.entry.first asked.entry.count asked.entry.every) asked.entry.feed.now asked.entry.name.now (option_map script_in (I.content inputs.old asked.entry.script.now)))
         (LoadFailed I.failures inputs.old inputs.new) (IsOneOf (watch_files (I.content inputs.old) asked.entry.script.now asked.entry.feed.now asked.entry.name.now))
         (Rose (S.failures out.old) (S.failures out.new)) (S.bytes out.old) (S.bytes out.new) result }
+    ensures asks { HasAsked I.told (I.asked inputs.old) (I.asked inputs.new)
+        (watch_files (I.content inputs.old) asked.entry.script.now asked.entry.feed.now asked.entry.name.now) (NoLoadFailed I.failures inputs.old inputs.new) result }
+    ensures steady { IsWritten result → S.failures out.new ≡ S.failures out.old }
 {
     let script = match load_script(alloc, inputs, asked.script) {
         Ok(script) => script,

@@ -29,6 +29,9 @@ impl Sink for NarrowSink {
 /// Files `a`, of five bytes, and `b`, of none. A second `a` does not count.
 const FILES: [(&str, &str); 3] = [("a", "first"), ("b", ""), ("a", "second")];
 
+/// The names of the loads below, in their order.
+const ASKED: [&str; 7] = ["a", "a", "a", "c", "c", "b", "a"];
+
 const PIECES: [&str; 3] = ["one,", "", "two"];
 
 fn files(alloc: Global) -> Result<Vec<(String, Vec<u8>)>, AllocError> {
@@ -81,6 +84,11 @@ fn files_are_loaded(rt: HostRuntime) -> Result<(), Fail> {
         ],
     );
     assert_eq!(rt; inputs.load(alloc, "a", 5)?.as_slice(), b"first".as_slice());
+    let asked = inputs.asked().unwrap_or(&[]);
+    assert_eq!(rt; asked.len(), ASKED.len());
+    for (name, expected) in asked.iter().zip(ASKED) {
+        assert_eq!(rt; name.as_str(), expected);
+    }
     compare_loads(
         &rt,
         alloc,

@@ -21,7 +21,7 @@ use std::sync::Wait;
 use std::test::Fail;
 use std::thread::Threads;
 use stepped::STEPS;
-use tick_io::{Gate, MemoryInputs, MemorySink, OpenGate};
+use tick_io::{Gate, MemoryInputs, MemorySink, OpenGate, VoidSink};
 use watched::{SORTED, WATCHED};
 use worked::RUNS;
 
@@ -318,6 +318,40 @@ fn words_and_files_are_answered(rt: HostRuntime) -> Result<(), Fail> {
     ];
     for case in &cases {
         run(&rt, rt.alloc(), case)?;
+    }
+    Ok(())
+}
+
+/// Words, a script, and the names that are asked for, one after the other.
+const ASKED: [(&str, &str, &str); 5] = [
+    ("run s f", FROM_FILE, "s t.csv f"),
+    ("run s f", "no line\n", "s"),
+    ("watch s f t 0 1", FROM_FILE, "s t.csv f"),
+    ("watch s f u 0 1", FROM_FILE, "s"),
+    ("demo 1", FROM_FILE, ""),
+];
+
+#[test]
+fn files_are_asked_for_in_order(rt: HostRuntime) -> Result<(), Fail> {
+    let alloc = rt.alloc();
+    for (words_text, script, names) in ASKED {
+        let texts = [("s", Some(script)), ("t.csv", Some(FILE)), ("f", Some(""))];
+        let mut inputs = MemoryInputs::new(alloc, files(alloc, &texts)?, Vec::new(alloc));
+        let arguments = words(alloc, words_text)?;
+        tick_main(
+            &rt,
+            alloc,
+            arguments.as_slice(),
+            &mut inputs,
+            &mut VoidSink,
+            &OpenGate,
+        );
+        let names = words(alloc, names)?;
+        let asked = inputs.asked().unwrap_or(&[]);
+        assert_eq!(rt; asked.len(), names.len(), "{words_text}");
+        for (name, expected) in asked.iter().zip(names.as_slice()) {
+            assert_eq!(rt; name.as_str(), expected.as_str(), "{words_text}");
+        }
     }
     Ok(())
 }

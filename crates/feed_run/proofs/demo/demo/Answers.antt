@@ -16,14 +16,14 @@ summary-requires g c =
     let totals = c.in-Some.totals in
     subst (λ n. IsDone run n totals.records totals.rows) (made_last c.args.steps run c.in-Ok.ensures.run) c.in-Some.ensures
 
-pub returns : goal.returns
-returns g c =
+pub returns-clause-ends : goal.returns-clause-ends
+returns-clause-ends g c =
     let steps = c.args.steps in
     let run = c.in-Ok.run' in
     let text = summary_text (made steps) steps in (
       [],
       refl,
-      c.report_all.ensures text
+      c.report_all.ensures.ends text
           (if_ok_more (λ (own : List (List (List ℕ))). records_text own ≡ summary_text run steps) (λ (own : List (List (List ℕ))). records_text own ≡ text) c.summary.result
           (λ own is. is ∙ made_summary steps run c.in-Ok.ensures.run) c.summary.ensures),
     )

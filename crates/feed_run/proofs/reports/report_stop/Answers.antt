@@ -6,7 +6,7 @@ use Rattle.feed_run.specs.Answers.{EndsByStop}
 use Rattle.feed_run.specs.Wholes.{unread_record}
 use Rattle.feed_run.proofs.reports.report_stop.Goals as goal
 
-pub returns-in-Unread : goal.returns-in-Unread
-returns-in-Unread g c =
+pub returns-in-Unread-clause-ends : goal.returns-in-Unread-clause-ends
+returns-in-Unread-clause-ends g c =
     subst (λ (of : Stop). EndsByStop of (Rose (g.S.Sink.failures c.args.out.now) (g.S.Sink.failures c.report.new.out)) (g.S.Sink.bytes c.args.out.now) (g.S.Sink.bytes c.report.new.out) c.report.result) (sym c.in-Unread.is)
-    (c.report.ensures (unread_record c.in-Unread.name) (subst (λ (name : List ℕ). IfOk c.unread_record.result (λ fields. fields ≡ unread_record name)) c.as_str.ensures c.unread_record.ensures))
+    (c.report.ensures.ends (unread_record c.in-Unread.name) (subst (λ (name : List ℕ). IfOk c.unread_record.result (λ fields. fields ≡ unread_record name)) c.as_str.ensures c.unread_record.ensures))

@@ -1,7 +1,6 @@
-use Rattle.std.proofs.Common.{◌≡◌, List, ℕ, arith, subst}
+use Rattle.std.proofs.Common.{◌≡◌, ◌∙◌, List, ℕ, subst}
 use Rattle.std.specs.Io.KnownBytes.{append_known}
 use Rattle.tick_io.proofs.Prefixes.{prefix_within}
-use Rattle.tick_io.proofs.RisingCounts.{rose_earlier}
 use Rattle.tick_io.specs.Written.{AppendsPrefix}
 use Rattle.tick_model.specs.Texts.{record_text}
 use Rattle.feed_run.proofs.OkLemmas.{on_err}
@@ -26,5 +25,5 @@ loop-fields-preserved g c =
     record {
       written = written_next records i c.fields-item.result c.loop-fields-test.true c.fields-item.is (bytes c.args.out.now) (bytes c.loop-fields.out) (bytes c.write_fields.new.sink) c.loop-fields.invariant.written
           (subst (λ (own : List (List ℕ)). bytes c.write_fields.new.sink ≡ append_known (bytes c.loop-fields.out) (record_text own)) c.as_slice.ensures c.in_ok-write_fields.ensures.whole);
-      rising = omega (arith, c.loop-fields.invariant.rising, c.in_ok-write_fields.ensures.never_falls);
+      steady = c.in_ok-write_fields.ensures.steady ∙ c.loop-fields.invariant.steady;
     }

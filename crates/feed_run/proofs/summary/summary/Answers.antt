@@ -1,4 +1,4 @@
-use Rattle.std.proofs.Common.{◌≡◌, ◌++◌, ◌∷◌, [], ◌∙◌, ap, sym, List, ℕ}
+use Rattle.std.proofs.Common.{◌++◌, ◌∷◌, [], ◌∙◌, ap, List, ℕ}
 use Rattle.tick_model.specs.Texts.{done_record}
 use Rattle.feed_run.specs.Summaries.{demo_record}
 use Rattle.feed_run.proofs.SummaryLemmas.{summary_from}
