@@ -1,5 +1,5 @@
 -- The first rows of touched groups, found by the key cells of touched rows.
-use Rattle.std.proofs.Common.{◌≡◌, refl, ap, ap₂, sym, ◌∙◌, subst, Bool, true, false, ◌&&◌, ◌||◌, ◌==◌, ℕ, zero, suc, ◌+◌, ◌^◌, ◌<◌, ◌≤◌, arith, List, [], ◌∷◌, ◌++◌, filter, get_or, length, Option, Some, None, option_map, unwrap_or, is_some, ℤ, int_lt, true≢false, if◌then◌else◌}
+use Rattle.std.proofs.Common.{◌≡◌, refl, ap, ap₂, sym, ◌∙◌, subst, Bool, true, false, ◌&&◌, ◌||◌, ◌==◌, ℕ, ◌+◌, ◌^◌, ◌<◌, ◌≤◌, arith, List, [], ◌∷◌, filter, length, Option, Some, None, option_map, unwrap_or, is_some, ℤ, true≢false}
 use Rattle.std.specs.Cmp.Rules.{signed_items}
 use Rattle.std.specs.List.{AllByRecursion, list_any}
 use Rattle.std.specs.Option.{option_map_or}
@@ -7,10 +7,11 @@ use Rattle.std.specs.Prelude.{slice_get}
 use Rattle.std.proofs.lemmas.Bool.{eqb-true}
 use Rattle.std.proofs.lemmas.Option.{none-some, same_Some}
 use Rattle.key_lists.specs.Keys.{is_among, IsRising}
-use Rattle.key_lists.proofs.Among.{among-append, among-filter}
+use Rattle.key_lists.proofs.Among.{among-filter}
 use Rattle.key_lists.proofs.Every.{every_both, every-filter, every-map, every_unmapped, filter_passes}
 use Rattle.key_lists.proofs.Rising.{rising-filter, rising_same, rising_some}
-use Rattle.row_groups.specs.Members.{AreGrouped, Grouped, Member, by_at, group_of, keys_of, member_under, placed}
+use Rattle.row_groups.specs.Members.{AreGrouped, Grouped, Member, group_of, keys_of, member_under}
+use Rattle.row_groups.proofs.Placed.{every-by_at}
 use Rattle.row_set.specs.Sets.{with_key}
 use Rattle.row_set.proofs.United.{among-with_key, length-united, with_key_rises}
 use Rattle.tick_model.proofs.Among.{rows_among}
@@ -23,21 +24,7 @@ use Rattle.agg_by.specs.Steps.{first_keys, kept_cells, key_at, starts}
 use Rattle.agg_by.proofs.Answering.{keys_group}
 use Rattle.agg_by.proofs.Bringing.{members}
 use Rattle.agg_by.proofs.GroupRows.{first_at, leads, leads_own}
-use Rattle.agg_by.proofs.Touching.{or_none}
 use Rattle.agg_by.proofs.Untouched.{own_cells}
-
--- what holds of each member holds of each of a group
-every-placed : (P : Member → Type 0) (member : Member) (ms : List Member) → P member → AllByRecursion P ms → AllByRecursion P (placed member ms)
-every-placed P member [] p h = (p, tt)
-every-placed P member (other ∷ others) p h =
-    elim (int_lt other.at member.at) as (λ b. AllByRecursion P (if b then other ∷ placed member others else member ∷ other ∷ others)) [
-      | true ↦ (h.0, every-placed P member others p h.1)
-      | false ↦ (p, h)
-    ]
-
-every-by_at : (P : Member → Type 0) (ms : List Member) → AllByRecursion P ms → AllByRecursion P (by_at ms)
-every-by_at P [] h = tt
-every-by_at P (member ∷ ms) h = every-placed P member (by_at ms) h.0 (every-by_at P ms h.1)
 
 group_small : (grouped : Grouped) (cells : List ℤ) → AreGrouped grouped → AllByRecursion (λ key. key < 2 ^ 62) (keys_of (group_of cells grouped.members))
 group_small grouped cells are =
@@ -57,14 +44,6 @@ kept_own ms key there = by (member_under key ms) there
     by : (o : Option Member) → is_some o ≡ true → option_map (λ (member : Member). member.cells) o ≡ Some (unwrap_or (option_map (λ (member : Member). member.cells) o) [])
     by None e = absurd (true≢false (sym e))
     by (Some member) e = refl
-
--- one key more behind others
-pub found_one : (first key : ℕ) (keys : List ℕ) (group : List ℕ) → slice_get group 0 ≡ Some key → is_among first (keys ++ key ∷ []) ≡ (is_among first keys || option_map_or (λ k. k == first) (slice_get group 0) false)
-found_one first key keys group e =
-    among-append first keys (key ∷ []) ∙ ap (λ b. is_among first keys || b) (or_none (key == first) ∙ sym (ap (λ o. option_map_or (λ k. k == first) o false) e))
-
-pub found_none : (first : ℕ) (keys : List ℕ) (group : List ℕ) → slice_get group 0 ≡ None → is_among first keys ≡ (is_among first keys || option_map_or (λ k. k == first) (slice_get group 0) false)
-found_none first keys group e = sym (ap (λ o. is_among first keys || option_map_or (λ k. k == first) o false) e ∙ or_none (is_among first keys))
 
 -- the first row of a group that has the key
 head_has : (P : PlainRow → Type 0) (key : ℕ) (some : List PlainRow) → AllByRecursion P some → option_map_or (λ (first : PlainRow). first.key == key) (slice_get some 0) false ≡ true → (row : PlainRow) × (P row × (row.key ≡ key))
@@ -174,9 +153,3 @@ among-led first ms (cells ∷ touched) = by (slice_get (keys_of (group_of cells 
 pub few_firsts : (ms : List Member) (touched : List (List ℤ)) (firsts : List ℕ) → IsRising firsts → ((first : ℕ) → is_among first firsts ≡ list_any (starts ms first) touched) → length firsts ≤ length touched
 few_firsts ms touched firsts rising found =
     subst (λ (keys : List ℕ). length keys ≤ length touched) (sym (rising_same firsts (led_keys ms touched) rising (led_rise ms touched) (λ first. found first ∙ sym (among-led first ms touched)))) (few_led ms touched)
-
--- an element that is there
-pub get_index : {X : Type 0} (xs : List X) (n : ℕ) (other : X) → n < length xs → slice_get xs n ≡ Some (get_or xs n other)
-get_index [] n other h = absurd (omega arith)
-get_index (x ∷ xs) zero other h = refl
-get_index (x ∷ xs) (suc n) other h = get_index xs n other (omega arith)

@@ -1,5 +1,5 @@
 -- The parts of the change of an aggregation are found among the groups that the step touches.
-use Rattle.std.proofs.Common.{◌≡◌, refl, ap, ap₂, sym, ◌∙◌, subst, Bool, true, false, cond, not, ◌&&◌, ◌||◌, ◌==◌, ℕ, ◌<◌, arith, List, [], ◌∷◌, ◌++◌, map, filter, length, inl, inr, true≢false, ℤ}
+use Rattle.std.proofs.Common.{◌≡◌, refl, ap, ap₂, sym, ◌∙◌, subst, Bool, true, false, not, ◌&&◌, ◌||◌, ◌==◌, ℕ, ◌<◌, arith, List, [], ◌∷◌, ◌++◌, map, filter, length, inl, inr, true≢false, ℤ}
 use Rattle.std.specs.Prelude.{nat_lt, slice_get}
 use Rattle.std.specs.Option.{option_map_or}
 use Rattle.std.specs.Cmp.Rules.{signed_items}
@@ -7,7 +7,7 @@ use Rattle.std.specs.List.{AllByRecursion}
 use Rattle.std.proofs.lemmas.Bool.{and_parts, cases_eq, eq-eqb, ltb-false, ltb-true, ne_eqb, or_parts}
 use Rattle.std.proofs.lemmas.List.{length-map}
 use Rattle.key_lists.specs.Keys.{is_among, IsRising, without}
-use Rattle.key_lists.proofs.Among.{among-filter, each_among, of_among}
+use Rattle.key_lists.proofs.Among.{among-filter, each_among, of_among, absent-filter}
 use Rattle.key_lists.proofs.Every.{and_swap, every, every_both, every_weaker, every-filter, every-map, every_unmapped, filter-map, filter_filter, filter_passes, filter_same, filter_swap, map_map, map_own, map_same}
 use Rattle.row_changes.proofs.Comparing.{pairs_of-keys}
 use Rattle.row_changes.specs.Parts.{AreParts, Parts}
@@ -16,6 +16,7 @@ use Rattle.shift_data.specs.Moves.{IsLawful, canonical, pair_by, pairs_of}
 use Rattle.shown_rows.proofs.Named.{filter_named, named_by, of_named}
 use Rattle.shown_rows.proofs.Restricted.{exact_shift, is_modified, kept, old_some}
 use Rattle.key_lists.proofs.Rising.{rising_some}
+use Rattle.key_lists.proofs.Booleans.{and_false}
 use Rattle.table_update.proofs.LawfulParts.{lawful_some}
 use Rattle.table_update.specs.Kept.{old_modified}
 use Rattle.tick_laws.proofs.OperatorTicks.{operator_keeps}
@@ -77,10 +78,6 @@ first_tested : (p q : PlainRow → Bool) (rows : List PlainRow) → AllByRecursi
 first_tested p q [] h = refl
 first_tested p q (row ∷ rows) h = h.0
 
-and_false : (b : Bool) → (b && false) ≡ false
-and_false true = refl
-and_false false = refl
-
 -- a key that fails where all of these pass is none of them
 not_among : (p : ℕ → Bool) (these : List ℕ) (key : ℕ) → AllByRecursion (λ other. p other ≡ false) these → p key ≡ true → is_among key these ≡ false
 not_among p these key none own = by_case (is_among key these) refl
@@ -88,15 +85,6 @@ not_among p these key none own = by_case (is_among key these) refl
     by_case : (b : Bool) → is_among key these ≡ b → b ≡ false
     by_case true h = absurd (true≢false (sym own ∙ of_among (λ other. p other ≡ false) key these none h))
     by_case false h = refl
-
--- a key of none of the elements is that of none of those that pass
-none_named : {X : Type 0} (f : X → ℕ) (test : X → Bool) (key : ℕ) (xs : List X) → is_among key (map f xs) ≡ false → is_among key (map f (filter test xs)) ≡ false
-none_named {X = X} f test key [] h = refl
-none_named {X = X} f test key (x ∷ xs) h =
-    elim (test x) as (λ b. is_among key (map f (cond b (x ∷ filter test xs) (filter test xs))) ≡ false) [
-      | true ↦ ap₂ (λ a b. a || b) (or_parts _ _ h).0 (none_named f test key xs (or_parts _ _ h).1)
-      | false ↦ none_named f test key xs (or_parts _ _ h).1
-    ]
 
 module _ (by : List ℕ) (aggs : List Agg) (t : Ticking) (e : IsExact t) where
   abbrev pub old : PlainTable
@@ -339,8 +327,8 @@ module _ (by : List ℕ) (aggs : List Agg) (t : Ticking) (e : IsExact t) where
 
   comes_new : (key : ℕ) → is_among key (keys t.new.rows) ≡ true → is_among key (new_keys (kept t e)) ≡ false → Comes key
   comes_new key there absent =
-      ap not (none_named (λ (pair : KeyPair). pair.new) stay key (kept t e) absent)
-      ∙ sym (ap₂ (λ a b. a && not b) (touched_by_come key (among-united key t.update.added t.update.modified ∙ ap (λ b. b || is_among key t.update.modified) (added_at t e key there ∙ ap not absent))) (none_named (λ (pair : KeyPair). pair.new) touched key (kept t e) absent))
+      ap not (absent-filter (λ (pair : KeyPair). pair.new) stay key (kept t e) absent)
+      ∙ sym (ap₂ (λ a b. a && not b) (touched_by_come key (among-united key t.update.added t.update.modified ∙ ap (λ b. b || is_among key t.update.modified) (added_at t e key there ∙ ap not absent))) (absent-filter (λ (pair : KeyPair). pair.new) touched key (kept t e) absent))
 
   first_there : (key : ℕ) → is_among key firsts_now ≡ true → is_among key (keys t.new.rows) ≡ true
   first_there key own = (and_parts _ _ (sym (first_at by t.new key e.tick.new_table) ∙ own)).1

@@ -1,8 +1,5 @@
 -- What answers the aggregates, as rows go, move and come.
-use Rattle.std.proofs.Common.{◌≡◌, refl, ap, ap₂, sym, ◌∙◌, subst, Bool, true, false, not, ◌||◌, ◌==◌, ℕ, zero, suc, ◌<◌, arith, List, [], ◌∷◌, ◌++◌, drop, length, map, Option, Some, None, ℤ, pos}
-use Rattle.std.specs.Prelude.{slice_get, unwrap_or}
-use Rattle.std.proofs.lemmas.Bool.{ne_eqb}
-use Rattle.std.proofs.lemmas.Option.{none-some}
+use Rattle.std.proofs.Common.{◌≡◌, refl, ap, sym, ◌∙◌, subst, Bool, true, false, not, ◌||◌, ◌==◌, ℕ, List, [], ◌∷◌, ◌++◌, length, map, Option, Some, None, ℤ, pos}
 use Rattle.key_lists.proofs.Among.{among-append}
 use Rattle.std.specs.List.{AllByRecursion}
 use Rattle.key_lists.specs.Keys.{is_among, IsRising, without}
@@ -110,11 +107,6 @@ moved_cells by shifts rows column (Some cells) =
     sym (ap (λ (moved : List PlainRow). present (column_of moved column)) (filter-map (λ (row : PlainRow). same_cells cells (key_cells by row.cells)) (moved_row shifts) rows)
     ∙ ap present (column-shifting shifts (group_rows by cells rows) column))
 
--- a key above all of these is none of them
-pub above_all : (key : ℕ) (xs : List ℕ) → AllByRecursion (λ x. x < key) xs → is_among key xs ≡ false
-above_all key [] h = refl
-above_all key (x ∷ xs) h = ap₂ (λ a b. a || b) (ne_eqb x key (λ (e : x ≡ key). omega (arith, e, h.0))) (above_all key xs h.1)
-
 either_way : (a b : Bool) → (b || (a || false)) ≡ (a || b)
 either_way true true = refl
 either_way true false = refl
@@ -127,13 +119,3 @@ removing-last key keys rows =
     filter_same (λ row. not (is_among row.key (key ∷ keys))) (λ row. not (is_among row.key (keys ++ key ∷ []))) rows
     (every (λ row. not (is_among row.key (key ∷ keys)) ≡ not (is_among row.key (keys ++ key ∷ []))) rows
     (λ row. ap not (sym (among-append row.key keys (key ∷ []) ∙ either_way (key == row.key) (is_among row.key keys)))))
-
-pub drop_next : (xs : List ℕ) (n x : ℕ) → slice_get xs n ≡ Some x → drop n xs ≡ x ∷ drop (suc n) xs
-drop_next [] n x h = absurd (none-some x h)
-drop_next (y ∷ ys) zero x h = ap (λ z. z ∷ ys) (ap (λ (o : Option ℕ). unwrap_or o y) h)
-drop_next (y ∷ ys) (suc n) x h = drop_next ys n x h
-
-pub rising_drop : (n : ℕ) (xs : List ℕ) → IsRising xs → IsRising (drop n xs)
-rising_drop zero xs h = h
-rising_drop (suc n) [] h = tt
-rising_drop (suc n) (x ∷ xs) h = rising_drop n xs h.1

@@ -15,4 +15,3 @@ pub mod Noting
 pub mod StayingRows
 pub mod Quiet
 pub mod Whole
-pub mod Fresh

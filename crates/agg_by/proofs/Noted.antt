@@ -7,9 +7,11 @@ use Rattle.std.specs.Option.{option_map_or}
 use Rattle.std.proofs.lemmas.Bool.{cases_eq, eq-eqb, eqb-true, ne_eqb, or_cases, or_right, and_parts}
 use Rattle.std.proofs.lemmas.List.{get_or-set_other, get_or-set_same}
 use Rattle.std.proofs.lemmas.Option.{none-some, same_Some}
+use Rattle.std.proofs.lemmas.List.Folds.{list_any-append}
 use Rattle.key_lists.specs.Keys.{is_among}
 use Rattle.key_lists.proofs.Among.{among-append, of_among}
-use Rattle.key_lists.proofs.Every.{every-append, every_unmapped, every_weaker, filter-map, filter_swap}
+use Rattle.key_lists.proofs.Every.{every-append, every_unmapped, every_weaker, filter-map, filter_swap, any-map}
+use Rattle.key_lists.proofs.Booleans.{or_false, same_truth}
 use Rattle.row_groups.specs.Members.{IsNumberOf, IsPart, Member, Names, Numbered, group_of, keys_of, name_at}
 use Rattle.shown_rows.proofs.Walks.{take_next}
 use Rattle.tick_model.specs.declared.table.PlainRow.{PlainRow}
@@ -25,16 +27,9 @@ use Rattle.agg_by.proofs.Answering.{group_is, keys_group}
 use Rattle.agg_by.proofs.Bringing.{members}
 use Rattle.agg_by.proofs.FirstKeys.{starts_when}
 use Rattle.agg_by.proofs.Made.{no_rows}
-use Rattle.agg_by.proofs.Touching.{any-append, any_next, or_none}
-use Rattle.agg_by.proofs.Untouched.{any-map}
+use Rattle.agg_by.proofs.Touching.{any_next}
 
 -- marks of numbers
-pub room_marks : (marks : List Bool) (number : ℕ) → get_or (marks ++ false ∷ []) number false ≡ get_or marks number false
-room_marks [] zero = refl
-room_marks [] (suc number) = refl
-room_marks (mark ∷ marks) zero = refl
-room_marks (mark ∷ marks) (suc number) = room_marks marks number
-
 pub marked_within : (marks : List Bool) (number : ℕ) → get_or marks number false ≡ true → number < length marks
 marked_within [] number e = absurd (true≢false (sym e))
 marked_within (mark ∷ marks) zero e = omega arith
@@ -63,10 +58,6 @@ unmarked numbers marks place number within here so_far other =
     either false true c = refl
     either false false c = refl
 
-pub none_marked : (b : Bool) → (if b then false else b) ≡ false
-none_marked true = refl
-none_marked false = refl
-
 -- a number that is noted
 any_of : (p : ℕ → Bool) (number : ℕ) (numbers : List ℕ) → is_among number numbers ≡ true → p number ≡ true → list_any p numbers ≡ true
 any_of p number [] own e = own
@@ -81,8 +72,8 @@ any_with p number numbers = by_case (is_among number numbers) refl (p number) re
   where
     by_case : (b : Bool) → is_among number numbers ≡ b → (c : Bool) → p number ≡ c → list_any p (if b then numbers else numbers ++ number ∷ []) ≡ (list_any p numbers || c)
     by_case true e true f = ap (λ b. b) (any_of p number numbers e f) ∙ sym (or_right (list_any p numbers) true refl)
-    by_case true e false f = sym (or_none (list_any p numbers))
-    by_case false e c f = any-append p numbers (number ∷ []) ∙ ap (λ b. list_any p numbers || b) (or_none (p number) ∙ f)
+    by_case true e false f = sym (or_false (list_any p numbers))
+    by_case false e c f = list_any-append p numbers (number ∷ []) ∙ ap (λ b. list_any p numbers || b) (or_false (p number) ∙ f)
 
 -- the group of a number
 pub starts_own : (rows : Numbered) (first number : ℕ) (cells : List ℤ) → name_at number rows.names ≡ Some cells → starts_numbered rows first number ≡ starts rows.members first cells
@@ -115,7 +106,7 @@ pub named-append : (xs ys : List (List ℤ)) (names : Names) (number : ℕ) → 
 named-append xs ys names number =
     elim (name_at number names) as (λ named. option_map_or (λ own. list_any (same_cells own) (xs ++ ys)) named false ≡ (option_map_or (λ own. list_any (same_cells own) xs) named false || option_map_or (λ own. list_any (same_cells own) ys) named false)) [
       | None ↦ refl
-      | Some own ↦ any-append (same_cells own) xs ys
+      | Some own ↦ list_any-append (same_cells own) xs ys
     ]
 
 -- one key more, whose cells a group may have
@@ -130,7 +121,7 @@ named_next f keys n key number names before here = by_name (name_at number names
     by_name : (named : Option (List ℤ)) → ((before || option_map_or (λ own. list_any (same_cells own) (map f (take n keys))) named false) || option_map_or (λ own. list_any (same_cells own) (f key ∷ [])) named false)
         ≡ (before || option_map_or (λ own. list_any (same_cells own) (map f (take (n + 1) keys))) named false)
     by_name None = neither before
-    by_name (Some own) = ap (λ b. (before || list_any (same_cells own) (map f (take n keys))) || b) (or_none (same_cells own (f key))) ∙ any_next (same_cells own) f keys n key before here
+    by_name (Some own) = ap (λ b. (before || list_any (same_cells own) (map f (take n keys))) || b) (or_false (same_cells own (f key))) ∙ any_next (same_cells own) f keys n key before here
 
 pub starts_none : (cells : List ℤ) (ms : List Member) (first : ℕ) → group_of cells ms ≡ [] → starts ms first cells ≡ false
 starts_none cells ms first none = ap (λ (group : List Member). option_map_or (λ (key : ℕ). key == first) (slice_get (keys_of group) 0) false) none
@@ -155,11 +146,6 @@ any_found p (x ∷ xs) e =
           let rest = any_found p xs later in
           record { one = rest.one; passes = rest.passes; there = λ q f. or_right (q x) (list_any q xs) (rest.there q f) }
     ]
-
-same_truth : (a b : Bool) → (a ≡ true → b ≡ true) → (b ≡ true → a ≡ true) → a ≡ b
-same_truth true b f g = sym (f refl)
-same_truth false true f g = g refl
-same_truth false false f g = refl
 
 -- the number of the group with some key cells, if one is
 abbrev MayName : List ℤ → Names → Type 0
@@ -241,7 +227,7 @@ module _ (by : List ℕ) (table : PlainTable) (t : IsTable table) (come : List �
         ∙ any_of (λ key. same_cells cells (key_at by table.rows key)) first come own ((signed_items cells (key_at by table.rows first)).1 (sym (came_own first cells own (ap (λ ms. starts ms first cells) (sym news) ∙ led))))
 
     in_both : (cells : List ℤ) → list_any (same_cells cells) came ≡ true → list_any (same_cells cells) (went ++ came) ≡ true
-    in_both cells own = any-append (same_cells cells) went came ∙ or_right (list_any (same_cells cells) went) (list_any (same_cells cells) came) own
+    in_both cells own = list_any-append (same_cells cells) went came ∙ or_right (list_any (same_cells cells) went) (list_any (same_cells cells) came) own
 
     touched_when : (number first : ℕ) (cells : List ℤ) → is_among number numbers ≡ true → name_at number new.names ≡ Some cells → starts new.members first cells ≡ true → list_any (same_cells cells) (went ++ came) ≡ true
     touched_when number first cells own named led =
@@ -291,7 +277,7 @@ named_more cells own names more number keeps named = by_name (name_at number nam
   where
     by_name : (name : Option (List ℤ)) → name_at number names ≡ name → option_map_or (λ own. list_any (same_cells own) cells) name false ≡ true → is_named (cells ++ own ∷ []) more number ≡ true
     by_name None e h = absurd (true≢false (sym h))
-    by_name (Some other) e h = named_is (cells ++ own ∷ []) other more number (keeps other e) ∙ any-append (same_cells other) cells (own ∷ []) ∙ ap (λ b. b || list_any (same_cells other) (own ∷ [])) h
+    by_name (Some other) e h = named_is (cells ++ own ∷ []) other more number (keeps other e) ∙ list_any-append (same_cells other) cells (own ∷ []) ∙ ap (λ b. b || list_any (same_cells other) (own ∷ [])) h
 
 pub noted_more : (before numbers : List ℕ) (cells : List (List ℤ)) (own : List ℤ) (part whole : Numbered) (number : ℕ) → IsPart part whole → IsNumberOf number own whole.names → AreNoted before cells part.names numbers → AreNoted before (cells ++ own ∷ []) whole.names (with_number number numbers)
 noted_more before numbers cells own part whole number keeps is noted = record {
@@ -317,7 +303,7 @@ noted_more before numbers cells own part whole number keeps is noted = record {
     by_case other (inr same) =
         later other
         (named_is (cells ++ own ∷ []) own whole.names other (ap (λ n. name_at n whole.names) (sym (eqb-true number other same)) ∙ is.own)
-        ∙ any-append (same_cells own) cells (own ∷ []) ∙ or_right (list_any (same_cells own) cells) (list_any (same_cells own) (own ∷ [])) (ap (λ b. b || false) ((signed_items own own).1 refl)))
+        ∙ list_any-append (same_cells own) cells (own ∷ []) ∙ or_right (list_any (same_cells own) cells) (list_any (same_cells own) (own ∷ [])) (ap (λ b. b || false) ((signed_items own own).1 refl)))
 
 -- a group without rows has none wherever they move
 pub moved_none : (by : List ℕ) (shifts : List ShiftRange) (rows : List PlainRow) (cells : List ℤ) → group_of cells (members by None rows) ≡ [] → group_of cells (members by None (shifting shifts rows)) ≡ []

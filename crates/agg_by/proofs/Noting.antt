@@ -1,18 +1,18 @@
 -- The rows that are noted of the touched groups.
-use Rattle.std.proofs.Common.{◌≡◌, refl, ap, ap₂, sym, ◌∙◌, Bool, true, false, cond, ◌==◌, ◌||◌, ℕ, zero, suc, ◌+◌, ◌-◌, ◌*◌, ◌<◌, ◌≤◌, nat_lt, zero-add, arith, List, [], ◌∷◌, ◌++◌, filter, length, take, drop, Some, ℤ, slice_range, true≢false, append-nil, append_assoc, if◌then◌else◌, Ok, Err}
+use Rattle.std.proofs.Common.{◌≡◌, refl, ap, ap₂, sym, ◌∙◌, Bool, true, false, ℕ, zero, suc, ◌+◌, ◌-◌, ◌*◌, ◌<◌, ◌≤◌, zero-add, arith, List, [], ◌∷◌, ◌++◌, length, take, drop, Some, ℤ, slice_range, append-nil, append_assoc, if◌then◌else◌, Ok, Err}
 use Rattle.std.specs.List.{AllByRecursion}
 use Rattle.std.specs.Prelude.{flat_map, slice_get}
 use Rattle.std.specs.Result.{result_ok}
 use Rattle.std.proofs.Math.Nat.{mul-le-mul_left}
-use Rattle.std.proofs.lemmas.Bool.{eqb-true, le-ltb, lt-ltb}
 use Rattle.std.proofs.lemmas.Grind.{flat_map-append}
 use Rattle.std.proofs.lemmas.List.{length-append}
-use Rattle.std.proofs.lemmas.Option.{none-some}
+use Rattle.std.proofs.lemmas.Option.{none-some, same_Some}
 use Rattle.key_lists.specs.Keys.{is_among, IsRising}
-use Rattle.key_lists.proofs.Among.{of_among}
-use Rattle.key_lists.proofs.Every.{every_weaker, filter_none}
+use Rattle.key_lists.proofs.Every.{every_weaker}
+use Rattle.key_lists.proofs.Parts.{take_front}
 use Rattle.row_changes.specs.Parts.{cells_under}
 use Rattle.row_set.specs.Sets.{count_below, found}
+use Rattle.row_set.proofs.Lookups.{count_at}
 use Rattle.shown_rows.proofs.Walks.{take_next}
 use Rattle.tick_laws.proofs.ResultTables.{result_table}
 use Rattle.tick_laws.proofs.ToldRows.{cells_of_row}
@@ -26,7 +26,6 @@ use Rattle.agg_by.specs.declared.notes.Notes.{Notes}
 use Rattle.agg_by.specs.Notes.{IsNoted}
 use Rattle.agg_by.specs.Steps.{first_keys}
 use Rattle.agg_by.proofs.GroupRows.{keys-agg}
-use Rattle.agg_by.proofs.Ordered.{some_same}
 
 -- one row more behind those of the keys before
 pub told_next : (table : PlainTable) (keys : List ℕ) (n key : ℕ) (others cells more : List ℤ) → slice_get keys n ≡ Some key → cells ≡ others ++ cells_under table (take n keys) → more ≡ cells ++ cells_at key table.rows → more ≡ others ++ cells_under table (take (n + 1) keys)
@@ -61,10 +60,6 @@ length_noted f width (key ∷ keys) h = length-append (f key) (flat_map f keys) 
     more : (a b n : ℕ) → a ≡ width → b ≡ n * width → a + b ≡ suc n * width
     more a b n e h = omega (arith, e, h)
 
-pub take_front : (xs ys : List ℤ) → take (length xs) (xs ++ ys) ≡ xs
-take_front [] ys = refl
-take_front (x ∷ xs) ys = ap (λ zs. x ∷ zs) (take_front xs ys)
-
 drop_past : (n : ℕ) (xs ys : List ℤ) → drop (length xs + n) (xs ++ ys) ≡ drop n ys
 drop_past n [] ys = ap (λ m. drop m ys) (zero-add n)
 drop_past n (x ∷ xs) ys = ap (λ m. drop m (x ∷ xs ++ ys)) (next (length xs) n) ∙ drop_past n xs ys
@@ -75,7 +70,7 @@ drop_past n (x ∷ xs) ys = ap (λ m. drop m (x ∷ xs ++ ys)) (next (length xs)
 part_of : (f : ℕ → List ℤ) (width : ℕ) (keys : List ℕ) (place key : ℕ) → AllByRecursion (λ key. length (f key) ≡ width) keys → slice_get keys place ≡ Some key → take width (drop (place * width) (flat_map f keys)) ≡ f key
 part_of f width [] place key h e = absurd (none-some key e)
 part_of f width (other ∷ keys) zero key h e =
-    ap₂ (λ count from. take count (drop from (f other ++ flat_map f keys))) (sym h.0) nothing ∙ take_front (f other) (flat_map f keys) ∙ ap f (some_same e)
+    ap₂ (λ count from. take count (drop from (f other ++ flat_map f keys))) (sym h.0) nothing ∙ take_front (f other) (flat_map f keys) ∙ ap f (same_Some _ _ e)
   where
     nothing : 0 * width ≡ 0
     nothing = omega arith
@@ -98,35 +93,11 @@ noted_at notes table place key noted here =
 pub noted_room : (notes : Notes) (table : PlainTable) → IsNoted notes table → length notes.cells.items ≡ length notes.keys * notes.width
 noted_room notes table noted = ap length noted.cells ∙ length_noted (λ key. cells_at key table.rows) notes.width notes.keys noted.whole
 
--- the place of a key
-not_below : (key other : ℕ) → key ≤ other → nat_lt other key ≡ false
-not_below key other h = le-ltb other key h
-
-pub count_at : (key : ℕ) (keys : List ℕ) → IsRising keys → is_among key keys ≡ true → slice_get keys (count_below key keys) ≡ Some key
-count_at key [] rising own = absurd (true≢false (sym own))
-count_at key (first ∷ rest) rising own = by (first == key) refl (λ h. count_at key rest rising.1 h)
-  where
-    here : first ≡ key → count_below key (first ∷ rest) ≡ 0
-    here e =
-        ap length (filter_none (λ other. nat_lt other key) (first ∷ rest)
-        (not_below key first (omega (arith, e)), every_weaker (λ other. first < other) (λ other. nat_lt other key ≡ false) rest (λ other above. not_below key other (omega (arith, e, above))) rising.0))
-
-    by : (b : Bool) → (first == key) ≡ b → (is_among key rest ≡ true → slice_get rest (count_below key rest) ≡ Some key) → slice_get (first ∷ rest) (count_below key (first ∷ rest)) ≡ Some key
-    by true e later = let same = eqb-true first key e in ap (slice_get (first ∷ rest)) (here same) ∙ ap (λ k. Some k) same
-    by false e later =
-        let there : is_among key rest ≡ true = sym (ap (λ b. b || is_among key rest) e) ∙ own in
-        ap (λ b. slice_get (first ∷ rest) (length (cond b (first ∷ filter (λ other. nat_lt other key) rest) (filter (λ other. nat_lt other key) rest)))) (lt-ltb first key (of_among (λ k. first < k) key rest rising.0 there)) ∙ later there
-
-pub within_keys : (keys : List ℕ) (n key : ℕ) → slice_get keys n ≡ Some key → n < length keys
-within_keys [] n key e = absurd (none-some key e)
-within_keys (first ∷ rest) zero key e = omega arith
-within_keys (first ∷ rest) (suc n) key e = let below = within_keys rest n key e in omega (arith, below)
-
 pub found_ok : (key : ℕ) (set : List ℕ) (place : ℕ) → result_ok (found key set) ≡ Some place → (is_among key set ≡ true) × (count_below key set ≡ place)
 found_ok key set place e = by (is_among key set) refl e
   where
     by : (b : Bool) → is_among key set ≡ b → result_ok {T = ℕ} {E = ℕ} (if b then Ok (count_below key set) else Err (count_below key set)) ≡ Some place → (is_among key set ≡ true) × (count_below key set ≡ place)
-    by true own e = (own, some_same e)
+    by true own e = (own, same_Some _ _ e)
     by false own e = absurd (none-some place e)
 
 pub place_of_found : (key : ℕ) (keys : List ℕ) (place : ℕ) → IsRising keys → result_ok (found key keys) ≡ Some place → slice_get keys place ≡ Some key

@@ -1,5 +1,5 @@
 -- Cells in order: one comes to its place and goes again, and the first is the least and the last one the greatest.
-use Rattle.std.proofs.Common.{◌≡◌, refl, ap, sym, ◌∙◌, Bool, true, false, cond, ℕ, zero, suc, ◌-◌, ◌≤◌, arith, List, [], ◌∷◌, length, get_or, take, drop, Some, true≢false, ℤ, int_lt, fold, if◌then◌else◌}
+use Rattle.std.proofs.Common.{◌≡◌, refl, ap, sym, ◌∙◌, Bool, true, false, cond, ℕ, zero, suc, ◌-◌, ◌≤◌, arith, List, [], ◌∷◌, length, get_or, take, drop, true≢false, ℤ, int_lt, fold, if◌then◌else◌}
 use Rattle.std.specs.Int.{int_min, int_max}
 use Rattle.std.specs.List.{AllByRecursion}
 use Rattle.std.specs.List.Sorted.{IsPartitionedBy}
@@ -10,9 +10,6 @@ use Rattle.row_groups.proofs.Order.{later_too, lt_from, lt_to, not_lt_from, not_
 use Rattle.tick_model.specs.Agg.{over}
 use Rattle.tick_model.specs.Tables.{null}
 use Rattle.agg_by.specs.Values.{Ascends, greatest, in_order, least, placed, unplaced}
-
-pub some_same : {X : Type 0} {x y : X} → Some x ≡ Some y → x ≡ y
-some_same {X = X} {x = x} {y = y} e = cc
 
 less_then : (x y : ℤ) → int_lt y x ≡ true → int_lt x y ≡ false
 less_then x y e = not_lt_to x y (omega (arith, ints, lt_from y x e))

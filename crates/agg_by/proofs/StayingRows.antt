@@ -6,15 +6,16 @@ use Rattle.std.specs.Option.{option_map_or}
 use Rattle.std.specs.Prelude.{slice_get}
 use Rattle.std.proofs.lemmas.Bool.{and_parts}
 use Rattle.std.proofs.lemmas.List.{length-append, length-map, map-append}
+use Rattle.std.proofs.lemmas.Option.{same_Some}
 use Rattle.key_lists.specs.Keys.{is_among, IsRising, without}
 use Rattle.key_lists.proofs.Among.{among-filter, each_among, of_among}
 use Rattle.key_lists.proofs.Every.{every_both, every_weaker, every-filter, every-map, filter-map, filter_filter, filter_passes}
 use Rattle.key_lists.proofs.Rising.{rising_some}
+use Rattle.key_lists.proofs.Parts.{every-take, take_front}
 use Rattle.row_groups.specs.Members.{Grouped, Member, member_under}
 use Rattle.shift_data.proofs.Lawful.{lawful, not_past}
 use Rattle.shown_rows.proofs.Restricted.{exact_shift}
 use Rattle.shown_rows.proofs.Walks.{below_keys, filter_next, of_place}
-use Rattle.tick_laws.proofs.ResultTables.{every-take}
 use Rattle.tick_model.specs.Agg.{agg_table, aggregate}
 use Rattle.tick_model.specs.declared.plan.Agg.{Agg}
 use Rattle.tick_model.specs.declared.table.PlainRow.{PlainRow}
@@ -31,8 +32,6 @@ use Rattle.agg_by.proofs.Answering.{cells_known}
 use Rattle.agg_by.proofs.FirstKeys.{first_keys_rise}
 use Rattle.agg_by.proofs.GroupParts.{moves_up, rising_moved}
 use Rattle.agg_by.proofs.GroupRows.{cells-agg, first_at}
-use Rattle.agg_by.proofs.Noting.{take_front}
-use Rattle.agg_by.proofs.Ordered.{some_same}
 
 pub same_turned : (xs ys : List ℤ) → same_cells xs ys ≡ same_cells ys xs
 same_turned xs ys = cases (same_cells xs ys) (same_cells ys xs) refl refl
@@ -48,7 +47,7 @@ is_false {b = false} h = refl
 
 -- what is chosen where something is chosen
 pub chosen_is : {X : Type 0} (b : Bool) (x y : X) → Some y ≡ (if b then Some x else None) → (b ≡ true) × (x ≡ y)
-chosen_is true x y e = (refl, some_same (sym e))
+chosen_is true x y e = (refl, same_Some _ _ (sym e))
 chosen_is {X = X} false x y e = absurd (cc)
 
 pub none_chosen : {X : Type 0} (b : Bool) (x : X) → None ≡ (if b then Some x else None) → b ≡ false
@@ -86,7 +85,7 @@ pub pair_when : (by : List ℕ) (t : Ticking) (firsts : List ℕ) (place old : �
     → found ≡ (if b then Some (kept_pair t.update old) else None) → (other : ℕ) → slice_get firsts place ≡ Some other
     → found ≡ (if not (is_among other t.update.removed) && stays by t (kept_pair t.update other) then Some (kept_pair t.update other) else None)
 pair_when by t firsts place old found b here when is other there =
-    subst (λ (k : ℕ). found ≡ (if not (is_among k t.update.removed) && stays by t (kept_pair t.update k) then Some (kept_pair t.update k) else None)) (some_same (sym here ∙ there))
+    subst (λ (k : ℕ). found ≡ (if not (is_among k t.update.removed) && stays by t (kept_pair t.update k) then Some (kept_pair t.update k) else None)) (same_Some _ _ (sym here ∙ there))
     (is ∙ sym (ap (λ b. if b then Some (kept_pair t.update old) else None) when))
 
 pub all_three : (r m s : Bool) → r ≡ false → m ≡ true → s ≡ true → (not r && (m && s)) ≡ true
@@ -173,7 +172,7 @@ module _ (by : List ℕ) (t : Ticking) (e : IsExact t) where
 
       through : (o : Option Member) → option_map (λ (member : Member). member.cells) o ≡ Some (key_at by t.new.rows new) → option_map_or (λ (member : Member). same_cells member.cells (key_at by t.old.rows old)) o false ≡ same_cells (key_at by t.new.rows new) (key_at by t.old.rows old)
       through None f = absurd (cc)
-      through (Some member) f = ap (λ cells. same_cells cells (key_at by t.old.rows old)) (some_same f)
+      through (Some member) f = ap (λ cells. same_cells cells (key_at by t.old.rows old)) (same_Some _ _ f)
 
   pub lands_small : (key : ℕ) → is_among key (without t.update.removed (keys t.old.rows)) ≡ true → as_key (moved t.update.shifted key) < 2 ^ 62
   lands_small key own = (not_past (2 ^ 62) (moved t.update.shifted key) (lands key own)).1

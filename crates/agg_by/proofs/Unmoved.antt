@@ -2,7 +2,7 @@
 use Rattle.std.proofs.Common.{◌≡◌, refl, ap, sym, ◌∙◌, Bool, true, false, not, ◌&&◌, ◌||◌, ℕ, List, map, filter, true≢false, ℤ}
 use Rattle.std.specs.Cmp.Rules.{signed_items}
 use Rattle.std.specs.List.{AllByRecursion}
-use Rattle.std.proofs.lemmas.Bool.{not-false, or_parts}
+use Rattle.std.proofs.lemmas.Bool.{not-false, or_parts, not-true}
 use Rattle.key_lists.specs.Keys.{is_among, without}
 use Rattle.key_lists.proofs.Among.{among-filter, each_among}
 use Rattle.key_lists.proofs.Every.{every, every_both, every_weaker, every-filter, every-map, every_unmapped, filter-map, filter_passes, filter_same, map_map, map_same}
@@ -19,10 +19,6 @@ use Rattle.tick_model.specs.Updates.{Update, differs, kept_pair, moved_row, new_
 use Rattle.tick_table.specs.Exact.{IsExact}
 use Rattle.tick_table.specs.Ticking.{Ticking}
 use Rattle.agg_by.specs.Steps.{come, gone, staying_rows}
-
-pub is_false : (b : Bool) → not b ≡ true → b ≡ false
-is_false true h = sym h
-is_false false h = refl
 
 pub and_with : (p t : Bool) → t ≡ true → (p && t) ≡ p
 and_with true t e = e
@@ -55,7 +51,7 @@ module _ (t : Ticking) (e : IsExact t) where
   same_rows =
       map_same was_row now_row quiet
       (every_both (λ pair. is_quiet pair ≡ true) (λ pair. is_modified t e pair ≡ false → cells_at pair.old t.old.rows ≡ cells_at pair.new t.new.rows) (λ pair. was_row pair ≡ now_row pair) quiet
-      (λ pair stays same. ap (λ (cells : List ℤ). let row : PlainRow = record { key = pair.new; cells = cells } in row) (same (is_false _ stays)))
+      (λ pair stays same. ap (λ (cells : List ℤ). let row : PlainRow = record { key = pair.new; cells = cells } in row) (same (not-true _ stays)))
       (filter_passes is_quiet (kept t e))
       (every-filter (λ pair. is_modified t e pair ≡ false → cells_at pair.old t.old.rows ≡ cells_at pair.new t.new.rows) is_quiet (kept t e) quiet_cells))
 

@@ -6,7 +6,7 @@ use Rattle.std.proofs.lemmas.Bool.{not-false, or_parts}
 use Rattle.std.proofs.lemmas.List.{length-map}
 use Rattle.key_lists.specs.Keys.{is_among, IsRising}
 use Rattle.key_lists.proofs.Among.{of_among}
-use Rattle.key_lists.proofs.Every.{every_weaker, filter-map, filter_in, map_map}
+use Rattle.key_lists.proofs.Every.{every_weaker, filter-map, filter_in, map_map, any-map}
 use Rattle.tick_model.proofs.Among.{each_found}
 use Rattle.tick_model.specs.Agg.{aggregate, column_of, key_cells, over, present, sum_of}
 use Rattle.std.specs.Int.{int_min, int_max}
@@ -32,10 +32,6 @@ pub any_parts : {X : Type 0} (p : X → Bool) (xs ys : List X) → list_any p (x
 any_parts p [] ys h = (refl, h)
 any_parts p (x ∷ xs) ys h =
     let rest = any_parts p xs ys (or_parts _ _ h).1 in (ap (λ b. b || list_any p xs) (or_parts _ _ h).0 ∙ rest.0, rest.1)
-
-pub any-map : {X Y : Type 0} (p : Y → Bool) (f : X → Y) (xs : List X) → list_any p (map f xs) ≡ list_any (λ x. p (f x)) xs
-any-map p f [] = refl
-any-map p f (x ∷ xs) = ap (λ b. p (f x) || b) (any-map p f xs)
 
 -- the key cells of a row, by its key
 pub own_cells : (by : List ℕ) (rows : List PlainRow) → IsRising (keys rows) → AllByRecursion (λ row. key_at by rows row.key ≡ key_cells by row.cells) rows

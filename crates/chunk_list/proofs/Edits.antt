@@ -1,12 +1,12 @@
 -- What edits of chunks do to the joined list and to the counts.
-use Rattle.std.proofs.Common.{◌≡◌, refl, ap, sym, ◌∙◌, ℕ, zero, suc, ◌+◌, ◌-◌, ◌^◌, ◌<◌, ◌≤◌, arith, List, [], ◌∷◌, ◌++◌, length, map, take, drop, get_or, set, append_assoc, length-append, Result, Ok, Err, OnErr, true, false, true≢false}
+use Rattle.std.proofs.Common.{◌≡◌, refl, ap, sym, ◌∙◌, ℕ, zero, suc, ◌+◌, ◌-◌, ◌^◌, ◌<◌, arith, List, [], ◌∷◌, ◌++◌, length, map, take, drop, get_or, set, append_assoc, length-append, Result, Ok, Err, OnErr, true, false, true≢false}
 use Rattle.std.specs.Prelude.{insert, remove, ◌==◌}
 use Rattle.std.specs.List.{AllByRecursion}
 use Rattle.std.proofs.lemmas.List.{append-nil}
-use Rattle.std.proofs.lemmas.Bool.{ne_eqb}
 use Rattle.chunk_list.specs.declared.counts.Place.{Place}
 use Rattle.chunk_list.specs.Chunked.{AreChunks, IsChunk, IsPlace, joined, list_at}
 use Rattle.std.specs.Global.{Vec}
+use Rattle.key_lists.proofs.Parts.{every_set, every_remove, map_set, put_among, taken_among}
 use Rattle.chunk_list.proofs.Joined.{contents, count_at, joined_around, joined_set, own_list, set_own}
 
 -- a chunk is not empty or too long
@@ -14,27 +14,6 @@ pub size_at : {X : Type 0} (ls : List (List X)) (i : ℕ) → i < length ls → 
 size_at [] i lt h = absurd (omega arith)
 size_at (l ∷ ls) zero lt h = h.0
 size_at (l ∷ ls) (suc i) lt h = size_at ls i (omega arith) h.1
-
-pub every_set : {X : Type 0} (P : X → Type 0) (xs : List X) (i : ℕ) (x : X) → P x → AllByRecursion P xs → AllByRecursion P (set xs i x)
-every_set P [] i x p h = tt
-every_set P (y ∷ xs) zero x p h = (p, h.1)
-every_set P (y ∷ xs) (suc i) x p h = (h.0, every_set P xs i x p h.1)
-
-pub every_added : {X : Type 0} (P : X → Type 0) (xs : List X) (i : ℕ) (x : X) → P x → AllByRecursion P xs → AllByRecursion P (insert xs i x)
-every_added P xs zero x p h = (p, h)
-every_added P [] (suc i) x p h = (p, tt)
-every_added P (y ∷ xs) (suc i) x p h = (h.0, every_added P xs i x p h.1)
-
-every_left : {X : Type 0} (P : X → Type 0) (xs : List X) (i : ℕ) → AllByRecursion P xs → AllByRecursion P (remove xs i)
-every_left P [] zero h = tt
-every_left P [] (suc i) h = tt
-every_left P (y ∷ xs) zero h = h.1
-every_left P (y ∷ xs) (suc i) h = (h.0, every_left P xs i h.1)
-
-pub map_set : {X Y : Type 0} (f : X → Y) (xs : List X) (i : ℕ) (x : X) → map f (set xs i x) ≡ set (map f xs) i (f x)
-map_set f [] i x = refl
-map_set f (y ∷ xs) zero x = refl
-map_set f (y ∷ xs) (suc i) x = ap (λ ys. f y ∷ ys) (map_set f xs i x)
 
 pub map_insert : {X Y : Type 0} (f : X → Y) (xs : List X) (i : ℕ) (x : X) → map f (insert xs i x) ≡ insert (map f xs) i (f x)
 map_insert f xs zero x = refl
@@ -46,24 +25,6 @@ map_remove f [] zero = refl
 map_remove f [] (suc i) = refl
 map_remove f (y ∷ xs) zero = refl
 map_remove f (y ∷ xs) (suc i) = ap (λ ys. f y ∷ ys) (map_remove f xs i)
-
--- an item put in the midst of three lists, or taken from there
-put_among : {X : Type 0} (xs ys zs : List X) (n m : ℕ) (x : X) → length xs + m ≡ n → m ≤ length ys → xs ++ ((take m ys ++ x ∷ drop m ys) ++ zs) ≡ take n (xs ++ (ys ++ zs)) ++ x ∷ drop n (xs ++ (ys ++ zs))
-put_among [] [] zs n zero x e le = ap (λ k. take k zs ++ x ∷ drop k zs) e
-put_among [] (y ∷ ys) zs n zero x e le = ap (λ k. take k (y ∷ (ys ++ zs)) ++ x ∷ drop k (y ∷ (ys ++ zs))) e
-put_among [] [] zs n (suc m) x e le = absurd (omega arith)
-put_among [] (y ∷ ys) zs zero (suc m) x e le = absurd (omega arith)
-put_among [] (y ∷ ys) zs (suc n) (suc m) x e le = ap (λ rs. y ∷ rs) (put_among [] ys zs n m x (omega arith) (omega arith))
-put_among (w ∷ xs) ys zs zero m x e le = absurd (omega arith)
-put_among (w ∷ xs) ys zs (suc n) m x e le = ap (λ rs. w ∷ rs) (put_among xs ys zs n m x (omega arith) le)
-
-taken_among : {X : Type 0} (xs ys zs : List X) (n m : ℕ) → length xs + m ≡ n → m < length ys → xs ++ ((take m ys ++ drop (suc m) ys) ++ zs) ≡ take n (xs ++ (ys ++ zs)) ++ drop (suc n) (xs ++ (ys ++ zs))
-taken_among [] [] zs n m e lt = absurd (omega arith)
-taken_among [] (y ∷ ys) zs n zero e lt = ap (λ k. take k (y ∷ (ys ++ zs)) ++ drop (suc k) (y ∷ (ys ++ zs))) e
-taken_among [] (y ∷ ys) zs zero (suc m) e lt = absurd (omega arith)
-taken_among [] (y ∷ ys) zs (suc n) (suc m) e lt = ap (λ rs. y ∷ rs) (taken_among [] ys zs n m (omega arith) (omega arith))
-taken_among (w ∷ xs) ys zs zero m e lt = absurd (omega arith)
-taken_among (w ∷ xs) ys zs (suc n) m e lt = ap (λ rs. w ∷ rs) (taken_among xs ys zs n m (omega arith) lt)
 
 pub item_put : {X : Type 0} (ls : List (List X)) (position : ℕ) (place : Place) (x : X) → IsPlace ls position place → joined (set ls place.index (insert (list_at place.index ls) place.offset x)) ≡ insert (joined ls) position x
 item_put ls position place x at =
@@ -138,14 +99,10 @@ taken_kept ls counts i l are lt one some =
 
 pub gone_kept : {X : Type 0} (ls : List (List X)) (counts : List ℕ) (i : ℕ) → AreChunks ls counts → i < length ls → AreChunks (remove ls i) (remove counts i)
 gone_kept ls counts i are lt = record {
-  sizes = every_left IsChunk ls i are.sizes;
+  sizes = every_remove IsChunk ls i are.sizes;
   counted = ap (λ ns. remove ns i) are.counted ∙ sym (map_remove length ls i);
   few = omega (arith, are.few, ap length (joined_left ls i lt), length_instead ls i [] lt);
 }
-
-pub no_items : {X : Type 0} (xs : List X) → true ≡ (length xs == 0) → xs ≡ []
-no_items [] e = refl
-no_items (x ∷ xs) e = absurd (true≢false (e ∙ ne_eqb (suc (length xs)) 0 (λ f. omega arith)))
 
 pub some_items : {X : Type 0} (xs : List X) → false ≡ (length xs == 0) → 0 < length xs
 some_items [] e = absurd (true≢false (sym e))

@@ -2,8 +2,9 @@
 use Rattle.std.proofs.Common.{◌≡◌, refl, ap, ap₂, sym, ◌∙◌, ℕ, zero, suc, ◌+◌, ◌-◌, ◌^◌, ◌<◌, ◌≤◌, arith, List, [], ◌∷◌, ◌++◌, length, map, take, drop, get_or, set, append_assoc, take-append-drop}
 use Rattle.std.specs.Prelude.{insert, remove}
 use Rattle.std.specs.Global.{Vec}
+use Rattle.key_lists.proofs.Parts.{set_around, every_set, every_insert, map_set}
 use Rattle.chunk_list.specs.Chunked.{AreChunks, IsChunk, IsReplaced, joined, list_at}
-use Rattle.chunk_list.proofs.Edits.{every_added, every_set, length_instead, lists_set, map_insert, map_set}
+use Rattle.chunk_list.proofs.Edits.{length_instead, lists_set, map_insert}
 use Rattle.chunk_list.proofs.Joined.{contents, length-counts, own_list}
 
 -- a list in two
@@ -21,7 +22,7 @@ counts_halved (n ∷ ns) (suc i) a b z lt = ap (λ ms. n ∷ ms) (counts_halved 
 pub halves_kept : {X : Type 0} (ls : List (List X)) (counts : List ℕ) (i low up : ℕ) (lower upper l : List X) → AreChunks ls counts → i < length ls → length (joined ls) < 2 ^ 62 → lower ++ upper ≡ l → length l ≡ length (list_at i ls) + 1
     → IsChunk lower → IsChunk upper → length lower ≡ low → length upper ≡ up → AreChunks (insert (set ls i lower) (suc i) upper) (set (set (insert counts (suc i) 0) (suc i) up) i low)
 halves_kept ls counts i low up lower upper l are lt room both one small large lows ups = record {
-  sizes = every_added IsChunk (set ls i lower) (suc i) upper large (every_set IsChunk ls i lower small are.sizes);
+  sizes = every_insert IsChunk (set ls i lower) (suc i) upper large (every_set IsChunk ls i lower small are.sizes);
   counted =
       ap (λ ns. set (set (insert ns (suc i) 0) (suc i) up) i low) are.counted
       ∙ counts_halved (map length ls) i low up 0 (omega (arith, lt, length-counts ls))
@@ -41,11 +42,6 @@ lists_halved {X = X} chunks after i lower upper put =
     ∙ ap (λ ks. insert ks (suc i) upper.items) (lists_set chunks i lower lower.items refl)
 
 -- one chunk becomes another, or two, or goes
-set_around : {X : Type 0} (xs : List X) (i : ℕ) (x : X) → i < length xs → set xs i x ≡ take i xs ++ x ∷ drop (suc i) xs
-set_around [] i x lt = absurd (omega arith)
-set_around (y ∷ xs) zero x lt = refl
-set_around (y ∷ xs) (suc i) x lt = ap (λ ys. y ∷ ys) (set_around xs i x (omega arith))
-
 pub set_replaced : {X : Type 0} (few most : ℕ) (ls : List (List X)) (i : ℕ) (l : List X) → few ≤ 1 → 1 ≤ most → i < length ls → IsReplaced few most ls (set ls i l)
 set_replaced few most ls i l some no_more lt = record {
   at = i;

@@ -1,7 +1,8 @@
 -- Lists joined to one, and what stands at a position there.
-use Rattle.std.proofs.Common.{◌≡◌, refl, ap, sym, ◌∙◌, ℕ, zero, suc, ◌+◌, ◌<◌, ◌≤◌, arith, List, [], ◌∷◌, ◌++◌, length, map, take, drop, get_or, set, sum, append_assoc, length-append, Some}
+use Rattle.std.proofs.Common.{◌≡◌, refl, ap, sym, ◌∙◌, ℕ, zero, suc, ◌+◌, ◌<◌, arith, List, [], ◌∷◌, ◌++◌, length, map, take, drop, get_or, set, sum, append_assoc, length-append, Some}
 use Rattle.std.specs.Prelude.{slice_get}
 use Rattle.std.specs.Global.{Vec}
+use Rattle.key_lists.proofs.Parts.{drop_among, got_among, take_front}
 use Rattle.chunk_list.specs.declared.counts.Place.{Place}
 use Rattle.chunk_list.specs.Chunked.{IsPlace, joined, list_at}
 use Rattle.chunk_list.proofs.Sums.{sum-cons}
@@ -54,16 +55,6 @@ length-lists (c ∷ chunks) = ap suc (length-lists chunks)
 pub own_list : {X : Type 0} (chunks : List (Vec X)) (i : ℕ) (chunk : Vec X) → i < length (contents chunks) → chunk ≡ get_or chunks i chunk → list_at i (contents chunks) ≡ chunk.items
 own_list chunks i chunk lt is = list_at-items chunks i chunk (omega (arith, lt, length-lists chunks)) ∙ ap (λ c. c.items) (sym is)
 
--- what stands in the midst of three lists
-got_among : {X : Type 0} (xs ys zs : List X) (n m : ℕ) (x : X) → length xs + m ≡ n → m < length ys → x ≡ get_or ys m x → slice_get (xs ++ (ys ++ zs)) n ≡ Some x
-got_among [] [] zs n m x e lt is = absurd (omega arith)
-got_among [] (y ∷ ys) zs zero zero x e lt is = ap Some (sym is)
-got_among [] (y ∷ ys) zs (suc n) zero x e lt is = absurd (omega arith)
-got_among [] (y ∷ ys) zs zero (suc m) x e lt is = absurd (omega arith)
-got_among [] (y ∷ ys) zs (suc n) (suc m) x e lt is = got_among [] ys zs n m x (omega arith) (omega arith) is
-got_among (w ∷ xs) ys zs zero m x e lt is = absurd (omega arith)
-got_among (w ∷ xs) ys zs (suc n) m x e lt is = got_among xs ys zs n m x (omega arith) lt is
-
 pub item_got : {X : Type 0} (ls : List (List X)) (position : ℕ) (place : Place) (x : X) → IsPlace ls position place → x ≡ get_or (list_at place.index ls) place.offset x → slice_get (joined ls) position ≡ Some x
 item_got ls position place x at is =
     ap (λ xs. slice_get xs position) (joined_around ls place.index at.index)
@@ -77,23 +68,11 @@ placed ls counts position place e lt less at = record {
   position_is = omega (arith, ap (λ ns. sum (take place.index ns)) e, ap sum (counts_to place.index ls), length-joined (take place.index ls));
 }
 
-drop_among : {X : Type 0} (xs ys zs : List X) (n m : ℕ) → length xs + m ≡ n → m ≤ length ys → drop n (xs ++ (ys ++ zs)) ≡ drop m ys ++ zs
-drop_among [] ys zs n zero e le = ap (λ k. drop k (ys ++ zs)) (sym e)
-drop_among [] [] zs n (suc m) e le = absurd (omega arith)
-drop_among [] (y ∷ ys) zs zero (suc m) e le = absurd (omega arith)
-drop_among [] (y ∷ ys) zs (suc n) (suc m) e le = drop_among [] ys zs n m (omega arith) (omega arith)
-drop_among (w ∷ xs) ys zs zero m e le = absurd (omega arith)
-drop_among (w ∷ xs) ys zs (suc n) m e le = drop_among xs ys zs n m (omega arith) le
-
-pub taken_front : {X : Type 0} (xs ys : List X) → take (length xs) (xs ++ ys) ≡ xs
-taken_front [] ys = refl
-taken_front (x ∷ xs) ys = ap (λ zs. x ∷ zs) (taken_front xs ys)
-
 pub run_got : {X : Type 0} (ls : List (List X)) (position : ℕ) (place : Place) (run : List X) → IsPlace ls position place → run ≡ drop place.offset (list_at place.index ls) → take (length run) (drop position (joined ls)) ≡ run
 run_got ls position place run at is =
     ap (λ xs. take (length run) (drop position xs)) (joined_around ls place.index at.index)
     ∙ ap (take (length run)) (drop_among (joined (take place.index ls)) (list_at place.index ls) (joined (drop (suc place.index) ls)) position place.offset at.position_is (omega (arith, at.offset)) ∙ ap (λ xs. xs ++ joined (drop (suc place.index) ls)) (sym is))
-    ∙ taken_front run (joined (drop (suc place.index) ls))
+    ∙ take_front run (joined (drop (suc place.index) ls))
 
 pub set_own : {X : Type 0} (xs : List X) (i : ℕ) (d : X) → set xs i (get_or xs i d) ≡ xs
 set_own [] i d = refl

@@ -4,7 +4,8 @@ use Rattle.std.specs.Prelude.{slice_get}
 use Rattle.std.specs.List.{AllWithin, HoldsAt}
 use Rattle.std.specs.List.Sorted.{IsPartitionPoint, IsPartitionedBy}
 use Rattle.std.specs.Fn.{AlwaysReturns, Called}
-use Rattle.std.proofs.lemmas.Bool.{cases_lt}
+use Rattle.std.proofs.lemmas.Bool.{cases_lt, false_from_ne_true}
+use Rattle.key_lists.proofs.Parts.{get-append}
 use denote.Param.Members.{Mut}
 use Rattle.chunk_list.specs.Chunked.{joined, list_at}
 use Rattle.chunk_list.proofs.Joined.{joined_around}
@@ -16,10 +17,6 @@ holds_at P (y ∷ xs) (suc i) x e p d = holds_at P xs i x e p d
 
 pub answers_next : {F X R : Type 0} (g : Mut F X R) (P : X → R → Type 0) (f : F) (a : X) (r : R) (f' : F) → Called g f a r f' → AlwaysReturns g P f → P a r × AlwaysReturns g P f'
 answers_next g P f a r f' c h = ((h.at (a ∷ []) r f' c).0, record { at = λ xs. (h.at (a ∷ xs) r f' c).1 })
-
-not_true : (b : Bool) → (b ≡ true → ⊥) → b ≡ false
-not_true true h = absurd (h refl)
-not_true false h = refl
 
 -- the position of the first item of a chunk
 abbrev pub start : {X : Type 0} → List (List X) → ℕ → ℕ
@@ -41,16 +38,12 @@ start_all : {X : Type 0} (ls : List (List X)) → start ls (length ls) ≡ lengt
 start_all [] = refl
 start_all (l ∷ ls) = omega (arith, length-append l (joined (take (length ls) ls)), length-append l (joined ls), start_all ls)
 
-got_behind : {X : Type 0} (xs ys : List X) (n : ℕ) → slice_get (xs ++ ys) (length xs + n) ≡ slice_get ys n
-got_behind [] ys n = ap (slice_get ys) (let e : 0 + n ≡ n = omega arith in e)
-got_behind (x ∷ xs) ys n = ap (slice_get (x ∷ (xs ++ ys))) (let e : suc (length xs) + n ≡ suc (length xs + n) = omega arith in e) ∙ got_behind xs ys n
-
 -- where the first item of a chunk stands
 pub first_got : {X : Type 0} (ls : List (List X)) (i : ℕ) (x : X) → slice_get (list_at i ls) 0 ≡ Some x → slice_get (joined ls) (start ls i) ≡ Some x
 first_got [] i x e = absurd (cc)
 first_got ([] ∷ ls) zero x e = absurd (cc)
 first_got ((y ∷ l) ∷ ls) zero x e = e
-first_got (l ∷ ls) (suc i) x e = ap (slice_get (l ++ joined ls)) (length-append l (joined (take i ls))) ∙ got_behind l (joined ls) (start ls i) ∙ first_got ls i x e
+first_got (l ∷ ls) (suc i) x e = ap (slice_get (l ++ joined ls)) (length-append l (joined (take i ls))) ∙ get-append l (joined ls) (start ls i) ∙ first_got ls i x e
 
 got_in : {X : Type 0} (xs ys zs : List X) (i : ℕ) (d : X) → i < length ys → get_or (xs ++ (ys ++ zs)) (length xs + i) d ≡ get_or ys i d
 got_in [] [] zs i d lt = absurd (omega arith)
@@ -98,7 +91,7 @@ module _ {X : Type 0} (p : X → Bool) (ls : List (List X)) where
   begun size e = record { low = inl refl; high = λ first k d a b. absurd (omega (arith, a, b, start_all ls, ap (start ls) (let z : 0 + size ≡ length ls = omega arith in z))) }
 
   from_failing : (m low : ℕ) → m ≤ low → HoldsAt (λ y. p y ≡ false) (joined ls) m → IsPartitionedBy p (joined ls) → AllWithin (λ y. p y ≡ false) (joined ls) low (length (joined ls))
-  from_failing m low h q first k d a b = not_true (p (get_or (joined ls) k d)) (λ t. true≢false (sym (first m k d (omega arith) b t) ∙ q d))
+  from_failing m low h q first k d a b = false_from_ne_true (p (get_or (joined ls) k d)) (λ t. true≢false (sym (first m k d (omega arith) b t) ∙ q d))
 
   pub failed : (base size mid left : ℕ) → mid ≤ base + left → Halved base size → HoldsAt (λ y. p y ≡ false) (joined ls) (start ls mid) → Halved base left
   failed base size mid left h n q = record { low = n.low; high = from_failing (start ls mid) (start ls (base + left)) (start_rises ls mid (base + left) h) q }

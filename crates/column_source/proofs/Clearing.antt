@@ -1,7 +1,10 @@
 -- Slots that are cleared, and empty slots that are taken off.
 use Rattle.std.proofs.Common.{◌≡◌, refl, ap, sym, ◌∙◌, subst, ℕ, zero, suc, ◌+◌, ◌-◌, ◌^◌, ◌<◌, ◌≤◌, arith, List, [], ◌∷◌, ◌++◌, length, take, drop, set, min, Option, Some, None, IsSome, ℤ, inl, inr, ◌⊎◌, Bool, true, false, true≢false, cond, ◌&&◌, not, leb, take-append-drop, append-nil, get_or-take, take_all, length-drop, get_or-drop}
-use Rattle.std.proofs.lemmas.Bool.{cases_lt}
+use Rattle.std.proofs.lemmas.Bool.{cases_lt, lt-leb, le-leb}
+use Rattle.std.proofs.lemmas.List.{drop_all}
 use Rattle.key_lists.proofs.Every.{every_weaker}
+use Rattle.key_lists.proofs.Booleans.{and_false}
+use Rattle.key_lists.proofs.Parts.{take_nil}
 use Rattle.column_source.specs.declared.block.Block.{Block}
 use Rattle.column_source.specs.Entries.{entry_of, cell_under}
 use Rattle.column_source.specs.Slots.{slot_at, entries_from, begun_with}
@@ -12,26 +15,13 @@ use Rattle.column_source.proofs.EntryLists.{cell_under-above}
 use Rattle.column_source.proofs.SlotLists.{entries_above, cell_of_key}
 
 pub between_not : (first last key : ℕ) → key < first → is_between first last key ≡ false
-between_not first last key lt = ap (λ b. b && leb key last) (not_leb first key lt)
-  where
-    not_leb : (a b : ℕ) → b < a → leb a b ≡ false
-    not_leb a b h = grind arith
+between_not first last key lt = ap (λ b. b && leb key last) (lt-leb first key lt)
 
 pub between_past : (first last key : ℕ) → last < key → is_between first last key ≡ false
-between_past first last key lt = ap (λ b. leb first key && b) (not_leb key last lt) ∙ and_false (leb first key)
-  where
-    not_leb : (a b : ℕ) → b < a → leb a b ≡ false
-    not_leb a b h = grind arith
-
-    and_false : (b : Bool) → (b && false) ≡ false
-    and_false true = refl
-    and_false false = refl
+between_past first last key lt = ap (λ b. leb first key && b) (lt-leb key last lt) ∙ and_false (leb first key)
 
 pub between_true : (first last key : ℕ) → first ≤ key → key ≤ last → is_between first last key ≡ true
-between_true first last key from to = ap (λ b. b && leb key last) (yes_leb first key from) ∙ yes_leb key last to
-  where
-    yes_leb : (a b : ℕ) → a ≤ b → leb a b ≡ true
-    yes_leb a b h = grind arith
+between_true first last key from to = ap (λ b. b && leb key last) (le-leb first key from) ∙ le-leb key last to
 
 pub between_of : (first last key : ℕ) → is_between first last key ≡ true → (first ≤ key) × (key ≤ last)
 between_of first last key h =
@@ -83,12 +73,6 @@ cleared_done first last start n slots (inl le) =
     ap (λ s. s ++ drop n slots) (take_all n (cleared first last start slots) (omega (arith, length-cleared first last start slots)))
     ∙ ap (λ s. cleared first last start slots ++ s) (drop_all n slots le)
     ∙ append-nil (cleared first last start slots)
-  where
-    drop_all : (n : ℕ) (xs : List (Option ℤ)) → length xs ≤ n → drop n xs ≡ []
-    drop_all zero [] le = refl
-    drop_all zero (x ∷ xs) le = absurd (omega arith)
-    drop_all (suc n) [] le = refl
-    drop_all (suc n) (x ∷ xs) le = drop_all n xs (omega arith)
 cleared_done first last start n slots (inr lt) =
     ap (λ s. take n (cleared first last start slots) ++ s) (sym (cleared_past first last start n slots lt)) ∙ take-append-drop n (cleared first last start slots)
 
@@ -180,10 +164,6 @@ cleared_noted first last block new from to notes slots is_first first_before len
     still false slot h = h
 
 -- empty slots taken off
-take_nil : (n : ℕ) → take {A = Option ℤ} n [] ≡ []
-take_nil zero = refl
-take_nil (suc n) = refl
-
 pub rows_trimmed : (first : ℕ) (slots : List (Option ℤ)) → entries_from (first + leading slots) (drop (leading slots) slots) ≡ entries_from first slots
 rows_trimmed first [] = refl
 rows_trimmed first (None ∷ slots) = ap (λ n. entries_from n (drop (leading slots) slots)) next ∙ rows_trimmed (first + 1) slots

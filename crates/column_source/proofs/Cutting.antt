@@ -1,13 +1,9 @@
 -- Blocks that are split where a key falls between their rows.
-use Rattle.std.proofs.Common.{◌≡◌, ◌≢◌, refl, ap, sym, ◌∙◌, subst, ℕ, zero, suc, ◌+◌, ◌-◌, ◌<◌, ◌≤◌, arith, List, [], ◌∷◌, ◌++◌, length, take, drop, get_or, min, Option, Some, None, IsSome, ℤ, inl, inr, take-append-drop, length-take-le, length-drop, get_or-take, get_or-drop, append_assoc, set, pos, negsuc, take_all, true≢false}
-use Rattle.std.proofs.lemmas.Int.{ints}
-use Rattle.std.proofs.Math.Seq.{take-suc}
-use Rattle.std.specs.Prelude.{◌≤ℤ◌}
-use Rattle.std.specs.Prelude.{nat_abs}
-use Rattle.tick_model.specs.Shifts.{as_key}
+use Rattle.std.proofs.Common.{◌≡◌, ◌≢◌, refl, ap, sym, ◌∙◌, subst, ℕ, zero, suc, ◌+◌, ◌-◌, ◌<◌, ◌≤◌, arith, List, [], ◌∷◌, ◌++◌, length, take, drop, get_or, min, Option, Some, None, IsSome, ℤ, inl, inr, take-append-drop, length-take-le, length-drop, get_or-take, get_or-drop, append_assoc, set, take_all}
 use Rattle.std.specs.List.{AllByRecursion, flat_map}
 use Rattle.std.proofs.lemmas.Grind.{flat_map-append}
 use Rattle.key_lists.proofs.Every.{every_weaker, every_both, every-append}
+use Rattle.key_lists.proofs.Parts.{every-take, every-drop, every_front, every_back, every_at, around, last_taken, split_list, take_nil}
 use Rattle.tick_model.specs.declared.update.ShiftRange.{ShiftRange}
 use Rattle.column_source.specs.declared.block.Block.{Block}
 use Rattle.column_source.specs.Entries.{Entry, entry_of, Ascend}
@@ -16,10 +12,8 @@ use Rattle.column_source.specs.Blocks.{IsBlock, AreApart, rows_of, kept_of, rows
 use Rattle.column_source.specs.Drops.{leading}
 use Rattle.column_source.specs.Moves.{IsBeside, IsBesideRange, IsSplit, KeepsRows, IsCut}
 use Rattle.column_source.specs.Splits.{IsCutPlace, IsRightPart, IsShortened}
-use Rattle.column_source.proofs.EntryLists.{every_front, every_back}
 use Rattle.column_source.proofs.SlotLists.{entries_from-append, entries_below}
-use Rattle.column_source.proofs.Parts.{every_at, every_first, every_last}
-use Rattle.column_source.proofs.Listings.{around, last_taken, rows_before}
+use Rattle.column_source.proofs.Listings.{rows_before}
 use Rattle.column_source.proofs.Replaced.{sound_at}
 use Rattle.column_source.proofs.Clearing.{begun_trimmed, slot_trimmed}
 
@@ -29,10 +23,6 @@ rows_split first place slots le =
     ap (λ n. entries_from first (take place slots) ++ entries_from (first + n) (drop place slots)) (sym (length-take-le place slots le))
     ∙ sym (entries_from-append first (take place slots) (drop place slots))
     ∙ ap (entries_from first) (take-append-drop place slots)
-
-take_nil : (n : ℕ) → take {A = Option ℤ} n [] ≡ []
-take_nil zero = refl
-take_nil (suc n) = refl
 
 drop_nil : (n : ℕ) → drop {A = Option ℤ} n [] ≡ []
 drop_nil zero = refl
@@ -85,12 +75,6 @@ kept_split first (suc place) (suc len) (slot ∷ slots) =
 
     less : suc len - suc (min place len) ≡ len - min place len
     less = omega arith
-
--- no slot is empty before a row at the first
-pub begun_leading : (slots : List (Option ℤ)) → IsSome (slot_at slots 0) → leading slots ≡ 0
-begun_leading [] h = refl
-begun_leading (None ∷ slots) h = absurd (true≢false (sym h))
-begun_leading (Some cell ∷ slots) h = refl
 
 -- rows before the first row from a slot on
 empties : (first : ℕ) (slots : List (Option ℤ)) → entries_from first (take (leading slots) slots) ≡ []
@@ -192,7 +176,7 @@ module _ (key from place : ℕ) (block : Block) (index : ℕ) (old new : List Bl
       zero_more n = omega arith
 
   every_split : (P : Block → Type 0) → AllByRecursion P old → P split.left → P split.right → AllByRecursion P new
-  every_split P h left right = subst (AllByRecursion P) (sym split.list) (every-append P (take index old) (split.left ∷ split.right ∷ drop (suc index) old) (every_first P index old h) (left, (right, every_last P (suc index) old h)))
+  every_split P h left right = subst (AllByRecursion P) (sym split.list) (every-append P (take index old) (split.left ∷ split.right ∷ drop (suc index) old) (every-take P index old h) (left, (right, every-drop P (suc index) old h)))
 
   apart_split : (low : ℕ) (front back : List Block) → AreApart low (front ++ block ∷ back) → AreApart low (front ++ split.left ∷ split.right ∷ back)
   apart_split low [] back h =
@@ -224,12 +208,6 @@ module _ (key from place : ℕ) (block : Block) (index : ℕ) (old new : List Bl
       part_right other (inl le) = inl (omega (arith, le, split.right_first))
       part_right other (inr h) = inr (every_back (λ x. x.key < other) (rows_of split.left) (rows_of split.right) (subst (AllByRecursion (λ x. x.key < other)) (sym rows_joined) h))
 
--- the list after a block was split
-pub split_list : {X : Type 0} (old : List X) (index : ℕ) (left right : X) → index < length old → set (take (suc index) old ++ right ∷ drop (suc index) old) index left ≡ take index old ++ left ∷ right ∷ drop (suc index) old
-split_list [] index left right lt = absurd (omega arith)
-split_list (x ∷ old) zero left right lt = refl
-split_list (x ∷ old) (suc index) left right lt = ap (λ xs. x ∷ xs) (split_list old index left right (omega arith))
-
 pub front_below : (key : ℕ) (blocks : List Block) (next : ℕ) (block : Block) → next ≢ 0 → next ≤ length blocks → block ≡ get_or blocks (next - 1) block → AllByRecursion IsBlock blocks → Ascend (rows blocks) → AllByRecursion (λ other. other.first ≤ key) (take next blocks) → AllByRecursion (λ x. x.key < key) (rows (take (next - 1) blocks))
 front_below key blocks next block some le at sound ascend begun =
     every_weaker (λ x. x.key < block.first) (λ x. x.key < key) (rows (take (next - 1) blocks)) (λ x lt. omega (arith, lt, last_taken (λ other. other.first ≤ key) blocks next block some le at begun))
@@ -248,17 +226,6 @@ beside_kept key old new range is h =
     every_both (IsBeside range.begin) (IsBeside (range.end + 1)) (IsBesideRange range) new (λ block a b. (a, b))
     (is.others range.begin (every_weaker (IsBesideRange range) (IsBeside range.begin) old (λ block both. both.0) h))
     (is.others (range.end + 1) (every_weaker (IsBesideRange range) (IsBeside (range.end + 1)) old (λ block both. both.1) h))
-
-pub every_next : {X : Type 0} (P : X → Type 0) (xs : List X) (i : ℕ) (d : X) → i < length xs → P (get_or xs i d) → AllByRecursion P (take i xs) → AllByRecursion P (take (i + 1) xs)
-every_next P xs i d lt own h =
-    subst (λ n. AllByRecursion P (take n xs)) (next i) (subst (AllByRecursion P) (sym (take-suc xs i d lt)) (every-append P (take i xs) (get_or xs i d ∷ []) h (own, tt)))
-  where
-    next : (n : ℕ) → suc n ≡ n + 1
-    next n = omega arith
-
-pub abs_key : (z : ℤ) → pos 0 ≤ℤ z → nat_abs z ≡ as_key z
-abs_key (pos n) le = refl
-abs_key (negsuc n) le = absurd (omega (arith, ints))
 
 -- the last block that begins at a key or before it
 pub record Found (key : ℕ) (blocks : List Block) (next : ℕ) (block : Block) : Type 0 where

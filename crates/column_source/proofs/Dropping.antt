@@ -1,17 +1,19 @@
 -- Rows that are noted before they are left out, and slots that are cleared and trimmed.
-use Rattle.std.proofs.Common.{◌≡◌, refl, ap, sym, ◌∙◌, subst, ℕ, zero, suc, ◌+◌, ◌-◌, ◌<◌, ◌≤◌, arith, List, [], ◌∷◌, ◌++◌, length, take, drop, get_or, Option, Some, None, IsSome, ℤ, inl, inr, true≢false, take-append-drop}
+use Rattle.std.proofs.Common.{◌≡◌, ap, sym, ◌∙◌, subst, ℕ, zero, suc, ◌+◌, ◌-◌, ◌<◌, ◌≤◌, arith, List, [], ◌∷◌, ◌++◌, length, take, drop, get_or, Option, Some, None, IsSome, ℤ, inl, inr, true≢false, take-append-drop}
 use Rattle.std.proofs.Math.Seq.{take-suc}
 use Rattle.std.specs.List.{AllByRecursion}
 use Rattle.std.proofs.lemmas.Bool.{cases_eq}
+use Rattle.std.proofs.lemmas.List.{get_or_default}
 use Rattle.key_lists.proofs.Every.{every_weaker, every-append}
+use Rattle.key_lists.proofs.Parts.{every_front, every_back, around, last_taken, take_nil}
 use Rattle.column_source.specs.declared.block.Block.{Block}
 use Rattle.column_source.specs.Entries.{Ascend}
 use Rattle.column_source.specs.Slots.{slot_at, entries_from}
 use Rattle.column_source.specs.Notes.{note_under}
 use Rattle.column_source.specs.Blocks.{IsBlock, rows_of, rows}
 use Rattle.column_source.specs.Drops.{AreNoted}
-use Rattle.column_source.proofs.EntryLists.{every_front, every_back, ascend_back}
-use Rattle.column_source.proofs.Listings.{around, rows_before, later_firsts, last_taken}
+use Rattle.column_source.proofs.EntryLists.{ascend_back}
+use Rattle.column_source.proofs.Listings.{rows_before, later_firsts}
 use Rattle.column_source.proofs.Replaced.{sound_at}
 
 -- a row is an entry
@@ -32,28 +34,19 @@ noted_below first last notes (block ∷ blocks) h = (
 
 pub below_next : (first : ℕ) (blocks : List Block) (next : ℕ) → next ≤ length blocks → AllByRecursion IsBlock blocks → Ascend (rows blocks) → AllByRecursion (λ block. block.first ≤ first) (take next blocks) → AllByRecursion (λ x. x.key < first) (rows (take (next - 1) blocks))
 below_next first [] next le sound ascend begun = subst (λ bs. AllByRecursion (λ x. x.key < first) (rows bs)) (sym (take_nil (next - 1))) tt
-  where
-    take_nil : (n : ℕ) → take {A = Block} n [] ≡ []
-    take_nil zero = refl
-    take_nil (suc n) = refl
 below_next first (block ∷ blocks) next le sound ascend begun =
     elim (cases_eq next 0) [
       | inl none ↦ subst (λ n. AllByRecursion (λ x. x.key < first) (rows (take n (block ∷ blocks)))) (no_less next none) tt
       | inr some ↦
           let all = block ∷ blocks in
           let held = get_or all (next - 1) block in
-          let at : held ≡ get_or all (next - 1) held = same_default all (next - 1) block held (omega arith) in
+          let at : held ≡ get_or all (next - 1) held = get_or_default all (next - 1) block held (omega arith) in
           every_weaker (λ x. x.key < held.first) (λ x. x.key < first) (rows (take (next - 1) all)) (λ x lt. omega (arith, lt, last_taken (λ b. b.first ≤ first) all next held some le at begun))
           (rows_before (take (next - 1) all) held (drop (suc (next - 1)) all) (sound_at all (next - 1) held (omega arith) at sound) (subst (λ bs. Ascend (rows bs)) (around all (next - 1) held (omega arith) at) ascend))
     ]
   where
     no_less : (n : ℕ) → n ≡ 0 → 0 ≡ n - 1
     no_less n e = omega arith
-
-    same_default : (xs : List Block) (i : ℕ) (d e : Block) → i < length xs → get_or xs i d ≡ get_or xs i e
-    same_default [] i d e lt = absurd (omega arith)
-    same_default (x ∷ xs) zero d e lt = refl
-    same_default (x ∷ xs) (suc i) d e lt = same_default xs i d e (omega arith)
 
 pub noted_before : (first last : ℕ) (notes : List (ℕ × Option ℤ)) (blocks : List Block) (next : ℕ) → next ≤ length blocks → AllByRecursion IsBlock blocks → Ascend (rows blocks) → AllByRecursion (λ block. block.first ≤ first) (take next blocks) → AllByRecursion (AreNoted first last notes) (take (next - 1) blocks)
 noted_before first last notes blocks next le sound ascend begun = noted_below first last notes (take (next - 1) blocks) (below_next first blocks next le sound ascend begun)
@@ -83,9 +76,3 @@ noted_above first last notes blocks = every_weaker (λ block. last < block.first
 pub noted_all : (first last : ℕ) (notes : List (ℕ × Option ℤ)) (blocks : List Block) (index : ℕ) → AllByRecursion (AreNoted first last notes) (take index blocks) → AllByRecursion (λ block. last < block.first) (drop index blocks) → AllByRecursion (AreNoted first last notes) blocks
 noted_all first last notes blocks index done above =
     subst (AllByRecursion (AreNoted first last notes)) (take-append-drop index blocks) (every-append (AreNoted first last notes) (take index blocks) (drop index blocks) done (noted_above first last notes (drop index blocks) above))
-
-pub none_left : {X : Type 0} (P : X → Type 0) (xs : List X) (n : ℕ) → length xs ≤ n → AllByRecursion P (drop n xs)
-none_left P [] zero le = tt
-none_left P (x ∷ xs) zero le = absurd (omega arith)
-none_left P [] (suc n) le = tt
-none_left P (x ∷ xs) (suc n) le = none_left P xs n (omega arith)

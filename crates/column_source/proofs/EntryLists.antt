@@ -2,19 +2,12 @@
 use Rattle.std.proofs.Common.{◌≡◌, ◌≢◌, refl, ap, sym, ◌∙◌, Bool, true, false, cond, ℕ, ◌<◌, ◌≤◌, arith, List, [], ◌∷◌, ◌++◌, inl, inr, ltb, ltb-true, ltb-false, ◌==◌, Option, Some, None, ℤ, filter}
 use Rattle.std.specs.Option.{option_or}
 use Rattle.std.specs.List.{AllByRecursion}
-use Rattle.std.proofs.lemmas.Bool.{ne_eqb, eq-eqb, eqb-true, eqb-false, lt-ltb, cases_lt, cases_eq}
+use Rattle.std.proofs.lemmas.Bool.{ne_eqb, eq-eqb, eqb-true, eqb-false, lt-ltb, cases_lt, cases_eq, le-ltb}
+use Rattle.std.proofs.lemmas.Option.{same_Some}
 use Rattle.key_lists.specs.Keys.{IsRising}
 use Rattle.key_lists.proofs.Every.{every_weaker, every_unmapped, every-map, every-filter, every-append}
+use Rattle.key_lists.proofs.Parts.{every_back}
 use Rattle.column_source.specs.Entries.{Entry, entry_of, keys_of, cell_under, put, Ascend}
-
--- what holds of two lists one after the other holds of each
-pub every_front : {X : Type 0} (P : X → Type 0) (xs ys : List X) → AllByRecursion P (xs ++ ys) → AllByRecursion P xs
-every_front P [] ys h = tt
-every_front P (x ∷ xs) ys h = (h.0, every_front P xs ys h.1)
-
-pub every_back : {X : Type 0} (P : X → Type 0) (xs ys : List X) → AllByRecursion P (xs ++ ys) → AllByRecursion P ys
-every_back P [] ys h = h
-every_back P (x ∷ xs) ys h = every_back P xs ys h.1
 
 -- two lists one after the other
 pub cell_under-append : (key : ℕ) (xs ys : List Entry) → cell_under key (xs ++ ys) ≡ option_or (cell_under key xs) (cell_under key ys)
@@ -43,13 +36,10 @@ put-past key cell (x ∷ xs) ys h =
     ap (λ b. cond b (x ∷ put key cell (xs ++ ys)) (cond (x.key == key) (entry_of key cell ∷ (xs ++ ys)) (entry_of key cell ∷ x ∷ (xs ++ ys)))) (lt-ltb x.key key h.0)
     ∙ ap (λ zs. x ∷ zs) (put-past key cell xs ys h.1)
 
-pub not_ltb : (a b : ℕ) → b ≤ a → ltb a b ≡ false
-not_ltb a b h = grind arith
-
 pub put-alone : (key : ℕ) (cell : ℤ) (ys : List Entry) → AllByRecursion (λ y. key < y.key) ys → put key cell ys ≡ entry_of key cell ∷ ys
 put-alone key cell [] h = refl
 put-alone key cell (y ∷ ys) h =
-    ap (λ b. cond b (y ∷ put key cell ys) (cond (y.key == key) (entry_of key cell ∷ ys) (entry_of key cell ∷ y ∷ ys))) (not_ltb y.key key (omega arith))
+    ap (λ b. cond b (y ∷ put key cell ys) (cond (y.key == key) (entry_of key cell ∷ ys) (entry_of key cell ∷ y ∷ ys))) (le-ltb y.key key (omega arith))
     ∙ ap (λ b. cond b (entry_of key cell ∷ ys) (entry_of key cell ∷ y ∷ ys)) (ne_eqb y.key key (λ e. omega arith))
 
 pub put-before : (key : ℕ) (cell : ℤ) (xs ys : List Entry) → AllByRecursion (λ y. key < y.key) ys → put key cell (xs ++ ys) ≡ put key cell xs ++ ys
@@ -111,10 +101,6 @@ ascend-append bound [] ys below above r s = s
 ascend-append bound (x ∷ xs) ys below above r s =
     (every-append (λ y. x.key < y.key) xs ys r.0 (every_weaker (λ y. bound ≤ y.key) (λ y. x.key < y.key) ys (λ y h. omega (arith, h, below.0)) above), ascend-append bound xs ys below.1 above r.1 s)
 
-pub ascend_front : (xs ys : List Entry) → Ascend (xs ++ ys) → Ascend xs
-ascend_front [] ys h = tt
-ascend_front (x ∷ xs) ys h = (every_front (λ y. x.key < y.key) xs ys h.0, ascend_front xs ys h.1)
-
 pub ascend_back : (xs ys : List Entry) → Ascend (xs ++ ys) → Ascend ys
 ascend_back [] ys h = h
 ascend_back (x ∷ xs) ys h = ascend_back xs ys h.1
@@ -172,9 +158,6 @@ cell_under-filter p key (x ∷ xs) =
 none_some : (cell : ℤ) → ◌≡◌ {A = Option ℤ} None (Some cell) → ⊥
 none_some cell e = cc
 
-some_same : (a b : ℤ) → Some a ≡ Some b → a ≡ b
-some_same a b e = cc
-
 pub own_cell : (x : Entry) (xs : List Entry) → cell_under x.key (x ∷ xs) ≡ Some x.cell
 own_cell x xs = ap (λ b. cond b (Some x.cell) (cell_under x.key xs)) (eq-eqb x.key x.key refl)
 
@@ -190,7 +173,7 @@ same_entries (x ∷ xs) (y ∷ ys) r s h =
         | inl above ↦ absurd (none_some y.cell (sym (cell_under-above y.key (x ∷ xs) (above, every_weaker (λ z. x.key < z.key) (λ z. y.key < z.key) xs (λ z lt. omega arith) r.0)) ∙ h y.key ∙ own_cell y ys))
         | inr not_above ↦
             let key_same : x.key ≡ y.key = omega arith in
-            let cell_same : x.cell ≡ y.cell = some_same x.cell y.cell (sym (own_cell x xs) ∙ h x.key ∙ ap (λ key. cell_under key (y ∷ ys)) key_same ∙ own_cell y ys) in
+            let cell_same : x.cell ≡ y.cell = same_Some x.cell y.cell (sym (own_cell x xs) ∙ h x.key ∙ ap (λ key. cell_under key (y ∷ ys)) key_same ∙ own_cell y ys) in
             let head_same : x ≡ y = ap (λ key. entry_of key x.cell) key_same ∙ ap (λ cell. entry_of y.key cell) cell_same in
             ap (λ z. z ∷ xs) head_same ∙ ap (λ zs. y ∷ zs) (same_entries xs ys r.1 s.1 (rest key_same))
       ]

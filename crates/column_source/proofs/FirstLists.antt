@@ -1,11 +1,11 @@
 -- The keys of the first slots of blocks, and where a shift leads them.
-use Rattle.std.proofs.Common.{◌≡◌, refl, ap, sym, ◌∙◌, subst, Bool, false, cond, ℕ, zero, suc, ◌+◌, ◌^◌, ◌<◌, ◌≤◌, arith, List, [], ◌∷◌, ◌++◌, length, take, drop, set, get_or, map, Option, Some, None, find, option_map, unwrap_or, ℤ, pos, ◌+ℤ◌, take-append-drop, append_assoc, length-append, length-drop, length-take-le, get_or-drop}
-use Rattle.std.specs.List.{AllByRecursion, insert}
+use Rattle.std.proofs.Common.{◌≡◌, refl, ap, sym, ◌∙◌, subst, false, cond, ℕ, zero, suc, ◌+◌, ◌^◌, ◌<◌, ◌≤◌, arith, List, [], ◌∷◌, ◌++◌, length, take, drop, get_or, map, Option, Some, find, option_map, unwrap_or, ℤ, pos, ◌+ℤ◌, take-append-drop, append_assoc, length-append, length-drop, length-take-le, get_or-drop}
+use Rattle.std.specs.List.{AllByRecursion}
 use Rattle.std.specs.List.Sorted.{IsNonDecreasing}
 use Rattle.std.proofs.lemmas.Int.{ints}
-use Rattle.std.proofs.lemmas.List.{length-map, length-set, map-append, take-take, take-map, take-set-le, take-append-le, take_at, drop_at}
-use Rattle.std.proofs.lemmas.List.Edits.{length-insert}
-use Rattle.key_lists.proofs.Every.{every_weaker, every_both, map_same, map_own}
+use Rattle.std.proofs.lemmas.List.{length-map, map-append, take-take, take-map, take-append-le, take_at, drop_at}
+use Rattle.key_lists.proofs.Every.{every_weaker, every_both, map_same, map_own, find_none}
+use Rattle.key_lists.proofs.Parts.{every-drop}
 use Rattle.tick_model.specs.declared.update.ShiftRange.{ShiftRange}
 use Rattle.tick_model.specs.Shifts.{moved, as_key, holds}
 use Rattle.tick_model.specs.Rules.{landed, is_past}
@@ -13,15 +13,10 @@ use Rattle.tick_model.specs.Printable.{IsShift}
 use Rattle.shift_data.proofs.Searches.{holds_not_before, holds_not_after, holds_within}
 use Rattle.column_source.specs.Moves.{IsMovable, IsLanding}
 use Rattle.column_source.specs.Firsts.{StayBefore}
-use Rattle.column_source.proofs.Parts.{every_last}
 
 -- where the range that holds a key leads it
 abbrev led_by : Option ShiftRange → ℕ → ℤ
 led_by held key = pos key +ℤ unwrap_or (option_map (λ range. range.delta) held) (pos 0)
-
-pub find_none : {X : Type 0} (p : X → Bool) (xs : List X) → AllByRecursion (λ x. p x ≡ false) xs → find p xs ≡ None
-find_none p [] h = refl
-find_none p (x ∷ xs) h = ap (λ b. cond b (Some x) (find p xs)) h.0 ∙ find_none p xs h.1
 
 pub moved_free : (shifts : List ShiftRange) (key : ℕ) → AllByRecursion (λ range. holds range key ≡ false) shifts → moved shifts key ≡ pos key
 moved_free shifts key h = ap (λ held. led_by held key) (find_none (λ range. holds range key) shifts h) ∙ nothing_more key
@@ -110,7 +105,7 @@ moving_step whole range ranges next n keys part new shift h le made to behind sa
       rise = subst IsNonDecreasing (sym left) (rise_back n rest h.rise);
       movable =
           subst (AllByRecursion (IsMovable ranges)) (sym left)
-          (every_both (λ key. range.end < key) (IsMovable (range ∷ ranges)) (IsMovable ranges) (drop n rest) (λ key lt own. movable_behind range ranges key lt own) behind (every_last (IsMovable (range ∷ ranges)) n rest h.movable));
+          (every_both (λ key. range.end < key) (IsMovable (range ∷ ranges)) (IsMovable ranges) (drop n rest) (λ key lt own. movable_behind range ranges key lt own) behind (every-drop (IsMovable (range ∷ ranges)) n rest h.movable));
     }
 
 pub shift_back : (n : ℕ) (ranges : List ShiftRange) → IsShift ranges → IsShift (drop n ranges)
@@ -124,34 +119,6 @@ moving_end whole next keys h = h.moved ∙ ap (λ xs. take next keys ++ xs) (lan
 -- keys that stay before a place, after the keys of a block were put, put between or taken off
 pub stay_less : (place less : ℕ) (now before : List ℕ) → less ≤ place → take place now ≡ take place before → take less now ≡ take less before
 stay_less place less now before le same = sym (take-take less place now le) ∙ ap (take less) same ∙ take-take less place before le
-
-pub stay_put : (place less : ℕ) (now before : List ℕ) (i f b : ℕ) → less ≤ place → less ≤ i → StayBefore place now before → StayBefore less (set now i f) (set before i b)
-stay_put place less now before i f b le under h = record {
-  len = length-set before i b ∙ h.len ∙ sym (length-set now i f);
-  same = take-set-le less now i f under ∙ stay_less place less now before le h.same ∙ sym (take-set-le less before i b under);
-}
-
-take_put : (n : ℕ) (xs : List ℕ) (i x : ℕ) → take n (set xs i x) ≡ set (take n xs) i x
-take_put zero xs i x = refl
-take_put (suc n) [] i x = refl
-take_put (suc n) (y ∷ xs) zero x = refl
-take_put (suc n) (y ∷ xs) (suc i) x = ap (λ ys. y ∷ ys) (take_put n xs i x)
-
-pub stay_equal : (place : ℕ) (now before : List ℕ) (i f b : ℕ) → f ≡ b → StayBefore place now before → StayBefore place (set now i f) (set before i b)
-stay_equal place now before i f b e h = record {
-  len = length-set before i b ∙ h.len ∙ sym (length-set now i f);
-  same = take_put place now i f ∙ ap (λ xs. set xs i f) h.same ∙ ap (set (take place before) i) e ∙ sym (take_put place before i b);
-}
-
-take_inserted : (n i x : ℕ) (xs : List ℕ) → n ≤ i → i ≤ length xs → take n (insert xs i x) ≡ take n xs
-take_inserted n i x xs le within =
-    take-append-le n (take i xs) (x ∷ drop i xs) (omega (arith, le, length-take-le i xs within)) ∙ take-take n i xs le
-
-pub stay_insert : (place less : ℕ) (now before : List ℕ) (i f b : ℕ) → less ≤ place → less ≤ i → i ≤ length now → StayBefore place now before → StayBefore less (insert now i f) (insert before i b)
-stay_insert place less now before i f b le under within h = record {
-  len = omega (arith, length-insert before i b (omega (arith, within, h.len)), length-insert now i f within, h.len);
-  same = take_inserted less i f now under within ∙ stay_less place less now before le h.same ∙ sym (take_inserted less i b before under (omega (arith, within, h.len)));
-}
 
 take_removed : (n from to : ℕ) (xs : List ℕ) → n ≤ from → from ≤ length xs → take n (take from xs ++ drop to xs) ≡ take n xs
 take_removed n from to xs le within =

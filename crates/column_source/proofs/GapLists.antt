@@ -1,7 +1,8 @@
 -- Lists around a gap.
 use Rattle.std.proofs.Common.{◌≡◌, ◌≢◌, refl, ap, ap₂, sym, ◌∙◌, subst, ℕ, zero, suc, ◌+◌, ◌-◌, ◌<◌, ◌≤◌, arith, List, [], ◌∷◌, ◌++◌, length, take, drop, set, get_or, drop-cons, drop-set-lt, drop_at, get_or-take, length-append, length-take-le, length-drop, false, true≢false, ◌==◌, take-append-drop, take_at}
-use Rattle.std.proofs.lemmas.List.{drop-set, drop-drop}
+use Rattle.std.proofs.lemmas.List.{drop-set, drop-drop, get_or_default}
 use Rattle.std.specs.List.{AllByRecursion, insert}
+use Rattle.key_lists.proofs.Parts.{every_before, every_at}
 use Rattle.row_set.proofs.Opened.{front_of}
 use Rattle.tick_model.specs.declared.update.ShiftRange.{ShiftRange}
 use Rattle.tick_model.specs.Printable.{IsShift}
@@ -15,7 +16,6 @@ use Rattle.column_source.specs.Gaps.{IsGap, around}
 use Rattle.column_source.specs.declared.gaps.Gap.{Gap}
 use Rattle.column_source.proofs.Cutting.{parts_split, Found}
 use Rattle.column_source.proofs.Joining.{joined_keeps}
-use Rattle.column_source.proofs.Parts.{every_take, every_at}
 use Rattle.column_source.proofs.Listings.{firsts_rise}
 
 -- an element more behind the first ones
@@ -29,11 +29,6 @@ pub length_inserted : {X : Type 0} (xs : List X) (i : ℕ) (new : X) → i ≤ l
 length_inserted xs zero new le = refl
 length_inserted [] (suc i) new le = absurd (omega arith)
 length_inserted (x ∷ xs) (suc i) new le = ap suc (length_inserted xs i new (omega arith))
-
-pub drop_inserted : {X : Type 0} (xs : List X) (i : ℕ) (new : X) → i ≤ length xs → drop i (insert xs i new) ≡ new ∷ drop i xs
-drop_inserted xs zero new le = refl
-drop_inserted [] (suc i) new le = absurd (omega arith)
-drop_inserted (x ∷ xs) (suc i) new le = drop_inserted xs i new (omega arith)
 
 -- an element passes a gap
 pub passed_back : {X : Type 0} (start end : ℕ) (xs : List X) (one other : X) → start ≤ end → end < length xs → one ≡ get_or xs start one → take start (set (set xs start other) end one) ++ drop end (set (set xs start other) end one) ≡ take (suc start) xs ++ drop (suc end) xs
@@ -95,18 +90,13 @@ put_for_both (suc i) (suc end) (x ∷ xs) new lt within = ap (λ ys. x ∷ ys) (
 -- a block that begins at a key or before it, with those before it
 pub begun_front : (key : ℕ) (blocks : List Block) (i : ℕ) (block : Block) → AllByRecursion IsBlock blocks → Ascend (rows blocks) → i < length blocks → block ≡ get_or blocks i block → block.first ≤ key → AllByRecursion (λ other. other.first ≤ key) (take (suc i) blocks)
 begun_front key blocks i block sound ascend lt at begins =
-    every_take (λ other. other.first ≤ key) blocks (suc i) (λ k d le. before d k le)
+    every_before (λ other. other.first ≤ key) blocks (suc i) (λ k d le. before d k le)
   where
     before : (d : Block) (k : ℕ) → k < suc i → (get_or blocks k d).first ≤ key
     before d k le = omega (arith, firsts_rise blocks sound ascend k i d (omega arith) lt, same d, begins)
       where
         same : (d : Block) → (get_or blocks i d).first ≡ block.first
-        same d = ap (λ b. b.first) (get_or_same blocks i d block lt ∙ sym at)
-          where
-            get_or_same : {X : Type 0} (xs : List X) (i : ℕ) (c d : X) → i < length xs → get_or xs i c ≡ get_or xs i d
-            get_or_same [] i c d lt = absurd (omega arith)
-            get_or_same (x ∷ xs) zero c d lt = refl
-            get_or_same (x ∷ xs) (suc i) c d lt = get_or_same xs i c d (omega arith)
+        same d = ap (λ b. b.first) (get_or_default blocks i d block lt ∙ sym at)
 
 -- two blocks joined over a gap
 pub joined_over : (blocks : List Block) (i end : ℕ) (one other : Block) (new : List Block) → i < end → end < length blocks → one ≡ get_or blocks i one → other ≡ get_or blocks end other → AllByRecursion IsBlock (take (suc i) blocks ++ drop end blocks) → IsJoinedAt one other i blocks new → KeepsRows (take (suc i) blocks ++ drop end blocks) (take (suc i) new ++ drop (suc end) new)

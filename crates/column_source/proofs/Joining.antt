@@ -5,16 +5,14 @@ use Rattle.std.proofs.lemmas.List.{length-replicate, drop-set-lt}
 use Rattle.std.proofs.lemmas.Grind.{flat_map-append, take-set_at}
 use Rattle.std.specs.List.{AllByRecursion, flat_map}
 use Rattle.key_lists.proofs.Every.{every-append}
+use Rattle.key_lists.proofs.Parts.{every-take, every_back, around, take_nil}
 use Rattle.column_source.specs.declared.block.Block.{Block}
 use Rattle.column_source.specs.Entries.{Entry}
 use Rattle.column_source.specs.Slots.{slot_at, entries_from, begun_with, behind, filled}
 use Rattle.column_source.specs.Blocks.{IsBlock, AreApart, rows_of, kept_of, rows, kept}
 use Rattle.column_source.specs.Joins.{IsJoint, IsJoined, joined_slots}
 use Rattle.column_source.specs.Moves.{KeepsRows}
-use Rattle.column_source.proofs.EntryLists.{every_back}
 use Rattle.column_source.proofs.SlotLists.{entries_from-append}
-use Rattle.column_source.proofs.Parts.{every_first}
-use Rattle.column_source.proofs.Listings.{around}
 use Rattle.column_source.proofs.Filled.{rows_filled, filled_within}
 
 -- empty slots have no rows
@@ -52,10 +50,6 @@ length-joined place left right le =
 -- rows are in any slots that have the filled ones
 rows_more : (first n : ℕ) (slots : List (Option ℤ)) → filled slots ≤ n → entries_from first (take n slots) ≡ entries_from first slots
 rows_more first n [] le = ap (entries_from first) (take_nil n)
-  where
-    take_nil : (n : ℕ) → take {A = Option ℤ} n [] ≡ []
-    take_nil zero = refl
-    take_nil (suc n) = refl
 rows_more first zero (slot ∷ slots) le = ap (λ k. entries_from first (take k (slot ∷ slots))) none ∙ rows_filled first (slot ∷ slots)
   where
     none : 0 ≡ filled (slot ∷ slots)
@@ -113,7 +107,7 @@ module _ (place : ℕ) (left right joined : Block) (joint : IsJoint place left r
   joined_keeps old index lt at_left at_right sound = record {
     rows = in_list rows_of joint_rows front back ∙ ap rows (sym parts);
     kept = in_list kept_of joint_kept front back ∙ ap kept (sym parts);
-    sound = every-append IsBlock front (joined ∷ back) (every_first IsBlock index old sound) (joint_block pair.0 pair.1.0, pair.1.1);
+    sound = every-append IsBlock front (joined ∷ back) (every-take IsBlock index old sound) (joint_block pair.0 pair.1.0, pair.1.1);
     apart = λ h. apart_joined 0 front back (subst (AreApart 0) parts h);
   }
     where

@@ -1,12 +1,13 @@
 -- Lists of blocks of which some rows are left out.
-use Rattle.std.proofs.Common.{◌≡◌, refl, ap, sym, ◌∙◌, subst, ℕ, zero, suc, ◌+◌, ◌^◌, ◌<◌, ◌≤◌, arith, List, [], ◌∷◌, ◌++◌, length, take, drop, set, get_or, Option, Some, None, IsSome, ℤ, inl, inr, ◌⊎◌, Bool, true, false, cond, not, ◌&&◌, ◌||◌, filter, take-append-drop, ◌==◌, true≢false}
-use Rattle.std.proofs.lemmas.Bool.{ne_eqb}
+use Rattle.std.proofs.Common.{◌≡◌, refl, ap, sym, ◌∙◌, subst, ℕ, zero, suc, ◌+◌, ◌^◌, ◌<◌, ◌≤◌, arith, List, [], ◌∷◌, ◌++◌, length, take, drop, set, get_or, Option, Some, None, IsSome, ℤ, inl, inr, ◌⊎◌, Bool, true, false, cond, not, ◌&&◌, ◌||◌, filter, take-append-drop}
 use Rattle.std.specs.List.{AllByRecursion, flat_map}
 use Rattle.std.proofs.lemmas.List.{set_split}
 use Rattle.std.proofs.lemmas.List.Elements.{filter-append}
 use Rattle.std.proofs.lemmas.Grind.{flat_map-append, take-set_at}
 use Rattle.key_lists.proofs.Every.{every, every_weaker, every-append, every-filter, filter_in, filter_passes, filter_same, filter_all, filter_filter}
 use Rattle.key_lists.proofs.Among.{among-append}
+use Rattle.key_lists.proofs.Booleans.{neither}
+use Rattle.key_lists.proofs.Parts.{every-take, every-drop, every_front, every_back, every_at, around, every_set, take_nil}
 use Rattle.key_lists.specs.Keys.{is_among}
 use Rattle.row_set.specs.Ranges.{keys_in, keys_of, IsRangeFrom, AreApart as RangesApart}
 use Rattle.row_set.proofs.Held.{among-in}
@@ -18,12 +19,10 @@ use Rattle.column_source.specs.Notes.{note_under, restored}
 use Rattle.column_source.specs.Slots.{entries_from}
 use Rattle.column_source.specs.Blocks.{IsBlock, IsColumn, AreApart, rows_of, kept_of, rows, kept}
 use Rattle.column_source.specs.Drops.{is_between, outside, AreNoted, LeavesBlock, Leaves, LeavesAll, AreOutside, left_by}
-use Rattle.column_source.proofs.EntryLists.{every_front, every_back, ascend-filter}
-use Rattle.column_source.proofs.Dropping.{noted_later}
-use Rattle.column_source.proofs.Parts.{every_at, every_first, every_last}
-use Rattle.column_source.proofs.Listings.{around, apart_weaker, rows_above}
+use Rattle.column_source.proofs.EntryLists.{ascend-filter}
+use Rattle.column_source.proofs.Listings.{apart_weaker, rows_above}
 use Rattle.column_source.proofs.Clearing.{between_not, between_past}
-use Rattle.column_source.proofs.Replaced.{kept_replaced, every_replaced, noted_change}
+use Rattle.column_source.proofs.Replaced.{kept_replaced, noted_change}
 
 -- a list without some elements of its middle part
 every_part : {X : Type 0} (P : X → Type 0) (p : X → Bool) (xs ys zs : List X) → AllByRecursion P (xs ++ (ys ++ zs)) → AllByRecursion P (xs ++ (filter p ys ++ zs))
@@ -79,7 +78,7 @@ module _ (first last : ℕ) (blocks : List Block) (index : ℕ) (block new : Blo
         (ascend_part (λ x. not (is_between first last x.key)) (rows (take index blocks)) (rows_of block) (rows (drop (suc index) blocks)) (subst Ascend (ap rows (around blocks index block lt at) ∙ joined block) h)));
     apart = apart_shrunk 0 blocks index block new at leaves.begin leaves.end;
     kept = λ notes noted key absent. kept_replaced key blocks index block new lt at (leaves.kept notes (subst (AreNoted first last notes) (sym at) (every_at (AreNoted first last notes) blocks index block lt noted)) key absent);
-    noted = λ from to notes noted. every_replaced (AreNoted from to notes) blocks index new (leaves.noted from to notes (subst (AreNoted from to notes) (sym at) (every_at (AreNoted from to notes) blocks index block lt noted))) noted;
+    noted = λ from to notes noted. every_set (AreNoted from to notes) blocks index new (leaves.noted from to notes (subst (AreNoted from to notes) (sym at) (every_at (AreNoted from to notes) blocks index block lt noted))) noted;
   }
 
   pub left_done : AreOutside first last (rows (take index blocks)) → AreOutside first last (rows (take (index + 1) (set blocks index new)))
@@ -99,7 +98,7 @@ module _ (first last : ℕ) (blocks : List Block) (index : ℕ) (block new : Blo
     ascend = λ h. subst Ascend (sym (gone rows_of rows_new)) (left_in_place.ascend h);
     apart = λ h. apart_removed 0 (take index blocks) new (drop (suc index) blocks) (subst (AreApart 0) (set_split blocks index new lt) (left_in_place.apart h));
     kept = λ notes noted key absent. ap (cell_under key) (gone kept_of kept_new) ∙ left_in_place.kept notes noted key absent;
-    noted = λ from to notes noted. every-append (AreNoted from to notes) (take index blocks) (drop (suc index) blocks) (every_first (AreNoted from to notes) index blocks noted) (every_last (AreNoted from to notes) (suc index) blocks noted);
+    noted = λ from to notes noted. every-append (AreNoted from to notes) (take index blocks) (drop (suc index) blocks) (every-take (AreNoted from to notes) index blocks noted) (every-drop (AreNoted from to notes) (suc index) blocks noted);
   }
     where
       rows_new : rows_of new ≡ []
@@ -107,10 +106,6 @@ module _ (first last : ℕ) (blocks : List Block) (index : ℕ) (block new : Blo
 
       kept_new : kept_of new ≡ []
       kept_new = ap (λ s. entries_from new.first_before (take new.len_before s)) none ∙ ap (entries_from new.first_before) (take_nil new.len_before)
-        where
-          take_nil : (n : ℕ) → take {A = Option ℤ} n [] ≡ []
-          take_nil zero = refl
-          take_nil (suc n) = refl
 
       gone : (f : Block → List Entry) → f new ≡ [] → flat_map f (take index blocks ++ drop (suc index) blocks) ≡ flat_map f (set blocks index new)
       gone f e =
@@ -150,10 +145,6 @@ leaves_then first last old mid new one two = record {
   noted = λ from to notes noted. two.noted from to notes (one.noted from to notes noted);
 }
 
-pub no_items : {X : Type 0} (xs : List X) → true ≡ (length xs == 0) → xs ≡ []
-no_items [] e = refl
-no_items (x ∷ xs) e = absurd (true≢false (e ∙ ne_eqb (suc (length xs)) 0 (λ f. omega arith)))
-
 -- range by range
 pub left_by-append : (ranges : List Range) (range : Range) (xs : List Entry) → left_by (ranges ++ range ∷ []) xs ≡ outside range.first range.last (left_by ranges xs)
 left_by-append [] range xs = refl
@@ -180,10 +171,6 @@ leaves_range ranges range old mid new done leaves changed sound = record {
       ∙ done.kept notes (every_front (λ r. AllByRecursion (AreNoted r.first r.last notes) old) ranges (range ∷ []) noted) key absent;
   noted = λ from to notes noted. leaves.noted from to notes (done.noted from to notes noted);
 }
-
-pub noted_ranges_later : (ranges : List Range) (notes others : List (ℕ × Option ℤ)) (blocks : List Block) → ((key : ℕ) → IsSome (note_under key notes) → IsSome (note_under key others)) → AllByRecursion (λ range. AllByRecursion (AreNoted range.first range.last notes) blocks) ranges → AllByRecursion (λ range. AllByRecursion (AreNoted range.first range.last others) blocks) ranges
-noted_ranges_later ranges notes others blocks stays =
-    every_weaker (λ range. AllByRecursion (AreNoted range.first range.last notes) blocks) (λ range. AllByRecursion (AreNoted range.first range.last others) blocks) ranges (λ range noted. noted_later range.first range.last notes others blocks stays noted)
 
 -- a column of which the rows of noted ranges are left out
 pub left_before : (ranges : List Range) (old new : List Block) (notes : List (ℕ × Option ℤ)) → IsColumn old notes → LeavesAll ranges old new → AllByRecursion (λ range. AllByRecursion (AreNoted range.first range.last notes) old) ranges → restored notes (kept new) ≡ restored notes (kept old)
@@ -213,10 +200,6 @@ left_by_keys (range ∷ ranges) xs =
     (every (λ x. (not (is_between range.first range.last x.key) && not (is_among x.key (keys_of ranges))) ≡ not (is_among x.key (keys_of (range ∷ ranges)))) xs (λ x.
     neither (is_between range.first range.last x.key) (is_among x.key (keys_of ranges))
     ∙ ap not (ap (λ b. b || is_among x.key (keys_of ranges)) (sym (among-in x.key range)) ∙ sym (among-append x.key (keys_in range) (keys_of ranges)))))
-  where
-    neither : (a b : Bool) → (not a && not b) ≡ not (a || b)
-    neither true b = refl
-    neither false b = refl
 
 pub small_ranges : (ranges : List Range) → RangesApart 0 ranges → AllByRecursion (λ range. range.last < 2 ^ 62) ranges
 small_ranges ranges h = every_weaker (IsRangeFrom 0) (λ range. range.last < 2 ^ 62) ranges (λ range is. is.small) (each_range 0 ranges h)

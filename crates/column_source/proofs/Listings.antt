@@ -1,19 +1,17 @@
 -- Lists of blocks: where a key is found in them.
-use Rattle.std.proofs.Common.{◌≡◌, ◌≢◌, refl, ap, sym, ◌∙◌, subst, true, false, ℕ, zero, suc, ◌+◌, ◌-◌, ◌^◌, ◌<◌, ◌≤◌, arith, List, [], ◌∷◌, ◌++◌, length, take, drop, get_or, Option, Some, None, IsSome, ℤ, leb, leb-true, leb-false, true≢false, length-take-le, get_or-take, get_or-drop, length-drop, add-zero}
+use Rattle.std.proofs.Common.{◌≡◌, ◌≢◌, refl, ap, sym, ◌∙◌, subst, true, false, ℕ, zero, suc, ◌+◌, ◌-◌, ◌^◌, ◌<◌, ◌≤◌, arith, List, [], ◌∷◌, ◌++◌, length, take, drop, get_or, Option, Some, None, IsSome, ℤ, true≢false, length-take-le, get_or-take}
 use Rattle.std.specs.Option.{option_or}
 use Rattle.std.specs.List.{AllByRecursion}
-use Rattle.std.specs.List.Sorted.{IsPartitionPoint, IsPartitionedBy, IsNonDecreasingBy}
-use Rattle.std.proofs.lemmas.List.Sorted.{IsPartitionedBy-leb}
+use Rattle.std.specs.List.Sorted.{IsNonDecreasingBy}
 use Rattle.std.proofs.lemmas.Grind.{flat_map-append}
-use Rattle.std.proofs.Math.Seq.{split_at}
 use Rattle.key_lists.proofs.Every.{every_weaker, every-append}
+use Rattle.key_lists.proofs.Parts.{every-take, every_front, every_back, every_at, around, last_taken, first_left}
 use Rattle.column_source.specs.declared.block.Block.{Block}
 use Rattle.column_source.specs.Entries.{Entry, entry_of, cell_under, Ascend}
 use Rattle.column_source.specs.Slots.{slot_at, entries_from}
 use Rattle.column_source.specs.Blocks.{IsBlock, AreApart, rows_of, kept_of, rows, kept, end_of}
-use Rattle.column_source.proofs.EntryLists.{every_front, every_back, cell_under-append, cell_under-above, cell_under-below, below_seam, ascend_back, ascend-append}
+use Rattle.column_source.proofs.EntryLists.{cell_under-append, cell_under-above, cell_under-below, below_seam, ascend_back, ascend-append}
 use Rattle.column_source.proofs.SlotLists.{entries_above, entries_below, ascend_from, cell_of_key}
-use Rattle.column_source.proofs.Parts.{front_part, back_part, every_at, every_first}
 
 -- a block begins with a row
 pub first_row : (first : ℕ) (slots : List (Option ℤ)) → IsSome (slot_at slots 0) → (cell : ℤ) × (entries_from first slots ≡ entry_of first cell ∷ entries_from (first + 1) (drop 1 slots))
@@ -50,15 +48,6 @@ firsts_rise (block ∷ blocks) sound ascend zero (suc j) d le lt = below_le bloc
     below_le a b h = omega arith
 firsts_rise (block ∷ blocks) sound ascend (suc i) zero d le lt = absurd (omega arith)
 firsts_rise (block ∷ blocks) sound ascend (suc i) (suc j) d le lt = firsts_rise blocks sound.1 (ascend_back (rows_of block) (rows blocks) ascend) i j d (omega arith) (omega arith)
-
-pub firsts_parted : (key : ℕ) (blocks : List Block) → AllByRecursion IsBlock blocks → Ascend (rows blocks) → IsPartitionedBy (λ block. leb block.first key) blocks
-firsts_parted key blocks sound ascend = IsPartitionedBy-leb (λ block. block.first) blocks key (firsts_rise blocks sound ascend)
-
-pub begun_part : (key : ℕ) (blocks : List Block) (i : ℕ) → IsPartitionPoint (λ block. leb block.first key ≡ true) (λ block. leb block.first key ≡ false) blocks i → AllByRecursion (λ block. block.first ≤ key) (take i blocks)
-begun_part key blocks i h = every_weaker (λ block. leb block.first key ≡ true) (λ block. block.first ≤ key) (take i blocks) (λ block e. leb-true block.first key e) (front_part (λ block. leb block.first key) blocks i h)
-
-pub not_begun_part : (key : ℕ) (blocks : List Block) (i : ℕ) → IsPartitionPoint (λ block. leb block.first key ≡ true) (λ block. leb block.first key ≡ false) blocks i → AllByRecursion (λ block. key < block.first) (drop i blocks)
-not_begun_part key blocks i h = every_weaker (λ block. leb block.first key ≡ false) (λ block. key < block.first) (drop i blocks) (λ block e. leb-false block.first key e) (back_part (λ block. leb block.first key) blocks i h)
 
 -- the rows before a block are below it
 pub rows_before : (front : List Block) (block : Block) (back : List Block) → IsBlock block → Ascend (rows (front ++ block ∷ back)) → AllByRecursion (λ x. x.key < block.first) (rows front)
@@ -98,24 +87,6 @@ pub each_apart : (low : ℕ) (blocks : List Block) → AreApart low blocks → A
 each_apart low [] h = tt
 each_apart low (block ∷ blocks) h =
     (h.0, every_weaker (λ other. block.first_before + block.len_before ≤ other.first_before) (λ other. low ≤ other.first_before) blocks (λ other le. omega (arith, le, h.0)) (each_apart (block.first_before + block.len_before) blocks h.1))
-
-pub ends_rise : (low : ℕ) (blocks : List Block) → AreApart low blocks → IsNonDecreasingBy (λ block. block.first_before + block.len_before) blocks
-ends_rise low [] h i j d le lt = absurd (omega arith)
-ends_rise low (block ∷ blocks) h zero zero d le lt = omega arith
-ends_rise low (block ∷ blocks) h zero (suc j) d le lt =
-    let there = every_at (λ other. block.first_before + block.len_before ≤ other.first_before) blocks j d (omega arith) (each_apart (block.first_before + block.len_before) blocks h.1) in
-    omega (arith, there)
-ends_rise low (block ∷ blocks) h (suc i) zero d le lt = absurd (omega arith)
-ends_rise low (block ∷ blocks) h (suc i) (suc j) d le lt = ends_rise (block.first_before + block.len_before) blocks h.1 i j d (omega arith) (omega arith)
-
-pub ends_parted : (key : ℕ) (blocks : List Block) → AreApart 0 blocks → IsPartitionedBy (λ block. leb (block.first_before + block.len_before) key) blocks
-ends_parted key blocks h = IsPartitionedBy-leb (λ block. block.first_before + block.len_before) blocks key (ends_rise 0 blocks h)
-
-pub ended_part : (key : ℕ) (blocks : List Block) (i : ℕ) → IsPartitionPoint (λ block. leb (block.first_before + block.len_before) key ≡ true) (λ block. leb (block.first_before + block.len_before) key ≡ false) blocks i → AllByRecursion (λ block. block.first_before + block.len_before ≤ key) (take i blocks)
-ended_part key blocks i h = every_weaker (λ block. leb (block.first_before + block.len_before) key ≡ true) (λ block. block.first_before + block.len_before ≤ key) (take i blocks) (λ block e. leb-true (block.first_before + block.len_before) key e) (front_part (λ block. leb (block.first_before + block.len_before) key) blocks i h)
-
-pub not_ended_part : (key : ℕ) (blocks : List Block) (i : ℕ) → IsPartitionPoint (λ block. leb (block.first_before + block.len_before) key ≡ true) (λ block. leb (block.first_before + block.len_before) key ≡ false) blocks i → AllByRecursion (λ block. key < block.first_before + block.len_before) (drop i blocks)
-not_ended_part key blocks i h = every_weaker (λ block. leb (block.first_before + block.len_before) key ≡ false) (λ block. key < block.first_before + block.len_before) (drop i blocks) (λ block e. leb-false (block.first_before + block.len_before) key e) (back_part (λ block. leb (block.first_before + block.len_before) key) blocks i h)
 
 -- kept rows of blocks that end before a key, and of blocks that begin after it
 pub length_kept : (block : Block) → block.len_before ≤ length block.slots.items → length (take block.len_before block.slots.items) ≡ block.len_before
@@ -163,22 +134,10 @@ kept_in key front block back sound apart le lt =
     ∙ cell_of_key block.first_before key (take block.len_before block.slots.items) le
     ∙ get_or-take block.len_before block.slots.items (key - block.first_before) None (omega arith)
 
--- a list around one of its elements
-pub around : {X : Type 0} (xs : List X) (i : ℕ) (x : X) → i < length xs → x ≡ get_or xs i x → xs ≡ take i xs ++ x ∷ drop (suc i) xs
-around xs i x lt is = split_at xs i x lt ∙ ap (λ y. take i xs ++ y ∷ drop (suc i) xs) (sym is)
-
-pub last_taken : {X : Type 0} (P : X → Type 0) (xs : List X) (n : ℕ) (x : X) → n ≢ 0 → n ≤ length xs → x ≡ get_or xs (n - 1) x → AllByRecursion P (take n xs) → P x
-last_taken P xs n x some le is h =
-    subst P (get_or-take n xs (n - 1) x (omega arith) ∙ sym is) (every_at P (take n xs) (n - 1) x (omega (arith, length-take-le n xs le)) h)
-
-pub first_left : {X : Type 0} (P : X → Type 0) (xs : List X) (n : ℕ) (x : X) → n < length xs → x ≡ get_or xs n x → AllByRecursion P (drop n xs) → P x
-first_left P xs n x lt is h =
-    subst P (get_or-drop n xs 0 x ∙ ap (λ i. get_or xs i x) (add-zero n) ∙ sym is) (every_at P (drop n xs) 0 x (omega (arith, length-drop n xs)) h)
-
 pub found_at : (key : ℕ) (blocks : List Block) (next : ℕ) (block : Block) → next ≢ 0 → next ≤ length blocks → block ≡ get_or blocks (next - 1) block → AllByRecursion IsBlock blocks → Ascend (rows blocks) → AllByRecursion (λ other. other.first ≤ key) (take next blocks) → AllByRecursion (λ other. key < other.first) (drop next blocks) → cell_under key (rows blocks) ≡ slot_at block.slots.items (key - block.first)
 found_at key blocks next block some le is sound ascend begun above =
     ap (λ bs. cell_under key (rows bs)) parts
-    ∙ found_in key (take (next - 1) blocks) block (drop (suc (next - 1)) blocks) (last_taken IsBlock blocks next block some le is (every_first IsBlock next blocks sound)) (subst (λ bs. Ascend (rows bs)) parts ascend) (last_taken (λ other. other.first ≤ key) blocks next block some le is begun) (subst (λ n. AllByRecursion (λ other. key < other.first) (drop n blocks)) same above)
+    ∙ found_in key (take (next - 1) blocks) block (drop (suc (next - 1)) blocks) (last_taken IsBlock blocks next block some le is (every-take IsBlock next blocks sound)) (subst (λ bs. Ascend (rows bs)) parts ascend) (last_taken (λ other. other.first ≤ key) blocks next block some le is begun) (subst (λ n. AllByRecursion (λ other. key < other.first) (drop n blocks)) same above)
   where
     parts : blocks ≡ take (next - 1) blocks ++ block ∷ drop (suc (next - 1)) blocks
     parts = around blocks (next - 1) block (omega arith) is
@@ -204,7 +163,7 @@ kept_between key blocks place block lt is sound apart above ended =
     ap (λ bs. cell_under key (kept bs)) parts
     ∙ ap (cell_under key) (flat_map-append kept_of (take place blocks) (block ∷ drop (suc place) blocks))
     ∙ cell_under-append key (kept (take place blocks)) (kept (block ∷ drop (suc place) blocks))
-    ∙ ap (λ cell. option_or cell (cell_under key (kept (block ∷ drop (suc place) blocks)))) (cell_under-below key (kept (take place blocks)) (kept_ended key (take place blocks) (every_first IsBlock place blocks sound) ended))
+    ∙ ap (λ cell. option_or cell (cell_under key (kept (block ∷ drop (suc place) blocks)))) (cell_under-below key (kept (take place blocks)) (kept_ended key (take place blocks) (every-take IsBlock place blocks sound) ended))
     ∙ cell_under-above key (kept (block ∷ drop (suc place) blocks)) (every_weaker (λ x. block.first_before ≤ x.key) (λ x. key < x.key) (kept (block ∷ drop (suc place) blocks)) (λ x le. omega arith) (kept_from block.first_before (block ∷ drop (suc place) blocks) (omega arith, (apart_back 0 (take place blocks) (block ∷ drop (suc place) blocks) (subst (AreApart 0) parts apart)).1)))
   where
     parts : blocks ≡ take place blocks ++ block ∷ drop (suc place) blocks

@@ -3,11 +3,12 @@ use Rattle.std.proofs.Common.{◌≡◌, refl, ap, sym, ◌∙◌, subst, ℕ, �
 use Rattle.std.specs.List.{AllByRecursion}
 use Rattle.std.proofs.lemmas.List.{take-append-le}
 use Rattle.key_lists.proofs.Every.{every, every_weaker}
+use Rattle.key_lists.proofs.Parts.{every_front, every_back}
 use Rattle.column_source.specs.declared.block.Block.{Block}
 use Rattle.column_source.specs.Entries.{Entry, entry_of, put, Ascend}
 use Rattle.column_source.specs.Slots.{slot_at, entries_from, filled}
 use Rattle.column_source.specs.Blocks.{IsBlock, IsColumn, AreApart, rows_of, kept_of, rows, kept, begun_block}
-use Rattle.column_source.proofs.EntryLists.{every_front, every_back, put-past, ascend_back, below_seam}
+use Rattle.column_source.proofs.EntryLists.{put-past, ascend_back, below_seam}
 use Rattle.column_source.proofs.SlotLists.{entries_from-append, entries_from-empty, entries_below}
 use Rattle.column_source.proofs.Listings.{later_firsts, first_row}
 use Rattle.column_source.proofs.Filled.{rows_filled, filled_below, filled_some, filled_within}
@@ -16,10 +17,6 @@ use Rattle.column_source.proofs.Filled.{rows_filled, filled_below, filled_some, 
 first_of_longer : (slots others : List (Option ℤ)) → IsSome (slot_at slots 0) → IsSome (slot_at (slots ++ others) 0)
 first_of_longer [] others h = absurd (true≢false (sym h))
 first_of_longer (slot ∷ slots) others h = h
-
-pub some_slots : (slots : List (Option ℤ)) → IsSome (slot_at slots 0) → 0 < length slots
-some_slots [] h = absurd (true≢false (sym h))
-some_slots (slot ∷ slots) h = omega arith
 
 pub longer_block : (block longer : Block) (slot : Option ℤ) → IsBlock block → length block.slots.items < 512 → longer.slots.items ≡ block.slots.items ++ slot ∷ [] → longer.first_before ≡ block.first_before → longer.len_before ≡ block.len_before → IsBlock longer
 longer_block block longer slot is short slots first_before len_before = record {

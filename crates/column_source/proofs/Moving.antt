@@ -1,10 +1,12 @@
 -- Whole blocks that move.
-use Rattle.std.proofs.Common.{◌≡◌, refl, ap, sym, ◌∙◌, subst, ℕ, ◌+◌, ◌^◌, ◌<◌, ◌≤◌, arith, List, [], ◌∷◌, ◌++◌, map, Option, Some, None, ℤ, inl, inr, Bool, true, false, cond, ◌&&◌, leb, pos, ◌+ℤ◌, find, option_map, unwrap_or, Result, Ok, Err, OnOk, OnErr}
+use Rattle.std.proofs.Common.{◌≡◌, refl, ap, sym, ◌∙◌, subst, ℕ, ◌+◌, ◌^◌, ◌<◌, ◌≤◌, arith, List, [], ◌∷◌, ◌++◌, map, Option, Some, None, ℤ, inl, inr, false, ◌&&◌, leb, pos, ◌+ℤ◌, option_map, unwrap_or, Result, Ok, Err, OnOk, OnErr}
 use Rattle.std.proofs.lemmas.List.{map-append}
 use Rattle.std.specs.List.{AllByRecursion}
 use Rattle.std.proofs.lemmas.Int.{ints}
+use Rattle.std.proofs.lemmas.Bool.{lt-leb, le-leb}
 use Rattle.key_lists.specs.Keys.{IsRising}
-use Rattle.key_lists.proofs.Every.{every, every_weaker, every_both, every-map, every_unmapped, map_map}
+use Rattle.key_lists.proofs.Every.{every_weaker, every_both, every-map, every_unmapped, map_map, find_same, turned}
+use Rattle.key_lists.proofs.Parts.{every_front, every_back}
 use Rattle.tick_model.specs.declared.update.ShiftRange.{ShiftRange}
 use Rattle.tick_model.specs.Shifts.{moved, as_key, delta_at, holds}
 use Rattle.tick_model.specs.Rules.{is_past, shift_fault}
@@ -14,7 +16,7 @@ use Rattle.column_source.specs.Entries.{Entry, entry_of, keys_of, moved_entry, m
 use Rattle.column_source.specs.Slots.{entries_from}
 use Rattle.column_source.specs.Blocks.{IsBlock, IsColumn, AreApart, rows_of, kept_of, rows, kept}
 use Rattle.column_source.specs.Moves.{IsBeside, IsBesideRange, IsMovable, moved_block}
-use Rattle.column_source.proofs.EntryLists.{every_front, every_back, ascend_by_keys}
+use Rattle.column_source.proofs.EntryLists.{ascend_by_keys}
 use Rattle.column_source.proofs.SlotLists.{entries_above}
 use Rattle.column_source.proofs.Listings.{first_row}
 
@@ -35,37 +37,23 @@ each_movable shifts (block ∷ blocks) sound small inside = (
 )
 
 -- a range holds all rows of a block that stands beside its ends, or none
-leb_yes : (a b : ℕ) → a ≤ b → leb a b ≡ true
-leb_yes a b h = grind arith
-
-leb_no : (a b : ℕ) → b < a → leb a b ≡ false
-leb_no a b h = grind arith
-
 begin_same : (key : ℕ) (block : Block) → IsBlock block → IsBeside key block → AllByRecursion (λ x. leb key x.key ≡ leb key block.first) (rows_of block)
 begin_same key block is (inl le) =
-    every_weaker (λ x. block.first ≤ x.key) (λ x. leb key x.key ≡ leb key block.first) (rows_of block) (λ x from. leb_yes key x.key (omega (arith, le, from)) ∙ sym (leb_yes key block.first le)) (entries_above block.first block.slots.items)
+    every_weaker (λ x. block.first ≤ x.key) (λ x. leb key x.key ≡ leb key block.first) (rows_of block) (λ x from. le-leb key x.key (omega (arith, le, from)) ∙ sym (le-leb key block.first le)) (entries_above block.first block.slots.items)
 begin_same key block is (inr h) =
-    every_weaker (λ x. x.key < key) (λ x. leb key x.key ≡ leb key block.first) (rows_of block) (λ x lt. leb_no key x.key lt ∙ sym (leb_no key block.first (own_first (λ x. x.key < key) block is h).1)) h
+    every_weaker (λ x. x.key < key) (λ x. leb key x.key ≡ leb key block.first) (rows_of block) (λ x lt. lt-leb key x.key lt ∙ sym (lt-leb key block.first (own_first (λ x. x.key < key) block is h).1)) h
 
 end_same : (key : ℕ) (block : Block) → IsBlock block → IsBeside (key + 1) block → AllByRecursion (λ x. leb x.key key ≡ leb block.first key) (rows_of block)
 end_same key block is (inl le) =
-    every_weaker (λ x. block.first ≤ x.key) (λ x. leb x.key key ≡ leb block.first key) (rows_of block) (λ x from. leb_no x.key key (omega (arith, le, from)) ∙ sym (leb_no block.first key (omega (arith, le)))) (entries_above block.first block.slots.items)
+    every_weaker (λ x. block.first ≤ x.key) (λ x. leb x.key key ≡ leb block.first key) (rows_of block) (λ x from. lt-leb x.key key (omega (arith, le, from)) ∙ sym (lt-leb block.first key (omega (arith, le)))) (entries_above block.first block.slots.items)
 end_same key block is (inr h) =
-    every_weaker (λ x. x.key < key + 1) (λ x. leb x.key key ≡ leb block.first key) (rows_of block) (λ x lt. leb_yes x.key key (omega (arith, lt)) ∙ sym (leb_yes block.first key (omega (arith, (own_first (λ x. x.key < key + 1) block is h).1)))) h
+    every_weaker (λ x. x.key < key + 1) (λ x. leb x.key key ≡ leb block.first key) (rows_of block) (λ x lt. le-leb x.key key (omega (arith, lt)) ∙ sym (le-leb block.first key (omega (arith, (own_first (λ x. x.key < key + 1) block is h).1)))) h
 
 holds_same : (range : ShiftRange) (block : Block) → IsBlock block → IsBesideRange range block → AllByRecursion (λ x. holds range x.key ≡ holds range block.first) (rows_of block)
 holds_same range block is beside =
     every_both (λ x. leb range.begin x.key ≡ leb range.begin block.first) (λ x. leb x.key range.end ≡ leb block.first range.end) (λ x. holds range x.key ≡ holds range block.first) (rows_of block)
     (λ x a b. ap (λ t. t && leb x.key range.end) a ∙ ap (λ t. leb range.begin block.first && t) b)
     (begin_same range.begin block is beside.0) (end_same range.end block is beside.1)
-
-turned : {X Y : Type 0} (R : X → Y → Type 0) (xs : List X) (ys : List Y) → AllByRecursion (λ x. AllByRecursion (λ y. R x y) ys) xs → AllByRecursion (λ y. AllByRecursion (λ x. R x y) xs) ys
-turned R [] ys h = every (λ y. AllByRecursion (λ x. R x y) []) ys (λ y. tt)
-turned R (x ∷ xs) ys h = every_both (λ y. R x y) (λ y. AllByRecursion (λ x. R x y) xs) (λ y. AllByRecursion (λ x. R x y) (x ∷ xs)) ys (λ y a b. (a, b)) h.0 (turned R xs ys h.1)
-
-find_same : {X : Type 0} (p q : X → Bool) (xs : List X) → AllByRecursion (λ x. p x ≡ q x) xs → find p xs ≡ find q xs
-find_same p q [] h = refl
-find_same p q (x ∷ xs) h = ap (λ b. cond b (Some x) (find p xs)) h.0 ∙ ap (λ o. cond (q x) (Some x) o) (find_same p q xs h.1)
 
 delta_same : (shifts : List ShiftRange) (block : Block) → IsBlock block → AllByRecursion (λ range. IsBesideRange range block) shifts → AllByRecursion (λ x. delta_at shifts x.key ≡ delta_at shifts block.first) (rows_of block)
 delta_same shifts block is beside =

@@ -1,35 +1,18 @@
 -- What the notes of a step put back.
-use Rattle.std.proofs.Common.{◌≡◌, refl, ap, sym, ◌∙◌, Bool, true, false, cond, not, ℕ, ◌^◌, ◌<◌, arith, List, [], ◌∷◌, Option, Some, None, ℤ, inl, inr, ◌==◌, unwrap_or, Less, Equal, Greater}
-use Rattle.std.specs.Ordering.{nat_cmp, is_eq}
+use Rattle.std.proofs.Common.{◌≡◌, refl, ap, sym, ◌∙◌, Bool, true, false, cond, not, ℕ, ◌^◌, ◌<◌, List, [], ◌∷◌, Option, Some, None, ℤ, ◌==◌, unwrap_or}
 use Rattle.std.specs.List.{AllByRecursion}
-use Rattle.std.proofs.lemmas.Bool.{ne_eqb, eq-eqb, cases_eq, cases_lt, lt-ltb}
 use Rattle.key_lists.proofs.Every.{every-filter}
+use Rattle.key_lists.proofs.Booleans.{eqb_swap, is_eq-nat_cmp}
 use Rattle.column_source.specs.Entries.{Entry, cell_under, Ascend}
 use Rattle.column_source.specs.Notes.{note_under, with_note, restored}
-use Rattle.column_source.proofs.EntryLists.{cell_under-put, cell_under-filter, ascend-put, ascend-filter, every-put, same_entries, not_ltb}
-
-pub is_eq-nat_cmp : (a b : ℕ) → is_eq (nat_cmp a b) ≡ (b == a)
-is_eq-nat_cmp a b =
-    elim (cases_lt a b) [
-      | inl below ↦ ap (λ t. is_eq (cond t Less (cond (a == b) Equal Greater))) (lt-ltb a b below) ∙ sym (ne_eqb b a (λ e. omega arith))
-      | inr not_below ↦ ap (λ t. is_eq (cond t Less (cond (a == b) Equal Greater))) (not_ltb a b not_below) ∙ (elim (cases_eq a b) [
-        | inl same ↦ ap (λ t. is_eq (cond t Equal Greater)) (eq-eqb a b same) ∙ sym (eq-eqb b a (sym same))
-        | inr other ↦ ap (λ t. is_eq (cond t Equal Greater)) (ne_eqb a b other) ∙ sym (ne_eqb b a (λ e. other (sym e)))
-      ])
-    ]
+use Rattle.column_source.proofs.EntryLists.{cell_under-put, cell_under-filter, ascend-put, ascend-filter, every-put, same_entries}
 
 cell_with_note : (key other : ℕ) (noted : Option ℤ) (xs : List Entry) → cell_under key (with_note other noted xs) ≡ cond (other == key) noted (cell_under key xs)
-cell_with_note key other None xs = cell_under-filter (λ k. not (k == other)) key xs ∙ turned (key == other) (cell_under key xs) ∙ ap (λ t. cond t None (cell_under key xs)) (turned_eqb key other)
+cell_with_note key other None xs = cell_under-filter (λ k. not (k == other)) key xs ∙ turned (key == other) (cell_under key xs) ∙ ap (λ t. cond t None (cell_under key xs)) (eqb_swap key other)
   where
     turned : (b : Bool) (cell : Option ℤ) → cond (not b) cell None ≡ cond b None cell
     turned true cell = refl
     turned false cell = refl
-
-    turned_eqb : (a b : ℕ) → (a == b) ≡ (b == a)
-    turned_eqb a b = elim (cases_eq a b) [
-      | inl same ↦ eq-eqb a b same ∙ sym (eq-eqb b a (sym same))
-      | inr differs ↦ ne_eqb a b differs ∙ sym (ne_eqb b a (λ e. differs (sym e)))
-    ]
 cell_with_note key other (Some cell) xs = cell_under-put key other cell xs
 
 -- a noted key has what was noted, and any other what it has

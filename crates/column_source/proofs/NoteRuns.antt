@@ -6,9 +6,10 @@ use Rattle.std.specs.BTreeMap.{is_at}
 use Rattle.std.specs.List.{AllByRecursion}
 use Rattle.std.specs.List.Sorted.{IsNonDecreasingBy}
 use Rattle.std.proofs.lemmas.Bool.{ne_eqb, eq-eqb, cases_eq}
+use Rattle.std.proofs.lemmas.List.{drop_all}
+use Rattle.key_lists.proofs.Parts.{every_from}
+use Rattle.key_lists.proofs.Booleans.{is_eq-nat_cmp}
 use Rattle.column_source.specs.Notes.{note_under}
-use Rattle.column_source.proofs.NoteLists.{is_eq-nat_cmp}
-use Rattle.column_source.proofs.Parts.{every_drop}
 
 -- two lists one after the other
 pub note_under-append : (key : ℕ) (xs ys : List (ℕ × Option ℤ)) → note_under key (xs ++ ys) ≡ option_or (note_under key xs) (note_under key ys)
@@ -38,13 +39,7 @@ note_under-drop key [] (suc i) h = refl
 note_under-drop key (x ∷ xs) (suc i) h = past key x xs (λ e. omega (arith, h.0, e)) ∙ note_under-drop key xs i h.1
 
 pub missed_note : (key : ℕ) (xs : List (ℕ × Option ℤ)) (i : ℕ) → AllByRecursion (λ x. x.0 < key) (take i xs) → length xs ≤ i → None ≡ note_under key xs
-missed_note key xs i below le = sym (note_under-drop key xs i below ∙ ap (note_under key) (none_left xs i le))
-  where
-    none_left : (ys : List (ℕ × Option ℤ)) (n : ℕ) → length ys ≤ n → drop n ys ≡ []
-    none_left [] zero le = refl
-    none_left [] (suc n) le = refl
-    none_left (y ∷ ys) zero le = absurd (omega arith)
-    none_left (y ∷ ys) (suc n) le = none_left ys n (omega arith)
+missed_note key xs i below le = sym (note_under-drop key xs i below ∙ ap (note_under key) (drop_all i xs le))
 
 -- the first of the others has the key or none has
 pub found_note : (key : ℕ) (xs : List (ℕ × Option ℤ)) (i : ℕ) (x : ℕ × Option ℤ) → IsNonDecreasingBy (λ note. note.0) xs → AllByRecursion (λ note. note.0 < key) (take i xs) → AllByRecursion (λ note. key ≤ note.0) (drop i xs) → i < length xs → x ≡ get_or xs i x → then_some (x.0 == key) x.1 ≡ note_under key xs
@@ -70,7 +65,7 @@ found_note key xs i x rise below others lt is = sym (note_under-drop key xs i be
           ∙ ap (λ b. then_some b x.1) (sym (eq-eqb x.0 key same))
       | inr differs ↦
           past key x (drop (suc i) xs) differs
-          ∙ note_under-above key (drop (suc i) xs) (every_drop (λ note. key < note.0) xs (suc i) (λ k d le within. omega (arith, later k d le within, differs, first)))
+          ∙ note_under-above key (drop (suc i) xs) (every_from (λ note. key < note.0) xs (suc i) (λ k d le within. omega (arith, later k d le within, differs, first)))
           ∙ ap (λ b. then_some b x.1) (sym (ne_eqb x.0 key differs))
     ]
       where

@@ -4,12 +4,13 @@ use Rattle.std.specs.Ordering.{match_ordering}
 use Rattle.std.specs.List.{AllByRecursion}
 use Rattle.std.specs.BTreeMap.{insert_entry}
 use Rattle.std.proofs.lemmas.Bool.{ne_eqb, eq-eqb, cases_eq}
+use Rattle.key_lists.proofs.Parts.{around}
 use Rattle.column_source.specs.declared.block.Block.{Block}
 use Rattle.column_source.specs.Entries.{cell_under, Ascend}
 use Rattle.column_source.specs.Slots.{slot_at}
 use Rattle.column_source.specs.Notes.{note_under, restored}
 use Rattle.column_source.specs.Blocks.{IsBlock, IsColumn, AreApart, kept}
-use Rattle.column_source.proofs.Listings.{around, kept_in, kept_ascend}
+use Rattle.column_source.proofs.Listings.{kept_in, kept_ascend}
 use Rattle.column_source.proofs.NoteLists.{same_restored}
 
 -- the kept cell of a slot that the step began with

@@ -7,6 +7,7 @@ use Rattle.std.proofs.lemmas.List.{set_split}
 use Rattle.std.proofs.lemmas.Bool.{cases_lt, cases_eq}
 use Rattle.std.proofs.lemmas.Grind.{flat_map-append}
 use Rattle.key_lists.proofs.Every.{every_weaker, every-append}
+use Rattle.key_lists.proofs.Parts.{every-take, every-drop, every_at, around, last_taken, every_set}
 use Rattle.column_source.specs.declared.block.Block.{Block}
 use Rattle.column_source.specs.Entries.{Entry, entry_of, cell_under, put, Ascend}
 use Rattle.column_source.specs.Slots.{slot_at, entries_from}
@@ -14,8 +15,7 @@ use Rattle.column_source.specs.Notes.{note_under, restored}
 use Rattle.column_source.specs.Blocks.{IsBlock, IsColumn, AreApart, rows_of, kept_of, rows, kept, end_of, IsWritten, IsLastBegun, IsNoted}
 use Rattle.column_source.proofs.EntryLists.{every-put, cell_under-append, cell_under-above, ascend-put, put-past, put-before}
 use Rattle.column_source.proofs.SlotLists.{entries_above, entries_below, cell_of_key, put_slot}
-use Rattle.column_source.proofs.Listings.{around, last_taken, rows_above, rows_before, kept_ascend}
-use Rattle.column_source.proofs.Parts.{every_at, every_first, every_last}
+use Rattle.column_source.proofs.Listings.{rows_above, rows_before, kept_ascend}
 use Rattle.column_source.proofs.NoteLists.{same_restored}
 
 -- a cell put into the rows of the last block that begins at its key or before it
@@ -68,11 +68,6 @@ kept_replaced key blocks index block new lt at same =
         ap (cell_under key) (flat_map-append kept_of (take index blocks) (b ∷ drop (suc index) blocks))
         ∙ cell_under-append key (kept (take index blocks)) (kept_of b ++ kept (drop (suc index) blocks))
         ∙ ap (option_or (cell_under key (kept (take index blocks)))) (cell_under-append key (kept_of b) (kept (drop (suc index) blocks)))
-
-pub every_replaced : {X : Type 0} (P : X → Type 0) (xs : List X) (index : ℕ) (new : X) → P new → AllByRecursion P xs → AllByRecursion P (set xs index new)
-every_replaced P [] index new own h = tt
-every_replaced P (x ∷ xs) zero new own h = (own, h.1)
-every_replaced P (x ∷ xs) (suc index) new own h = (h.0, every_replaced P xs index new own h.1)
 
 pub apart_replaced : (low : ℕ) (blocks : List Block) (index : ℕ) (block new : Block) → block ≡ get_or blocks index block → new.first_before ≡ block.first_before → new.len_before ≡ block.len_before → AreApart low blocks → AreApart low (set blocks index new)
 apart_replaced low [] index block new at first_before len_before h = tt
@@ -164,12 +159,6 @@ put_between key cell front new back own below above =
     ∙ sym (put-past key cell (rows front) (rows back) below)
     ∙ ap (put key cell) (sym (flat_map-append rows_of front back))
 
--- what stands at a place is one
-pub same_at : {X : Type 0} (xs : List X) (i : ℕ) (x y : X) → i < length xs → x ≡ get_or xs i x → y ≡ get_or xs i y → x ≡ y
-same_at [] i x y lt at other = absurd (omega arith)
-same_at (z ∷ xs) zero x y lt at other = at ∙ sym other
-same_at (z ∷ xs) (suc i) x y lt at other = same_at xs i x y (omega arith) at other
-
 pub sound_at : (blocks : List Block) (index : ℕ) (block : Block) → index < length blocks → block ≡ get_or blocks index block → AllByRecursion IsBlock blocks → IsBlock block
 sound_at blocks index block lt at sound = subst IsBlock (sym at) (every_at IsBlock blocks index block lt sound)
 
@@ -194,7 +183,7 @@ module _ (key place : ℕ) (cell : ℤ) (blocks : List Block) (index : ℕ) (blo
       (written_rows block new place cell h.written h.within ∙ ap (λ k. put k cell (rows_of block)) h.is_key)
 
   overwritten_sound : AllByRecursion IsBlock (set blocks index new)
-  overwritten_sound = every_replaced IsBlock blocks index new (written_block block new place cell h.written overwritten_is) h.column.sound
+  overwritten_sound = every_set IsBlock blocks index new (written_block block new place cell h.written overwritten_is) h.column.sound
 
   overwritten_apart : AreApart 0 (set blocks index new)
   overwritten_apart = apart_replaced 0 blocks index block new h.at h.written.first_before h.written.len_before h.column.apart
@@ -244,14 +233,14 @@ module _ (key : ℕ) (cell : ℤ) (blocks : List Block) (next : ℕ) (new : Bloc
 
   pub inserted_sound : AllByRecursion IsBlock blocks → AllByRecursion IsBlock (take next blocks ++ new ∷ drop next blocks)
   inserted_sound sound =
-      every-append IsBlock (take next blocks) (new ∷ drop next blocks) (every_first IsBlock next blocks sound) (
+      every-append IsBlock (take next blocks) (new ∷ drop next blocks) (every-take IsBlock next blocks sound) (
         record {
           begun = subst (λ s. IsSome (slot_at s 0)) (sym h.slots) refl;
           short = omega (arith, ap length h.slots);
           kept_within = omega (arith, h.len_before);
-          small_before = omega (arith, h.len_before, h.first_before, end_small 0 (take next blocks) (every_first IsBlock next blocks sound) (omega arith));
+          small_before = omega (arith, h.len_before, h.first_before, end_small 0 (take next blocks) (every-take IsBlock next blocks sound) (omega arith));
         },
-        every_last IsBlock next blocks sound,
+        every-drop IsBlock next blocks sound,
       )
     where
       end_small : (low : ℕ) (bs : List Block) → AllByRecursion IsBlock bs → low ≤ 2 ^ 62 → end_of low bs ≤ 2 ^ 62

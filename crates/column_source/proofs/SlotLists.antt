@@ -1,11 +1,11 @@
 -- The entries of slots.
 use Rattle.std.proofs.Common.{◌≡◌, ◌≢◌, refl, ap, ◌∙◌, cond, ℕ, zero, suc, ◌+◌, ◌-◌, ◌<◌, ◌≤◌, arith, List, [], ◌∷◌, ◌++◌, length, set, Option, Some, None, ℤ, ◌==◌, append-nil}
 use Rattle.std.specs.List.{AllByRecursion}
-use Rattle.std.proofs.lemmas.Bool.{ne_eqb, eq-eqb}
+use Rattle.std.proofs.lemmas.Bool.{ne_eqb, eq-eqb, le-ltb}
 use Rattle.key_lists.proofs.Every.{every_weaker}
 use Rattle.column_source.specs.Entries.{Entry, entry_of, cell_under, put, Ascend}
 use Rattle.column_source.specs.Slots.{slot_at, begun_with, entries_from}
-use Rattle.column_source.proofs.EntryLists.{cell_under-above, put-past, put-alone, not_ltb}
+use Rattle.column_source.proofs.EntryLists.{cell_under-above, put-past, put-alone}
 
 every-begun : (P : Entry → Type 0) (key : ℕ) (slot : Option ℤ) (xs : List Entry) → ((cell : ℤ) → P (entry_of key cell)) → AllByRecursion P xs → AllByRecursion P (begun_with key slot xs)
 every-begun P key None xs own h = h
@@ -61,7 +61,7 @@ put_slot first zero cell (slot ∷ slots) lt = ap (λ key. put key cell (begun_w
     put_first : (first : ℕ) (cell : ℤ) (slot : Option ℤ) (xs : List Entry) → AllByRecursion (λ x. first < x.key) xs → put first cell (begun_with first slot xs) ≡ entry_of first cell ∷ xs
     put_first first cell None xs h = put-alone first cell xs h
     put_first first cell (Some other) xs h =
-        ap (λ b. cond b (entry_of first other ∷ put first cell xs) (cond (first == first) (entry_of first cell ∷ xs) (entry_of first cell ∷ entry_of first other ∷ xs))) (not_ltb first first (omega arith))
+        ap (λ b. cond b (entry_of first other ∷ put first cell xs) (cond (first == first) (entry_of first cell ∷ xs) (entry_of first cell ∷ entry_of first other ∷ xs))) (le-ltb first first (omega arith))
         ∙ ap (λ b. cond b (entry_of first cell ∷ xs) (entry_of first cell ∷ entry_of first other ∷ xs)) (eq-eqb first first refl)
 put_slot first (suc place) cell (None ∷ slots) lt = ap (λ key. put key cell (entries_from (first + 1) slots)) key_same ∙ put_slot (first + 1) place cell slots (omega arith)
   where

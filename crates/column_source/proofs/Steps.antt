@@ -6,6 +6,7 @@ use Rattle.std.proofs.lemmas.Bool.{ne_eqb, eq-eqb}
 use Rattle.std.proofs.lemmas.List.{length-map, take-map, drop-map, get_or-map}
 use Rattle.std.proofs.lemmas.List.Edits.{swap_is}
 use Rattle.key_lists.proofs.Every.{every_weaker, every_unmapped}
+use Rattle.key_lists.proofs.Parts.{front_part, back_part, every_at, some_at, every_set}
 use Rattle.tick_model.specs.declared.update.ShiftRange.{ShiftRange}
 use Rattle.tick_model.specs.Rules.{landed}
 use Rattle.column_source.specs.declared.block.Block.{Block}
@@ -15,7 +16,6 @@ use Rattle.column_source.specs.Moves.{moved_block}
 use Rattle.column_source.specs.Slots.{filled}
 use Rattle.column_source.specs.Firsts.{FirstKeys}
 use Rattle.column_source.specs.Steps.{as_of, len_at, each_as_of, as_of_step, AreStamped, untouched, IsStampedCopy}
-use Rattle.column_source.proofs.Parts.{front_part, back_part, every_at, one_at}
 use Rattle.column_source.proofs.Listings.{each_apart}
 
 -- a block that the step touched
@@ -89,8 +89,8 @@ get_or_any (y ∷ xs) (suc i) x d lt at = get_or_any xs i x d (omega arith) at
 
 pub seen_swap : (step : ℕ) (firsts befores : List ℕ) (items : List Stamped) (i j : ℕ) (one other : Block) → length firsts ≡ length items → length befores ≡ length items → i < length items → j < length items → one ≡ get_or (each_as_of step firsts befores items) i one → other ≡ get_or (each_as_of step firsts befores items) j other → each_as_of step (set (set firsts i other.first) j one.first) (set (set befores i other.first_before) j one.first_before) (swap items i j) ≡ set (set (each_as_of step firsts befores items) i other) j one
 seen_swap step firsts befores items i j one other now before lt_i lt_j at_i at_j =
-    let x = one_at items i lt_i in
-    let y = one_at items j lt_j in
+    let x = some_at items i lt_i in
+    let y = some_at items j lt_j in
     let own : one ≡ as_of step (get_or firsts i 0) (get_or befores i 0) x.0 = seen_at step firsts befores items i x.0 one now before lt_i x.1 at_i in
     let next : other ≡ as_of step (get_or firsts j 0) (get_or befores j 0) y.0 = seen_at step firsts befores items j y.0 other now before lt_j y.1 at_j in
     ap (each_as_of step (set (set firsts i other.first) j one.first) (set (set befores i other.first_before) j one.first_before))
@@ -125,19 +125,7 @@ seen_remove step [] befores (x ∷ items) (suc from) (suc to) now before le with
 seen_remove step (first ∷ firsts) [] (x ∷ items) (suc from) (suc to) now before le within = absurd (omega arith)
 seen_remove step (first ∷ firsts) (own ∷ befores) (x ∷ items) (suc from) (suc to) now before le within = ap (λ bs. as_of step first own x ∷ bs) (seen_remove step firsts befores items from to (omega arith) (omega arith) (omega arith) (omega arith))
 
-pub length_removed : {X : Type 0} (xs : List X) (from to : ℕ) → from ≤ to → to ≤ length xs → length (take from xs ++ drop to xs) + to ≡ from + length xs
-length_removed xs zero zero le within = omega arith
-length_removed [] from (suc to) le within = absurd (omega arith)
-length_removed (x ∷ xs) zero (suc to) le within = let rest : length (take 0 xs ++ drop to xs) + to ≡ 0 + length xs = length_removed xs zero to (omega arith) (omega arith) in omega (arith, rest)
-length_removed xs (suc from) zero le within = absurd (omega arith)
-length_removed (x ∷ xs) (suc from) (suc to) le within = let rest : length (take from xs ++ drop to xs) + to ≡ from + length xs = length_removed xs from to (omega arith) (omega arith) in omega (arith, rest)
-
--- the stamps of lists with one put, put between or taken off
-pub every_inserted : {X : Type 0} (P : X → Type 0) (xs : List X) (i : ℕ) (new : X) → P new → AllByRecursion P xs → AllByRecursion P (insert xs i new)
-every_inserted P xs zero new own h = (own, h)
-every_inserted P [] (suc i) new own h = (own, tt)
-every_inserted P (x ∷ xs) (suc i) new own h = (h.0, every_inserted P xs i new own h.1)
-
+-- the stamps of lists with one put between or taken off
 pub every_swapped : {X : Type 0} (P : X → Type 0) (xs : List X) (i j : ℕ) → AllByRecursion P xs → AllByRecursion P (swap xs i j)
 every_swapped P [] i j h = h
 every_swapped P (x ∷ xs) i j h = every_set P (set (x ∷ xs) i (get_or (x ∷ xs) j x)) j (get_or (x ∷ xs) i x) (every_or P (x ∷ xs) i x h.0 h) (every_set P (x ∷ xs) i (get_or (x ∷ xs) j x) (every_or P (x ∷ xs) j x h.0 h) h)
@@ -146,25 +134,6 @@ every_swapped P (x ∷ xs) i j h = every_set P (set (x ∷ xs) i (get_or (x ∷ 
     every_or P [] i d own h = own
     every_or P (x ∷ xs) zero d own h = h.0
     every_or P (x ∷ xs) (suc i) d own h = every_or P xs i d own h.1
-
-    every_set : {X : Type 0} (P : X → Type 0) (xs : List X) (i : ℕ) (x : X) → P x → AllByRecursion P xs → AllByRecursion P (set xs i x)
-    every_set P [] i x own h = h
-    every_set P (y ∷ xs) zero x own h = (own, h.1)
-    every_set P (y ∷ xs) (suc i) x own h = (h.0, every_set P xs i x own h.1)
-
-pub every_removed : {X : Type 0} (P : X → Type 0) (xs : List X) (from to : ℕ) → AllByRecursion P xs → AllByRecursion P (take from xs ++ drop to xs)
-every_removed P xs zero zero h = h
-every_removed P [] zero (suc to) h = tt
-every_removed P (x ∷ xs) zero (suc to) h = every_removed P xs zero to h.1
-every_removed P [] (suc from) zero h = tt
-every_removed P [] (suc from) (suc to) h = tt
-every_removed P (x ∷ xs) (suc from) zero h = (h.0, every_removed_front P (x ∷ xs) xs from h h.1)
-  where
-    every_removed_front : {X : Type 0} (P : X → Type 0) (all xs : List X) (from : ℕ) → AllByRecursion P all → AllByRecursion P xs → AllByRecursion P (take from xs ++ all)
-    every_removed_front P all xs zero h own = h
-    every_removed_front P all [] (suc from) h own = h
-    every_removed_front P all (x ∷ xs) (suc from) h own = (own.0, every_removed_front P all xs from h own.1)
-every_removed P (x ∷ xs) (suc from) (suc to) h = (h.0, every_removed P xs from to h.1)
 
 -- the blocks of a step that begins
 pub seen_begun : (step : ℕ) (firsts befores : List ℕ) (items : List Stamped) → length firsts ≡ length items → length befores ≡ length items → AllByRecursion (λ stamped. stamped.step ≤ step) items → each_as_of (step + 1) firsts firsts items ≡ map begun_block (each_as_of step firsts befores items)

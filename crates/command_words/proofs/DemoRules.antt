@@ -1,5 +1,6 @@
 -- The arguments of `demo`.
 use Rattle.std.proofs.Common.{◌≡◌, ◌+◌, ℕ, zero, suc, true, false, refl, ap, subst, arith, List, [], ◌∷◌, Some, None, codes, slice_get}
+use Rattle.std.proofs.lemmas.Option.{same_Some}
 use Rattle.clap.specs.Walk.{Text, arg_by_id, arg_by_index, arg_by_long}
 use Rattle.command_words.specs.Commands.{is_known}
 use Rattle.command_words.proofs.PartLemmas.{IsOption, Known, is_name, workers, callers, snaps, attempts, every}
@@ -37,19 +38,16 @@ name_of name every is = cc
 by_name : (name : Text) → IsOption (codes "demo") name → arg_by_id demo_rules name ≡ Some (option_taker name)
 by_name name is = name_of name is.named is.taken
 
-the_name : (a b : Text) → Some a ≡ Some b → a ≡ b
-the_name a b e = cc
-
 by_word : (i : ℕ) (name : Text) → slice_get demo_places i ≡ Some name → arg_by_id demo_rules name ≡ Some (word_taker (i + 1) name)
-by_word zero name e = subst (λ (n : Text). arg_by_id demo_rules n ≡ Some (word_taker 1 n)) (the_name (codes "steps") name e) refl
+by_word zero name e = subst (λ (n : Text). arg_by_id demo_rules n ≡ Some (word_taker 1 n)) (same_Some (codes "steps") name e) refl
 by_word (suc i) name e = cc
 
 by_place : (i : ℕ) (name : Text) → slice_get demo_places i ≡ Some name → arg_by_index demo_rules (i + 1) ≡ Some (word_taker (i + 1) name)
-by_place zero name e = ap (λ (n : Text). Some (word_taker 1 n)) (the_name (codes "steps") name e)
+by_place zero name e = ap (λ (n : Text). Some (word_taker 1 n)) (same_Some (codes "steps") name e)
 by_place (suc i) name e = cc
 
 unknown : (i : ℕ) (name : Text) → slice_get demo_places i ≡ Some name → is_name name ≡ false
-unknown zero name e = subst (λ (n : Text). is_name n ≡ false) (the_name (codes "steps") name e) refl
+unknown zero name e = subst (λ (n : Text). is_name n ≡ false) (same_Some (codes "steps") name e) refl
 unknown (suc i) name e = cc
 
 apart : (i j : ℕ) (name : Text) → slice_get demo_places i ≡ Some name → slice_get demo_places j ≡ Some name → i ≡ j

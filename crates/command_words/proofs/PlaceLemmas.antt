@@ -1,8 +1,9 @@
 -- A word that goes to a place, in `clap`'s walk and by the rules.
-use Rattle.std.proofs.Common.{◌≡◌, ◌∙◌, ◌+◌, ◌≤◌, ◌&&◌, ◌||◌, inl, inr, ℕ, Bool, true, false, min, refl, sym, ap, arith, cond, List, [], ◌∷◌, ◌++◌, length, Option, Some, None, option_and_then, slice_get}
+use Rattle.std.proofs.Common.{◌≡◌, ◌∙◌, ◌+◌, ◌≤◌, ◌&&◌, inl, inr, ℕ, Bool, false, min, refl, sym, ap, arith, cond, List, [], ◌∷◌, ◌++◌, length, Option, Some, None, option_and_then, slice_get}
 use Rattle.std.proofs.lemmas.Bool.{and_right, cases_lt}
 use Rattle.std.proofs.lemmas.List.{length-append}
 use Rattle.std.proofs.lemmas.Option.{slice_get-get_or}
+use Rattle.key_lists.proofs.Booleans.{or_false}
 use Rattle.clap.specs.Lexer.{usize_max}
 use Rattle.clap.specs.Walk.{Row, Rule, Text, Walk, arg_by_index, idle, is_pending, pushed, settled, settled_rows, to_positional, walked}
 use Rattle.clap.specs.Faults.{settle_fault, turn_fault}
@@ -37,10 +38,6 @@ pub past_places : (first : Text) (rules : List Rule) (places : List Text) (leaf 
 past_places first rules places leaf n e fits =
     let all : length places ≡ n = omega (arith, never_past places n e) in
     ap (λ (k : ℕ). arg_by_index rules (k + 1)) (sym all) ∙ leaf.past
-
-or_false : (t : Bool) → (t || false) ≡ t
-or_false true = refl
-or_false false = refl
 
 -- a word at a place settles what is pending
 pub place_settles : (rules : List Rule) (rows : List Row) (pending : Pending) (place : ℕ) (name : Text) → place_fault rules rows pending (Some (word_taker place name)) ≡ settle_fault rules false (held_at rows pending)

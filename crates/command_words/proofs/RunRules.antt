@@ -1,5 +1,6 @@
 -- The arguments of `run`.
 use Rattle.std.proofs.Common.{◌≡◌, ◌+◌, ℕ, zero, suc, true, false, refl, sym, ap, subst, arith, List, [], ◌∷◌, Some, None, codes, bytes_eq, slice_get}
+use Rattle.std.proofs.lemmas.Option.{same_Some}
 use Rattle.clap.specs.Walk.{Text, arg_by_id, arg_by_index, arg_by_long}
 use Rattle.command_words.specs.Commands.{is_known}
 use Rattle.command_words.proofs.PartLemmas.{IsOption, Known, is_name, workers, callers, snaps, attempts, every}
@@ -37,22 +38,19 @@ name_of name every is = cc
 by_name : (name : Text) → IsOption (codes "run") name → arg_by_id run_rules name ≡ Some (option_taker name)
 by_name name is = name_of name is.named is.taken
 
-the_name : (a b : Text) → Some a ≡ Some b → a ≡ b
-the_name a b e = cc
-
 by_word : (i : ℕ) (name : Text) → slice_get run_places i ≡ Some name → arg_by_id run_rules name ≡ Some (word_taker (i + 1) name)
-by_word zero name e = subst (λ (n : Text). arg_by_id run_rules n ≡ Some (word_taker 1 n)) (the_name (codes "script") name e) refl
-by_word (suc zero) name e = subst (λ (n : Text). arg_by_id run_rules n ≡ Some (word_taker 2 n)) (the_name (codes "feed") name e) refl
+by_word zero name e = subst (λ (n : Text). arg_by_id run_rules n ≡ Some (word_taker 1 n)) (same_Some (codes "script") name e) refl
+by_word (suc zero) name e = subst (λ (n : Text). arg_by_id run_rules n ≡ Some (word_taker 2 n)) (same_Some (codes "feed") name e) refl
 by_word (suc (suc i)) name e = cc
 
 by_place : (i : ℕ) (name : Text) → slice_get run_places i ≡ Some name → arg_by_index run_rules (i + 1) ≡ Some (word_taker (i + 1) name)
-by_place zero name e = ap (λ (n : Text). Some (word_taker 1 n)) (the_name (codes "script") name e)
-by_place (suc zero) name e = ap (λ (n : Text). Some (word_taker 2 n)) (the_name (codes "feed") name e)
+by_place zero name e = ap (λ (n : Text). Some (word_taker 1 n)) (same_Some (codes "script") name e)
+by_place (suc zero) name e = ap (λ (n : Text). Some (word_taker 2 n)) (same_Some (codes "feed") name e)
 by_place (suc (suc i)) name e = cc
 
 unknown : (i : ℕ) (name : Text) → slice_get run_places i ≡ Some name → is_name name ≡ false
-unknown zero name e = subst (λ (n : Text). is_name n ≡ false) (the_name (codes "script") name e) refl
-unknown (suc zero) name e = subst (λ (n : Text). is_name n ≡ false) (the_name (codes "feed") name e) refl
+unknown zero name e = subst (λ (n : Text). is_name n ≡ false) (same_Some (codes "script") name e) refl
+unknown (suc zero) name e = subst (λ (n : Text). is_name n ≡ false) (same_Some (codes "feed") name e) refl
 unknown (suc (suc i)) name e = cc
 
 script_apart : codes "script" ≡ codes "feed" → ⊥

@@ -48,9 +48,6 @@ fault_at w so_far =
     or_else so_far (or_else (entered_fault whole_app w.stopped) (or_else (settle_fault [] false w.held)
     (or_else (defaults_fault (settled [] w.held).rows []) (check_fault top_shape (finished [] w.held) (is_some (entered whole_app w.stopped))))))
 
-built_is : (words : List Text) → built_fault whole_app nothing_held words ≡ fault_at (walk [] names nothing_held words) (walk_fault top_shape names (walk_from nothing_held) words)
-built_is words = refl
-
 -- ---- the name of a subcommand
 
 abbrev stopped_at : Text → List Text → Walk
@@ -104,9 +101,6 @@ module _ (name : Text) (rules : List Rule) (met : subcommand_met names idle name
 -- ---- any other word
 
 module _ (word : Text) (words : List Text) (other : subcommand_met names idle word ≡ None) where
-  abbrev Fails : Type 0
-  Fails = (k : ErrorKind) × (ks : Kinds) × (walk_fault top_shape names (walk_from nothing_held) (word ∷ words) ≡ k ∷ ks)
-
   turn_fails : (k : ErrorKind) (ks : Kinds) → turn_fault top_shape names (walk_from nothing_held) word ≡ k ∷ ks → walk_fault top_shape names (walk_from nothing_held) (word ∷ words) ≡ k ∷ ks
   unfolding walk_fault
   turn_fails k ks e = ap (λ (f : Kinds). or_else f (walk_fault top_shape names (walked [] names (walk_from nothing_held) word) words)) e

@@ -1,5 +1,6 @@
 -- The arguments of `watch`.
 use Rattle.std.proofs.Common.{◌≡◌, ◌∙◌, ◌+◌, ℕ, zero, suc, true, false, refl, sym, ap, subst, arith, List, [], ◌∷◌, Some, None, codes, bytes_eq, slice_get, if◌then◌else◌}
+use Rattle.std.proofs.lemmas.Option.{same_Some}
 use Rattle.clap.specs.Walk.{Text, arg_by_id, arg_by_index, arg_by_long}
 use Rattle.command_words.specs.Commands.{is_known}
 use Rattle.command_words.proofs.PartLemmas.{IsOption, Known, is_name, workers, callers, snaps, attempts, every}
@@ -31,31 +32,28 @@ name_of name every is = refl
 by_name : (name : Text) → IsOption (codes "watch") name → arg_by_id watch_rules name ≡ Some (option_taker name)
 by_name name is = name_of name is.named is.taken
 
-the_name : (a b : Text) → Some a ≡ Some b → a ≡ b
-the_name a b e = cc
-
 by_word : (i : ℕ) (name : Text) → slice_get watch_places i ≡ Some name → arg_by_id watch_rules name ≡ Some (word_taker (i + 1) name)
-by_word zero name e = subst (λ (n : Text). arg_by_id watch_rules n ≡ Some (word_taker 1 n)) (the_name (codes "script") name e) refl
-by_word (suc zero) name e = subst (λ (n : Text). arg_by_id watch_rules n ≡ Some (word_taker 2 n)) (the_name (codes "feed") name e) refl
-by_word (suc (suc zero)) name e = subst (λ (n : Text). arg_by_id watch_rules n ≡ Some (word_taker 3 n)) (the_name (codes "name") name e) refl
-by_word (suc (suc (suc zero))) name e = subst (λ (n : Text). arg_by_id watch_rules n ≡ Some (word_taker 4 n)) (the_name (codes "first") name e) refl
-by_word (suc (suc (suc (suc zero)))) name e = subst (λ (n : Text). arg_by_id watch_rules n ≡ Some (word_taker 5 n)) (the_name (codes "count") name e) refl
+by_word zero name e = subst (λ (n : Text). arg_by_id watch_rules n ≡ Some (word_taker 1 n)) (same_Some (codes "script") name e) refl
+by_word (suc zero) name e = subst (λ (n : Text). arg_by_id watch_rules n ≡ Some (word_taker 2 n)) (same_Some (codes "feed") name e) refl
+by_word (suc (suc zero)) name e = subst (λ (n : Text). arg_by_id watch_rules n ≡ Some (word_taker 3 n)) (same_Some (codes "name") name e) refl
+by_word (suc (suc (suc zero))) name e = subst (λ (n : Text). arg_by_id watch_rules n ≡ Some (word_taker 4 n)) (same_Some (codes "first") name e) refl
+by_word (suc (suc (suc (suc zero)))) name e = subst (λ (n : Text). arg_by_id watch_rules n ≡ Some (word_taker 5 n)) (same_Some (codes "count") name e) refl
 by_word (suc (suc (suc (suc (suc i))))) name e = cc
 
 by_place : (i : ℕ) (name : Text) → slice_get watch_places i ≡ Some name → arg_by_index watch_rules (i + 1) ≡ Some (word_taker (i + 1) name)
-by_place zero name e = ap (λ (n : Text). Some (word_taker 1 n)) (the_name (codes "script") name e)
-by_place (suc zero) name e = ap (λ (n : Text). Some (word_taker 2 n)) (the_name (codes "feed") name e)
-by_place (suc (suc zero)) name e = ap (λ (n : Text). Some (word_taker 3 n)) (the_name (codes "name") name e)
-by_place (suc (suc (suc zero))) name e = ap (λ (n : Text). Some (word_taker 4 n)) (the_name (codes "first") name e)
-by_place (suc (suc (suc (suc zero)))) name e = ap (λ (n : Text). Some (word_taker 5 n)) (the_name (codes "count") name e)
+by_place zero name e = ap (λ (n : Text). Some (word_taker 1 n)) (same_Some (codes "script") name e)
+by_place (suc zero) name e = ap (λ (n : Text). Some (word_taker 2 n)) (same_Some (codes "feed") name e)
+by_place (suc (suc zero)) name e = ap (λ (n : Text). Some (word_taker 3 n)) (same_Some (codes "name") name e)
+by_place (suc (suc (suc zero))) name e = ap (λ (n : Text). Some (word_taker 4 n)) (same_Some (codes "first") name e)
+by_place (suc (suc (suc (suc zero)))) name e = ap (λ (n : Text). Some (word_taker 5 n)) (same_Some (codes "count") name e)
 by_place (suc (suc (suc (suc (suc i))))) name e = cc
 
 unknown : (i : ℕ) (name : Text) → slice_get watch_places i ≡ Some name → is_name name ≡ false
-unknown zero name e = subst (λ (n : Text). is_name n ≡ false) (the_name (codes "script") name e) refl
-unknown (suc zero) name e = subst (λ (n : Text). is_name n ≡ false) (the_name (codes "feed") name e) refl
-unknown (suc (suc zero)) name e = subst (λ (n : Text). is_name n ≡ false) (the_name (codes "name") name e) refl
-unknown (suc (suc (suc zero))) name e = subst (λ (n : Text). is_name n ≡ false) (the_name (codes "first") name e) refl
-unknown (suc (suc (suc (suc zero)))) name e = subst (λ (n : Text). is_name n ≡ false) (the_name (codes "count") name e) refl
+unknown zero name e = subst (λ (n : Text). is_name n ≡ false) (same_Some (codes "script") name e) refl
+unknown (suc zero) name e = subst (λ (n : Text). is_name n ≡ false) (same_Some (codes "feed") name e) refl
+unknown (suc (suc zero)) name e = subst (λ (n : Text). is_name n ≡ false) (same_Some (codes "name") name e) refl
+unknown (suc (suc (suc zero))) name e = subst (λ (n : Text). is_name n ≡ false) (same_Some (codes "first") name e) refl
+unknown (suc (suc (suc (suc zero)))) name e = subst (λ (n : Text). is_name n ≡ false) (same_Some (codes "count") name e) refl
 unknown (suc (suc (suc (suc (suc i))))) name e = cc
 
 -- the place of a name
@@ -67,11 +65,11 @@ place_of name =
     else (if bytes_eq name (codes "first") then 3 else 4)))
 
 placed : (i : ℕ) (name : Text) → slice_get watch_places i ≡ Some name → place_of name ≡ i
-placed zero name e = ap place_of (sym (the_name (codes "script") name e))
-placed (suc zero) name e = ap place_of (sym (the_name (codes "feed") name e))
-placed (suc (suc zero)) name e = ap place_of (sym (the_name (codes "name") name e))
-placed (suc (suc (suc zero))) name e = ap place_of (sym (the_name (codes "first") name e))
-placed (suc (suc (suc (suc zero)))) name e = ap place_of (sym (the_name (codes "count") name e))
+placed zero name e = ap place_of (sym (same_Some (codes "script") name e))
+placed (suc zero) name e = ap place_of (sym (same_Some (codes "feed") name e))
+placed (suc (suc zero)) name e = ap place_of (sym (same_Some (codes "name") name e))
+placed (suc (suc (suc zero))) name e = ap place_of (sym (same_Some (codes "first") name e))
+placed (suc (suc (suc (suc zero)))) name e = ap place_of (sym (same_Some (codes "count") name e))
 placed (suc (suc (suc (suc (suc i))))) name e = cc
 
 apart : (i j : ℕ) (name : Text) → slice_get watch_places i ≡ Some name → slice_get watch_places j ≡ Some name → i ≡ j

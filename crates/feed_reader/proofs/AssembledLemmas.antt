@@ -4,6 +4,7 @@ use Rattle.std.specs.Prelude.{flat_map, slice_index_or}
 use Rattle.std.proofs.lemmas.List.{length-map}
 use Rattle.std.specs.List.{AllByRecursion}
 use Rattle.key_lists.proofs.Every.{every_weaker}
+use Rattle.key_lists.proofs.Parts.{every_front, every_back}
 use Rattle.tick_model.specs.declared.feed.Block.{Block}
 use Rattle.tick_model.specs.declared.feed.Batch.{Batch}
 use Rattle.tick_model.specs.declared.feed.Run.{Run}
@@ -27,7 +28,6 @@ use Rattle.feed_reader.specs.Assembled.{plain_run, run_of, IsTableOf, AreTablesO
 use Rattle.feed_reader.specs.Coding.{table_texts, batch_texts, texts_of, coded_table, coded_rows, coded_batch, coded_feed}
 use Rattle.feed_reader.specs.Feeds.{feed_of}
 use Rattle.feed_reader.specs.Runs.{IsAmong, opening_of}
-use Rattle.feed_reader.proofs.CodedLemmas.{every_front, every_back}
 use Rattle.feed_reader.proofs.BoundLemmas.{nodes_ranks_bound, nodes_numbers_bound}
 use Rattle.feed_reader.proofs.PlainLemmas.{is_lawful_plain, plan_numbers_plain, plan_ranks_plain}
 use Rattle.feed_reader.proofs.FeedLaws.{feed_steps, feed_blocks}

@@ -1,11 +1,12 @@
 -- The ranks and the numbers of a script's plan whose literals have ranks.
-use Rattle.std.proofs.Common.{◌≡◌, ℕ, zero, suc, ◌^◌, ◌<◌, true, List, [], ◌∷◌, map, length, get_or, pos, refl, sym, subst, arith}
+use Rattle.std.proofs.Common.{◌≡◌, ℕ, ◌^◌, ◌<◌, true, List, [], ◌∷◌, map, length, get_or, pos, refl, sym, subst, arith}
 use Rattle.std.specs.Prelude.{not, nat_lt, slice_index_or}
 use Rattle.std.specs.List.{AllByRecursion, list_all}
 use Rattle.std.specs.Int.{w64}
 use Rattle.std.proofs.lemmas.Bool.{and_parts, and_from, ltb-true, lt-ltb, not-true}
 use Rattle.std.proofs.lemmas.Int.{fits_signed_from_abs}
 use Rattle.std.proofs.lemmas.List.{get_or-map}
+use Rattle.key_lists.proofs.Parts.{every_at}
 use Rattle.tick_model.specs.declared.plan.Expr.{Expr, Cell, Number, Null, Literal, Rank, Neg', Add', Sub', Mul'}
 use Rattle.tick_model.specs.declared.plan.Node.{Node}
 use Rattle.tick_model.specs.declared.plan.Op.{Op}
@@ -20,17 +21,12 @@ use Rattle.feed_reader.specs.Coding.{rank_of}
 use Rattle.feed_reader.specs.Runs.{IsAmong}
 use Rattle.feed_reader.proofs.CodedLemmas.{rank_below}
 
-every_at : {X : Type 0} (P : X → Type 0) (xs : List X) (i : ℕ) (d : X) → AllByRecursion P xs → i < length xs → P (get_or xs i d)
-every_at P [] i d all within = absurd (omega arith)
-every_at P (x ∷ xs) zero d all within = all.0
-every_at P (x ∷ xs) (suc i) d all within = every_at P xs i d all.1 (omega arith)
-
 module _ (texts literals : List (List ℕ)) (small : length texts < 2 ^ 63) (among : AllByRecursion (IsAmong texts) literals) where
   rank_there : (text : ℕ) → names_literal literals text ≡ true → slice_index_or (ranks_of texts literals) text 0 < length texts
   rank_there text names =
       let parts = and_parts (nat_lt text (length literals)) (not (is_none (slice_index_or literals text []))) names in
       let within : text < length literals = ltb-true text (length literals) parts.0 in
-      let there = every_at (IsAmong texts) literals text [] among within (not-true (is_none (slice_index_or literals text [])) parts.1) in
+      let there = every_at (IsAmong texts) literals text [] within among (not-true (is_none (slice_index_or literals text [])) parts.1) in
       subst (λ rank. rank < length texts) (sym (get_or-map (rank_of texts) literals text [] 0 within)) (rank_below (get_or literals text []) texts there)
 
   ranks_bound : (expr : Expr) → has_literals literals expr ≡ true → has_ranks (length texts) (bound_expr (ranks_of texts literals) expr) ≡ true

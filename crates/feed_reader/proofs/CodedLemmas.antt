@@ -1,5 +1,5 @@
 -- Rows, tables and blocks whose texts have ranks keep the rules of a run.
-use Rattle.std.proofs.Common.{◌≡◌, ℕ, suc, ◌+◌, ◌^◌, ◌<◌, Bool, true, false, cond, List, [], ◌∷◌, ◌++◌, map, length, pos, refl, ap, ◌∙◌, arith}
+use Rattle.std.proofs.Common.{◌≡◌, ℕ, suc, ◌+◌, ◌^◌, ◌<◌, Bool, true, false, cond, List, [], ◌∷◌, map, length, pos, refl, ap, ◌∙◌, arith}
 use Rattle.std.proofs.lemmas.List.{length-map}
 use Rattle.std.specs.Prelude.{not, ◌&&◌, ◌||◌, FitsSigned, flat_map}
 use Rattle.std.specs.List.{AllByRecursion, list_any}
@@ -9,6 +9,7 @@ use Rattle.std.proofs.lemmas.Bool.{lt-ltb}
 use Rattle.std.proofs.lemmas.Int.{fits_signed_from_abs}
 use Rattle.key_lists.specs.Keys.{IsRising}
 use Rattle.key_lists.proofs.Every.{every_weaker}
+use Rattle.key_lists.proofs.Parts.{every_front, every_back}
 use Rattle.tick_model.specs.declared.plan.ColumnSpec.{ColumnSpec}
 use Rattle.tick_model.specs.declared.plan.Kind.{Kind}
 use Rattle.tick_model.specs.declared.plan.Kind.TheVariants.{Long as LongKind, Text as TextKind}
@@ -28,15 +29,6 @@ use Rattle.feed_reader.specs.Coding.{cell_texts, row_texts, rows_texts, block_te
 use Rattle.feed_reader.specs.Runs.{IsAmong}
 use Rattle.feed_reader.proofs.Orderly.{CellFits, CellsFit, IsRawRow, IsRange, IsMove}
 use Rattle.feed_reader.proofs.BlockLemmas.{Ascends, IsRawBlock}
-
--- the parts of what holds of each
-pub every_front : {X : Type 0} (P : X → Type 0) (xs ys : List X) → AllByRecursion P (xs ++ ys) → AllByRecursion P xs
-every_front P [] ys all = tt
-every_front P (x ∷ xs) ys all = (all.0, every_front P xs ys all.1)
-
-pub every_back : {X : Type 0} (P : X → Type 0) (xs ys : List X) → AllByRecursion P (xs ++ ys) → AllByRecursion P ys
-every_back P [] ys all = all
-every_back P (x ∷ xs) ys all = every_back P xs ys all.1
 
 -- a text that is among the texts has a rank below their number
 rank_next : (b : Bool) (n len : ℕ) (more : Bool) → (more ≡ true → n < len) → (b || more) ≡ true → cond (not b) (1 + n) 0 < suc len

@@ -3,7 +3,7 @@ use Rattle.std.proofs.Common.{◌≡◌, ℕ, ◌+◌, List, [], ◌∷◌, ◌+
 use Rattle.std.specs.Prelude.{option_map}
 use Rattle.std.specs.List.{filter_map}
 use Rattle.std.specs.Option.{option_to_list}
-use Rattle.std.proofs.lemmas.Bool.{cond-true, cond-false, ltb-true}
+use Rattle.std.proofs.lemmas.Bool.{cond-true, ltb-true}
 use Rattle.std.proofs.lemmas.List.{append-nil}
 use Rattle.std.proofs.lemmas.List.Sums.{take_while-cons}
 use Rattle.tick_model.specs.declared.plan.Plan.{Plan}
@@ -252,18 +252,6 @@ one_more plan place feed number fields others entry e =
 pub refused : (plan : Plan) (place : Place) (feed : Gathered) (number : ℕ) (fields : List (List ℕ)) (others : List (List (List ℕ))) (kind : TextKind) → entry_of plan place (length feed.batches) fields ≡ Err kind → left_to_read plan place feed number (fields ∷ others) ≡ Err (number + 1, kind)
 refused plan place feed number fields others kind e =
     ap (λ told. onwards feed (number + 1) (read_on (number + 1) told (λ next. entries_in plan (place_after place next) (steps_after (length feed.batches) next) (number + 1) others))) e
-
-pub no_text_entry : (plan : Plan) (place : Place) (steps : ℕ) (fields : List (List ℕ)) → are_texts fields ≡ false → entry_of plan place steps fields ≡ Err NotUtf8
-no_text_entry plan place steps fields e = cond-false (are_texts fields) (tagged_entry plan place steps (tag_of (field_of fields 0)) fields) (Err NotUtf8) e
-
--- the end of the feed
-pub ended_outside : (plan : Plan) (place : Place) (feed : Gathered) (number : ℕ) → is_outside place ≡ true → left_to_read plan place feed number [] ≡ Ok (record { batches = feed.batches })
-ended_outside plan Outside feed number e = refl
-ended_outside plan (Inside table at last) feed number e = cc e
-
-pub ended_inside : (plan : Plan) (place : Place) (feed : Gathered) (number : ℕ) → is_outside place ≡ false → left_to_read plan place feed number [] ≡ Err (number, Unfinished)
-ended_inside plan Outside feed number e = cc e
-ended_inside plan (Inside table at last) feed number e = refl
 
 -- a step is ended only where there may be one more
 EndsFew : ℕ → Result Entry TextKind → Type 0

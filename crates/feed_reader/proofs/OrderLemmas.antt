@@ -10,6 +10,7 @@ use Rattle.std.specs.Cmp.Lexicographic.{slice_cmp, texts_ties}
 use Rattle.std.specs.BTreeSet.{insert_key}
 use Rattle.std.proofs.lemmas.Cmp.{nat_list_cmp_total, nat_list_eq_equiv}
 use Rattle.std.proofs.lemmas.Slice.Eq.{bytes_eq-Decides}
+use Rattle.std.proofs.lemmas.Bool.{or_right, or_left}
 use Rattle.key_lists.proofs.Every.{every_weaker}
 use Rattle.tick_model.specs.Changes.{is_none}
 use Rattle.tick_model.specs.LawfulRuns.{AreTexts, is_before}
@@ -73,14 +74,6 @@ texts_in_order texts literals tables feed is = subst AreTexts (sym is) (all_kept
 has : List ℕ → List (List ℕ) → Bool
 has text texts = list_any (bytes_eq text) texts
 
-or_first : (a b : Bool) → a ≡ true → (a || b) ≡ true
-or_first true b e = refl
-or_first false b e = cc e
-
-or_second : (a b : Bool) → b ≡ true → (a || b) ≡ true
-or_second true b e = refl
-or_second false b e = e
-
 or_more : (a b c : Bool) → (b ≡ true → c ≡ true) → (a || b) ≡ true → (a || c) ≡ true
 or_more true b c f e = refl
 or_more false b c f e = f e
@@ -95,17 +88,17 @@ unfolding has
 keeps q [] text e = cc e
 keeps q (x ∷ xs) text e =
     has_match q (order text x) (text ∷ x ∷ xs) (x ∷ xs) (x ∷ insert_key order xs text)
-    (or_second (bytes_eq q text) (has q (x ∷ xs)) e) e (or_more (bytes_eq q x) (has q xs) (has q (insert_key order xs text)) (λ h. keeps q xs text h) e)
+    (or_right (bytes_eq q text) (has q (x ∷ xs)) e) e (or_more (bytes_eq q x) (has q xs) (has q (insert_key order xs text)) (λ h. keeps q xs text h) e)
 
 comes_at : (o : Ordering) (text x : List ℕ) (xs : List (List ℕ)) → order text x ≡ o → has text (insert_key order xs text) ≡ true → has text (match_ordering o (text ∷ x ∷ xs) (x ∷ xs) (x ∷ insert_key order xs text)) ≡ true
 unfolding has
-comes_at Less text x xs e more = or_first (bytes_eq text text) (has text (x ∷ xs)) (nat_list_eq_equiv.refl text)
-comes_at Equal text x xs e more = or_first (bytes_eq text x) (has text xs) (texts_ties text x ∙ ap is_eq e)
-comes_at Greater text x xs e more = or_second (bytes_eq text x) (has text (insert_key order xs text)) more
+comes_at Less text x xs e more = or_left (bytes_eq text text) (has text (x ∷ xs)) (nat_list_eq_equiv.refl text)
+comes_at Equal text x xs e more = or_left (bytes_eq text x) (has text xs) (texts_ties text x ∙ ap is_eq e)
+comes_at Greater text x xs e more = or_right (bytes_eq text x) (has text (insert_key order xs text)) more
 
 comes : (texts : List (List ℕ)) (text : List ℕ) → has text (insert_key order texts text) ≡ true
 unfolding has
-comes [] text = or_first (bytes_eq text text) false (nat_list_eq_equiv.refl text)
+comes [] text = or_left (bytes_eq text text) false (nat_list_eq_equiv.refl text)
 comes (x ∷ xs) text = comes_at (order text x) text x xs refl (comes xs text)
 
 keeps_noted : (q : List ℕ) (b : Bool) (texts : List (List ℕ)) (text : List ℕ) → has q texts ≡ true → has q (cond b texts (insert_key order texts text)) ≡ true

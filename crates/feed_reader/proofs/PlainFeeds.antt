@@ -28,8 +28,8 @@ use Rattle.feed_reader.specs.Feeds.{steps_after, entries_in, feed_with, feed_of}
 use Rattle.feed_reader.specs.Places.{Opened, opened, place_after}
 use Rattle.feed_reader.specs.Records.{are_texts, field_of, records_of}
 
-named_source : (node : Node) → is_source (plain_node node) ≡ is_source node
-named_source node = of node.op
+pub source_plain : (node : Node) → is_source (plain_node node) ≡ is_source node
+source_plain node = of node.op
   where
     of : (op : Op) → elim (plain_op op) as (λ _. Bool) [ Source ↦ true | _ ↦ false ] ≡ elim op as (λ _. Bool) [ Source ↦ true | _ ↦ false ]
     of (Keep input test) = refl
@@ -40,7 +40,7 @@ named_source node = of node.op
 place_plain : (name : List ℕ) (nodes : List Node) → position_or_len (is_named name) (map plain_node nodes) ≡ position_or_len (is_named name) nodes
 place_plain name [] = refl
 place_plain name (node ∷ nodes) =
-    ap (λ b. cond (not (b && same_name name node.name)) (1 + position_or_len (is_named name) (map plain_node nodes)) 0) (named_source node)
+    ap (λ b. cond (not (b && same_name name node.name)) (1 + position_or_len (is_named name) (map plain_node nodes)) 0) (source_plain node)
     ∙ ap (λ n. cond (not (is_named name node)) (1 + n) 0) (place_plain name nodes)
 
 named_plain : (name : List ℕ) (nodes : List Node) → position (is_named name) (map plain_node nodes) ≡ position (is_named name) nodes

@@ -14,7 +14,7 @@ use Rattle.csv.specs.declared.parser.State.TheVariants as st
 use Rattle.csv.specs.declared.reader.Reader.{Reader}
 use Rattle.feed_reader.specs.Records.{records_left, left_of, unread, records_of, IsReading, IsNext, are_texts}
 use Rattle.feed_reader.specs.declared.records.Next.{Next}
-use Rattle.feed_reader.specs.declared.records.Next.TheVariants.{Record, NotText, End}
+use Rattle.feed_reader.specs.declared.records.Next.TheVariants.{Record}
 use Rattle.feed_reader.proofs.FieldLemmas.{texts_are_not}
 
 -- a read from nothing ends at the start of a record, and any other takes a byte at least
@@ -143,12 +143,6 @@ no_text a b why pos err reading is explains =
 -- what comes next, by its kind
 pub next_is : (next : Next) (left : List (List (List ℕ))) (fields : List (List ℕ)) (rest : List (List (List ℕ))) → next ≡ Record → IsNext next left fields rest → left ≡ fields ∷ rest
 next_is next left fields rest is found = let P : Next → Type 0 = λ n. IsNext n left fields rest in (subst P is found).0
-
-pub next_is_end : (next : Next) (left : List (List (List ℕ))) (fields : List (List ℕ)) (rest : List (List (List ℕ))) → next ≡ End → IsNext next left fields rest → left ≡ []
-next_is_end next left fields rest is found = let P : Next → Type 0 = λ n. IsNext n left fields rest in subst P is found
-
-pub next_is_no_text : (next : Next) (left : List (List (List ℕ))) (fields : List (List ℕ)) (rest : List (List (List ℕ))) → next ≡ NotText → IsNext next left fields rest → (refused : List (List ℕ)) × (others : List (List (List ℕ))) × (left ≡ refused ∷ others) × (are_texts refused ≡ false)
-next_is_no_text next left fields rest is found = let P : Next → Type 0 = λ n. IsNext n left fields rest in subst P is found
 
 -- there are no more records than bytes, but one
 few_next : (n : ℕ) → ((s : State) (xs : List ℕ) → length (records_from default_config n s xs) ≤ n) → (o : Option Read) → length (records_next (records_from default_config n) o) ≤ suc n

@@ -1,7 +1,6 @@
 -- The loop over the rows of a table file.
 use Rattle.std.proofs.Common.{◌≡◌, ℕ, ◌+◌, ◌<◌, List, [], ◌∷◌, ◌++◌, Bool, true, false, Option, Some, None, Result, Ok, Err, refl, sym, ap, ◌∙◌, subst, length, cond, eqb, ltb, append_assoc}
-use Rattle.std.proofs.lemmas.Bool.{cond-false, ltb-true}
-use Rattle.std.proofs.lemmas.List.{append-nil}
+use Rattle.std.proofs.lemmas.Bool.{ltb-true}
 use Rattle.tick_model.specs.declared.plan.ColumnSpec.{ColumnSpec}
 use Rattle.feed_reader.specs.declared.fault.TextKind.{TextKind}
 use Rattle.feed_reader.specs.declared.fault.TextKind.TheVariants.{FieldCount, NotUtf8, TooLong}
@@ -11,16 +10,12 @@ use Rattle.feed_reader.specs.declared.raw.RawTable.{RawTable}
 use Rattle.feed_reader.specs.Answers.{Reading, onto, read_on}
 use Rattle.feed_reader.specs.Cells.{cells_of}
 use Rattle.feed_reader.specs.Records.{are_texts}
-use Rattle.feed_reader.specs.Tables.{row_under, whole_row, row_of, rows_from, table_with}
+use Rattle.feed_reader.specs.Tables.{row_under, whole_row, row_of, rows_from}
 
 -- these rows, and then those that are read later
 abbrev pub rows_onto : List RawRow → Reading (List RawRow) → Reading RawTable
 rows_onto front (Ok rows) = Ok (record { rows = front ++ rows })
 rows_onto front (Err refused) = Err refused
-
-pub rows_start : (told : Reading (List RawRow)) → table_with told ≡ rows_onto [] told
-rows_start (Ok rows) = refl
-rows_start (Err refused) = refl
 
 onto_rows : (front : List RawRow) (row : RawRow) (told : Reading (List RawRow)) → rows_onto front (onto row told) ≡ rows_onto (front ++ row ∷ []) told
 onto_rows front row (Ok rows) = ap (λ all. let table : RawTable = record { rows = all } in Ok table) (sym (append_assoc front (row ∷ []) rows))
@@ -29,15 +24,6 @@ onto_rows front row (Err refused) = refl
 pub row_more : (columns : List ColumnSpec) (front : List RawRow) (key : ℕ) (fields : List (List ℕ)) (others : List (List (List ℕ))) (row : RawRow) → row_of columns key fields ≡ Ok row → rows_onto front (rows_from columns key (fields ∷ others)) ≡ rows_onto (front ++ row ∷ []) (rows_from columns (key + 1) others)
 row_more columns front key fields others row e =
     ap (λ told. rows_onto front (read_on (key + 2) told (λ next. rows_from columns (key + 1) others))) e ∙ onto_rows front row (rows_from columns (key + 1) others)
-
-pub row_refused : (columns : List ColumnSpec) (front : List RawRow) (key : ℕ) (fields : List (List ℕ)) (others : List (List (List ℕ))) (kind : TextKind) → row_of columns key fields ≡ Err kind → rows_onto front (rows_from columns key (fields ∷ others)) ≡ Err (key + 2, kind)
-row_refused columns front key fields others kind e = ap (λ told. rows_onto front (read_on (key + 2) told (λ next. rows_from columns (key + 1) others))) e
-
-pub no_text_row : (columns : List ColumnSpec) (key : ℕ) (fields : List (List ℕ)) → are_texts fields ≡ false → row_of columns key fields ≡ Err NotUtf8
-no_text_row columns key fields e = cond-false (are_texts fields) (whole_row columns key fields) (Err NotUtf8) e
-
-pub rows_end : (columns : List ColumnSpec) (front : List RawRow) (key : ℕ) → rows_onto front (rows_from columns key []) ≡ Ok (record { rows = front })
-rows_end columns front key = ap (λ all. let table : RawTable = record { rows = all } in Ok table) (append-nil front)
 
 -- a row that is read is one of those that a table may have
 Low : ℕ → Result RawRow TextKind → Type 0

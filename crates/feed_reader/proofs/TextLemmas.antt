@@ -10,26 +10,13 @@ use Rattle.std.specs.Cmp.Lexicographic.{slice_cmp}
 use Rattle.std.specs.BTreeSet.{insert_key}
 use Rattle.std.specs.Borrow.{Bor}
 use Rattle.std.proofs.lemmas.List.{at_drop_more, at_drop_all}
-use Rattle.std.proofs.lemmas.List.Sums.{fold-append, prefix_len-le-length}
+use Rattle.std.proofs.lemmas.List.Sums.{prefix_len-le-length}
 use Rattle.tick_model.specs.Changes.{is_none}
-use Rattle.feed_reader.specs.Coding.{with_text, with_texts, rank_of}
+use Rattle.feed_reader.specs.Coding.{with_texts, rank_of}
 
--- one more member of a list whose texts are noted, and none more
-pub texts_more : {A : Type 0} (f : A → List (List ℕ)) (old new : List (List ℕ)) (xs : List A) (i : ℕ) (x : A) → i < length xs → x ≡ get_or xs i x → new ≡ with_texts old (f x) → with_texts old (flat_map f (drop i xs)) ≡ with_texts new (flat_map f (drop (i + 1) xs))
-texts_more f old new xs i x within is noted =
-    at_drop_more (λ rest. with_texts old (flat_map f rest)) xs i x within
-    ∙ ap (λ y. with_texts old (flat_map f (y ∷ drop (i + 1) xs))) (sym is)
-    ∙ fold-append with_text old (f x) (flat_map f (drop (i + 1) xs))
-    ∙ ap (λ so_far. with_texts so_far (flat_map f (drop (i + 1) xs))) (sym noted)
-
+-- no more members of a list whose texts are noted
 pub texts_end : {A : Type 0} (f : A → List (List ℕ)) (old : List (List ℕ)) (xs : List A) (i : ℕ) → length xs ≤ i → with_texts old (flat_map f (drop i xs)) ≡ old
 texts_end f old xs i all = at_drop_all (λ rest. with_texts old (flat_map f rest)) xs i all
-
-pub names_more : (old new xs : List (List ℕ)) (i : ℕ) (x : List ℕ) → i < length xs → x ≡ get_or xs i x → new ≡ with_text old x → with_texts old (drop i xs) ≡ with_texts new (drop (i + 1) xs)
-names_more old new xs i x within is noted =
-    at_drop_more (with_texts old) xs i x within
-    ∙ ap (λ y. with_texts old (y ∷ drop (i + 1) xs)) (sym is)
-    ∙ ap (λ so_far. with_texts so_far (drop (i + 1) xs)) (sym noted)
 
 -- a text comes to its place
 abbrev now : List (Bor (List ℕ)) → List (List ℕ)

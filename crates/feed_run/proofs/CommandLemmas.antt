@@ -1,6 +1,7 @@
 -- The numbers of a command's task are in their ranges.
 use Rattle.std.proofs.Common.{◌≡◌, ◌≤◌, ℕ, arith, true, false, List, [], ◌∷◌, cond, Option, Some, None, refl, subst}
 use Rattle.std.proofs.lemmas.Bool.{leb-true}
+use Rattle.std.proofs.lemmas.Option.{same_Some}
 use Rattle.std.specs.List.{list_all}
 use Rattle.std.specs.Prelude.{◌&&◌, codes, nat_le, option_map}
 use Rattle.std.specs.Str.{bytes_eq}
@@ -12,15 +13,12 @@ use Rattle.command_words.specs.Commands.{is_numeral, number_within, is_known, of
 use Rattle.command_words.specs.Words.{parts_of}
 use Rattle.feed_run.specs.Answers.{IsInRange}
 
-some_is : {X : Type 0} (x y : X) → Some x ≡ Some y → x ≡ y
-some_is x y e = cc
-
 number_few : (least most : ℕ) (text : List ℕ) (n : ℕ) → number_within least most text ≡ Some n → n ≤ most
 number_few least most text n e =
     let number = digits_value 10 text in
     (elim (is_numeral text && nat_le least number) as (λ p. cond (p && nat_le number most) (Some number) None ≡ Some n → n ≤ most) [
       | true ↦ λ e. (elim (nat_le number most) as (λ q. nat_le number most ≡ q → cond q (Some number) None ≡ Some n → n ≤ most) [
-        | true ↦ λ few same. subst (λ k. k ≤ most) (some_is number n same) (leb-true number most few)
+        | true ↦ λ few same. subst (λ k. k ≤ most) (same_Some number n same) (leb-true number most few)
         | false ↦ λ few same. cc
       ]) refl e
       | false ↦ λ e. cc
@@ -28,7 +26,7 @@ number_few least most text n e =
 
 demo_few : (number : Option ℕ) (task : Task) → ((n : ℕ) → number ≡ Some n → n ≤ 10000) → option_map Demo number ≡ Some task → IsInRange task
 demo_few None task few e = cc
-demo_few (Some n) task few e = subst IsInRange (some_is (Demo n) task e) (few n refl)
+demo_few (Some n) task few e = subst IsInRange (same_Some (Demo n) task e) (few n refl)
 
 demo_task_few : (positional : List (List ℕ)) (task : Task) → demo_task positional ≡ Some task → IsInRange task
 demo_task_few [] task e = cc
@@ -38,7 +36,7 @@ demo_task_few (steps ∷ other ∷ others) task e = cc
 run_task_few : (positional : List (List ℕ)) (task : Task) → run_task positional ≡ Some task → IsInRange task
 run_task_few [] task e = cc
 run_task_few (script ∷ []) task e = cc
-run_task_few (script ∷ feed ∷ []) task e = subst IsInRange (some_is (Run script feed) task e) tt
+run_task_few (script ∷ feed ∷ []) task e = subst IsInRange (same_Some (Run script feed) task e) tt
 run_task_few (script ∷ feed ∷ other ∷ others) task e = cc
 
 number_some : (least most : ℕ) (text : List ℕ) (n : ℕ) → number_within least most text ≡ Some n → least ≤ n
@@ -47,7 +45,7 @@ number_some least most text n e =
     (elim (is_numeral text) as (λ p. cond ((p && nat_le least number) && nat_le number most) (Some number) None ≡ Some n → least ≤ n) [
       | true ↦ λ e. (elim (nat_le least number) as (λ q. nat_le least number ≡ q → cond (q && nat_le number most) (Some number) None ≡ Some n → least ≤ n) [
         | true ↦ λ some e. (elim (nat_le number most) as (λ q. cond q (Some number) None ≡ Some n → least ≤ n) [
-          | true ↦ λ same. subst (λ k. least ≤ k) (some_is number n same) (leb-true least number some)
+          | true ↦ λ same. subst (λ k. least ≤ k) (same_Some number n same) (leb-true least number some)
           | false ↦ λ same. cc
         ]) e
         | false ↦ λ some e. cc
@@ -62,7 +60,7 @@ watch_few script feed name (Some first) None task low high e = cc
 watch_few script feed name (Some first) (Some count) task low high e =
     let positions = low first refl in
     let rows = high count refl in
-    subst IsInRange (some_is (Watch script feed name first count) task e) (omega (arith, positions), rows.0, rows.1)
+    subst IsInRange (same_Some (Watch script feed name first count) task e) (omega (arith, positions), rows.0, rows.1)
 
 watch_task_few : (positional : List (List ℕ)) (task : Task) → watch_task positional ≡ Some task → IsInRange task
 watch_task_few [] task e = cc
@@ -96,7 +94,7 @@ with_numbers_few (Some task) (Some workers) (Some callers) None attempts every o
 with_numbers_few (Some task) (Some workers) (Some callers) (Some snaps) None every own few e = cc
 with_numbers_few (Some task) (Some workers) (Some callers) (Some snaps) (Some attempts) None own few e = cc
 with_numbers_few (Some task) (Some workers) (Some callers) (Some snaps) (Some attempts) (Some every) own few e =
-    subst (λ (of : Command). IsInRange of.task) (some_is {X = Command} (record { task = task; workers = workers; callers = callers; snaps = snaps; attempts = attempts; every = every }) own e) (few task refl)
+    subst (λ (of : Command). IsInRange of.task) (same_Some {A = Command} (record { task = task; workers = workers; callers = callers; snaps = snaps; attempts = attempts; every = every }) own e) (few task refl)
 
 settings_few : (first : List ℕ) (task : Option Task) (options : _) (own : Command) → ((of : Task) → task ≡ Some of → IsInRange of) → with_settings first task options ≡ Some own → IsInRange own.task
 settings_few first task options own few e =

@@ -1,8 +1,9 @@
 -- How a run ends, and the text that goes with it.
 use Rattle.std.proofs.Common.{◌≡◌, ◌≤◌, ℕ, ◌+◌, List, ◌++◌, Bool, true, false, cond, ltb, Option, Some, None, refl, sym, ap, ◌∙◌, subst, inl, inr, length, [], ◌∷◌}
-use Rattle.std.specs.Prelude.{find, is_some, option_map}
+use Rattle.std.specs.Prelude.{is_some, option_map}
 use Rattle.std.specs.Io.KnownBytes.{append_known}
 use Rattle.std.specs.List.{range_with_len}
+use Rattle.key_lists.proofs.Every.{found_passes}
 use Rattle.tick_io.specs.Counts.{Rose}
 use Rattle.tick_io.specs.Written.{AppendsPrefix}
 use Rattle.tick_io.proofs.RisingCounts.{rose_earlier}
@@ -73,14 +74,6 @@ module _ (run : Run) (knobs : Knobs) where
       (λ choice. refl) (λ choice may. may)
 
 -- each run has a verdict
-pub find_passes : {X : Type 0} (p : X → Bool) (xs : List X) (x : X) → find p xs ≡ Some x → p x ≡ true
-find_passes p [] x e = cc
-find_passes p (y ∷ ys) x e =
-    (elim (p y) as (λ b. p y ≡ b → cond b (Some y) (find p ys) ≡ Some x → p x ≡ true) [
-      | true ↦ λ passes same. let is : y ≡ x = cc in subst (λ z. p z ≡ true) is passes
-      | false ↦ λ passes same. find_passes p ys x same
-    ]) refl e
-
 pub there : {X : Type 0} (o : Option X) → is_some o ≡ true → (x : X) × (o ≡ Some x)
 there None e = cc
 there (Some x) e = (x, refl)
@@ -95,7 +88,7 @@ steps_tell run knobs few =
     (elim (first_spoiled run) as (λ o. first_spoiled run ≡ o → HasVerdict run knobs) [
       | None ↦ λ e. record { of = Done run knobs (length run.batches); fields = done_record (length run.batches); tells = tells_done run knobs (length run.batches) few e refl }
       | Some step ↦ λ e.
-          let by = there (spoiled_by run step) (find_passes (λ n. is_some (spoiled_by run n)) (range_with_len 0 (length run.batches + 1)) step e) in
+          let by = there (spoiled_by run step) (found_passes (λ n. is_some (spoiled_by run n)) (range_with_len 0 (length run.batches + 1)) step e) in
           record { of = Spoiled run knobs step by.0; fields = cause_record run step by.0; tells = tells_spoiled run knobs step by.0 few (record { first = e; by = by.1 }) }
     ]) refl
 

@@ -1,6 +1,7 @@
 -- What is read is the same wherever the formulas of a script lie.
-use Rattle.std.proofs.Common.{◌≡◌, ℕ, true, false, List, [], ◌∷◌, ◌++◌, map, drop, cond, length, refl, sym, ap, ◌∙◌, subst}
+use Rattle.std.proofs.Common.{◌≡◌, ℕ, List, [], ◌∷◌, ◌++◌, map, drop, length, refl, sym, ap, ◌∙◌, subst}
 use Rattle.std.specs.Option.{option_to_list}
+use Rattle.made_run.proofs.PlainRuns.{sources_plain}
 use Rattle.tick_model.specs.declared.feed.Run.{Run}
 use Rattle.tick_model.specs.declared.plan.Expr.{Expr, Cell, Number, Null, Literal, Rank, Neg', Add', Sub', Mul'}
 use Rattle.tick_model.specs.declared.plan.Node.{Node}
@@ -8,7 +9,6 @@ use Rattle.tick_model.specs.declared.plan.Op.{Op}
 use Rattle.tick_model.specs.declared.plan.Op.TheVariants.{Keep, View}
 use Rattle.tick_model.specs.declared.plan.Pred.{Pred, Compare, And', Or', Not'}
 use Rattle.tick_model.specs.declared.table.PlainTable.{PlainTable}
-use Rattle.tick_model.specs.Evaluation.{is_source}
 use Rattle.tick_model.specs.LawfulRuns.{sources_of}
 use Rattle.script_reader.specs.declared.script.Script.{Script}
 use Rattle.script_reader.specs.declared.script.SourceFile.{SourceFile}
@@ -21,15 +21,6 @@ use Rattle.feed_reader.specs.Coding.{texts_of, coded_feed, coded_table}
 use Rattle.feed_reader.specs.Runs.{opening_of}
 use Rattle.feed_run.specs.Found.{Found, after, names_after}
 use Rattle.feed_run.specs.Readings.{Content, first_file, opening_by, with_table, tables_found, tables_read}
-use Rattle.feed_run.proofs.PlainRuns.{source_plain}
-
--- the sources
-pub sources_plain : (nodes : List Node) → sources_of (map plain_node nodes) ≡ map plain_node (sources_of nodes)
-sources_plain [] = refl
-sources_plain (node ∷ nodes) =
-    ap (λ b. cond b (plain_node node ∷ sources_of (map plain_node nodes)) (sources_of (map plain_node nodes))) (source_plain node)
-    ∙ ap (λ rest. cond (is_source node) (plain_node node ∷ rest) rest) (sources_plain nodes)
-    ∙ (elim (is_source node) as (λ b. cond b (plain_node node ∷ map plain_node (sources_of nodes)) (map plain_node (sources_of nodes)) ≡ map plain_node (cond b (node ∷ sources_of nodes) (sources_of nodes))) [ true ↦ refl | false ↦ refl ])
 
 -- the tables that sources open with
 module _ (content : Content) where

@@ -11,7 +11,7 @@ use Rattle.tick_model.specs.declared.plan.ColumnSpec.{ColumnSpec}
 use Rattle.tick_model.specs.declared.plan.Expr.{Expr, Cell, Number, Null, Literal, Rank, Neg', Add', Sub', Mul'}
 use Rattle.tick_model.specs.declared.plan.Node.{Node}
 use Rattle.tick_model.specs.declared.plan.Op.{Op}
-use Rattle.tick_model.specs.declared.plan.Op.TheVariants.{Source, Keep, View}
+use Rattle.tick_model.specs.declared.plan.Op.TheVariants.{Keep, View}
 use Rattle.tick_model.specs.declared.plan.Plan.{Plan}
 use Rattle.tick_model.specs.declared.plan.Pred.{Pred, Compare, And', Or', Not'}
 use Rattle.tick_model.specs.declared.table.PlainRow.{PlainRow}
@@ -30,6 +30,7 @@ use Rattle.tick_model.specs.Where.{where_table}
 use Rattle.script_reader.specs.Plain.{plain, plain_test, plain_op, plain_node, plain_plan}
 use Rattle.script_reader.proofs.Plainly.{names_plain, tables_plain}
 use Rattle.feed_reader.specs.Assembled.{plain_run}
+use Rattle.feed_reader.proofs.PlainFeeds.{source_plain}
 
 -- formulas and tests
 abbrev Values : Type 0
@@ -101,14 +102,6 @@ outcome_plain (Keep input test) =
 outcome_plain (View input exprs) =
     let onto : Tables → PlainTable → List Outcome → Outcome = λ of own done. elim (list_all (λ n. has_table (outcome_at done n)) (input ∷ [])) [ true ↦ or_fault None (of (table_at done input)) | false ↦ NoInput ] in ap onto (view_plain exprs)
 outcome_plain op = refl
-
-pub source_plain : (node : Node) → is_source (plain_node node) ≡ is_source node
-source_plain node = of node.op
-  where
-    of : (op : Op) → elim (plain_op op) as (λ _. Bool) [ Source ↦ true | _ ↦ false ] ≡ elim op as (λ _. Bool) [ Source ↦ true | _ ↦ false ]
-    of (Keep input test) = refl
-    of (View input exprs) = refl
-    of op = refl
 
 -- where a source stands among the sources, counted on from so many
 count_by_plain : (so_far : ℕ) (nodes : List Node) (node : ℕ) → fold (λ a x. a + cond (is_source x) 1 0) so_far (take node (map plain_node nodes)) ≡ fold (λ a x. a + cond (is_source x) 1 0) so_far (take node nodes)

@@ -1,6 +1,7 @@
 -- The statuses that there are.
 use Rattle.std.proofs.Common.{◌≡◌, refl, sym, subst, ℕ, ◌≤◌, ◌⊎◌, inl, inr, arith, Bool, true, false, cond, List, length, Option, Some, None}
 use Rattle.std.specs.Prelude.{nat_lt, option_map}
+use Rattle.std.proofs.lemmas.Option.{same_Some}
 use Rattle.tick_model.specs.declared.feed.Run.{Run}
 use Rattle.tick_model.specs.Spoiled.{Cause, ByBatch, ByNode, ByPublication, first_spoiled, spoiled_by}
 use Rattle.tick_model.specs.Texts.{record_text}
@@ -50,9 +51,6 @@ verdict_status (WatchSpoiled run watch step (ByPublication number rows)) = recor
 verdict_status (WatchDone run watch step) = record { most = inl (omega arith); not_one = λ e. cc; not_three = λ e. cc; not_ten = λ e. cc }
 
 -- a verdict of a run that is not watched
-same_some : (one other : Verdict) → Some one ≡ Some other → one ≡ other
-same_some one other e = cc
-
 spoiled_few : (run : Run) (knobs : Knobs) (step : ℕ) (cause : Cause) → status_of (Spoiled run knobs step cause) ≤ 10
 spoiled_few run knobs step (ByBatch number rule) = omega arith
 spoiled_few run knobs step (ByNode node fault) = omega arith
@@ -60,16 +58,16 @@ spoiled_few run knobs step (ByPublication number rows) = omega arith
 
 cause_few : (run : Run) (knobs : Knobs) (step : ℕ) (cause : Option Cause) (of : Verdict) → option_map (Spoiled run knobs step) cause ≡ Some of → status_of of ≤ 10
 cause_few run knobs step None of e = cc
-cause_few run knobs step (Some cause) of e = subst (λ (own : Verdict). status_of own ≤ 10) (same_some (Spoiled run knobs step cause) of e) (spoiled_few run knobs step cause)
+cause_few run knobs step (Some cause) of e = subst (λ (own : Verdict). status_of own ≤ 10) (same_Some (Spoiled run knobs step cause) of e) (spoiled_few run knobs step cause)
 
 steps_few : (run : Run) (knobs : Knobs) (first : Option ℕ) (of : Verdict) → steps_verdict run knobs first ≡ Some of → status_of of ≤ 10
-steps_few run knobs None of e = subst (λ (own : Verdict). status_of own ≤ 10) (same_some (Done run knobs (length run.batches)) of e) (omega arith)
+steps_few run knobs None of e = subst (λ (own : Verdict). status_of own ≤ 10) (same_Some (Done run knobs (length run.batches)) of e) (omega arith)
 steps_few run knobs (Some step) of e = cause_few run knobs step (spoiled_by run step) of e
 
 run_few : (run : Run) (knobs : Knobs) (of : Verdict) → run_verdict run knobs ≡ Some of → status_of of ≤ 10
 run_few run knobs of e =
     (elim (nat_lt most_words (kept_words run knobs)) as (λ b. cond b (Some (Kept (kept_words run knobs))) (steps_verdict run knobs (first_spoiled run)) ≡ Some of → status_of of ≤ 10) [
-      | true ↦ λ e. subst (λ (own : Verdict). status_of own ≤ 10) (same_some (Kept (kept_words run knobs)) of e) (omega arith)
+      | true ↦ λ e. subst (λ (own : Verdict). status_of own ≤ 10) (same_Some (Kept (kept_words run knobs)) of e) (omega arith)
       | false ↦ λ e. steps_few run knobs (first_spoiled run) of e
     ]) e
 

@@ -1,21 +1,15 @@
 -- What is found part by part, and why there is no run.
-use Rattle.std.proofs.Common.{◌≡◌, ℕ, ◌<◌, List, [], ◌∷◌, ◌++◌, Bool, true, false, Option, Some, None, Result, Ok, Err, refl, sym, ap, ◌∙◌, subst, length}
+use Rattle.std.proofs.Common.{◌≡◌, ℕ, ◌<◌, List, [], ◌∷◌, ◌++◌, Bool, true, false, Option, Some, None, Result, Ok, Err, refl, ap, ◌∙◌, length}
 use Rattle.std.specs.Prelude.{◌||◌, IsTrue, IsSomeAnd, option_map}
-use Rattle.std.specs.Global.{Vec}
 use Rattle.std.specs.List.{list_any}
 use Rattle.std.specs.Str.{bytes_eq}
-use Rattle.std.proofs.lemmas.Bool.{or_left, or_right}
-use Rattle.std.proofs.lemmas.Slice.Eq.{bytes_eq-Decides}
+use Rattle.std.proofs.lemmas.Bool.{or_right}
 use Rattle.feed_run.specs.declared.refusal.Refusal.{Refusal}
 use Rattle.feed_run.specs.declared.refusal.Stop.{Stop}
 use Rattle.feed_run.specs.declared.refusal.Stop.TheVariants.{Memory, Unread, Refused}
 use Rattle.feed_run.specs.Found.{Found, after}
 use Rattle.feed_run.specs.Headline.{IsOneOf}
-use Rattle.feed_run.specs.Stops.{Reads, Loads, IsRefusal, Says}
-
--- a name among names
-pub one_of_first : (name : List ℕ) (others : List (List ℕ)) → IsOneOf (name ∷ others) name
-one_of_first name others = or_left (bytes_eq name name) (list_any (bytes_eq name) others) ((bytes_eq-Decides name name).1 refl)
+use Rattle.feed_run.specs.Stops.{Reads}
 
 pub one_of_later : (name first : List ℕ) (others : List (List ℕ)) → IsOneOf others name → IsOneOf (first ∷ others) name
 one_of_later name first others is = or_right (bytes_eq name first) (list_any (bytes_eq name) others) is
@@ -46,25 +40,7 @@ module _ (told : Bool) (failed : List ℕ → Type 0) where
   reads_stopped first read found next view end (Unread name) reads more = (reads.0, λ t. more name t (reads.1 t))
   reads_stopped first read found next view end (Refused refusal) reads more = λ t. ap (λ f. after f next) (reads t)
 
-  -- a file was loaded
-  pub reads_loaded : {X Y : Type 0} (most : ℕ) (content : Option (List ℕ)) (rose : Type 0) (name : List ℕ) (of : List ℕ → Result Y Refusal) (view : X → Y) (bytes : Vec ℕ) (result : Result X Stop) → Loads told most content rose name (Ok (Some bytes)) → Says (of bytes.items) view result → Reads told failed (IsOneOf (name ∷ [])) (option_map of content) view result
-  reads_loaded most content rose name of view bytes (Ok value) loads says = λ t. ap (option_map of) (loads t) ∙ ap Some says
-  reads_loaded most content rose name of view bytes (Err Memory) loads says = tt
-  reads_loaded most content rose name of view bytes (Err (Unread other)) loads says = absurd says
-  reads_loaded most content rose name of view bytes (Err (Refused refusal)) loads says = λ t. ap (option_map of) (loads t) ∙ ap Some says
-
   -- a file was too long
   pub long_file : {Y : Type 0} (most : ℕ) (content : Option (List ℕ)) (of : List ℕ → Result Y Refusal) (refusal : Refusal) → ((bytes : List ℕ) → most < length bytes → of bytes ≡ Err refusal) → IsSomeAnd content (λ bytes. most < length bytes) → option_map of content ≡ Some (Err refusal)
   long_file most None of refusal long loads = absurd loads
   long_file most (Some bytes) of refusal long loads = ap Some (long bytes loads)
-
-  pub reads_long : {X Y : Type 0} (most : ℕ) (content : Option (List ℕ)) (rose : Type 0) (name : List ℕ) (of : List ℕ → Result Y Refusal) (view : X → Y) (refusal : Refusal) (stop : Stop) → Loads told most content rose name (Ok None) → ((bytes : List ℕ) → most < length bytes → of bytes ≡ Err refusal) → IsRefusal refusal stop → Reads told failed (IsOneOf (name ∷ [])) (option_map of content) view (Err stop)
-  reads_long most content rose name of view refusal Memory loads long is = tt
-  reads_long most content rose name of view refusal (Unread other) loads long is = absurd is
-  reads_long most content rose name of view refusal (Refused other) loads long is = λ t. long_file most content of refusal long (loads t) ∙ ap (λ r. Some (Err r)) (sym is)
-
-  -- a file was not loaded
-  pub reads_none : {X Y : Type 0} (most : ℕ) (content : Option (List ℕ)) (name : List ℕ) (of : List ℕ → Result Y Refusal) (view : X → Y) (stop : Stop) → Loads told most content (failed name) name (Err stop) → Reads told failed (IsOneOf (name ∷ [])) (option_map of content) view (Err stop)
-  reads_none most content name of view Memory loads = tt
-  reads_none most content name of view (Unread other) loads = (subst failed (sym loads.0) loads.1, λ t. subst (IsOneOf (name ∷ [])) (sym loads.0) (one_of_first name []))
-  reads_none most content name of view (Refused refusal) loads = absurd loads

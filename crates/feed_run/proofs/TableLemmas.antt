@@ -66,12 +66,6 @@ module _ (told : Bool) (content : Content) (all : List Node) (all_files : List S
   opens_stop failed earlier source sources files tables (Refused refusal) wider reads opens =
       λ t. sym (opens.found t) ∙ ap (λ first. after (after first (λ own. after (tables_found content sources (drop 1 files)) (with_table own))) (onto tables)) (reads t)
 
-  pub opens_end : (files : List SourceFile) (tables : List RawTable) → Opens told content all all_files [] files tables → IsTrue told → tables_found content all all_files ≡ Some (Ok tables)
-  opens_end files tables opens t = sym (opens.found t) ∙ ap (λ own. Some (Ok own)) (append-nil tables)
-
-  pub opens_are : (files : List SourceFile) (tables : List RawTable) → Opens told content all all_files [] files tables → AreTablesOf all tables
-  opens_are files tables opens = subst (AreTablesOf all) (append-nil tables) (opens.are [] tt)
-
 -- the file of a source was asked for, where it has one
 pub first_asked : (old new : Option (List (List ℕ))) (file : Option (List ℕ)) → MatchOption file (new ≡ old) (λ name. AsksFor old new (name ∷ [])) → AsksFor old new (option_to_list file)
 first_asked old new None same = asked_same old new same

@@ -3,6 +3,7 @@ use Rattle.std.proofs.Common.{◌≡◌, refl, sym, ap, ◌∙◌, subst, ℕ, �
 use Rattle.std.specs.Prelude.{is_some, option_map}
 use Rattle.std.specs.Io.KnownBytes.{append_known}
 use Rattle.std.specs.List.{range_with_len}
+use Rattle.key_lists.proofs.Every.{found_passes}
 use Rattle.tick_io.specs.Counts.{Rose}
 use Rattle.tick_io.specs.Written.{AppendsPrefix}
 use Rattle.tick_io.proofs.Prefixes.{prefix_longer}
@@ -21,7 +22,7 @@ use Rattle.watched_run.specs.ToCome.{watch_until}
 use Rattle.feed_run.specs.Answers.{Ends, EndsByWatch}
 use Rattle.feed_run.specs.Verdicts.{Verdict, WatchDone, WatchSpoiled, status_of, watched_steps_verdict}
 use Rattle.feed_run.specs.Wholes.{IsLawful, cause_record, publication_record, whole}
-use Rattle.feed_run.proofs.EndLemmas.{ends_after, find_passes, there}
+use Rattle.feed_run.proofs.EndLemmas.{ends_after, there}
 
 -- a verdict of a watched run: its text is that of the messages, and then these fields
 pub record TellsWatch (run : Run) (watch : Watch) (of : Verdict) (fields : List (List ℕ)) : Type 0 where
@@ -57,7 +58,7 @@ module _ (run : Run) (watch : Watch) where
       (elim (first_spoiled run) as (λ o. first_spoiled run ≡ o → HasWatchVerdict run watch) [
         | None ↦ λ e. record { of = WatchDone run watch (length run.batches); fields = done_record (length run.batches); tells = watch_done (length run.batches) e refl }
         | Some step ↦ λ e.
-            let by = there (spoiled_by run step) (find_passes (λ n. is_some (spoiled_by run n)) (range_with_len 0 (length run.batches + 1)) step e) in
+            let by = there (spoiled_by run step) (found_passes (λ n. is_some (spoiled_by run n)) (range_with_len 0 (length run.batches + 1)) step e) in
             record { of = WatchSpoiled run watch step by.0; fields = cause_record run step by.0; tells = watch_spoiled step by.0 (record { first = e; by = by.1 }) }
       ]) refl
 

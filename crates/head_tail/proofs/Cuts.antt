@@ -7,18 +7,8 @@ use Rattle.std.proofs.lemmas.List.Elements.{filter-append}
 use Rattle.std.proofs.Math.Seq.{take-append_seam, drop-append_seam}
 use Rattle.key_lists.specs.Keys.{is_among, IsRising}
 use Rattle.key_lists.proofs.Among.{among-append, among_below}
-
-pub every-take : {X : Type 0} (P : X → Type 0) (n : ℕ) (xs : List X) → AllByRecursion P xs → AllByRecursion P (take n xs)
-every-take P zero [] h = tt
-every-take P zero (x ∷ xs) h = tt
-every-take P (suc n) [] h = tt
-every-take P (suc n) (x ∷ xs) h = (h.0, every-take P n xs h.1)
-
-pub every-drop : {X : Type 0} (P : X → Type 0) (n : ℕ) (xs : List X) → AllByRecursion P xs → AllByRecursion P (drop n xs)
-every-drop P zero [] h = tt
-every-drop P zero (x ∷ xs) h = h
-every-drop P (suc n) [] h = tt
-every-drop P (suc n) (x ∷ xs) h = every-drop P n xs h.1
+use Rattle.key_lists.proofs.Booleans.{and_true, or_true}
+use Rattle.key_lists.proofs.Parts.{every-take, every-drop, take_nil}
 
 -- a key is before a position or from it on
 pub among_parts : (key n : ℕ) (xs : List ℕ) → is_among key xs ≡ (is_among key (take n xs) || is_among key (drop n xs))
@@ -29,19 +19,11 @@ among_front key n xs own = among_parts key n xs ∙ ap (λ b. b || is_among key 
 
 pub among_back : (key n : ℕ) (xs : List ℕ) → is_among key (drop n xs) ≡ true → is_among key xs ≡ true
 among_back key n xs own = among_parts key n xs ∙ ap (λ b. is_among key (take n xs) || b) own ∙ or_true (is_among key (take n xs))
-  where
-    or_true : (b : Bool) → (b || true) ≡ true
-    or_true true = refl
-    or_true false = refl
 
 -- of keys that rise, those from a position on are the ones that are not before it
 pub among_rest : (key n : ℕ) (xs : List ℕ) → IsRising xs → is_among key (drop n xs) ≡ (is_among key xs && not (is_among key (take n xs)))
 among_rest key zero [] r = refl
-among_rest key zero (x ∷ xs) r = and_true (is_among key (x ∷ xs))
-  where
-    and_true : (b : Bool) → b ≡ (b && true)
-    and_true true = refl
-    and_true false = refl
+among_rest key zero (x ∷ xs) r = sym (and_true (is_among key (x ∷ xs)))
 among_rest key (suc n) [] r = refl
 among_rest key (suc n) (x ∷ xs) r =
     (elim (x == key) as (λ b. (x == key) ≡ b → is_among key (drop n xs) ≡ ((b || is_among key xs) && not (b || is_among key (take n xs)))) [
@@ -57,20 +39,12 @@ among_between key zero zero (x ∷ xs) r = refl
 among_between key zero (suc n) (x ∷ xs) r = refl
 among_between key (suc m) zero [] r = refl
 among_between key (suc m) (suc n) [] r = refl
-among_between key (suc m) zero (x ∷ xs) r = and_true (is_among key (x ∷ take m xs))
-  where
-    and_true : (b : Bool) → b ≡ (b && true)
-    and_true true = refl
-    and_true false = refl
+among_between key (suc m) zero (x ∷ xs) r = sym (and_true (is_among key (x ∷ take m xs)))
 among_between key (suc m) (suc n) (x ∷ xs) r =
     (elim (x == key) as (λ b. (x == key) ≡ b → is_among key (drop n (take m xs)) ≡ ((b || is_among key (take m xs)) && not (b || is_among key (take n xs)))) [
       | true ↦ λ same. among_below key (drop n (take m xs)) (every-drop (λ y. key < y) n (take m xs) (every-take (λ y. key < y) m xs (subst (λ k. AllByRecursion (λ y. k < y) xs) (eqb-true x key same) r.0)))
       | false ↦ λ other. among_between key m n xs r.1
     ]) refl
-
-none_left : {X : Type 0} (k : ℕ) → take k (let none : List X = [] in none) ≡ []
-none_left zero = refl
-none_left (suc k) = refl
 
 take_none : {X : Type 0} (xs : List X) → take 0 xs ≡ []
 take_none [] = refl
@@ -79,11 +53,11 @@ take_none (x ∷ xs) = refl
 pub take-drop : {X : Type 0} (m n : ℕ) (xs : List X) → take (m - n) (drop n xs) ≡ drop n (take m xs)
 take-drop zero zero [] = refl
 take-drop zero zero (x ∷ xs) = refl
-take-drop zero (suc n) [] = none_left (0 - suc n)
+take-drop zero (suc n) [] = take_nil (0 - suc n)
 take-drop zero (suc n) (x ∷ xs) = ap (λ k. take k (drop n xs)) (let none : 0 - suc n ≡ 0 = omega arith in none) ∙ take_none (drop n xs)
-take-drop (suc m) zero [] = none_left (suc m - 0)
+take-drop (suc m) zero [] = take_nil (suc m - 0)
 take-drop (suc m) zero (x ∷ xs) = ap (λ k. take k (x ∷ xs)) (let all : suc m - 0 ≡ suc m = omega arith in all)
-take-drop (suc m) (suc n) [] = none_left (suc m - suc n)
+take-drop (suc m) (suc n) [] = take_nil (suc m - suc n)
 take-drop (suc m) (suc n) (x ∷ xs) = ap (λ k. take k (drop n xs)) (let less : suc m - suc n ≡ m - n = omega arith in less) ∙ take-drop m n xs
 
 pub drop_none : {X : Type 0} (xs : List X) → drop 0 xs ≡ xs

@@ -1,7 +1,6 @@
 pub mod Crossed
 pub mod Cuts
 pub mod Ends
-pub mod Fresh
 pub mod Parts
 pub mod Positions
 pub mod ReadRows

@@ -6,8 +6,9 @@ use Rattle.std.proofs.lemmas.List.{drop-map, length-map, length-take, take-map}
 use Rattle.key_lists.specs.Keys.{is_among, IsRising, without}
 use Rattle.key_lists.proofs.Among.{among-filter, among_below, among_own, among_past, each_among}
 use Rattle.key_lists.proofs.Every.{every, every_both, every_unmapped, every_weaker, every-map, filter-map, filter_same}
+use Rattle.key_lists.proofs.Parts.{every-drop}
 use Rattle.tick_model.specs.declared.update.KeyPair.{KeyPair}
-use Rattle.head_tail.proofs.Cuts.{among_back, among_front, drop-filter, every-drop, take-filter}
+use Rattle.head_tail.proofs.Cuts.{among_back, among_front, drop-filter, take-filter}
 
 module _ {X : Type 0} (f g : X → ℕ) where
   -- of elements that are told by two numbers, both rising, the first ones are told by either

@@ -1,10 +1,11 @@
 -- Numbers among others.
-use Rattle.std.proofs.Common.{◌≡◌, refl, ap, sym, ◌∙◌, Bool, true, false, cond, ◌&&◌, ◌||◌, ℕ, ◌<◌, arith, List, [], ◌∷◌, ◌++◌, ◌==◌, true≢false, subst, inl, inr}
+use Rattle.std.proofs.Common.{◌≡◌, refl, ap, sym, ◌∙◌, Bool, true, false, cond, ◌&&◌, ◌||◌, ℕ, ◌<◌, arith, List, [], ◌∷◌, ◌++◌, map, ◌==◌, true≢false, subst, inl, inr}
 use Rattle.std.specs.Prelude.{filter}
 use Rattle.std.specs.List.{AllByRecursion}
-use Rattle.std.proofs.lemmas.Bool.{ne_eqb, eq-eqb, eqb-true, or_right, or_cases}
+use Rattle.std.proofs.lemmas.Bool.{ne_eqb, eq-eqb, eqb-true, or_right, or_cases, or_parts}
 use Rattle.key_lists.specs.Keys.{is_among}
 use Rattle.key_lists.proofs.Every.{every_weaker}
+use Rattle.key_lists.proofs.Booleans.{or_assoc}
 
 -- a number below all others is not among them
 pub among_below : (key : ℕ) (others : List ℕ) → AllByRecursion (λ other. key < other) others → is_among key others ≡ false
@@ -56,7 +57,25 @@ of_among P key (x ∷ xs) h e =
 pub among-append : (key : ℕ) (xs ys : List ℕ) → is_among key (xs ++ ys) ≡ (is_among key xs || is_among key ys)
 among-append key [] ys = refl
 among-append key (x ∷ xs) ys = ap (λ b. (x == key) || b) (among-append key xs ys) ∙ or_assoc (x == key) (is_among key xs) (is_among key ys)
+
+-- a number above all others is not among them, and what a test leaves out is not among what is left
+pub among_above : (key : ℕ) (others : List ℕ) → AllByRecursion (λ other. other < key) others → is_among key others ≡ false
+among_above key [] h = refl
+among_above key (other ∷ others) h = ap (λ b. b || is_among key others) (ne_eqb other key (λ e. omega (arith, e, h.0))) ∙ among_above key others h.1
+
+pub absent-filter : {X : Type 0} (f : X → ℕ) (test : X → Bool) (key : ℕ) (xs : List X) → is_among key (map f xs) ≡ false → is_among key (map f (filter test xs)) ≡ false
+absent-filter f test key [] h = h
+absent-filter f test key (x ∷ xs) h =
+    let parts = or_parts (f x == key) (is_among key (map f xs)) h in
+    elim (test x) as (λ b. is_among key (map f (cond b (x ∷ filter test xs) (filter test xs))) ≡ false) [
+      | true ↦ ap (λ b. b || is_among key (map f (filter test xs))) parts.0 ∙ absent-filter f test key xs parts.1
+      | false ↦ absent-filter f test key xs parts.1
+    ]
+
+-- two lists that are apart are so both ways
+pub apart_back : (xs ys : List ℕ) → AllByRecursion (λ y. is_among y xs ≡ false) ys → AllByRecursion (λ x. is_among x ys ≡ false) xs
+apart_back xs ys h = every_weaker (λ x. is_among x xs ≡ true) (λ x. is_among x ys ≡ false) xs (λ x own. go x own (is_among x ys) refl) (each_among xs)
   where
-    or_assoc : (a b c : Bool) → (a || (b || c)) ≡ ((a || b) || c)
-    or_assoc true b c = refl
-    or_assoc false b c = refl
+    go : (x : ℕ) → is_among x xs ≡ true → (b : Bool) → is_among x ys ≡ b → b ≡ false
+    go x own true e = absurd (true≢false (sym own ∙ of_among (λ y. is_among y xs ≡ false) x ys h e))
+    go x own false e = refl

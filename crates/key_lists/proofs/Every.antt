@@ -1,7 +1,7 @@
 -- What holds of every element of a list, and what follows for maps and filters.
-use Rattle.std.proofs.Common.{◌≡◌, refl, ap, sym, ◌∙◌, Bool, true, false, cond, ◌&&◌, ◌||◌, ℕ, zero, suc, arith, List, [], ◌∷◌, ◌++◌, map}
-use Rattle.std.specs.Prelude.{filter}
-use Rattle.std.specs.List.{All, AllByRecursion, list_any}
+use Rattle.std.proofs.Common.{◌≡◌, refl, ap, sym, ◌∙◌, subst, Bool, true, false, cond, ◌&&◌, ◌||◌, ℕ, zero, suc, arith, List, [], ◌∷◌, ◌++◌, map}
+use Rattle.std.specs.Prelude.{filter, find, Some, None}
+use Rattle.std.specs.List.{All, AllByRecursion, list_all, list_any}
 
 -- every element has Q where every one has P
 pub every_weaker : {X : Type 0} (P Q : X → Type 0) (xs : List X) → ((x : X) → P x → Q x) → AllByRecursion P xs → AllByRecursion Q xs
@@ -120,3 +120,41 @@ any_in p q (x ∷ xs) h =
 pub every-append : {X : Type 0} (P : X → Type 0) (xs ys : List X) → AllByRecursion P xs → AllByRecursion P ys → AllByRecursion P (xs ++ ys)
 every-append P [] ys h k = k
 every-append P (x ∷ xs) ys h k = (h.0, every-append P xs ys h.1 k)
+
+-- tests of all elements, of any, and a search
+pub pass_all : {X : Type 0} (p : X → Bool) (xs : List X) → AllByRecursion (λ x. p x ≡ true) xs → list_all p xs ≡ true
+pass_all p [] h = refl
+pass_all p (x ∷ xs) h = ap (λ b. b && list_all p xs) h.0 ∙ pass_all p xs h.1
+
+pub any-map : {X Y : Type 0} (p : Y → Bool) (f : X → Y) (xs : List X) → list_any p (map f xs) ≡ list_any (λ x. p (f x)) xs
+any-map p f [] = refl
+any-map p f (x ∷ xs) = ap (λ b. p (f x) || b) (any-map p f xs)
+
+pub find_none : {X : Type 0} (p : X → Bool) (xs : List X) → AllByRecursion (λ x. p x ≡ false) xs → find p xs ≡ None
+find_none p [] h = refl
+find_none p (x ∷ xs) h = ap (λ b. cond b (Some x) (find p xs)) h.0 ∙ find_none p xs h.1
+
+pub none_pass : {X : Type 0} (p : X → Bool) (xs : List X) → find p xs ≡ None → AllByRecursion (λ x. p x ≡ false) xs
+none_pass p [] h = tt
+none_pass p (x ∷ xs) h =
+    (elim (p x) as (λ b. p x ≡ b → cond b (Some x) (find p xs) ≡ None → AllByRecursion (λ x. p x ≡ false) (x ∷ xs)) [
+      | true ↦ λ e h. absurd (cc)
+      | false ↦ λ e h. (e, none_pass p xs h)
+    ]) refl h
+
+pub find_same : {X : Type 0} (p q : X → Bool) (xs : List X) → AllByRecursion (λ x. p x ≡ q x) xs → find p xs ≡ find q xs
+find_same p q [] h = refl
+find_same p q (x ∷ xs) h = ap (λ b. cond b (Some x) (find p xs)) h.0 ∙ ap (λ o. cond (q x) (Some x) o) (find_same p q xs h.1)
+
+-- a fact of each pair of two lists, the other way round
+pub turned : {X Y : Type 0} (R : X → Y → Type 0) (xs : List X) (ys : List Y) → AllByRecursion (λ x. AllByRecursion (λ y. R x y) ys) xs → AllByRecursion (λ y. AllByRecursion (λ x. R x y) xs) ys
+turned R [] ys h = every (λ y. AllByRecursion (λ x. R x y) []) ys (λ y. tt)
+turned R (x ∷ xs) ys h = every_both (λ y. R x y) (λ y. AllByRecursion (λ x. R x y) xs) (λ y. AllByRecursion (λ x. R x y) (x ∷ xs)) ys (λ y a b. (a, b)) h.0 (turned R xs ys h.1)
+
+pub found_passes : {X : Type 0} (p : X → Bool) (xs : List X) (x : X) → find p xs ≡ Some x → p x ≡ true
+found_passes p [] x e = absurd (cc)
+found_passes p (y ∷ ys) x e =
+    (elim (p y) as (λ b. p y ≡ b → cond b (Some y) (find p ys) ≡ Some x → p x ≡ true) [
+      | true ↦ λ passes same. let is : y ≡ x = cc in subst (λ z. p z ≡ true) is passes
+      | false ↦ λ passes same. found_passes p ys x same
+    ]) refl e

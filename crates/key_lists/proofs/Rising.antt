@@ -1,5 +1,5 @@
 -- Numbers that rise.
-use Rattle.std.proofs.Common.{◌≡◌, refl, ap, sym, ◌∙◌, subst, Bool, true, false, cond, ◌&&◌, ◌||◌, ℕ, ◌<◌, ◌≤◌, ◌+◌, arith, List, [], ◌∷◌, ◌++◌, map, true≢false, inl, inr}
+use Rattle.std.proofs.Common.{◌≡◌, refl, ap, sym, ◌∙◌, subst, Bool, true, false, cond, ◌&&◌, ◌||◌, ℕ, ◌<◌, ◌≤◌, ◌+◌, arith, List, [], ◌∷◌, ◌++◌, length, map, true≢false, inl, inr}
 use Rattle.std.specs.Prelude.{filter}
 use Rattle.std.specs.List.{AllByRecursion}
 use Rattle.std.proofs.lemmas.Bool.{ne_eqb, cases_eq}
@@ -69,3 +69,10 @@ rising_some p (x ∷ xs) h =
       | true ↦ (every-filter (λ y. x < y) p xs h.0, rising_some p xs h.1)
       | false ↦ rising_some p xs h.1
     ]
+
+-- so many rising numbers below a bound are not more than it
+pub rising_count : (low bound : ℕ) (ks : List ℕ) → low ≤ bound → AllByRecursion (λ k. low ≤ k) ks → AllByRecursion (λ k. k < bound) ks → IsRising ks → low + length ks ≤ bound
+rising_count low bound [] room above below r = omega (arith, room)
+rising_count low bound (k ∷ ks) room above below r =
+    let rest = rising_count (k + 1) bound ks (omega (arith, below.0)) (every_weaker (λ j. k < j) (λ j. k + 1 ≤ j) ks (λ j h. omega (arith, h)) r.0) below.1 r.1 in
+    omega (arith, rest, above.0)

@@ -1,7 +1,8 @@
 //! Lists of keys: what it is for a key to be among others and for keys to rise, and what follows from it.
 //!
 //! The definitions stand in `specs/Keys.antt`, and the lemmas that the crates above share in `proofs/`: `Every` for
-//! what holds of each element, `Among` for numbers among others, `Rising` for numbers that rise.
+//! what holds of each element, `Parts` for lists cut and changed at a place, `Among` for numbers among others, `Rising`
+//! for numbers that rise, `Ranges` for numbers that follow one another, `Booleans` for tests.
 #![tactic(auto)]
 
 ghost use Rattle.std.specs.Prelude.{◌≡◌, ℕ, List};

@@ -10,12 +10,13 @@ use Rattle.key_lists.specs.Keys.{is_among, IsRising, without}
 use Rattle.key_lists.proofs.Among.{among-filter, each_among, of_among}
 use Rattle.key_lists.proofs.Every.{every_both, every_weaker, every-filter, every-map, every_unmapped, filter-map, filter_filter, filter_passes, filter_same, map_map, map_own, map_same}
 use Rattle.key_lists.proofs.Rising.{rising-filter, rising_same}
+use Rattle.key_lists.proofs.Booleans.{or_assoc, or_swap}
 use Rattle.lookup_join.specs.declared.keyed.Side.{Side}
 use Rattle.lookup_join.specs.declared.pick.Pick.{Pick}
 use Rattle.lookup_join.specs.Keyed.{IsRowOf, indexed, key_at, key_cells, keyed, member_at, rekeys, time_at, time_of}
 use Rattle.lookup_join.specs.Taken.{rekeyed_pairs}
 use Rattle.row_groups.specs.Members.{Grouped, Member, keys_of, left_members, member_of, member_under, moved_member, moved_members, with_member}
-use Rattle.row_set.proofs.United.{among-united, or_assoc}
+use Rattle.row_set.proofs.United.{among-united}
 use Rattle.row_set.specs.Sets.{united, with_key}
 use Rattle.shift_data.specs.Moves.{IsLawful}
 use Rattle.shown_rows.proofs.Named.{named_by, of_named}
@@ -87,12 +88,7 @@ parted p key (pair ∷ pairs) =
   where
     by : (b : Bool) → ((pair.new == key) || (is_among key (new_keys (filter p pairs)) || is_among key (new_keys (filter (λ pair. not (p pair)) pairs)))) ≡ (is_among key (new_keys (cond b (pair ∷ filter p pairs) (filter p pairs))) || is_among key (new_keys (cond (not b) (pair ∷ filter (λ pair. not (p pair)) pairs) (filter (λ pair. not (p pair)) pairs))))
     by true = or_assoc (pair.new == key) (is_among key (new_keys (filter p pairs))) (is_among key (new_keys (filter (λ pair. not (p pair)) pairs)))
-    by false = or_swapped (pair.new == key) (is_among key (new_keys (filter p pairs))) (is_among key (new_keys (filter (λ pair. not (p pair)) pairs)))
-      where
-        or_swapped : (a b c : Bool) → (a || (b || c)) ≡ (b || (a || c))
-        or_swapped true true c = refl
-        or_swapped true false c = refl
-        or_swapped false b c = refl
+    by false = or_swap (pair.new == key) (is_among key (new_keys (filter p pairs))) (is_among key (new_keys (filter (λ pair. not (p pair)) pairs)))
 
 -- and under rising keys no key is of both
 not_both : (p : KeyPair → Bool) (key : ℕ) (pairs : List KeyPair) → IsRising (new_keys pairs) → is_among key (new_keys (filter p pairs)) ≡ true → is_among key (new_keys (filter (λ pair. not (p pair)) pairs)) ≡ false

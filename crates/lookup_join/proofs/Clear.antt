@@ -5,17 +5,19 @@ use Rattle.std.specs.List.{AllByRecursion}
 use Rattle.std.specs.Option.{option_map_or}
 use Rattle.std.proofs.lemmas.Int.{ints}
 use Rattle.key_lists.proofs.Every.{every_both, every_unmapped, every_weaker, every-filter, every-map, filter_none, filter_passes}
+use Rattle.key_lists.proofs.Booleans.{and_true}
 use Rattle.lookup_join.specs.declared.keyed.Side.TheVariants.{Right}
 use Rattle.lookup_join.specs.declared.pick.Pick.{Pick}
 use Rattle.lookup_join.specs.Keyed.{key_cells, keyed, time_of}
 use Rattle.lookup_join.specs.Latest.{earlier, latest_by, next_time}
 use Rattle.lookup_join.specs.Notes.{Note, next_after}
-use Rattle.lookup_join.proofs.Latests.{Timed, every-placed, group_timed}
+use Rattle.lookup_join.proofs.Latests.{Timed, group_timed}
 use Rattle.lookup_join.proofs.Quiet.{every_unfiltered}
 use Rattle.lookup_join.proofs.Spans.{apart, between}
 use Rattle.lookup_join.proofs.Stays.{late, own, time}
 use Rattle.lookup_join.proofs.Taking.{latest_none}
 use Rattle.row_groups.specs.Members.{Member, by_at, group_of, member_of, placed}
+use Rattle.row_groups.proofs.Placed.{every-by_at}
 use Rattle.tick_model.specs.declared.plan.OnPair.{OnPair}
 use Rattle.tick_model.specs.declared.table.PlainRow.{PlainRow}
 use Rattle.tick_model.specs.Tables.{same_cells}
@@ -36,11 +38,7 @@ beyond a until e = grind (arith, ints)
 -- the earlier of two ends comes after a moment where both do
 pub earlier_ends : (moment : ℤ) (one other : Option ℤ) → ends_after moment (earlier one other) ≡ (ends_after moment one && ends_after moment other)
 earlier_ends moment None other = refl
-earlier_ends moment (Some one) None = by (int_lt moment one)
-  where
-    by : (b : Bool) → b ≡ (b && true)
-    by true = refl
-    by false = refl
+earlier_ends moment (Some one) None = sym (and_true (int_lt moment one))
 earlier_ends moment (Some one) (Some other) = by (int_lt other one) refl (int_lt moment one) refl (int_lt moment other) refl
   where
     by : (c : Bool) → int_lt other one ≡ c → (a : Bool) → int_lt moment one ≡ a → (b : Bool) → int_lt moment other ≡ b → ends_after moment (cond c (Some other) (Some one)) ≡ (a && b)
@@ -88,11 +86,6 @@ module _ (from until : ℤ) where
       by : (b : Bool) → int_lt from member.at ≡ b → ends_after until (next members) ≡ true → ends_after until (option_map (λ (member : Member). member.at) (cond b (Some member) (find (λ (member : Member). int_lt from member.at) members))) ≡ true
       by true is rest = beyond member.at until (sym (ap (λ b. b && int_le member.at until) is) ∙ h.0)
       by false is rest = rest
-
--- what holds of members in order of time holds of them in their own order
-every-by_at : (P : Member → Type 0) (members : List Member) → AllByRecursion P members → AllByRecursion P (by_at members)
-every-by_at P [] h = tt
-every-by_at P (member ∷ members) h = every-placed P member (by_at members) h.0 (every-by_at P members h.1)
 
 every_unplaced : (P : Member → Type 0) (member : Member) (members : List Member) → AllByRecursion P (placed member members) → P member × AllByRecursion P members
 every_unplaced P member [] h = (h.0, tt)

@@ -6,11 +6,11 @@ use Rattle.std.specs.List.{AllByRecursion, count_by}
 use Rattle.std.proofs.lemmas.Int.{ints}
 use Rattle.std.proofs.lemmas.List.{map-append}
 use Rattle.std.proofs.lemmas.List.Sums.{length-filter}
-use Rattle.std.proofs.lemmas.Option.{none-some, slice_get-map}
+use Rattle.std.proofs.lemmas.Option.{none-some, slice_get-map, same_Some}
 use Rattle.key_lists.proofs.Every.{every, every_weaker, filter_none, filter_same}
 use Rattle.lookup_join.specs.Latest.{count_before, during}
 use Rattle.lookup_join.proofs.Latests.{Timed}
-use Rattle.lookup_join.proofs.Walks.{get_index, some_is}
+use Rattle.lookup_join.proofs.Walks.{get_index}
 use Rattle.row_groups.proofs.Order.{later_too}
 use Rattle.row_groups.specs.Members.{Member, keys_of, member_of}
 use Rattle.shown_rows.proofs.Walks.{one_more}
@@ -19,7 +19,7 @@ use Rattle.tick_laws.proofs.ResultCells.{length-filter_most}
 module _ {X : Type 0} (P : X → Type 0) where
   drop_place : (k n : ℕ) (xs : List X) (x : X) → AllByRecursion P (drop k xs) → k ≤ n → slice_get xs n ≡ Some x → P x
   drop_place k n [] x h least e = absurd (none-some x e)
-  drop_place zero zero (y ∷ xs) x h least e = subst P (some_is e) h.0
+  drop_place zero zero (y ∷ xs) x h least e = subst P (same_Some _ _ e) h.0
   drop_place zero (suc n) (y ∷ xs) x h least e = drop_place zero n xs x h.1 (omega arith) e
   drop_place (suc k) zero (y ∷ xs) x h least e = absurd (omega arith)
   drop_place (suc k) (suc n) (y ∷ xs) x h least e = drop_place k n xs x h (omega arith) e
@@ -120,7 +120,7 @@ module _ (from : ℤ) (until : Option ℤ) (members : List Member) (timed : Time
       at_place = get_index members n (member_of 0 [] (pos 0)) within
 
       key_is : key ≡ member.key
-      key_is = some_is (sym here ∙ slice_get-map (λ (member : Member). member.key) members n ∙ ap (option_map (λ (member : Member). member.key)) at_place)
+      key_is = same_Some _ _ (sym here ∙ slice_get-map (λ (member : Member). member.key) members n ∙ ap (option_map (λ (member : Member). member.key)) at_place)
 
   -- none of those from the other moment on
   all_first : (end n : ℕ) → end ≡ count_before until members → end ≤ n → filter (during from until) (take n members) ≡ filter (during from until) members

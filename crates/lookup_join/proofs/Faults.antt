@@ -7,8 +7,9 @@ use Rattle.std.proofs.lemmas.List.{length-map}
 use Rattle.std.proofs.lemmas.Option.{none-some}
 use Rattle.key_lists.specs.Keys.{is_among, IsRising}
 use Rattle.key_lists.proofs.Among.{among_own, each_among, of_among}
-use Rattle.key_lists.proofs.Every.{every_both, every_weaker, every-map, every_unmapped, filter-map}
+use Rattle.key_lists.proofs.Every.{every_both, every_weaker, every-map, every_unmapped, filter-map, none_pass}
 use Rattle.key_lists.proofs.Rising.{rising-filter}
+use Rattle.key_lists.proofs.Parts.{every_front, every_back}
 use Rattle.lookup_join.specs.declared.duplicates.Duplicate.{Duplicate}
 use Rattle.lookup_join.specs.declared.keyed.Side.TheVariants.{Left, Right}
 use Rattle.lookup_join.specs.Duplicates.{cells_under, earlier, faulty_group, first_with_two, least_fault, least_of}
@@ -20,12 +21,11 @@ use Rattle.lookup_join.specs.Notes.{Note, NoteList}
 use Rattle.lookup_join.specs.Taken.{step_notes}
 use Rattle.lookup_join.proofs.Brought.{all_keys, brought, came, came_there, kept_key, keys-keyed}
 use Rattle.lookup_join.proofs.Gathered.{keys-group, matches_are, with_cells}
-use Rattle.lookup_join.proofs.Noting.{every_back, every_front, quiet}
+use Rattle.lookup_join.proofs.Noting.{quiet}
 use Rattle.lookup_join.proofs.Quiet.{cells_stay}
 use Rattle.lookup_join.proofs.Told.{passing_at, same_is, same_own}
 use Rattle.lookup_join.proofs.Walks.{member_known}
 use Rattle.row_groups.specs.Members.{Grouped, Member, keys_of}
-use Rattle.table_update.proofs.KeysAfter.{none_pass}
 use Rattle.tick_model.specs.declared.plan.Choice.{Choice}
 use Rattle.tick_model.specs.declared.plan.Choice.TheVariants.{Error, First, Last}
 use Rattle.tick_model.specs.declared.plan.OnPair.{OnPair}

@@ -5,6 +5,7 @@ use Rattle.std.specs.List.{AllByRecursion, last_or}
 use Rattle.std.specs.Ordering.{int_eq}
 use Rattle.std.proofs.lemmas.Int.{ints}
 use Rattle.key_lists.proofs.Every.{every, every-map, filter-map, filter_same, map_map, map_same}
+use Rattle.key_lists.proofs.Booleans.{and_true}
 use Rattle.lookup_join.specs.declared.keyed.Side.{Side}
 use Rattle.lookup_join.specs.declared.keyed.Side.TheVariants.{Left, Right}
 use Rattle.lookup_join.specs.declared.pick.Pick.{Pick}
@@ -87,11 +88,7 @@ matches_are on rows left = filter_same (agree on left) (λ row. same_cells (key_
 all_in_time : (on : List OnPair) (rows : List PlainRow) (cells : List ℤ) → with_cells Right on rows cells ≡ filter (λ row. same_cells cells (key_cells Right on row.cells) && int_le (pos 0) (pos 0)) rows
 all_in_time on rows cells =
     filter_same (λ row. same_cells cells (key_cells Right on row.cells)) (λ row. same_cells cells (key_cells Right on row.cells) && int_le (pos 0) (pos 0)) rows
-    (every (λ row. same_cells cells (key_cells Right on row.cells) ≡ (same_cells cells (key_cells Right on row.cells) && int_le (pos 0) (pos 0))) rows (λ row. with_true (same_cells cells (key_cells Right on row.cells))))
-  where
-    with_true : (b : Bool) → b ≡ (b && true)
-    with_true true = refl
-    with_true false = refl
+    (every (λ row. same_cells cells (key_cells Right on row.cells) ≡ (same_cells cells (key_cells Right on row.cells) && int_le (pos 0) (pos 0))) rows (λ row. sym (and_true (same_cells cells (key_cells Right on row.cells)))))
 
 -- and members stand by their keys
 by_at_same : (members : List Member) → AllByRecursion (λ (member : Member). member.at ≡ pos 0) members → by_at members ≡ members

@@ -11,6 +11,7 @@ use Rattle.lookup_join.specs.declared.pick.Pick.TheVariants.{First, Last}
 use Rattle.lookup_join.specs.Latest.{beats, latest_by, match_of, next_time, or_later}
 use Rattle.lookup_join.proofs.Picks.{beats_later, beats_no_earlier, beats_through, left_no_later, one_way}
 use Rattle.row_groups.proofs.Order.{at_most, later_too, not_lt_from}
+use Rattle.row_groups.proofs.Placed.{every-placed}
 use Rattle.row_groups.specs.Members.{Member, by_at, group_of, keys_of, placed}
 use Rattle.std.proofs.lemmas.Int.{ints}
 use Rattle.tick_laws.proofs.ResultCells.{length-filter_most}
@@ -72,10 +73,6 @@ module _ {X : Type 0} (time : X → ℤ) where
 abbrev pub Timed : List Member → Type 0
 Timed [] = Unit {0}
 Timed (member ∷ members) = AllByRecursion (λ (other : Member). int_lt other.at member.at ≡ false) members × Timed members
-
-pub every-placed : (P : Member → Type 0) (member : Member) (members : List Member) → P member → AllByRecursion P members → AllByRecursion P (placed member members)
-every-placed P member [] own h = (own, tt)
-every-placed P member (other ∷ others) own h = elim (int_lt other.at member.at) as (λ b. AllByRecursion P (cond b (other ∷ placed member others) (member ∷ other ∷ others))) [ true ↦ (h.0, every-placed P member others own h.1) | false ↦ (own, h) ]
 
 placed_timed : (member : Member) (members : List Member) → Timed members → Timed (placed member members)
 placed_timed member [] h = (tt, tt)

@@ -8,6 +8,7 @@ use Rattle.std.specs.Ordering.{int_eq}
 use Rattle.std.proofs.lemmas.Bool.{and_parts}
 use Rattle.std.proofs.lemmas.List.{length-map}
 use Rattle.key_lists.proofs.Every.{every_both, every_unmapped, every_weaker, every-filter, filter_passes}
+use Rattle.key_lists.proofs.Parts.{every_front, every_back}
 use Rattle.lookup_join.specs.declared.keyed.Side.TheVariants.{Right}
 use Rattle.lookup_join.specs.declared.pick.Pick.{Pick}
 use Rattle.lookup_join.specs.declared.pick.Pick.TheVariants.{Last}
@@ -23,14 +24,6 @@ use Rattle.tick_model.specs.declared.update.KeyPair.{KeyPair}
 use Rattle.tick_model.specs.Tables.{cells_at, same_cells}
 use Rattle.tick_table.specs.Exact.{IsExact}
 use Rattle.tick_table.specs.Ticking.{Ticking}
-
-pub every_front : {X : Type 0} (P : X → Type 0) (xs ys : List X) → AllByRecursion P (xs ++ ys) → AllByRecursion P xs
-every_front P [] ys h = tt
-every_front P (x ∷ xs) ys h = (h.0, every_front P xs ys h.1)
-
-pub every_back : {X : Type 0} (P : X → Type 0) (xs ys : List X) → AllByRecursion P (xs ++ ys) → AllByRecursion P ys
-every_back P [] ys h = h
-every_back P (x ∷ xs) ys h = every_back P xs ys h.1
 
 every_two : {X Y : Type 0} (P : Y → Type 0) (f g : X → Y) (xs : List X) → AllByRecursion P (flat_map (λ x. f x ∷ g x ∷ []) xs) → AllByRecursion (λ x. P (f x) × P (g x)) xs
 every_two P f g [] h = tt

@@ -4,8 +4,10 @@ use Rattle.std.specs.Prelude.{find, int_le, int_lt, option_map, slice_get, slice
 use Rattle.std.specs.List.{AllByRecursion, range_with_len}
 use Rattle.std.proofs.lemmas.Bool.{lt-ltb}
 use Rattle.std.proofs.lemmas.List.{length-map, map-append}
-use Rattle.std.proofs.lemmas.Option.{none-some, slice_get-map}
+use Rattle.std.proofs.lemmas.Option.{none-some, slice_get-map, same_Some}
 use Rattle.key_lists.proofs.Every.{every_unmapped, every_weaker, every-filter, filter-map, map_map}
+use Rattle.key_lists.proofs.Among.{among_above}
+use Rattle.key_lists.proofs.Ranges.{range_last, range_below}
 use Rattle.lookup_join.specs.declared.pick.Pick.TheVariants.{Last}
 use Rattle.lookup_join.specs.Latest.{latest_by, match_of, next_time}
 use Rattle.lookup_join.specs.Notes.{IsNumbered, Note, next_after, note_of, noted_of, notes_of}
@@ -13,7 +15,7 @@ use Rattle.lookup_join.specs.declared.latest.Found.{Found}
 use Rattle.lookup_join.specs.declared.notes.Noted.{Noted}
 use Rattle.lookup_join.proofs.Brought.{none_under}
 use Rattle.lookup_join.proofs.Spans.{latest_every, latest-map}
-use Rattle.lookup_join.proofs.Walks.{among_above, get_index}
+use Rattle.lookup_join.proofs.Walks.{get_index}
 use Rattle.row_groups.specs.Members.{Member, by_at, group_of, keys_of, member_of, member_under, placed, with_member}
 use Rattle.tick_model.specs.Tables.{same_cells}
 
@@ -70,10 +72,6 @@ notes_mapped front (member ∷ members) (first ∷ before) e =
 
 pub all_below : (members : List Member) (before : List (Option ℕ)) → IsNumbered members before → AllByRecursion (λ key. key < length before) (keys_of members)
 all_below members before numbered = subst (AllByRecursion (λ key. key < length before)) (sym numbered.numbers) (every_weaker (λ key. key < 0 + length before) (λ key. key < length before) (range_with_len 0 (length before)) (λ key h. omega (arith, h)) (range_below 0 (length before)))
-  where
-    range_below : (n k : ℕ) → AllByRecursion (λ key. key < n + k) (range_with_len n k)
-    range_below n zero = tt
-    range_below n (suc k) = (omega arith, every_weaker (λ key. key < n + 1 + k) (λ key. key < n + suc k) (range_with_len (n + 1) k) (λ key h. omega (arith, h)) (range_below (n + 1) k))
 
 -- what is found of a match, and what is noted there
 abbrev pub found_of : Member → Found
@@ -83,12 +81,9 @@ pub not_found : (before : List (Option ℕ)) (o : Option Member) → option_map 
 not_found before None e = refl
 not_found before (Some member) e = absurd (none-some (found_of member) (sym e))
 
-some_same : {X : Type 0} {x y : X} → Some x ≡ Some y → x ≡ y
-some_same {X = X} {x = x} {y = y} e = cc
-
 pub found_within : (before : List (Option ℕ)) (o : Option Member) (found : Found) → IfSome o (λ (member : Member). member.key < length before) → option_map found_of o ≡ Some found → found.key < length before
 found_within before None found h e = absurd (none-some found e)
-found_within before (Some member) found h e = subst (λ (found : Found). found.key < length before) (some_same e) h
+found_within before (Some member) found h e = subst (λ (found : Found). found.key < length before) (same_Some _ _ e) h
 
 index_any : (before : List (Option ℕ)) (n : ℕ) (other another : Option ℕ) → n < length before → slice_index_or before n other ≡ slice_index_or before n another
 index_any [] n other another h = absurd (omega arith)
@@ -99,8 +94,8 @@ pub found_noted : (before : List (Option ℕ)) (o : Option Member) (found : Foun
     → (let own : Noted = record { at = found.at; before = noted } in Some own) ≡ option_map noted_of (option_map (note_by before) o)
 found_noted before None found noted is h e = absurd (none-some found e)
 found_noted before (Some member) found noted is h e =
-    ap₂ (λ at before. let own : Noted = record { at = at; before = before } in Some own) (sym (ap (λ (found : Found). found.at) (some_same e)))
-    (is ∙ ap (λ (found : Found). slice_index_or before found.key noted) (sym (some_same e)) ∙ index_any before member.key noted None h)
+    ap₂ (λ at before. let own : Noted = record { at = at; before = before } in Some own) (sym (ap (λ (found : Found). found.at) (same_Some _ _ e)))
+    (is ∙ ap (λ (found : Found). slice_index_or before found.key noted) (sym (same_Some _ _ e)) ∙ index_any before member.key noted None h)
 
 -- the member under a number
 under_number : (n i count : ℕ) (members : List Member) → keys_of members ≡ range_with_len n count → i < count → member_under (n + i) members ≡ slice_get members i
@@ -119,13 +114,6 @@ under_number n (suc i) (suc count) (member ∷ members) e h =
     other e = grind (arith, e)
 
 -- one note more, behind the others
-range_last : (n k : ℕ) → range_with_len n (k + 1) ≡ range_with_len n k ++ (n + k) ∷ []
-range_last n zero = ap (λ m. m ∷ []) (let same : n ≡ n + 0 = omega arith in same)
-range_last n (suc k) =
-    ap (range_with_len n) (let more : suc k + 1 ≡ suc (k + 1) = omega arith in more)
-    ∙ ap (λ rest. n ∷ rest) (range_last (n + 1) k)
-    ∙ ap (λ last. n ∷ (range_with_len (n + 1) k ++ last ∷ [])) (let same : n + 1 + k ≡ n + suc k = omega arith in same)
-
 with_last : (member : Member) (members : List Member) → AllByRecursion (λ key. key < member.key) (keys_of members) → with_member member members ≡ members ++ member ∷ []
 with_last member [] h = refl
 with_last member (other ∷ others) h = ap (λ b. cond b (other ∷ with_member member others) (member ∷ other ∷ others)) (lt-ltb other.key member.key h.0) ∙ ap (λ rest. other ∷ rest) (with_last member others h.1)

@@ -1,6 +1,7 @@
 -- Rows of an as-of join that are put behind others.
-use Rattle.std.proofs.Common.{◌≡◌, refl, ap, ap₂, ◌∙◌, ℕ, List, [], ◌∷◌, ◌++◌, map, take, drop, length, append_assoc, ℤ}
+use Rattle.std.proofs.Common.{◌≡◌, ap, ap₂, ◌∙◌, ℕ, List, ◌++◌, map, take, drop, length, append_assoc, ℤ}
 use Rattle.std.proofs.Math.Seq.{drop-append_seam}
+use Rattle.key_lists.proofs.Parts.{take_front}
 use Rattle.lookup_join.specs.declared.keyed.Side.TheVariants.{Left}
 use Rattle.lookup_join.specs.declared.matches.Match.{Match}
 use Rattle.lookup_join.specs.declared.pick.Pick.{Pick}
@@ -9,11 +10,6 @@ use Rattle.lookup_join.specs.Taken.{cell_of, taken_cells}
 use Rattle.lookup_join.proofs.Gathered.{matched_cells}
 use Rattle.tick_model.specs.declared.plan.OnPair.{OnPair}
 use Rattle.tick_model.specs.declared.table.PlainRow.{PlainRow}
-
-take_front : (xs ys : List ℤ) → take (length xs) (xs ++ ys) ≡ xs
-take_front [] [] = refl
-take_front [] (y ∷ ys) = refl
-take_front (x ∷ xs) ys = ap (λ rest. x ∷ rest) (take_front xs ys)
 
 module _ (on : List OnPair) (pick : Pick) (others row read keyed : List ℤ) (start end : ℕ) (start_is : start ≡ length others) (read_is : read ≡ others ++ row) (end_is : end ≡ length read) (keyed_is : keyed ≡ read ++ key_cells Left on (drop start read)) where
   -- the key cells stand behind the row that was read

@@ -6,9 +6,9 @@ use Rattle.std.proofs.lemmas.Bool.{eqb-true}
 use Rattle.std.proofs.lemmas.Grind.{flat_map-append}
 use Rattle.std.proofs.lemmas.List.{append-nil, length-map, map-append}
 use Rattle.std.proofs.lemmas.List.Sums.{fold-append}
-use Rattle.std.proofs.lemmas.Option.{none-some}
+use Rattle.std.proofs.lemmas.Option.{none-some, same_Some}
 use Rattle.key_lists.specs.Keys.{is_among, IsRising}
-use Rattle.key_lists.proofs.Among.{among-append}
+use Rattle.key_lists.proofs.Among.{among-append, among_above}
 use Rattle.key_lists.proofs.Every.{every_weaker, filter_all, map_same}
 use Rattle.lookup_join.specs.declared.keyed.Side.{Side}
 use Rattle.lookup_join.specs.declared.keyed.Side.TheVariants.{Right}
@@ -23,20 +23,11 @@ use Rattle.tick_model.specs.declared.plan.OnPair.{OnPair}
 use Rattle.tick_model.specs.declared.table.PlainRow.{PlainRow}
 use Rattle.tick_model.specs.Tables.{cell, keys}
 
-some_same : {X : Type 0} {x y : X} → Some x ≡ Some y → x ≡ y
-some_same {X = X} {x = x} {y = y} e = cc
-
--- the element of a mapped list
-pub get-map : {X Y : Type 0} (f : X → Y) (xs : List X) (n : ℕ) (x : X) → slice_get xs n ≡ Some x → slice_get (map f xs) n ≡ Some (f x)
-get-map f [] n x e = absurd (none-some x e)
-get-map f (y ∷ xs) zero x e = ap (λ z. Some (f z)) (some_same e)
-get-map f (y ∷ xs) (suc n) x e = get-map f xs n x e
-
 -- a note is what is told of it
 pub note_at : (notes : List Note) (n : ℕ) (cells : List ℤ) (at : ℤ) (before : Option ℕ) → slice_get (map (λ (note : Note). note.cells) notes) n ≡ Some cells → slice_get (map (λ (note : Note). note.at) notes) n ≡ Some at → slice_get (map (λ (note : Note). note.before) notes) n ≡ Some before
     → slice_get notes n ≡ (let note : Note = record { cells = cells; at = at; before = before } in Some note)
 note_at [] n cells at before e f g = absurd (none-some cells e)
-note_at (note ∷ notes) zero cells at before e f g = whole note.cells cells note.at at note.before before (some_same e) (some_same f) (some_same g)
+note_at (note ∷ notes) zero cells at before e f g = whole note.cells cells note.at at note.before before (same_Some _ _ e) (same_Some _ _ f) (same_Some _ _ g)
   where
     whole : (cells cells' : List ℤ) (at at' : ℤ) (before before' : Option ℕ) → cells ≡ cells' → at ≡ at' → before ≡ before'
         → ◌≡◌ {A = Option Note} (let note : Note = record { cells = cells; at = at; before = before } in Some note) (let note : Note = record { cells = cells'; at = at'; before = before' } in Some note)
@@ -94,18 +85,6 @@ length-key_cells side on cells = length-map on (λ pair. cell cells (column_of s
 pub reads_more : (width so_far more first n : ℕ) → so_far ≤ first + width * n → more ≤ so_far + width → more ≤ first + width * (n + 1)
 reads_more width so_far more first n h e = omega (arith, h, e)
 
--- a number above others is not among them
-pub among_above : (key : ℕ) (others : List ℕ) → AllByRecursion (λ other. other < key) others → is_among key others ≡ false
-among_above key [] h = refl
-among_above key (other ∷ others) h = ap₂ (λ a b. a || b) (below (other == key) refl) (among_above key others h.1)
-  where
-    below : (b : Bool) → (other == key) ≡ b → (other == key) ≡ false
-    below false e = e
-    below true e = absurd (past (eqb-true other key e) h.0)
-      where
-        past : other ≡ key → other < key → ⊥
-        past e less = omega (arith, e, less)
-
 -- a key at a place is not among those before it
 pub unseen : (keys : List ℕ) (n key : ℕ) → IsRising keys → slice_get keys n ≡ Some key → is_among key (take n keys) ≡ false
 unseen keys n key rising e = among_above key (take n keys) (below_keys (λ _. true) keys n key (take n keys) rising e (sym (filter_all (take n keys))))
@@ -133,9 +112,6 @@ pub some_of : {X Y : Type 0} (f : X → Y) (o : Option X) (y : Y) → option_map
 some_of f None y e = absurd (none-some y e)
 some_of f (Some x) y e = refl
 
-pub some_is : {X : Type 0} {x y : X} → Some x ≡ Some y → x ≡ y
-some_is e = some_same e
-
 -- the place of a row that the index has
 pub spot_known : (on : List OnPair) (pick : Pick) (rows : List PlainRow) (index : Grouped) (key : ℕ) → index ≡ indexed Right on pick rows → is_among key (keys rows) ≡ true → spot_under key index.members ≡ spot_at on pick rows key
 spot_known on pick rows index key is there = ap (λ (index : Grouped). spot_under key index.members) is ∙ ap (λ (o : Option Member). unwrap_or (option_map (λ (member : Member). let spot : Spot = record { cells = member.cells; at = member.at } in spot) o) (record { cells = []; at = pos 0 })) (member_known Right on pick rows key there)
@@ -155,7 +131,7 @@ width_under width key [] cells h e = absurd (none-some cells (sym e))
 width_under width key (member ∷ members) cells h e = by (member.key == key) e (λ f. width_under width key members cells h.1 f)
   where
     by : (b : Bool) → Some cells ≡ option_map (λ (member : Member). member.cells) (cond b (Some member) (member_under key members)) → (Some cells ≡ option_map (λ (member : Member). member.cells) (member_under key members) → length cells ≡ width) → length cells ≡ width
-    by true f rest = ap length (some_same f) ∙ h.0
+    by true f rest = ap length (same_Some _ _ f) ∙ h.0
     by false f rest = rest f
 
 -- the notes of removed, of modified and of added rows

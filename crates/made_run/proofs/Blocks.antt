@@ -8,7 +8,8 @@ use Rattle.std.proofs.lemmas.List.{length-map}
 use Rattle.std.proofs.lemmas.List.FromFn.{length-range_with_len}
 use Rattle.key_lists.specs.Keys.{is_among, IsRising, without}
 use Rattle.key_lists.proofs.Among.{among-append}
-use Rattle.key_lists.proofs.Every.{every_weaker}
+use Rattle.key_lists.proofs.Every.{every_weaker, find_none}
+use Rattle.key_lists.proofs.Ranges.{among_range, each_from}
 use Rattle.tick_model.specs.declared.feed.Block.{Block}
 use Rattle.tick_model.specs.declared.table.PlainRow.{PlainRow}
 use Rattle.tick_model.specs.declared.table.PlainTable.{PlainTable}
@@ -26,8 +27,8 @@ use Rattle.tick_laws.proofs.LawfulSources.{rising_range}
 use Rattle.made_run.specs.Draws.{draw, after, drawn_row, drawn_rows}
 use Rattle.made_run.specs.Steps.{block_of, removes, survivors}
 use Rattle.made_run.proofs.Drawn.{draw-below, keys-drawn}
-use Rattle.made_run.proofs.Numbers.{among_none_before, among_row, not_among_row, put_row, row_without, without_none}
-use Rattle.made_run.proofs.Searches.{every_in_row, find_none, mapped_none, or_none}
+use Rattle.made_run.proofs.Numbers.{among_none_before, not_among_row, put_row, row_without, without_none}
+use Rattle.made_run.proofs.Searches.{mapped_none, or_none}
 use Rattle.made_run.proofs.Shifts.{landed_row, moved_up, no_shift_fault, unmoved, up_by_ten}
 
 -- an update of rows under keys in a row, which removes the first of them, moves the others into their place, adds more behind them and
@@ -65,7 +66,7 @@ module _ (old : List ℕ) (update : Update) (gone staying more : ℕ) (is : IsIn
   no_taken =
       ap₂ (λ keys added. find (λ key. is_among key keys) added) landed_left is.added
       ∙ find_none (λ key. is_among key (range_with_len 0 staying)) (range_with_len staying more)
-      (every_in_row (λ key. is_among key (range_with_len 0 staying) ≡ false) staying more (λ key low high. among_none_before key 0 staying (omega (arith, low))))
+      (each_from (λ key. is_among key (range_with_len 0 staying) ≡ false) staying more (λ key low high. among_none_before key 0 staying (omega (arith, low))))
 
   no_modified_absent : find (λ key. not (is_among key (landed update.shifted left ++ update.added))) update.modified ≡ None
   no_modified_absent =
@@ -73,7 +74,7 @@ module _ (old : List ℕ) (update : Update) (gone staying more : ℕ) (is : IsIn
       (every_weaker (λ key. key < staying) (λ key. not (is_among key (landed update.shifted left ++ update.added)) ≡ false) update.modified
       (λ key less. ap not (
       among-append key (landed update.shifted left) update.added
-      ∙ or_left (is_among key (landed update.shifted left)) (is_among key update.added) (ap (is_among key) landed_left ∙ among_row key 0 staying (omega arith) (omega (arith, less)))))
+      ∙ or_left (is_among key (landed update.shifted left)) (is_among key update.added) (ap (is_among key) landed_left ∙ among_range key 0 staying (omega arith) (omega (arith, less)))))
       is.modified)
 
   no_modified_added : find (λ key. is_among key update.added) update.modified ≡ None
@@ -149,7 +150,7 @@ module _ (table : PlainTable) (rows state : ℕ) (in_row : keys table.rows ≡ r
       in_row_leaves table (block_by true modifying rows state) 10 (rows - 10) 20
       (record {
         there = subst (λ old. AllByRecursion (λ key. is_among key old ≡ true) (range_with_len 0 10)) (sym in_row)
-            (every_in_row (λ key. is_among key (range_with_len 0 rows) ≡ true) 0 10 (λ key low high. among_row key 0 rows low (omega (arith, high, more))));
+            (each_from (λ key. is_among key (range_with_len 0 rows) ≡ true) 0 10 (λ key low high. among_range key 0 rows low (omega (arith, high, more))));
         left = ap (without (range_with_len 0 10)) old ∙ row_without 10 (rows - 10);
         moves = λ key low high. moved_up rows key low (omega (arith, high, more));
         added = keys-drawn (rows - 10) 20 state;

@@ -3,11 +3,11 @@ use Rattle.std.proofs.Common.{◌≡◌, refl, ap, sym, ◌∙◌, ℕ, zero, su
 use Rattle.std.specs.List.{AllByRecursion, range_with_len}
 use Rattle.std.proofs.lemmas.Nat.{mod_below}
 use Rattle.key_lists.proofs.Every.{every-map, map_map}
+use Rattle.key_lists.proofs.Ranges.{each_from}
 use Rattle.tick_model.specs.declared.table.PlainRow.{PlainRow}
 use Rattle.tick_model.specs.Tables.{keys}
 use Rattle.made_run.specs.Draws.{next, draw, after, drawn_row, drawn_rows}
 use Rattle.made_run.proofs.Numbers.{map_plus}
-use Rattle.made_run.proofs.Searches.{every_in_row}
 
 pub draw-below : (below state : ℕ) → 0 < below → draw below state < below
 unfolding draw
@@ -25,7 +25,7 @@ pub every_drawn : (P : PlainRow → Type 0) (first count state : ℕ) → ((key 
 unfolding drawn_rows
 every_drawn P first count state h =
     every-map P (λ i. drawn_row (first + i) (after (4 * i) state)) (range_with_len 0 count)
-    (every_in_row (λ i. P (drawn_row (first + i) (after (4 * i) state))) 0 count (λ i low high. h (first + i) (after (4 * i) state) (omega (arith, high))))
+    (each_from (λ i. P (drawn_row (first + i) (after (4 * i) state))) 0 count (λ i low high. h (first + i) (after (4 * i) state) (omega (arith, high))))
 
 -- draws after draws
 pub after-plus : (m n state : ℕ) → after m (after n state) ≡ after (m + n) state

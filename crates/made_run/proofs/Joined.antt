@@ -7,6 +7,7 @@ use Rattle.std.specs.Cmp.{signed_Decides}
 use Rattle.std.proofs.lemmas.Bool.{and_parts, false_from_ne_true}
 use Rattle.std.proofs.lemmas.List.{get_or_at}
 use Rattle.key_lists.proofs.Every.{every-filter, every-map, filter_none}
+use Rattle.key_lists.proofs.Ranges.{each_from}
 use Rattle.tick_model.specs.declared.plan.Choice.TheVariants.{Error}
 use Rattle.tick_model.specs.declared.plan.OnPair.{OnPair}
 use Rattle.tick_model.specs.declared.table.PlainRow.{PlainRow}
@@ -14,7 +15,7 @@ use Rattle.tick_model.specs.declared.table.PlainTable.{PlainTable}
 use Rattle.tick_model.specs.Join.{agree, chosen, duplicate, join_fault, joined, matches, taken}
 use Rattle.tick_model.specs.Tables.{cell, null}
 use Rattle.made_run.specs.Tables.{ref_row, ref_table, sector}
-use Rattle.made_run.proofs.Searches.{every_in_row, filter_map_none}
+use Rattle.made_run.proofs.Searches.{filter_map_none}
 
 -- `sym` against `id`
 abbrev pub by_symbol : List OnPair
@@ -41,7 +42,7 @@ one_match left (suc count) first =
           ap (λ others. duplicate left (ref_row first ∷ others))
           (filter_none (agree by_symbol left) later
           (every-map (λ row. agree by_symbol left row ≡ false) ref_row (range_with_len (first + 1) count)
-          (every_in_row (λ k. agree by_symbol left (ref_row k) ≡ false) (first + 1) count (λ k low high. agrees_once left first k e (omega (arith, low))))))
+          (each_from (λ k. agree by_symbol left (ref_row k) ≡ false) (first + 1) count (λ k low high. agrees_once left first k e (omega (arith, low))))))
       | false ↦ λ e. one_match left count (first + 1)
     ]) refl
   where
@@ -68,7 +69,7 @@ sector_is symbol = of (symbol % 2 == 0)
     of false = refl
 
 ref_sectors : AllByRecursion (λ (row : PlainRow). IsSector (cell row.cells 1)) ref_table.rows
-ref_sectors = every-map (λ (row : PlainRow). IsSector (cell row.cells 1)) ref_row (range_with_len 0 8) (every_in_row (λ k. IsSector (cell (ref_row k).cells 1)) 0 8 (λ k low high. sector_is k))
+ref_sectors = every-map (λ (row : PlainRow). IsSector (cell row.cells 1)) ref_row (range_with_len 0 8) (each_from (λ k. IsSector (cell (ref_row k).cells 1)) 0 8 (λ k low high. sector_is k))
 
 taken_sector : (rows : List PlainRow) → AllByRecursion (λ (row : PlainRow). IsSector (cell row.cells 1)) rows → (before : List ℤ) → length before ≡ 5 → IsSector (cell (before ++ taken (1 ∷ []) (chosen Error rows)) 5)
 taken_sector [] h before long = subst IsSector (sym (get_or_at before null [] null 5 long)) refl

@@ -9,6 +9,7 @@ use Rattle.std.proofs.lemmas.List.{length-map}
 use Rattle.std.proofs.lemmas.List.FromFn.{length-map-range_with_len, length-range_with_len}
 use Rattle.key_lists.specs.Keys.{IsRising}
 use Rattle.key_lists.proofs.Every.{every-map}
+use Rattle.key_lists.proofs.Ranges.{each_from}
 use Rattle.tick_model.specs.declared.feed.Batch.{Batch}
 use Rattle.tick_model.specs.declared.feed.Block.{Block}
 use Rattle.tick_model.specs.declared.table.PlainRow.{PlainRow}
@@ -27,7 +28,6 @@ use Rattle.made_run.specs.Steps.{batch_after, block_of, draws_after, removes, ro
 use Rattle.made_run.specs.Tables.{ref_row, ref_table, sector, texts, trades_table}
 use Rattle.made_run.proofs.Drawn.{draw-below, every_drawn, keys-drawn}
 use Rattle.made_run.proofs.Rows.{many_where_removed, rows_are_few, some_left}
-use Rattle.made_run.proofs.Searches.{every_in_row}
 use Rattle.made_run.proofs.Shifts.{up_by_ten}
 
 fits : (n : ℕ) → n < 2 ^ 63 → FitsSigned w64 (pos n)
@@ -148,7 +148,7 @@ ref_open = record {
   width = refl;
   count = lit≤ tt;
   keys_are = refl;
-  rows = every-map (IsSourceRow ref_columns 10) ref_row (range_with_len 0 8) (every_in_row (λ k. IsSourceRow ref_columns 10 (ref_row k)) 0 8 (λ k low high. ref_row_is k high));
+  rows = every-map (IsSourceRow ref_columns 10) ref_row (range_with_len 0 8) (each_from (λ k. IsSourceRow ref_columns 10 (ref_row k)) 0 8 (λ k low high. ref_row_is k high));
 }
 
 -- texts that are not empty and rise, by a test
@@ -172,6 +172,6 @@ made_is_lawful steps few = record {
   steps = let count = length-map-range_with_len batch_after 0 steps in omega (arith, few, count);
   batches =
       every-map (λ (batch : Batch). AllByRecursion (IsLawfulBlock plan 10) batch.blocks) batch_after (range_with_len 0 steps)
-      (every_in_row (λ before. AllByRecursion (IsLawfulBlock plan 10) (batch_after before).blocks) 0 steps (λ before low high. batch_is before (omega (arith, few, high))));
+      (each_from (λ before. AllByRecursion (IsLawfulBlock plan 10) (batch_after before).blocks) 0 steps (λ before low high. batch_is before (omega (arith, few, high))));
   texts = texts_in_order texts refl;
 }

@@ -1,26 +1,15 @@
 -- Numbers in a row: which are among them, and what is left of them.
-use Rattle.std.proofs.Common.{◌≡◌, refl, ap, ap₂, sym, ◌∙◌, subst, ℕ, zero, suc, ◌+◌, ◌-◌, ◌<◌, ◌≤◌, ◌==◌, arith, Bool, true, false, cond, not, ◌||◌, List, [], ◌∷◌, ◌++◌, map}
+use Rattle.std.proofs.Common.{◌≡◌, refl, ap, ap₂, sym, ◌∙◌, subst, ℕ, zero, suc, ◌+◌, ◌-◌, ◌<◌, ◌≤◌, arith, Bool, true, false, cond, not, ◌||◌, List, [], ◌∷◌, ◌++◌, map}
 use Rattle.std.specs.Prelude.{filter}
 use Rattle.std.specs.List.{AllByRecursion, range_with_len}
-use Rattle.std.proofs.lemmas.Bool.{false≢true, le-ltb, lt-ltb, eq-eqb, ne_eqb}
+use Rattle.std.proofs.lemmas.Bool.{le-ltb, lt-ltb, ne_eqb}
 use Rattle.std.proofs.lemmas.List.{append-nil}
 use Rattle.std.proofs.lemmas.List.Elements.{filter-append}
 use Rattle.key_lists.specs.Keys.{is_among, IsRising, without}
 use Rattle.key_lists.proofs.Every.{every_weaker, filter_none, filter_same, filter_all}
+use Rattle.key_lists.proofs.Ranges.{range-append, among_range, each_from}
 use Rattle.tick_laws.specs.Checked.{put_key, put_keys}
 use Rattle.tick_laws.proofs.LawfulSources.{rising_range}
-use Rattle.made_run.proofs.Searches.{every_in_row}
-
--- two rows of numbers, one after the other
-pub row-append : (first m n : ℕ) → range_with_len first (m + n) ≡ range_with_len first m ++ range_with_len (first + m) n
-row-append first zero n =
-    let here : first + 0 ≡ first = omega arith in
-    let whole : 0 + n ≡ n = omega arith in
-    ap (range_with_len first) whole ∙ ap (λ k. range_with_len k n) (sym here)
-row-append first (suc m) n =
-    let count : suc m + n ≡ suc (m + n) = omega arith in
-    let next : first + 1 + m ≡ first + suc m = omega arith in
-    ap (range_with_len first) count ∙ ap (λ rest. first ∷ rest) (row-append (first + 1) m n ∙ ap (λ k. range_with_len (first + 1) m ++ range_with_len k n) next)
 
 pub map_plus : (first start count : ℕ) → map (λ i. first + i) (range_with_len start count) ≡ range_with_len (first + start) count
 map_plus first start zero = refl
@@ -28,18 +17,7 @@ map_plus first start (suc count) =
     let next : first + (start + 1) ≡ first + start + 1 = omega arith in
     ap (λ rest. (first + start) ∷ rest) (map_plus first (start + 1) count ∙ ap (λ k. range_with_len k count) next)
 
--- which numbers are among them
-pub among_row : (key first count : ℕ) → first ≤ key → key < first + count → is_among key (range_with_len first count) ≡ true
-among_row key first zero low high = absurd (omega (arith, low, high))
-among_row key first (suc count) low high =
-    (elim (first == key) as (λ b. (first == key) ≡ b → (b || is_among key (range_with_len (first + 1) count)) ≡ true) [
-      | true ↦ λ e. refl
-      | false ↦ λ e. among_row key (first + 1) count (past e) (omega (arith, high))
-    ]) refl
-  where
-    past : (first == key) ≡ false → first + 1 ≤ key
-    past e = let other : (first ≡ key → ⊥) = λ same. false≢true (sym e ∙ eq-eqb first key same) in omega (arith, low, other)
-
+-- which numbers are among a row of them
 pub not_among_row : (key first count : ℕ) → key < first → is_among key (range_with_len first count) ≡ false
 not_among_row key first zero low = refl
 not_among_row key first (suc count) low = ap (λ b. b || is_among key (range_with_len (first + 1) count)) (ne_eqb first key (λ e. omega (arith, low, e))) ∙ not_among_row key (first + 1) count (omega (arith, low))
@@ -51,11 +29,11 @@ among_none_before key first (suc count) high = ap (λ b. b || is_among key (rang
 -- without the first of them, and without none
 pub row_without : (m n : ℕ) → without (range_with_len 0 m) (range_with_len 0 (m + n)) ≡ range_with_len m n
 row_without m n =
-    ap (without (range_with_len 0 m)) (row-append 0 m n)
+    ap (without (range_with_len 0 m)) (range-append 0 m n)
     ∙ filter-append test (range_with_len 0 m) (range_with_len (0 + m) n)
     ∙ ap₂ (λ xs ys. xs ++ ys)
-    (filter_none test (range_with_len 0 m) (every_in_row (λ k. test k ≡ false) 0 m (λ k low high. ap not (among_row k 0 m low high))))
-    (filter_same test (λ _. true) (range_with_len (0 + m) n) (every_in_row (λ k. test k ≡ true) (0 + m) n (λ k low high. ap not (among_none_before k 0 m low)))
+    (filter_none test (range_with_len 0 m) (each_from (λ k. test k ≡ false) 0 m (λ k low high. ap not (among_range k 0 m low high))))
+    (filter_same test (λ _. true) (range_with_len (0 + m) n) (each_from (λ k. test k ≡ true) (0 + m) n (λ k low high. ap not (among_none_before k 0 m low)))
     ∙ filter_all (range_with_len (0 + m) n) ∙ ap (λ k. range_with_len k n) zero_plus)
   where
     test : ℕ → Bool
@@ -82,8 +60,8 @@ put_behind (key ∷ added) keys rise past = ap (put_key key) (put_behind added k
 pub put_row : (m n : ℕ) → put_keys (range_with_len m n) (range_with_len 0 m) ≡ range_with_len 0 (m + n)
 put_row m n =
     put_behind (range_with_len m n) (range_with_len 0 m) (rising_range m n).1
-    (every_in_row (λ key. AllByRecursion (λ k. k < key) (range_with_len 0 m)) m n (λ key low high. every_in_row (λ k. k < key) 0 m (λ k least most. omega (arith, low, most))))
-    ∙ ap (λ k. range_with_len 0 m ++ range_with_len k n) zero_plus ∙ sym (row-append 0 m n)
+    (each_from (λ key. AllByRecursion (λ k. k < key) (range_with_len 0 m)) m n (λ key low high. each_from (λ k. k < key) 0 m (λ k least most. omega (arith, low, most))))
+    ∙ ap (λ k. range_with_len 0 m ++ range_with_len k n) zero_plus ∙ sym (range-append 0 m n)
   where
     zero_plus : m ≡ 0 + m
     zero_plus = omega arith

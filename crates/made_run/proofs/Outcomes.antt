@@ -1,11 +1,12 @@
 -- Every node of a made run's plan has a table, and each published table is within its limit.
-use Rattle.std.proofs.Common.{◌≡◌, refl, ap, sym, ◌∙◌, subst, ℕ, zero, suc, ◌+◌, ◌<◌, ◌≤◌, min, arith, Bool, true, false, cond, List, [], ◌∷◌, ◌++◌, map, take, drop, length, Some, None, ltb, length-append, length-take, pos}
+use Rattle.std.proofs.Common.{◌≡◌, refl, ap, sym, ◌∙◌, subst, ℕ, zero, suc, ◌+◌, ◌<◌, ◌≤◌, min, arith, true, false, cond, List, [], ◌∷◌, ◌++◌, map, take, drop, length, Some, None, ltb, length-append, length-take, pos}
 use Rattle.std.specs.Prelude.{filter, fold}
 use Rattle.std.specs.List.{AllByRecursion}
 use Rattle.std.proofs.lemmas.Bool.{cond-false, le-ltb}
 use Rattle.std.proofs.lemmas.List.{length-map}
+use Rattle.tick_laws.proofs.ResultCells.{length-filter_most}
 use Rattle.key_lists.specs.Keys.{IsRising}
-use Rattle.key_lists.proofs.Every.{every-filter, every-map, every_weaker, filter_all, map_map}
+use Rattle.key_lists.proofs.Every.{every-filter, every-map, every_weaker, map_map}
 use Rattle.key_lists.proofs.Rising.{rising-filter}
 use Rattle.tick_model.specs.declared.plan.Agg.TheVariants.{Count, Sum, Max}
 use Rattle.tick_model.specs.declared.plan.Choice.TheVariants.{Error}
@@ -29,14 +30,8 @@ use Rattle.tick_model.specs.Where.{where_table}
 use Rattle.script_reader.specs.Plain.{mul}
 use Rattle.made_run.specs.Plan.{nodes, plan}
 use Rattle.made_run.specs.Tables.{ref_table}
-use Rattle.made_run.proofs.Groups.{few_groups, no_more}
+use Rattle.made_run.proofs.Groups.{few_groups}
 use Rattle.made_run.proofs.Joined.{IsSector, by_symbol, joined_sector, no_join_fault, sectors}
-
-no_longer : {X : Type 0} (p : X → Bool) (xs : List X) → length (filter p xs) ≤ length xs
-no_longer p xs =
-    let fewer = no_more p (λ _. true) xs (λ x e. refl) in
-    let all = ap length (filter_all xs) in
-    omega (arith, fewer, all)
 
 module _ (trades : PlainTable) where
   abbrev big : PlainTable
@@ -66,7 +61,7 @@ module _ (trades : PlainTable) where
   module _ (few : length trades.rows ≤ 200000) where
     no_merge_fault : merge_fault (trades ∷ big ∷ []) ≡ None
     no_merge_fault =
-        let fewer = no_longer (λ (row : PlainRow). truth (Compare Ge (Cell 2) (Number (pos 50))) row.cells) trades.rows in
+        let fewer = length-filter_most (λ (row : PlainRow). truth (Compare Ge (Cell 2) (Number (pos 50))) row.cells) trades.rows in
         let count : 0 + length trades.rows + length big.rows ≤ 4194304 = omega (arith, few, fewer) in
         cond-false (ltb 4194304 (0 + length trades.rows + length big.rows)) (Some (TooManyRows (0 + length trades.rows + length big.rows))) None
         (le-ltb 4194304 (0 + length trades.rows + length big.rows) count)

@@ -1,5 +1,5 @@
 -- A run is lawful wherever its formulas lie.
-use Rattle.std.proofs.Common.{◌≡◌, refl, ap, sym, ◌∙◌, subst, ℕ, zero, suc, Bool, true, false, List, [], ◌∷◌, map, length}
+use Rattle.std.proofs.Common.{◌≡◌, refl, ap, sym, ◌∙◌, subst, ℕ, zero, suc, List, [], ◌∷◌, map, length}
 use Rattle.std.specs.Prelude.{slice_get, slice_index_or}
 use Rattle.std.specs.List.{AllByRecursion}
 use Rattle.std.specs.Option.{option_map_or}
@@ -9,26 +9,17 @@ use Rattle.tick_model.specs.declared.feed.Block.{Block}
 use Rattle.tick_model.specs.declared.feed.Run.{Run}
 use Rattle.tick_model.specs.declared.plan.ColumnSpec.{ColumnSpec}
 use Rattle.tick_model.specs.declared.plan.Node.{Node}
-use Rattle.tick_model.specs.declared.plan.Op.{Op}
-use Rattle.tick_model.specs.declared.plan.Op.TheVariants.{Source, Keep, View}
 use Rattle.tick_model.specs.declared.plan.Plan.{Plan}
 use Rattle.tick_model.specs.declared.table.PlainTable.{PlainTable}
 use Rattle.tick_model.specs.Evaluation.{is_source}
 use Rattle.tick_model.specs.LawfulRuns.{AreOpenings, IsLawfulBlock, IsLawfulRun, IsSourceRow, is_source_number, sources_of}
 use Rattle.tick_model.specs.Plans.{columns_at}
-use Rattle.script_reader.specs.Plain.{plain_node, plain_op, plain_plan}
+use Rattle.script_reader.specs.Plain.{plain_node, plain_plan}
 use Rattle.feed_reader.specs.Assembled.{plain_run}
 use Rattle.feed_reader.proofs.PlainLemmas.{is_lawful_plain, plan_numbers_plain, plan_ranks_plain}
+use Rattle.feed_reader.proofs.PlainFeeds.{source_plain}
 
-source_plain : (node : Node) → is_source (plain_node node) ≡ is_source node
-source_plain node = of node.op
-  where
-    of : (op : Op) → elim (plain_op op) as (λ _. Bool) [ Source ↦ true | _ ↦ false ] ≡ elim op as (λ _. Bool) [ Source ↦ true | _ ↦ false ]
-    of (Keep input test) = refl
-    of (View input exprs) = refl
-    of op = refl
-
-sources_plain : (nodes : List Node) → sources_of (map plain_node nodes) ≡ map plain_node (sources_of nodes)
+pub sources_plain : (nodes : List Node) → sources_of (map plain_node nodes) ≡ map plain_node (sources_of nodes)
 sources_plain nodes =
     filter-map is_source plain_node nodes
     ∙ ap (map plain_node) (filter_same (λ node. is_source (plain_node node)) is_source nodes (every (λ node. is_source (plain_node node) ≡ is_source node) nodes source_plain))

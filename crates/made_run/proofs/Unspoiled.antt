@@ -5,6 +5,8 @@ use Rattle.std.specs.List.{range_with_len}
 use Rattle.std.specs.Option.{option_or}
 use Rattle.std.proofs.lemmas.List.{length-map}
 use Rattle.std.proofs.lemmas.List.FromFn.{length-map-range_with_len, length-range_with_len}
+use Rattle.key_lists.proofs.Every.{find_none}
+use Rattle.key_lists.proofs.Ranges.{each_from}
 use Rattle.tick_model.specs.declared.table.PlainRow.{PlainRow}
 use Rattle.tick_model.specs.declared.table.PlainTable.{PlainTable}
 use Rattle.tick_model.specs.Evaluation.{eval, table_at}
@@ -22,7 +24,7 @@ use Rattle.made_run.specs.Tables.{ref_table}
 use Rattle.made_run.proofs.Lawful.{made_is_lawful}
 use Rattle.made_run.proofs.Outcomes.{no_node_fault, no_publication_fault, outcomes, outcomes_are}
 use Rattle.made_run.proofs.Rows.{rows_are_few}
-use Rattle.made_run.proofs.Searches.{every_in_row, find_none, mapped_none, or_none}
+use Rattle.made_run.proofs.Searches.{mapped_none, or_none}
 use Rattle.made_run.proofs.Trades.{no_batch_fault, sources_made, trades, trades_keys}
 
 module _ (steps : ℕ) (few : steps ≤ 10000) where
@@ -59,4 +61,4 @@ module _ (steps : ℕ) (few : steps ≤ 10000) where
   none_is_spoiled =
       let count = length-map-range_with_len batch_after 0 steps in
       find_none (λ step. is_some (spoiled_by (made steps) step)) (range_with_len 0 (length (made steps).batches + 1))
-      (every_in_row (λ step. is_some (spoiled_by (made steps) step) ≡ false) 0 (length (made steps).batches + 1) (λ step low high. ap is_some (not_spoiled step (omega (arith, count, high)))))
+      (each_from (λ step. is_some (spoiled_by (made steps) step) ≡ false) 0 (length (made steps).batches + 1) (λ step low high. ap is_some (not_spoiled step (omega (arith, count, high)))))

@@ -1,11 +1,12 @@
 -- Numbers of several inputs, each input's in a region of its own.
-use Rattle.std.proofs.Common.{◌≡◌, refl, ap, ap₂, sym, ◌∙◌, Bool, true, false, not, ◌||◌, ℕ, ◌+◌, ◌<◌, ◌≤◌, ◌==◌, arith, List, [], ◌∷◌, ◌++◌, map, filter}
+use Rattle.std.proofs.Common.{◌≡◌, refl, ap, ap₂, sym, ◌∙◌, true, false, not, ◌||◌, ℕ, ◌+◌, ◌<◌, ◌≤◌, ◌==◌, arith, List, [], ◌∷◌, ◌++◌, map, filter}
 use Rattle.std.specs.List.{AllByRecursion}
 use Rattle.std.proofs.lemmas.Bool.{eqb-true, eqb-false, eq-eqb, ne_eqb}
 use Rattle.std.proofs.lemmas.List.Elements.{filter-append}
 use Rattle.key_lists.specs.Keys.{is_among, without}
-use Rattle.key_lists.proofs.Among.{among-append, among_below}
+use Rattle.key_lists.proofs.Among.{among-append, among_below, among_above}
 use Rattle.key_lists.proofs.Every.{every, every_both, every_weaker, every-append, every-map, filter-map, filter_same}
+use Rattle.key_lists.proofs.Booleans.{or_false}
 use Rattle.tick_table.specs.Ticking.{Ticking}
 use Rattle.merge_op.specs.Regions.{in_regions}
 
@@ -22,20 +23,12 @@ among_plus from key [] = refl
 among_plus from key (x ∷ xs) = ap₂ (λ a b. a || b) (same_plus from x key) (among_plus from key xs)
 
 -- a key above others, or below them, is none of them
-pub among_over : (key : ℕ) (xs : List ℕ) → AllByRecursion (λ x. x < key) xs → is_among key xs ≡ false
-among_over key [] h = refl
-among_over key (x ∷ xs) h = ap₂ (λ a b. a || b) (ne_eqb x key (λ same. absurd (let less : x < x = omega (arith, same, h.0) in omega (arith, less)))) (among_over key xs h.1)
-
 pub among_under : (bound key : ℕ) (xs : List ℕ) → AllByRecursion (λ x. bound ≤ x) xs → key < bound → is_among key xs ≡ false
 among_under bound key xs h below = among_below key xs (every_weaker (λ x. bound ≤ x) (λ x. key < x) xs (λ x past. let above : key < x = omega (arith, past, below) in above) h)
 
 -- what holds of the first numbers where they are moved on
 pub all_plus : (from room : ℕ) (xs : List ℕ) → AllByRecursion (λ k. k < room) xs → AllByRecursion (λ k. k < from + room) (map (λ k. k + from) xs)
 all_plus from room xs h = every-map (λ k. k < from + room) (λ k. k + from) xs (every_weaker (λ k. k < room) (λ k. k + from < from + room) xs (λ k less. omega (arith, less)) h)
-
-or_none : (b : Bool) → (b || false) ≡ b
-or_none true = refl
-or_none false = refl
 
 module _ (room : Ticking → ℕ) where
   -- the numbers are below each input's room
@@ -54,14 +47,14 @@ module _ (room : Ticking → ℕ) where
   among_first part from key t ts below =
       among-append (key + from) (map (λ k. k + from) (part t)) (in_regions part room (from + room t) ts)
       ∙ ap₂ (λ a b. a || b) (among_plus from key (part t)) (among_under (from + room t) (key + from) (in_regions part room (from + room t) ts) (regions_above part (from + room t) ts) (let less : key + from < from + room t = omega (arith, below) in less))
-      ∙ or_none (is_among key (part t))
+      ∙ or_false (is_among key (part t))
 
   -- and one of another input where it is one in the other regions
   pub among_others : (part : Ticking → List ℕ) (from key : ℕ) (t : Ticking) (ts : List Ticking) → AllByRecursion (λ k. k < room t) (part t) → from + room t ≤ key → is_among key (in_regions part room from (t ∷ ts)) ≡ is_among key (in_regions part room (from + room t) ts)
   among_others part from key t ts below past =
       among-append key (map (λ k. k + from) (part t)) (in_regions part room (from + room t) ts)
       ∙ ap (λ b. b || is_among key (in_regions part room (from + room t) ts))
-      (among_over key (map (λ k. k + from) (part t)) (every_weaker (λ k. k < from + room t) (λ k. k < key) (map (λ k. k + from) (part t)) (λ k less. omega (arith, less, past)) (all_plus from (room t) (part t) below)))
+      (among_above key (map (λ k. k + from) (part t)) (every_weaker (λ k. k < from + room t) (λ k. k < key) (map (λ k. k + from) (part t)) (λ k less. omega (arith, less, past)) (all_plus from (room t) (part t) below)))
 
   -- what is left out of each is left out of all
   pub regions_without : (all some : Ticking → List ℕ) (from : ℕ) (ts : List Ticking) → AreBelow all ts → AreBelow some ts → without (in_regions some room from ts) (in_regions all room from ts) ≡ in_regions (λ t. without (some t) (all t)) room from ts

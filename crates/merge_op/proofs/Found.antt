@@ -3,6 +3,7 @@ use Rattle.std.proofs.Common.{◌≡◌, refl, ap, sym, ◌∙◌, subst, true, 
 use Rattle.key_lists.specs.Keys.{is_among}
 use Rattle.key_lists.proofs.Among.{of_among}
 use Rattle.tick_laws.proofs.Merged.{below_region}
+use Rattle.tick_laws.proofs.PrintedChanges.{table_keys}
 use Rattle.tick_model.specs.Merge.{merged_rows}
 use Rattle.tick_model.specs.Tables.{cells_at, keys}
 use Rattle.tick_model.specs.Updates.{IsTick}
@@ -11,7 +12,6 @@ use Rattle.tick_table.specs.Ticking.{Ticking}
 use Rattle.merge_op.specs.Merged.{merged, news, olds}
 use Rattle.merge_op.specs.Regions.{in_regions, room_before, room_now}
 use Rattle.merge_op.proofs.Apart.{among_first, among_others}
-use Rattle.merge_op.proofs.Going.{small_keys}
 use Rattle.merge_op.proofs.Looked.{cells_behind, cells_first}
 use Rattle.merge_op.proofs.Ticked.{keys-news, keys-olds, keys_before, keys_now}
 
@@ -25,7 +25,7 @@ pub record IsAheadBefore (ts rest : List Ticking) (from key : ℕ) : Type 0 wher
 pub ahead_before : (ts : List Ticking) (key : ℕ) → IsTick (merged ts) → is_among key (keys (merged ts).old.rows) ≡ true → IsAheadBefore ts ts 0 key
 ahead_before ts key tick own = record {
   past = omega arith;
-  small = of_among (λ key. key < 2 ^ 62) key (keys (merged ts).old.rows) (small_keys (merged ts).old tick.old_table) own;
+  small = of_among (λ key. key < 2 ^ 62) key (keys (merged ts).old.rows) (table_keys (merged ts).old tick.old_table) own;
   here = ap (is_among key) (sym (keys-olds 0 ts)) ∙ own;
   cells = refl;
 }
@@ -63,7 +63,7 @@ pub record IsAheadNow (ts rest : List Ticking) (from key : ℕ) : Type 0 where
 pub ahead_now : (ts : List Ticking) (key : ℕ) → IsTick (merged ts) → is_among key (keys (merged ts).new.rows) ≡ true → IsAheadNow ts ts 0 key
 ahead_now ts key tick own = record {
   past = omega arith;
-  small = of_among (λ key. key < 2 ^ 62) key (keys (merged ts).new.rows) (small_keys (merged ts).new tick.new_table) own;
+  small = of_among (λ key. key < 2 ^ 62) key (keys (merged ts).new.rows) (table_keys (merged ts).new tick.new_table) own;
   here = ap (is_among key) (sym (keys-news 0 ts)) ∙ own;
   cells = refl;
 }

@@ -9,13 +9,12 @@ use Rattle.std.proofs.lemmas.List.Sums.{sum_by-cons}
 use Rattle.key_lists.specs.Keys.{is_among, without}
 use Rattle.key_lists.proofs.Among.{each_among, of_among}
 use Rattle.key_lists.proofs.Every.{every_both, every_unmapped, every_weaker, every-append, every-filter, every-map}
+use Rattle.key_lists.proofs.Parts.{every_back}
 use Rattle.shown_rows.proofs.Restricted.{is_modified, modified_new}
-use Rattle.tick_model.specs.declared.table.PlainRow.{PlainRow}
-use Rattle.tick_model.specs.declared.table.PlainTable.{PlainTable}
 use Rattle.tick_model.specs.declared.update.KeyPair.{KeyPair}
 use Rattle.tick_model.specs.declared.update.ShiftRange.{ShiftRange}
 use Rattle.tick_model.specs.Shifts.{delta_at}
-use Rattle.tick_model.specs.Tables.{IsRow, IsTable, keys}
+use Rattle.tick_model.specs.Tables.{keys}
 use Rattle.tick_model.specs.Updates.{IsTick, Update, new_keys, old_keys}
 use Rattle.tick_table.specs.Exact.{IsExact}
 use Rattle.tick_table.specs.Ticking.{Ticking}
@@ -28,6 +27,7 @@ use Rattle.merge_op.proofs.Paired.{modified_before, modified_now}
 use Rattle.merge_op.proofs.Ranged.{delta_behind}
 use Rattle.merge_op.proofs.Ticked.{below_kept_before, keys-news, keys-olds, keys_before, keys_now, kept_of}
 use Rattle.tick_laws.proofs.Merged.{below_region}
+use Rattle.tick_laws.proofs.PrintedChanges.{table_keys}
 
 abbrev pub removed_of : Ticking → List ℕ
 removed_of t = t.update.removed
@@ -51,9 +51,6 @@ pub record IsGathered (ts rest : List Ticking) (o n : ℕ) (removed added before
   pub small_before : AllByRecursion (λ key. key < 2 ^ 62) (in_regions keys_before room_before o rest)
   pub small_now : AllByRecursion (λ key. key < 2 ^ 62) (in_regions keys_now room_now n rest)
 
-pub small_keys : (table : PlainTable) → IsTable table → AllByRecursion (λ key. key < 2 ^ 62) (keys table.rows)
-small_keys table t = every-map (λ key. key < 2 ^ 62) (λ (row : PlainRow). row.key) table.rows (every_weaker (IsRow table.width) (λ row. row.key < 2 ^ 62) table.rows (λ row is. is.key) t.rows)
-
 pub gathered_none : (ts : List Ticking) → IsTick (merged ts) → AllByRecursion IsStart (starts_of 0 0 ts) → IsGathered ts ts 0 0 [] [] [] [] []
 gathered_none ts tick starts = record {
   removed_is = refl;
@@ -68,8 +65,8 @@ gathered_none ts tick starts = record {
   agrees = λ key less. absurd (omega (arith, less));
   others = λ key past. refl;
   starts = starts;
-  small_before = subst (AllByRecursion (λ key. key < 2 ^ 62)) (keys-olds 0 ts) (small_keys (merged ts).old tick.old_table);
-  small_now = subst (AllByRecursion (λ key. key < 2 ^ 62)) (keys-news 0 ts) (small_keys (merged ts).new tick.new_table);
+  small_before = subst (AllByRecursion (λ key. key < 2 ^ 62)) (keys-olds 0 ts) (table_keys (merged ts).old tick.old_table);
+  small_now = subst (AllByRecursion (λ key. key < 2 ^ 62)) (keys-news 0 ts) (table_keys (merged ts).new tick.new_table);
 }
 
 -- the rows that an exact input touches are below the ends of its regions
@@ -130,14 +127,6 @@ behind_below from room so_far more new h k new_is =
     subst (AllByRecursion (λ key. key < from + room)) (sym new_is)
     (every-append (λ key. key < from + room) so_far (map (λ key. key + from) more) (every_weaker (λ key. key < from) (λ key. key < from + room) so_far (λ key less. omega (arith, less)) h) (all_plus from room more k))
 
-pub back_part : (P : ℕ → Type 0) (xs ys : List ℕ) → AllByRecursion P (xs ++ ys) → AllByRecursion P ys
-back_part P [] ys h = h
-back_part P (x ∷ xs) ys h = back_part P xs ys h.1
-
-pub front_part : (P : ℕ → Type 0) (xs ys : List ℕ) → AllByRecursion P (xs ++ ys) → AllByRecursion P xs
-front_part P [] ys h = tt
-front_part P (x ∷ xs) ys h = (h.0, front_part P xs ys h.1)
-
 pub gathered_next : (ts rest : List Ticking) (t : Ticking) (o n : ℕ) (removed added before now removed' added' before' now' : List ℕ) (shift shift' : List ShiftRange) → IsExact t → IsGathered ts (t ∷ rest) o n removed added before now shift
     → removed' ≡ removed ++ map (λ key. key + o) (removed_of t) → added' ≡ added ++ map (λ key. key + n) (added_of t)
     → before' ≡ before ++ map (λ key. key + o) (modified_before t) → now' ≡ now ++ map (λ key. key + n) (modified_now t)
@@ -165,8 +154,8 @@ gathered_next ts rest t o n removed added before now removed' added' before' now
       ];
   others = λ key past. h.others key (omega (arith, past)) ∙ move_others o n t rest key past;
   starts = h.starts.1;
-  small_before = back_part (λ key. key < 2 ^ 62) (map (λ key. key + o) (keys_before t)) (in_regions keys_before room_before (o + room_before t) rest) h.small_before;
-  small_now = back_part (λ key. key < 2 ^ 62) (map (λ key. key + n) (keys_now t)) (in_regions keys_now room_now (n + room_now t) rest) h.small_now;
+  small_before = every_back (λ key. key < 2 ^ 62) (map (λ key. key + o) (keys_before t)) (in_regions keys_before room_before (o + room_before t) rest) h.small_before;
+  small_now = every_back (λ key. key < 2 ^ 62) (map (λ key. key + n) (keys_now t)) (in_regions keys_now room_now (n + room_now t) rest) h.small_now;
 }
 
 -- a row that stays moves by a step
@@ -186,8 +175,8 @@ all_agree ts o n removed added before now shift e tick h =
           ∙ sym (h.others pair.old past)
     ])
     (every_both (λ (pair : KeyPair). pair.old < 2 ^ 62) (λ (pair : KeyPair). pair.new < 2 ^ 62) (λ (pair : KeyPair). (pair.old < 2 ^ 62) × (pair.new < 2 ^ 62)) (merged ts).kept (λ pair a b. (a, b))
-    (every_unmapped (λ key. key < 2 ^ 62) (λ (pair : KeyPair). pair.old) (merged ts).kept (among_small (keys (merged ts).old.rows) (old_keys (merged ts).kept) (small_keys (merged ts).old tick.old_table) tick.of_old))
-    (every_unmapped (λ key. key < 2 ^ 62) (λ (pair : KeyPair). pair.new) (merged ts).kept (among_small (keys (merged ts).new.rows) (new_keys (merged ts).kept) (small_keys (merged ts).new tick.new_table) tick.of_new)))
+    (every_unmapped (λ key. key < 2 ^ 62) (λ (pair : KeyPair). pair.old) (merged ts).kept (among_small (keys (merged ts).old.rows) (old_keys (merged ts).kept) (table_keys (merged ts).old tick.old_table) tick.of_old))
+    (every_unmapped (λ key. key < 2 ^ 62) (λ (pair : KeyPair). pair.new) (merged ts).kept (among_small (keys (merged ts).new.rows) (new_keys (merged ts).kept) (table_keys (merged ts).new tick.new_table) tick.of_new)))
     (moves_are 0 0 ts e (below_kept_before ts e)))
   where
     among_small : (all some : List ℕ) → AllByRecursion (λ k. k < 2 ^ 62) all → AllByRecursion (λ k. is_among k all ≡ true) some → AllByRecursion (λ k. k < 2 ^ 62) some

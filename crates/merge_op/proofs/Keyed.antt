@@ -1,10 +1,11 @@
 -- Keys that are put behind others, range by range.
-use Rattle.std.proofs.Common.{◌≡◌, refl, ap, ap₂, sym, ◌∙◌, subst, ℕ, zero, suc, ◌+◌, ◌-◌, ◌<◌, ◌≤◌, ◌^◌, arith, List, [], ◌∷◌, ◌++◌, map, append_assoc}
+use Rattle.std.proofs.Common.{◌≡◌, refl, ap, ap₂, sym, ◌∙◌, subst, ℕ, zero, suc, ◌+◌, ◌-◌, ◌<◌, ◌≤◌, ◌^◌, arith, List, ◌∷◌, ◌++◌, map, append_assoc}
 use Rattle.std.specs.List.{AllByRecursion, range_with_len}
 use Rattle.std.proofs.lemmas.List.{append-nil, map-append}
 use Rattle.key_lists.specs.Keys.{IsRising}
 use Rattle.key_lists.proofs.Every.{every, every_unmapped, every-map}
 use Rattle.key_lists.proofs.Rising.{rising-append, rising-plus}
+use Rattle.key_lists.proofs.Parts.{every_back, every_front}
 use Rattle.row_set.specs.declared.ranges.Range.{Range}
 use Rattle.row_set.specs.Ranges.{keys_from, keys_in, keys_of}
 use Rattle.row_set.specs.Sets.{united}
@@ -38,22 +39,14 @@ last_in : (P : ℕ → Type 0) (first count : ℕ) → AllByRecursion P (range_w
 last_in P first zero h = subst P (let same : first ≡ first + 0 = omega arith in same) h.0
 last_in P first (suc count) h = subst P (let same : first + 1 + count ≡ first + suc count = omega arith in same) (last_in P (first + 1) count h.1)
 
-first_of : (P : ℕ → Type 0) (xs ys : List ℕ) → AllByRecursion P (xs ++ ys) → AllByRecursion P xs
-first_of P [] ys h = tt
-first_of P (x ∷ xs) ys h = (h.0, first_of P xs ys h.1)
-
-rest_of : (P : ℕ → Type 0) (xs ys : List ℕ) → AllByRecursion P (xs ++ ys) → AllByRecursion P ys
-rest_of P [] ys h = h
-rest_of P (x ∷ xs) ys h = rest_of P xs ys h.1
-
 pub last_small : (P : ℕ → Type 0) (range : Range) (rest : List Range) → range.first ≤ range.last → AllByRecursion P (keys_of (range ∷ rest)) → P range.last
 last_small P range rest order h =
     subst P (let same : range.first + (range.last - range.first) ≡ range.last = omega (arith, order) in same)
     (last_in P range.first (range.last - range.first)
-    (subst (λ n. AllByRecursion P (range_with_len range.first n)) (let same : range.last + 1 - range.first ≡ suc (range.last - range.first) = omega (arith, order) in same) (first_of P (keys_in range) (keys_of rest) h)))
+    (subst (λ n. AllByRecursion P (range_with_len range.first n)) (let same : range.last + 1 - range.first ≡ suc (range.last - range.first) = omega (arith, order) in same) (every_front P (keys_in range) (keys_of rest) h)))
 
 pub rest_small : (P : ℕ → Type 0) (range : Range) (rest : List Range) → AllByRecursion P (keys_of (range ∷ rest)) → AllByRecursion P (keys_of rest)
-rest_small P range rest h = rest_of P (keys_in range) (keys_of rest) h
+rest_small P range rest h = every_back P (keys_in range) (keys_of rest) h
 
 -- what has been put, where some ranges are still to come
 pub record IsPut (offset : ℕ) (rest : List Range) (whole all : List ℕ) : Type 0 where

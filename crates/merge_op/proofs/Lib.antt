@@ -1,6 +1,5 @@
 pub mod Apart
 pub mod Found
-pub mod Fresh
 pub mod Gathering
 pub mod Going
 pub mod Keyed

@@ -1,9 +1,10 @@
 -- Ranges of a shift that are put one behind the other.
-use Rattle.std.proofs.Common.{◌≡◌, refl, ap, ap₂, sym, ◌∙◌, subst, Bool, true, false, cond, ◌&&◌, ℕ, zero, suc, ◌+◌, ◌-◌, ◌<◌, ◌≤◌, ◌^◌, arith, min, leb, le-leb, inl, inr, List, [], ◌∷◌, ◌++◌, Option, Some, None, find, ℤ, pos, ◌+ℤ◌, length, get_or}
+use Rattle.std.proofs.Common.{◌≡◌, refl, ap, ap₂, sym, ◌∙◌, subst, Bool, true, false, cond, ◌&&◌, ℕ, zero, suc, ◌+◌, ◌-◌, ◌<◌, ◌≤◌, ◌^◌, arith, min, le-leb, inl, inr, List, [], ◌∷◌, ◌++◌, Option, Some, None, find, ℤ, pos, ◌+ℤ◌, length, get_or}
 use Rattle.std.specs.Prelude.{option_map, unwrap_or}
 use Rattle.std.specs.List.{AllByRecursion}
-use Rattle.std.proofs.lemmas.Bool.{cases_lt, lt-leb}
+use Rattle.std.proofs.lemmas.Bool.{cases_lt}
 use Rattle.std.proofs.lemmas.Int.{ints}
+use Rattle.tick_laws.proofs.Moves.{not_before, not_after, delta_other}
 use Rattle.key_lists.proofs.Every.{every_weaker}
 use Rattle.tick_model.specs.declared.update.ShiftRange.{ShiftRange}
 use Rattle.tick_model.specs.Printable.{IsShift}
@@ -13,38 +14,21 @@ use Rattle.merge_op.specs.Steps.{IsStep}
 abbrev under : Bool → ShiftRange → List ShiftRange → ℕ → ℤ
 under here range ranges key = unwrap_or (option_map (λ (range : ShiftRange). range.delta) (cond here (Some range) (find (λ range. holds range key) ranges))) (pos 0)
 
-and_left : (a b : Bool) → a ≡ false → (a && b) ≡ false
-and_left a b e = ap (λ a. a && b) e
-
-and_right : (a b : Bool) → b ≡ false → (a && b) ≡ false
-and_right true b e = e
-and_right false b e = refl
-
--- a range that does not hold a key leaves what the others say
-pub delta_other : (range : ShiftRange) (ranges : List ShiftRange) (key : ℕ) → holds range key ≡ false → delta_at (range ∷ ranges) key ≡ delta_at ranges key
-delta_other range ranges key h = ap (λ b. under b range ranges key) h
-
 pub delta_here : (range : ShiftRange) (ranges : List ShiftRange) (key : ℕ) → range.begin ≤ key → key ≤ range.end → delta_at (range ∷ ranges) key ≡ range.delta
 delta_here range ranges key h k = ap (λ b. under b range ranges key) (ap₂ (λ a b. a && b) (le-leb range.begin key h) (le-leb key range.end k))
-
-not_yet : (range : ShiftRange) (key : ℕ) → key < range.begin → holds range key ≡ false
-not_yet range key h = and_left (leb range.begin key) (leb key range.end) (lt-leb range.begin key h)
-
-not_more : (range : ShiftRange) (key : ℕ) → range.end < key → holds range key ≡ false
-not_more range key h = and_right (leb range.begin key) (leb key range.end) (lt-leb key range.end h)
 
 -- keys before all ranges, or behind them, stay
 pub delta_before : (ranges : List ShiftRange) (key : ℕ) → AllByRecursion (λ range. key < range.begin) ranges → delta_at ranges key ≡ pos 0
 delta_before [] key h = refl
-delta_before (range ∷ ranges) key h = delta_other range ranges key (not_yet range key h.0) ∙ delta_before ranges key h.1
+delta_before (range ∷ ranges) key h = delta_other range ranges key (not_before range key h.0) ∙ delta_before ranges key h.1
 
 pub delta_behind : (ranges : List ShiftRange) (key : ℕ) → AllByRecursion (λ range. range.end < key) ranges → delta_at ranges key ≡ pos 0
 delta_behind [] key h = refl
-delta_behind (range ∷ ranges) key h = delta_other range ranges key (not_more range key h.0) ∙ delta_behind ranges key h.1
+delta_behind (range ∷ ranges) key h = delta_other range ranges key (not_after range key h.0) ∙ delta_behind ranges key h.1
 
 -- a range behind the others says nothing of the keys before it, and all of its own
 pub delta_last_other : (ranges : List ShiftRange) (range : ShiftRange) (key : ℕ) → key < range.begin → delta_at (ranges ++ range ∷ []) key ≡ delta_at ranges key
-delta_last_other [] range key h = delta_other range [] key (not_yet range key h)
+delta_last_other [] range key h = delta_other range [] key (not_before range key h)
 delta_last_other (first ∷ ranges) range key h = by_first (holds first key) (delta_last_other ranges range key h)
   where
     by_first : (b : Bool) → delta_at (ranges ++ range ∷ []) key ≡ delta_at ranges key → under b first (ranges ++ range ∷ []) key ≡ under b first ranges key
@@ -54,7 +38,7 @@ delta_last_other (first ∷ ranges) range key h = by_first (holds first key) (de
 pub delta_last : (ranges : List ShiftRange) (range : ShiftRange) (key : ℕ) → AllByRecursion (λ other. other.end < range.begin) ranges → range.begin ≤ key → key ≤ range.end → delta_at (ranges ++ range ∷ []) key ≡ range.delta
 delta_last [] range key h from to = delta_here range [] key from to
 delta_last (first ∷ ranges) range key h from to =
-    delta_other first (ranges ++ range ∷ []) key (not_more first key (let past : first.end < key = omega (arith, h.0, from) in past)) ∙ delta_last ranges range key h.1 from to
+    delta_other first (ranges ++ range ∷ []) key (not_after first key (let past : first.end < key = omega (arith, h.0, from) in past)) ∙ delta_last ranges range key h.1 from to
 
 -- the ranges of an input begin one behind the other
 abbrev pub Ascend : List ShiftRange → Type 0
@@ -128,7 +112,7 @@ put_own input rest old shift new range start end from to by h from_is to_is puts
   ascend = h.ascend.1.1;
   passed = λ key past less.
       let behind : range.end < key - start = omega (arith, past, less, to_is) in
-      h.passed key (omega (arith, past, from_is, to_is, h.ascend.0)) less ∙ delta_other range rest (key - start) (not_more range (key - start) behind);
+      h.passed key (omega (arith, past, from_is, to_is, h.ascend.0)) less ∙ delta_other range rest (key - start) (not_after range (key - start) behind);
   earlier = λ key less. puts.earlier key (let before : key < from = omega (arith, less, h.after) in before) ∙ h.earlier key less;
   moved = λ key past less small step.
       elim (cases_lt key from) [

@@ -2,13 +2,14 @@
 use Rattle.std.proofs.Common.{◌≡◌, subst, ℕ, ◌+◌, ◌*◌, ◌/◌, ◌<◌, ◌≤◌, ◌^◌, arith, List, [], ◌∷◌, map, length}
 use Rattle.std.specs.Prelude.{fold}
 use Rattle.std.specs.List.{AllByRecursion}
+use Rattle.key_lists.proofs.Parts.{every_back, every_front}
 use Rattle.tick_model.specs.declared.table.PlainRow.{PlainRow}
 use Rattle.tick_model.specs.Merge.{last_key}
 use Rattle.tick_model.specs.Tables.{keys}
 use Rattle.tick_table.specs.Ticking.{Ticking}
 use Rattle.merge_op.specs.Merged.{merged}
 use Rattle.merge_op.specs.Regions.{IsStart, in_regions, room_before, room_now, starts_of}
-use Rattle.merge_op.proofs.Going.{back_part, front_part, small_plus}
+use Rattle.merge_op.proofs.Going.{small_plus}
 use Rattle.merge_op.proofs.Ticked.{keys-news, keys-olds, keys_before, keys_now}
 
 last_holds : (P : ℕ → Type 0) (key : ℕ) (rows : List PlainRow) → P key → AllByRecursion P (keys rows) → P (fold (λ _ row. row.key) key rows)
@@ -28,10 +29,10 @@ starts_from o n room [] few a b small_before small_now = tt
 starts_from o n room (t ∷ ts) few a b small_before small_now = (
   record { before = omega (arith, few, a); now = omega (arith, few, b) },
   starts_from (o + room_before t) (n + room_now t) (room + 65536) ts (omega (arith, few))
-      (room_end t.old.rows o room (small_plus o (keys_before t) (front_part (λ key. key < 2 ^ 62) (map (λ key. key + o) (keys_before t)) (in_regions keys_before room_before (o + room_before t) ts) small_before)) a)
-      (room_end t.new.rows n room (small_plus n (keys_now t) (front_part (λ key. key < 2 ^ 62) (map (λ key. key + n) (keys_now t)) (in_regions keys_now room_now (n + room_now t) ts) small_now)) b)
-      (back_part (λ key. key < 2 ^ 62) (map (λ key. key + o) (keys_before t)) (in_regions keys_before room_before (o + room_before t) ts) small_before)
-      (back_part (λ key. key < 2 ^ 62) (map (λ key. key + n) (keys_now t)) (in_regions keys_now room_now (n + room_now t) ts) small_now),
+      (room_end t.old.rows o room (small_plus o (keys_before t) (every_front (λ key. key < 2 ^ 62) (map (λ key. key + o) (keys_before t)) (in_regions keys_before room_before (o + room_before t) ts) small_before)) a)
+      (room_end t.new.rows n room (small_plus n (keys_now t) (every_front (λ key. key < 2 ^ 62) (map (λ key. key + n) (keys_now t)) (in_regions keys_now room_now (n + room_now t) ts) small_now)) b)
+      (every_back (λ key. key < 2 ^ 62) (map (λ key. key + o) (keys_before t)) (in_regions keys_before room_before (o + room_before t) ts) small_before)
+      (every_back (λ key. key < 2 ^ 62) (map (λ key. key + n) (keys_now t)) (in_regions keys_now room_now (n + room_now t) ts) small_now),
 )
 
 pub starts_are : (ts : List Ticking) → length ts ≤ 16 → AllByRecursion (λ key. key < 2 ^ 62) (keys (merged ts).old.rows) → AllByRecursion (λ key. key < 2 ^ 62) (keys (merged ts).new.rows) → AllByRecursion IsStart (starts_of 0 0 ts)

@@ -4,7 +4,7 @@ use Rattle.std.specs.List.{AllByRecursion}
 use Rattle.std.proofs.lemmas.List.{map-append}
 use Rattle.key_lists.specs.Keys.{is_among, IsRising, without}
 use Rattle.key_lists.proofs.Among.{each_among, of_among}
-use Rattle.key_lists.proofs.Every.{every_both, every_weaker, every-append, every-map, every_unmapped, map_map}
+use Rattle.key_lists.proofs.Every.{every_both, every_weaker, every-append, every-map, map_map}
 use Rattle.tick_model.specs.declared.table.PlainRow.{PlainRow}
 use Rattle.tick_model.specs.declared.table.PlainTable.{PlainTable}
 use Rattle.tick_model.specs.declared.update.KeyPair.{KeyPair}
@@ -12,6 +12,7 @@ use Rattle.tick_model.specs.Merge.{merge_pairs, merged_pairs, merged_rows, pair_
 use Rattle.tick_model.specs.Tables.{IsRow, IsTable, keys}
 use Rattle.tick_model.specs.Updates.{IsTick, Tick, Update, between, new_keys, old_keys, pairs}
 use Rattle.tick_laws.proofs.Merged.{IsPart, apart, apart_among, apart_rising, below_region, whole_part}
+use Rattle.tick_laws.proofs.ResultTables.{rows_of}
 use Rattle.tick_table.specs.Exact.{IsExact, tick_of}
 use Rattle.tick_table.specs.Ticking.{Ticking}
 use Rattle.merge_op.specs.Merged.{merged, news, olds}
@@ -103,10 +104,6 @@ rows_whole width from (table ∷ tables) t w =
     (every-map (λ row. length row.cells ≡ width) (row_from from) table.rows (every_weaker (IsRow table.width) (λ row. length row.cells ≡ width) table.rows (λ row is. is.whole ∙ w.0) t.0.rows))
     (rows_whole width (from + region table) tables t.1 w.1)
 
-rows_are : (width : ℕ) (rows : List PlainRow) → AllByRecursion (λ key. key < 2 ^ 62) (keys rows) → AllByRecursion (λ row. length row.cells ≡ width) rows → AllByRecursion (IsRow width) rows
-rows_are width rows small whole =
-    every_both (λ row. row.key < 2 ^ 62) (λ row. length row.cells ≡ width) (IsRow width) rows (λ row k w. record { key = k; whole = w }) (every_unmapped (λ key. key < 2 ^ 62) (λ (row : PlainRow). row.key) rows small) whole
-
 first_width : (width : ℕ) (tables : List PlainTable) → AllByRecursion (λ table. table.width ≡ width) tables → AllByRecursion (λ table. table.width ≡ width_of tables) tables
 first_width width [] h = tt
 first_width width (table ∷ tables) h = (refl, every_weaker (λ other. other.width ≡ width) (λ other. other.width ≡ table.width) tables (λ other same. same ∙ sym h.0) h.1)
@@ -148,17 +145,14 @@ module _ (width : ℕ) (ts : List Ticking) (e : AllByRecursion IsExact ts) (w : 
   tables_now : AllByRecursion IsTable (news ts)
   tables_now = every-map IsTable (λ t. t.new) ts (each_exact (λ t. IsTable t.new) ts (λ t x. x.tick.new_table) e)
 
-  pub width_is : (t : Ticking) (others : List Ticking) → ts ≡ t ∷ others → (merged ts).new.width ≡ width
-  width_is t others is = ap (λ ts. width_of (news ts)) is ∙ (subst (AllByRecursion (λ t. t.new.width ≡ width)) is w).0
-
   whole : (side : Ticking → PlainTable) → AllByRecursion IsTable (map side ts) → AllByRecursion (λ t. (side t).width ≡ width) ts → AllByRecursion (λ row. length row.cells ≡ width_of (map side ts)) (merged_rows 0 (map side ts))
   whole side tables wide = rows_whole (width_of (map side ts)) 0 (map side ts) tables (first_width width (map side ts) (every-map (λ table. table.width ≡ width) side ts wide))
 
   -- where all merged keys are keys, the tick of the merge is one
   pub merged_is_tick : AllByRecursion (λ key. key < 2 ^ 62) (keys (merged ts).old.rows) → AllByRecursion (λ key. key < 2 ^ 62) (keys (merged ts).new.rows) → IsTick (merged ts)
   merged_is_tick small_before small_now = record {
-    old_table = record { rows = rows_are (width_of (olds ts)) (merged_rows 0 (olds ts)) small_before (whole (λ t. t.old) tables_before wide_before); rising = subst IsRising (sym (keys-olds 0 ts)) (rising_in keys_before keys_before room_before all_before) };
-    new_table = record { rows = rows_are (width_of (news ts)) (merged_rows 0 (news ts)) small_now (whole (λ t. t.new) tables_now w); rising = subst IsRising (sym (keys-news 0 ts)) (rising_in keys_now keys_now room_now all_now) };
+    old_table = record { rows = rows_of (width_of (olds ts)) (merged_rows 0 (olds ts)) small_before (whole (λ t. t.old) tables_before wide_before); rising = subst IsRising (sym (keys-olds 0 ts)) (rising_in keys_before keys_before room_before all_before) };
+    new_table = record { rows = rows_of (width_of (news ts)) (merged_rows 0 (news ts)) small_now (whole (λ t. t.new) tables_now w); rising = subst IsRising (sym (keys-news 0 ts)) (rising_in keys_now keys_now room_now all_now) };
     one_width = sym old_width;
     of_old = subst (λ ks. AllByRecursion (λ key. is_among key ks ≡ true) (old_keys (merge_pairs (map tick_of ts)))) (sym (keys-olds 0 ts)) (subst (λ ks. AllByRecursion (λ key. is_among key (in_regions keys_before room_before 0 ts) ≡ true) ks) (sym (old_keys-pairs 0 0 ts)) (among_in kept_before keys_before room_before before_part));
     of_new = subst (λ ks. AllByRecursion (λ key. is_among key ks ≡ true) (new_keys (merge_pairs (map tick_of ts)))) (sym (keys-news 0 ts)) (subst (λ ks. AllByRecursion (λ key. is_among key (in_regions keys_now room_now 0 ts) ≡ true) ks) (sym (new_keys-pairs 0 0 ts)) (among_in kept_now keys_now room_now now_part));

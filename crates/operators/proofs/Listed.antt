@@ -1,9 +1,9 @@
 -- Inputs that are given as a list: the one or the two tables, and what they count together.
-use Rattle.std.proofs.Common.{◌≡◌, refl, ap, sym, ◌∙◌, subst, ℕ, zero, suc, ◌+◌, ◌*◌, ◌≤◌, arith, List, [], ◌∷◌, map, length, get_or}
+use Rattle.std.proofs.Common.{◌≡◌, refl, ap, sym, ◌∙◌, subst, ℕ, ◌+◌, ◌*◌, ◌≤◌, arith, List, [], ◌∷◌, map, length, get_or}
 use Rattle.std.specs.Arc.{arc_value}
 use Rattle.std.specs.declared.alloc.Global.{Global}
 use Rattle.std.specs.declared.sync.Arc.{Arc}
-use Rattle.std.specs.Prelude.{replicate, sum, sum_by}
+use Rattle.std.specs.Prelude.{sum, sum_by}
 use Rattle.std.proofs.lemmas.List.{length-map}
 use Rattle.std.proofs.lemmas.List.Sums.{sum_by-cons}
 use Rattle.tick_table.specs.Exact.{counted}
@@ -52,10 +52,6 @@ sum_one n = sum_by-cons (λ (k : ℕ). k) n [] ∙ omega arith
 
 pub sum_two : (n m : ℕ) → sum (n ∷ m ∷ []) ≡ n + m
 sum_two n m = let last = sum_by-cons (λ (k : ℕ). k) m [] in sum_by-cons (λ (k : ℕ). k) n (m ∷ []) ∙ omega (arith, last)
-
-pub sum_alike : (count n : ℕ) → sum (replicate count n) ≡ count * n
-sum_alike zero n = omega arith
-sum_alike (suc count) n = let rest = sum_alike count n in sum_by-cons (λ (k : ℕ). k) n (replicate count n) ∙ omega (arith, rest)
 
 pub counted_one : (input : Ticking) → counted_in (input ∷ []) ≡ counted input.update
 counted_one input = sum_by-cons (λ (input : Ticking). counted input.update) input [] ∙ omega arith

@@ -17,15 +17,11 @@ use Rattle.tick_model.specs.Updates.{Tick}
 use Rattle.tick_laws.specs.Operated.{operated}
 use Rattle.tick_table.specs.Exact.{tick_of}
 use Rattle.tick_table.specs.Ticking.{Ticking}
-use Rattle.merge_op.specs.declared.fault.MergeFault.{MergeFault}
-use Rattle.merge_op.specs.declared.fault.MergeFault.TheVariants.{Memory, TooManyRows}
 use Rattle.merge_op.specs.Merged.{Merger, merged, news, olds, rows_in}
 use Rattle.operators.specs.declared.running.Running.{Running}
 use Rattle.operators.specs.declared.running.Running.TheVariants.{Merge}
-use Rattle.operators.specs.Faults.{of_merge}
-use Rattle.operators.specs.Inputs.{IsCause}
 use Rattle.operators.specs.Operating.{IsMadeOf}
-use Rattle.operators.specs.Stepping.{IsRefusal, IsStep}
+use Rattle.operators.specs.Stepping.{IsStep}
 use Rattle.operators.proofs.Same.{merge_is}
 
 made : (op : Op) (merge : Merger) (shown : List ℕ) → IsMadeOf op (Merge merge) → IsMadeOf op (Merge (record merge { shown = shown }))
@@ -74,14 +70,6 @@ merge_step merge new inputs told e few f =
       sound = λ op h table a. sym (own_fault op merge inputs table h a) ∙ not_over (rows_in inputs) few;
       change = λ op h tick a. f ∙ ap change_of (ticks op merge inputs tick h a);
     })
-
-pub merge_refusal : (merge : Merger) (inputs : List Ticking) (fault : MergeFault) → (4194304 < rows_in inputs → fault ≡ TooManyRows (rows_in inputs)) → (rows_in inputs ≤ 4194304 → fault ≡ Memory) → IsRefusal inputs (Merge merge) (of_merge fault)
-merge_refusal merge inputs fault many few =
-    λ op h table a.
-    elim (cases_lt 4194304 (rows_in inputs)) [
-      | inl over ↦ subst (λ fault. IsCause (of_merge fault) (fault_of op table)) (sym (many over)) (sym (own_fault op merge inputs table h a) ∙ is_over (rows_in inputs) over)
-      | inr within ↦ subst (λ fault. IsCause (of_merge fault) (fault_of op table)) (sym (few within)) tt
-    ]
 
 -- what is answered where too many rows are refused has few
 pub ok_is_within : {T E : Type 0} (count : ℕ) (x : T) (e : E) → (4194304 < count → (let ok : Result T E = Ok x in ok) ≡ Err e) → count ≤ 4194304

@@ -1,5 +1,5 @@
 -- In a lawful plan each operator can be made.
-use Rattle.std.proofs.Common.{◌≡◌, refl, ap, sym, ◌∙◌, subst, Bool, true, false, true≢false, ◌&&◌, ℕ, ◌+◌, ◌^◌, ◌<◌, ◌≤◌, arith, List, [], ◌∷◌, ◌++◌, length, map, length-append, get_or, Option, Some, None}
+use Rattle.std.proofs.Common.{◌≡◌, refl, ap, sym, ◌∙◌, subst, Bool, true, false, true≢false, ◌&&◌, ℕ, ◌+◌, ◌^◌, ◌<◌, ◌≤◌, arith, List, [], ◌∷◌, ◌++◌, length, map, length-append, get_or}
 use Rattle.std.specs.Prelude.{nat_le, slice_index, is_some}
 use Rattle.std.specs.List.{AllByRecursion, list_all}
 use Rattle.std.proofs.lemmas.Bool.{and_parts, leb-true}
@@ -9,18 +9,17 @@ use Rattle.tick_model.specs.declared.plan.Agg.{Agg}
 use Rattle.tick_model.specs.declared.plan.Agg.TheVariants.{Count, Sum, Min, Max, First, Last}
 use Rattle.tick_model.specs.declared.plan.ColumnSpec.{ColumnSpec}
 use Rattle.tick_model.specs.declared.plan.Expr.{Cell}
-use Rattle.tick_model.specs.declared.plan.Kind.{Kind}
-use Rattle.tick_model.specs.declared.plan.Kind.TheVariants.{Long, Text}
+use Rattle.tick_model.specs.declared.plan.Kind.TheVariants.{Long}
 use Rattle.tick_model.specs.declared.plan.Node.{Node}
 use Rattle.tick_model.specs.declared.plan.Op.{Op}
 use Rattle.tick_model.specs.declared.plan.Op.TheVariants.{Source, Keep, View, Join, Agg as AggOp, Merge, Sort, Head, Tail, AsOf}
 use Rattle.tick_model.specs.declared.plan.Plan.{Plan}
 use Rattle.tick_model.specs.Evaluation.{inputs_of, is_source}
 use Rattle.tick_model.specs.Formulas.{IsTestWithin, IsWithin}
-use Rattle.tick_model.specs.Plans.{agg_kind, columns_at, columns_fit, follow, has_kind, have_kinds, keep_names, is_bound, is_lawful, is_test_bound, kind_at, kind_of, kinds_of, long_alone, same_columns, same_kind_at, some_of, test_fits}
+use Rattle.tick_model.specs.Plans.{agg_kind, columns_at, columns_fit, follow, has_kind, have_kinds, keep_names, is_bound, is_lawful, is_test_bound, kind_at, kind_of, kinds_of, same_columns, same_kind_at, some_of, test_fits}
 use Rattle.tick_model.proofs.LawfulNodes.{IsLawfulNode, lawful_node}
 use Rattle.tick_model.proofs.Results.{IsOperator}
-use Rattle.tick_model.proofs.Widths.{all_within, follow_some, follow_width, have_some, kinds_width, same_width, test_within, within}
+use Rattle.tick_model.proofs.Widths.{all_within, follow_some, follow_width, have_some, kinds_width, same_width, test_within, within, long_some}
 use Rattle.agg_by.specs.Aggregator.{IsColumn}
 use Rattle.operators.specs.Making.{CanBeMade}
 use Rattle.operators.specs.Operating.{result_width}
@@ -39,14 +38,9 @@ columns_there : (columns : List ColumnSpec) (taken : List ℕ) → AllByRecursio
 columns_there columns taken h =
     every_weaker (λ column. is_some (kind_at columns column) ≡ true) (λ column. column < length columns) taken (column_there columns) (every_unmapped (λ k. is_some k ≡ true) (kind_at columns) taken h)
 
-long_there : (k : Option Kind) → is_some (long_alone k) ≡ true → is_some k ≡ true
-long_there None h = h
-long_there (Some Long) h = refl
-long_there (Some Text) h = refl
-
 aggregate_there : (columns : List ColumnSpec) (agg : Agg) → is_some (agg_kind columns agg) ≡ true → IsColumn (length columns) agg
 aggregate_there columns Count s = tt
-aggregate_there columns (Sum column) s = column_there columns column (long_there (kind_at columns column) s)
+aggregate_there columns (Sum column) s = column_there columns column (long_some (kind_at columns column) s)
 aggregate_there columns (Min column) s = column_there columns column s
 aggregate_there columns (Max column) s = column_there columns column s
 aggregate_there columns (First column) s = column_there columns column s

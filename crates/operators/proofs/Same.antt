@@ -79,9 +79,6 @@ pub tail_is : (rows input : ℕ) (tick : ℕ → Tick) (own : Tick) → map tick
 tail_is rows input tick own e = ap (λ (own : Tick). operated (Tail input rows) (λ _. own)) (sym (first_of (tick input) own e))
 
 -- of two inputs
-abbrev pub either : {X : Type 0} → X → X → ℕ → X
-either left right input = if input == 0 then left else right
-
 pub both_of : {X : Type 0} (x y u v : X) → x ∷ y ∷ [] ≡ u ∷ v ∷ [] → (x ≡ u) × (y ≡ v)
 both_of x y u v e = (ap (first x) e, ap (second x) e)
   where

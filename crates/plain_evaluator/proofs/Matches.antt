@@ -2,25 +2,14 @@
 use Rattle.std.proofs.Common.{◌≡◌, refl, ap, sym, ◌∙◌, ℕ, ◌+◌, ◌<◌, true, false, cond, List, [], ◌∷◌, ◌++◌, take, length, get_or, Option, Some, None}
 use Rattle.std.proofs.lemmas.List.{append-nil}
 use Rattle.std.proofs.lemmas.List.Elements.{filter_more}
-use Rattle.std.specs.Prelude.{fold}
 use Rattle.std.specs.List.{last_or}
-use Rattle.std.specs.Option.{option_map_or}
 use Rattle.tick_model.specs.declared.table.PlainRow.{PlainRow}
 use Rattle.tick_model.specs.declared.plan.OnPair.{OnPair}
 use Rattle.tick_model.specs.Join.{agree, matches}
-use Rattle.tick_model.specs.AsOf.{later, latest}
 
 pub last_or_push : {X : Type 0} (o : Option X) (xs : List X) (x : X) → last_or o (xs ++ x ∷ []) ≡ Some x
 last_or_push o [] x = refl
 last_or_push o (y ∷ ys) x = last_or_push (Some y) ys x
-
-fold_push : {X Y : Type 0} (f : Y → X → Y) (a : Y) (xs : List X) (x : X) → fold f a (xs ++ x ∷ []) ≡ f (fold f a xs) x
-fold_push f a [] x = refl
-fold_push f a (y ∷ ys) x = fold_push f (f a y) ys x
-
-pub latest_push : (column : ℕ) (rows : List PlainRow) (row : PlainRow) → latest column (rows ++ row ∷ []) ≡ Some (option_map_or (λ best. later column best row) (latest column rows) row)
-latest_push column [] row = refl
-latest_push column (first ∷ rows) row = ap Some (fold_push (later column) first rows row)
 
 -- one right row more, which matches or does not
 pub matched_more : (on : List OnPair) (rows : List PlainRow) (left : PlainRow) (i : ℕ) (row : PlainRow) → i < length rows → row ≡ get_or rows i row → agree on left row ≡ true

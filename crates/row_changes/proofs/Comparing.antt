@@ -9,6 +9,7 @@ use Rattle.std.proofs.Math.Seq.{drop-append_seam}
 use Rattle.std.proofs.lemmas.Bool.{and_right, le-ltb, ne_eqb, not-false}
 use Rattle.std.proofs.lemmas.Grind.{flat_map-append}
 use Rattle.key_lists.specs.Keys.{IsRising}
+use Rattle.key_lists.proofs.Booleans.{or_false}
 use Rattle.row_set.specs.Ranges.{keys_from}
 use Rattle.row_set.specs.Sets.{united, with_key}
 use Rattle.row_set.proofs.Windows.{rising_left_out}
@@ -73,12 +74,8 @@ column_next true less differs others = refl
 column_next false true differs others = refl
 column_next false false differs others = refl
 
-or_none : (b : Bool) → (b || false) ≡ b
-or_none true = refl
-or_none false = refl
-
 pub column_end : (told less : Bool) → told ≡ (told || (less && false))
-column_end told less = sym (ap (λ b. told || b) (and_right less false refl) ∙ or_none told)
+column_end told less = sym (ap (λ b. told || b) (and_right less false refl) ∙ or_false told)
 
 -- the cells of the rows under more keys
 pub cells_next : (table : PlainTable) (some : List ℕ) (key : ℕ) → cells_under table some ++ cells_at key table.rows ≡ cells_under table (some ++ key ∷ [])
@@ -116,7 +113,7 @@ same_column old new column pair e =
     ∙ ap not ((signed_Decides (cell (cells_at pair.new new.rows) column) (cell (cells_at pair.new new.rows) column)).1 refl)
 
 pub no_column : (old new : PlainTable) (pair : KeyPair) (width column : ℕ) (others : Bool) → differs old new pair ≡ false → others ≡ (others || (nat_lt column width && differs_in old new column pair))
-no_column old new pair width column others e = sym (ap (λ b. others || b) (and_right (nat_lt column width) (differs_in old new column pair) (same_column old new column pair e)) ∙ or_none others)
+no_column old new pair width column others e = sym (ap (λ b. others || b) (and_right (nat_lt column width) (differs_in old new column pair) (same_column old new column pair e)) ∙ or_false others)
 
 -- a key above all others comes last
 with_key_last : (key : ℕ) (keys : List ℕ) → AllByRecursion (λ other. other < key) keys → with_key key keys ≡ keys ++ key ∷ []

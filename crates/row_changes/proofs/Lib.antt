@@ -4,4 +4,3 @@ pub mod Differing
 pub mod MadeChange
 pub mod MadeRows
 pub mod MappedParts
-pub mod Summed

@@ -1,5 +1,5 @@
 -- The change that the parts of a tick make.
-use Rattle.std.proofs.Common.{◌≡◌, ap, ap₂, sym, ◌∙◌, subst, true, false, not, ◌&&◌, ℕ, zero, suc, ◌+◌, ◌-◌, ◌*◌, ◌≤◌, arith, List, ◌++◌, filter, ℤ, inl, inr, lt-ltb, le-ltb}
+use Rattle.std.proofs.Common.{◌≡◌, ap, ap₂, sym, ◌∙◌, subst, true, false, not, ◌&&◌, ℕ, zero, suc, ◌+◌, ◌-◌, arith, List, ◌++◌, filter, ℤ, inl, inr, lt-ltb, le-ltb}
 use Rattle.std.specs.Prelude.{nat_lt}
 use Rattle.std.specs.List.{list_any, range_with_len}
 use Rattle.std.proofs.lemmas.Bool.{cases_lt}
@@ -91,10 +91,3 @@ module _ (old new : PlainTable) (parts : Parts) (kept : List KeyPair) (h : ArePa
       same_change parts.removed parts.added modified columns parts.shifted cells (change_of (tick_along old new kept)) h.removed h.added (m ∙ told_is) h.shifted (columns_is columns r c)
       (t ∙ sym (flat_map-append (λ key. cells_at key new.rows) parts.added modified)
       ∙ ap₂ (λ added modified. cells_under new (added ++ modified)) h.added (m ∙ told_is))
-
--- the reads of the added rows, and of the others
-pub reads_two : (first second third each added compared : ℕ) → second ≤ first + each * added → third ≤ second + each * (2 * compared) → third ≤ first + each * (2 * compared + added)
-reads_two first second third each added compared a b = omega (arith, mul_add each (2 * compared) added)
-  where
-    mul_add : (a b c : ℕ) → a * (b + c) ≡ a * b + a * c
-    mul_add a b c = omega arith

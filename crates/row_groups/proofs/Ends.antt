@@ -4,15 +4,9 @@ use Rattle.std.specs.Prelude.{slice_get}
 use Rattle.std.specs.List.{AllByRecursion}
 use Rattle.std.specs.Global.{Vec}
 use Rattle.std.proofs.lemmas.List.{append-nil, drop_all}
-use Rattle.row_handles.proofs.Lists.{every_at}
 use Rattle.row_groups.specs.declared.place.Slot.{Slot}
 use Rattle.row_groups.specs.Slots.{IsParted, joined}
 use Rattle.row_groups.proofs.Parts.{failed_from, from_got, joined-append, joined_around, joined_instead, passed_to}
-
-pub every_got : {X : Type 0} (P : X → Type 0) (xs : List X) (i : ℕ) (x : X) → slice_get xs i ≡ Some x → AllByRecursion P xs → P x
-every_got P xs i x at h =
-    let got = from_got xs i x at in
-    subst P (sym got.1) (every_at P xs i x got.0 h)
 
 -- where the last passes, all do
 pub passed_all : {X : Type 0} (p : X → Bool) (xs : List X) (n : ℕ) (x : X) → n ≡ length xs → slice_get xs (length xs - 1) ≡ Some x → IsParted p xs → p x ≡ true → AllByRecursion (λ y. p y ≡ true) (take n xs)

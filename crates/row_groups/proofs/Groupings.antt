@@ -3,6 +3,7 @@ use Rattle.std.proofs.Common.{◌≡◌, ◌≢◌, refl, ap, sym, ◌∙◌, su
 use Rattle.std.specs.List.{AllByRecursion}
 use Rattle.std.specs.Prelude.{slice_get}
 use Rattle.std.proofs.lemmas.List.Sums.{sum_by-cons}
+use Rattle.std.proofs.lemmas.Bool.{false_from_ne_true}
 use Rattle.std.specs.Cmp.Rules.{signed_items}
 use Rattle.key_lists.specs.Keys.{is_among}
 use Rattle.key_lists.proofs.Every.{every_both, every_weaker, every-map, filter-map, filter_passes}
@@ -125,10 +126,6 @@ slots_ranked entries (row ∷ rows) h k = (
   slots_ranked entries rows h.1 k.1,
 )
 
-fails : (b : Bool) → (b ≡ true → ⊥) → b ≡ false
-fails true h = absurd (h refl)
-fails false h = refl
-
 unlike : (b : Bool) → b ≡ true → b ≡ false → ⊥
 unlike b e f = cc
 
@@ -137,7 +134,7 @@ pub ranked_parted : (entries : List Entry) (at : ℤ) (key : ℕ) (slots : List 
 ranked_parted entries at key [] h = tt
 ranked_parted entries at key (s ∷ slots) h = (
   λ not_own. every_weaker (λ o. is_before entries o.at (key_in entries o.handle) s ≡ true) (λ o. is_before entries at key o ≡ false) slots
-      (λ o e. fails (is_before entries at key o) (λ f. unlike (is_before entries at key s) (less_through s.at (key_in entries s.handle) o.at (key_in entries o.handle) at key e f) not_own)) h.0,
+      (λ o e. false_from_ne_true (is_before entries at key o) (λ f. unlike (is_before entries at key s) (less_through s.at (key_in entries s.handle) o.at (key_in entries o.handle) at key e f) not_own)) h.0,
   ranked_parted entries at key slots h.1,
 )
 
@@ -165,7 +162,7 @@ listed_at entries row rows old new known up apart listed becomes cells true e =
     ∙ sym (slots_put entries row (group_rows cells rows) (every-group (Knows entries) cells rows known))
     ∙ ap (map slot_of) (sym (group_with cells row rows up apart same))
 listed_at entries row rows old new known up apart listed becomes cells false e =
-    let other : same_cells cells row.member.cells ≡ false = fails (same_cells cells row.member.cells) (λ f. unlike (same_cells row.member.cells cells) ((signed_items row.member.cells cells).1 (sym ((signed_items cells row.member.cells).0 f))) e) in
+    let other : same_cells cells row.member.cells ≡ false = false_from_ne_true (same_cells cells row.member.cells) (λ f. unlike (same_cells row.member.cells cells) ((signed_items row.member.cells cells).1 (sym ((signed_items cells row.member.cells).0 f))) e) in
     becomes cells
     ∙ ap (λ b. if b then slots_with entries row.member.at row.member.key (slot_of row) (slots_under row.member.cells old) else slots_under cells old) e
     ∙ listed cells
@@ -187,7 +184,7 @@ left_at entries row rows old new own known up apart listed becomes cells true e 
     ∙ ap (slots_without entries row.member.at row.member.key) (listed cells ∙ ap (map slot_of) (group_with cells row rows up apart same) ∙ slots_put entries row (group_rows cells rows) (every-group (Knows entries) cells rows known))
     ∙ taken_again entries row.member.at row.member.key (slot_of row) (map slot_of (group_rows cells rows)) (before_same entries row row.member.at row.member.key own ∙ less_itself row.member.at row.member.key)
 left_at entries row rows old new own known up apart listed becomes cells false e =
-    let other : same_cells cells row.member.cells ≡ false = fails (same_cells cells row.member.cells) (λ f. unlike (same_cells row.member.cells cells) ((signed_items row.member.cells cells).1 (sym ((signed_items cells row.member.cells).0 f))) e) in
+    let other : same_cells cells row.member.cells ≡ false = false_from_ne_true (same_cells cells row.member.cells) (λ f. unlike (same_cells row.member.cells cells) ((signed_items row.member.cells cells).1 (sym ((signed_items cells row.member.cells).0 f))) e) in
     becomes cells
     ∙ ap (λ b. if b then slots_without entries row.member.at row.member.key (slots_under row.member.cells old) else slots_under cells old) e
     ∙ listed cells
@@ -301,11 +298,3 @@ pub slot_of_member : {X : Type 0} (f : Member → X) (entries : List Entry) (cel
 slot_of_member f entries cells [] i = refl
 slot_of_member f entries cells (s ∷ slots) zero = refl
 slot_of_member f entries cells (s ∷ slots) (suc i) = slot_of_member f entries cells slots i
-
-pub known_at : (entries : List Entry) (slots : List Slot) (i : ℕ) (slot : Slot) → AreKnown entries slots → slice_get slots i ≡ Some slot → IsSome (key_with slot.handle entries)
-known_at entries [] i slot h e = absurd (cc)
-known_at entries (s ∷ slots) zero slot h e = subst (λ (x : Slot). IsSome (key_with x.handle entries)) (some_own s slot e) h.0
-  where
-    some_own : (x y : Slot) → ◌≡◌ {A = Option Slot} (Some x) (Some y) → x ≡ y
-    some_own x y p = cc
-known_at entries (s ∷ slots) (suc i) slot h e = known_at entries slots i slot h.1 e

@@ -2,6 +2,7 @@
 use Rattle.std.proofs.Common.{◌≡◌, ◌≢◌, refl, ap, sym, ◌∙◌, subst, Bool, true, false, not, cond, ◌||◌, ℕ, ◌^◌, ◌<◌, List, [], ◌∷◌, ◌++◌, map, filter, length, Option, Some, None, Result, Ok, Err, OnOk, OnErr, IsSome, unwrap_or, inl, inr, ℤ, int_lt, if◌then◌else◌}
 use Rattle.std.specs.List.{AllByRecursion}
 use Rattle.std.proofs.lemmas.Bool.{cases_eq, eq-eqb}
+use Rattle.std.proofs.lemmas.Option.{same_Some}
 use Rattle.std.specs.Cmp.Rules.{signed_items}
 use Rattle.key_lists.specs.Keys.{is_among}
 use Rattle.key_lists.proofs.Every.{every, every_both, every_weaker, every_unmapped, every-filter, every-map, filter-map, filter_passes}
@@ -80,13 +81,10 @@ index_moved (Err e) shifts index entries is lawful ok err = subst (λ xs. IsInde
 pub members_shifted : (shifts : List ShiftRange) (table : Table) (groups : ByNumber) (xs new : List Entry) → new ≡ moved_rows shifts xs → members_of (rows_of table groups new) ≡ moved_members shifts (members_of (rows_of table groups xs))
 members_shifted shifts table groups xs new e = ap (λ es. members_of (rows_of table groups es)) e ∙ members_moved table groups shifts xs
 
--- the others of a row have other handles
-some_own : (m n : ℕ) → ◌≡◌ {A = Option ℕ} (Some m) (Some n) → m ≡ n
-some_own m n e = cc
-
 true_not_false : ◌≡◌ {A = Bool} true false → ⊥
 true_not_false e = cc
 
+-- the others of a row have other handles
 gone_itself : (key other : ℕ) → key ≡ other → not (is_among other (key ∷ [])) ≡ true → ⊥
 gone_itself key other same e = true_not_false (sym e ∙ ap (λ b. not (b || false)) (eq-eqb key other same))
 
@@ -94,7 +92,7 @@ pub apart_handles : (key handle : ℕ) (xs : List Entry) → AreHandled xs → h
 apart_handles key handle xs handled here =
     let p = λ (x : Entry). not (is_among x.key (key ∷ [])) in
     every_both (λ x. p x ≡ true) (λ x. key_with x.handle xs ≡ Some x.key) (λ x. x.handle ≢ handle) (filter p xs)
-    (λ x stays known same. gone_itself key x.key (some_own key x.key (sym (key_under_handle key handle xs handled here) ∙ ap (λ h. key_with h xs) (sym same) ∙ known)) stays)
+    (λ x stays known same. gone_itself key x.key (same_Some key x.key (sym (key_under_handle key handle xs handled here) ∙ ap (λ h. key_with h xs) (sym same) ∙ known)) stays)
     (filter_passes p xs) (every-filter (λ x. key_with x.handle xs ≡ Some x.key) p xs (known_all xs handled.handles))
 
 -- the others keep what is kept of them

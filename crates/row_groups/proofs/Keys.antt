@@ -2,9 +2,11 @@
 use Rattle.std.proofs.Common.{◌≡◌, ◌≢◌, refl, ap, sym, ◌∙◌, subst, Bool, true, false, not, cond, ◌&&◌, ◌||◌, ltb, eqb, ℕ, ◌^◌, ◌<◌, arith, List, [], ◌∷◌, ◌++◌, filter, Option, Some, None, unwrap_or, if◌then◌else◌}
 use Rattle.std.specs.List.{AllByRecursion}
 use Rattle.std.proofs.lemmas.Bool.{eq-eqb, ne_eqb, eqb-true, ltb-true, ltb-false, lt-ltb}
+use Rattle.std.proofs.lemmas.Option.{same_Some}
 use Rattle.key_lists.specs.Keys.{is_among}
 use Rattle.key_lists.proofs.Every.{every, every_weaker, every_both, every-filter, every-map, every_unmapped, filter_filter, filter_same, filter_all, map_map}
 use Rattle.key_lists.proofs.Among.{among-append}
+use Rattle.key_lists.proofs.Booleans.{neither}
 use Rattle.row_set.specs.Sets.{IsKeySet}
 use Rattle.row_handles.specs.Entries.{AreDistinct, AreHandled, Ascend, Entry, entry_of, handle_under, handles_of, key_with, keys_of, left_rows, moved_row, moved_rows, with_row}
 use Rattle.row_handles.proofs.Moving.{moved_ascend, moved_small}
@@ -13,16 +15,13 @@ use Rattle.tick_model.specs.Rules.{shift_fault}
 use Rattle.row_handles.proofs.EntryLists.{absent_all, ascend_by_keys, ascend-filter, rising_keys, with_row-between}
 use Rattle.row_handles.proofs.Laws.{handle_under-with_row}
 
-some_own : (m n : ℕ) → ◌≡◌ {A = Option ℕ} (Some m) (Some n) → m ≡ n
-some_own m n e = cc
-
 none_some : (n : ℕ) → ◌≡◌ {A = Option ℕ} None (Some n) → ⊥
 none_some n e = cc
 
 -- the row of a key, and what holds of it
 has_by : (P : Entry → Type 0) (key handle : ℕ) (x : Entry) (found : Option ℕ) → P x → (found ≡ Some handle → P (entry_of key handle)) → (b : Bool) → eqb x.key key ≡ b → (if b then Some x.handle else found) ≡ Some handle → P (entry_of key handle)
 has_by P key handle x found p rest true same is =
-    subst P (ap (λ k. entry_of k x.handle) (eqb-true x.key key same) ∙ ap (entry_of key) (some_own x.handle handle is)) p
+    subst P (ap (λ k. entry_of k x.handle) (eqb-true x.key key same) ∙ ap (entry_of key) (same_Some x.handle handle is)) p
 has_by P key handle x found p rest false same is = rest is
 
 pub under_has : (P : Entry → Type 0) (key handle : ℕ) (xs : List Entry) → AllByRecursion P xs → handle_under key xs ≡ Some handle → P (entry_of key handle)
@@ -53,7 +52,7 @@ restored_by : (key handle : ℕ) (x : Entry) (xs : List Entry) → Ascend (x ∷
 restored_by key handle x xs up rest true same is =
     let own = eqb-true x.key key same in
     let above = subst (λ k. AllByRecursion (λ y. k < y.key) xs) own up.0 in
-    ap (λ e. e ∷ xs) (ap (λ k. entry_of k x.handle) own ∙ ap (entry_of key) (some_own x.handle handle is))
+    ap (λ e. e ∷ xs) (ap (λ k. entry_of k x.handle) own ∙ ap (entry_of key) (same_Some x.handle handle is))
     ∙ sym (with_row-between key handle [] xs tt above)
     ∙ ap (with_row key handle) (sym (ap (λ b. cond b (x ∷ left_rows (key ∷ []) xs) (left_rows (key ∷ []) xs)) (ap (λ b. not (b || false)) (eq-eqb key x.key (sym own))) ∙ left_above key xs above))
 restored_by key handle x xs up rest false same is =
@@ -94,12 +93,8 @@ under_own key handle xs absent = handle_under-with_row key key handle xs ∙ ap 
 pub left_more : (gone : List ℕ) (key : ℕ) (xs : List Entry) → left_rows (gone ++ key ∷ []) xs ≡ left_rows (key ∷ []) (left_rows gone xs)
 left_more gone key xs =
     filter_same (λ x. not (is_among x.key (gone ++ key ∷ []))) (λ x. not (is_among x.key gone) && not (is_among x.key (key ∷ []))) xs
-    (every (λ x. not (is_among x.key (gone ++ key ∷ [])) ≡ (not (is_among x.key gone) && not (is_among x.key (key ∷ [])))) xs (λ x. ap not (among-append x.key gone (key ∷ [])) ∙ neither (is_among x.key gone) (is_among x.key (key ∷ []))))
+    (every (λ x. not (is_among x.key (gone ++ key ∷ [])) ≡ (not (is_among x.key gone) && not (is_among x.key (key ∷ [])))) xs (λ x. ap not (among-append x.key gone (key ∷ [])) ∙ sym (neither (is_among x.key gone) (is_among x.key (key ∷ [])))))
     ∙ sym (filter_filter (λ x. not (is_among x.key (key ∷ []))) (λ x. not (is_among x.key gone)) xs)
-  where
-    neither : (a b : Bool) → not (a || b) ≡ (not a && not b)
-    neither true b = refl
-    neither false b = refl
 
 pub left_none : (xs : List Entry) → left_rows [] xs ≡ xs
 left_none xs = filter_all xs

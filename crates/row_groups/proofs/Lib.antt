@@ -1,4 +1,5 @@
 pub mod Parts
+pub mod Placed
 pub mod Ends
 pub mod Order
 pub mod Ranks

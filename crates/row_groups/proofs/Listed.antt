@@ -8,7 +8,8 @@ use Rattle.std.specs.Ordering.{int_eq}
 use Rattle.std.specs.Cmp.Lexicographic.{pointwise}
 use Rattle.std.specs.Cmp.Rules.{signed_items}
 use Rattle.std.specs.Global.{Vec}
-use Rattle.std.proofs.lemmas.Bool.{cases_eq}
+use Rattle.std.proofs.lemmas.Bool.{cases_eq, false_from_ne_true}
+use Rattle.std.proofs.lemmas.Option.{same_Some}
 use Rattle.slab.specs.Slab.{get, with_value}
 use Rattle.slab.proofs.SlabLemmas.{Updates-with_value}
 use Rattle.tick_model.specs.Tables.{same_cells}
@@ -18,10 +19,6 @@ use Rattle.row_groups.specs.declared.lists.Lists.{Lists}
 use Rattle.row_groups.specs.declared.place.Slot.{Slot}
 use Rattle.row_groups.specs.Slots.{is_before, slots_with, slots_without}
 use Rattle.row_groups.specs.Rows.{AreNumbered, Becomes, ByNumber, Numbers, cells_with, number_under, slots_numbered, slots_under}
-
-fails : (b : Bool) → (b ≡ true → ⊥) → b ≡ false
-fails true h = absurd (h refl)
-fails false h = refl
 
 unlike : (b : Bool) → b ≡ true → b ≡ false → ⊥
 unlike b e f = cc
@@ -37,10 +34,7 @@ key_test cells x y h = ap (λ cs. same_cells cs y.items) ((signed_items cells x.
 
 apart_keys : (cells other : List ℤ) → same_cells cells other ≡ false → (key : Vec ℤ) → has_cells cells key ≡ true → has_cells other key ≡ false
 apart_keys cells other e key h =
-    fails (has_cells other key) (λ own. unlike (same_cells cells other) ((signed_items cells other).1 ((signed_items cells key.items).0 h ∙ sym ((signed_items other key.items).0 own))) e)
-
-some_own : {X : Type 0} (x y : X) → ◌≡◌ {A = Option X} (Some x) (Some y) → x ≡ y
-some_own x y e = cc
+    false_from_ne_true (has_cells other key) (λ own. unlike (same_cells cells other) ((signed_items cells other).1 ((signed_items cells key.items).0 h ∙ sym ((signed_items other key.items).0 own))) e)
 
 none_some : {X : Type 0} (x : X) → ◌≡◌ {A = Option X} None (Some x) → ⊥
 none_some x e = cc
@@ -161,19 +155,8 @@ module _ (cells : List ℤ) (number : ℕ) (group : KeyedRows) (old new : Lists)
   begins_numbered =
       let under = numbered_as cells old.numbers new.numbers (Some number) begins.updates in
       numbered cells number old new begins_change
-      (λ other e. (sym (some_own number other (sym under ∙ e)), begins_cells))
-      (λ other e. (sym (some_own cells other (sym begins_cells ∙ e)), under))
-
-  pub begins_others : (other : ℕ) → IsSome (cells_with other old.groups) → cells_with other new.groups ≡ cells_with other old.groups
-  begins_others other there =
-      elim (cases_eq other number) [
-        | inl same ↦ absurd (not_some (cells_with other old.groups) (ap (λ (g : Option KeyedRows). option_map (λ k. k.cells.items) g) (ap (get old.groups) same ∙ begins.vacant)) there)
-        | inr differ ↦ ap (λ (g : Option KeyedRows). option_map (λ k. k.cells.items) g) (begins.others other differ)
-      ]
-    where
-      not_some : (cells : Option (List ℤ)) → cells ≡ None → IsSome cells → ⊥
-      not_some None e there = cc
-      not_some (Some cells) e there = cc
+      (λ other e. (sym (same_Some number other (sym under ∙ e)), begins_cells))
+      (λ other e. (sym (same_Some cells other (sym begins_cells ∙ e)), under))
 
 -- a group whose rows become others
 pub record Changes (number : ℕ) (group : KeyedRows) (rows : List Slot) (old new : Lists) : Type 0 where
@@ -193,8 +176,8 @@ module _ (number : ℕ) (group : KeyedRows) (rows : List Slot) (old new : Lists)
   changes_change : IsChange group.cells.items number old new
   changes_change = record {
     sound = changes.sound;
-    mine = λ other e. sym (some_own group.cells.items other (sym changes_own ∙ e));
-    before = λ other e. sym (some_own number other (sym changes_under ∙ e));
+    mine = λ other e. sym (same_Some group.cells.items other (sym changes_own ∙ e));
+    before = λ other e. sym (same_Some number other (sym changes_under ∙ e));
     numbers = λ other differ. ap (number_under other) changes.numbers;
     groups = changes.others;
   }
@@ -243,8 +226,8 @@ module _ (number : ℕ) (group : KeyedRows) (old new : Lists) (gives : GivesUp n
   gives_change : IsChange group.cells.items number old new
   gives_change = record {
     sound = gives.sound;
-    mine = λ other e. sym (some_own group.cells.items other (sym gives_own ∙ e));
-    before = λ other e. sym (some_own number other (sym (gives.sound.cells group.cells.items number gives_own) ∙ e));
+    mine = λ other e. sym (same_Some group.cells.items other (sym gives_own ∙ e));
+    before = λ other e. sym (same_Some number other (sym (gives.sound.cells group.cells.items number gives_own) ∙ e));
     numbers = λ other differ. renumbered group.cells.items other old.numbers new.numbers None gives.updates differ;
     groups = gives.others;
   }
@@ -254,11 +237,8 @@ module _ (number : ℕ) (group : KeyedRows) (old new : Lists) (gives : GivesUp n
 
   pub gives_rows : (cells : List ℤ) → cells_with number old.groups ≡ Some cells → Becomes cells [] old new
   gives_rows cells e =
-      subst (λ cs. Becomes cs [] old new) (some_own group.cells.items cells (sym gives_own ∙ e))
+      subst (λ cs. Becomes cs [] old new) (same_Some group.cells.items cells (sym gives_own ∙ e))
       (becomes group.cells.items number [] old new gives_change (under_none group.cells.items new gives_none))
-
-  pub gives_others : (other : ℕ) → other ≢ number → cells_with other new.groups ≡ cells_with other old.groups
-  gives_others other differ = ap (λ (g : Option KeyedRows). option_map (λ k. k.cells.items) g) (gives.others other differ)
 
   pub gives_numbered : AreNumbered new
   gives_numbered =
@@ -270,7 +250,7 @@ pub same_numbers : (old new : Numbers) (other : List ℤ) → new.entries ≡ ol
 same_numbers old new other e = ap (lookup (has_cells other)) e
 
 pub with_same_cells : (cells : List ℤ) (number : ℕ) (group : KeyedRows) (lists : Lists) → AreNumbered lists → number_under cells lists.numbers ≡ Some number → get lists.groups number ≡ Some group → group.cells.items ≡ cells
-with_same_cells cells number group lists numbered under is = some_own group.cells.items cells (sym (with_group number lists.groups group is) ∙ numbered.numbers cells number under)
+with_same_cells cells number group lists numbered under is = same_Some group.cells.items cells (sym (with_group number lists.groups group is) ∙ numbered.numbers cells number under)
 
 -- a group that does not begin
 pub unbegun : (cells : List ℤ) (old new : Lists) → number_under cells old.numbers ≡ None → ((other : List ℤ) → slots_under other new ≡ slots_under other old) → Becomes cells [] old new
@@ -288,7 +268,7 @@ becomes_after cells slots others old mid new first second other = by_test (same_
     by_test false e f = f ∙ e
 
 pub same_items : (cells : List ℤ) (number : ℕ) (group : KeyedRows) (groups : ByNumber) → get groups number ≡ Some group → cells_with number groups ≡ Some cells → group.cells.items ≡ cells
-same_items cells number group groups was own = some_own group.cells.items cells (sym (with_group number groups group was) ∙ own)
+same_items cells number group groups was own = same_Some group.cells.items cells (sym (with_group number groups group was) ∙ own)
 
 -- a place in a list
 pub placed_with : (entries : List Entry) (at : ℤ) (key : ℕ) (slot : Slot) (slots : List Slot) (n : ℕ) → n ≤ length slots → AllByRecursion (λ s. is_before entries at key s ≡ true) (take n slots) → AllByRecursion (λ s. is_before entries at key s ≡ false) (drop n slots) → take n slots ++ slot ∷ drop n slots ≡ slots_with entries at key slot slots

@@ -4,26 +4,11 @@ use Rattle.std.specs.Ordering.{int_eq, is_eq}
 use Rattle.std.specs.declared.cmp.Ordering.TheVariants.{Less, Equal, Greater}
 use Rattle.std.specs.Cmp.{signed_Decides}
 use Rattle.std.proofs.lemmas.Int.{ints}
-use Rattle.std.proofs.lemmas.Bool.{ltb-true, lt-ltb, le-ltb}
+use Rattle.std.proofs.lemmas.Bool.{ltb-true, lt-ltb, le-ltb, or_right, or_left, or_cases, and_parts}
 
 -- whether a row stands before another
 abbrev pub less : ℤ → ℕ → ℤ → ℕ → Bool
 less at key other_at other_key = int_lt at other_at || int_eq at other_at && ltb key other_key
-
-either_true : (p q : Bool) → (p || q) ≡ true → (p ≡ true) ⊎ (q ≡ true)
-either_true true q e = inl refl
-either_true false q e = inr e
-
-both_true : (p q : Bool) → (p && q) ≡ true → (p ≡ true) × (q ≡ true)
-both_true true q e = (refl, e)
-both_true false q e = absurd (cc)
-
-first_true : (p q : Bool) → p ≡ true → (p || q) ≡ true
-first_true p q e = ap (λ b. b || q) e
-
-second_true : (p q : Bool) → q ≡ true → (p || q) ≡ true
-second_true true q e = refl
-second_true false q e = e
 
 pub lt_from : (a b : ℤ) → int_lt a b ≡ true → a <ℤ b
 lt_from a b e = grind (arith, ints)
@@ -42,17 +27,17 @@ one_way a b e = not_lt_to b a (omega (arith, ints, lt_from a b e))
 
 pub less_either : (a : ℤ) (k : ℕ) (b : ℤ) (m : ℕ) → less a k b m ≡ true → (a <ℤ b) ⊎ ((a ≡ b) × (k < m))
 less_either a k b m e =
-    elim (either_true (int_lt a b) (int_eq a b && ltb k m) e) [
+    elim (or_cases (int_lt a b) (int_eq a b && ltb k m) e) [
       | inl lt ↦ inl (lt_from a b lt)
-      | inr same ↦ inr ((signed_Decides a b).0 (both_true (int_eq a b) (ltb k m) same).0, ltb-true k m (both_true (int_eq a b) (ltb k m) same).1)
+      | inr same ↦ inr ((signed_Decides a b).0 (and_parts (int_eq a b) (ltb k m) same).0, ltb-true k m (and_parts (int_eq a b) (ltb k m) same).1)
     ]
 
 pub less_by_at : (a : ℤ) (k : ℕ) (b : ℤ) (m : ℕ) → int_lt a b ≡ true → less a k b m ≡ true
-less_by_at a k b m lt = first_true (int_lt a b) (int_eq a b && ltb k m) lt
+less_by_at a k b m lt = or_left (int_lt a b) (int_eq a b && ltb k m) lt
 
 less_by_key : (a : ℤ) (k : ℕ) (b : ℤ) (m : ℕ) → a ≡ b → k < m → less a k b m ≡ true
 less_by_key a k b m same lt =
-    second_true (int_lt a b) (int_eq a b && ltb k m) (ap (λ e. e && ltb k m) ((signed_Decides a b).1 same) ∙ lt-ltb k m lt)
+    or_right (int_lt a b) (int_eq a b && ltb k m) (ap (λ e. e && ltb k m) ((signed_Decides a b).1 same) ∙ lt-ltb k m lt)
 
 pub less_through : (a : ℤ) (k : ℕ) (b : ℤ) (m : ℕ) (d : ℤ) (n : ℕ) → less a k b m ≡ true → less b m d n ≡ true → less a k d n ≡ true
 less_through a k b m d n e f =

@@ -1,19 +1,15 @@
--- Lists of which a first part passes a test, and lists in chunks.
+-- Lists of which a first part true_from_ne_false a test, and lists in chunks.
 use Rattle.std.proofs.Common.{◌≡◌, refl, ap, sym, ◌∙◌, subst, Bool, true, false, ℕ, zero, suc, ◌+◌, ◌-◌, ◌<◌, ◌≤◌, arith, List, [], ◌∷◌, ◌++◌, length, take, drop, get_or, set, append_assoc, length-append, Some, IsSome}
 use Rattle.std.specs.Prelude.{slice_get}
-use Rattle.std.proofs.lemmas.List.{append-nil}
 use Rattle.std.specs.List.{AllByRecursion}
 use Rattle.std.specs.Global.{Vec}
 use Rattle.std.proofs.lemmas.Grind.{flat_map-append}
-use Rattle.row_handles.proofs.Lists.{around, every_at, every_back, every_front, set_around, some_at, split_list}
+use Rattle.std.proofs.lemmas.Bool.{true_from_ne_false}
 use Rattle.row_groups.specs.declared.place.Slot.{Slot}
 use Rattle.key_lists.proofs.Every.{every-append}
+use Rattle.key_lists.proofs.Parts.{every_front, every_back, every_at, some_at, around, split_list, set_around, put_among, taken_among, drop_among, got_among}
 use Rattle.row_handles.specs.Entries.{Entry, key_with}
 use Rattle.row_groups.specs.Slots.{AreFilled, AreKnown, IsParted, joined}
-
-passes : (b : Bool) → (b ≡ false → ⊥) → b ≡ true
-passes true h = refl
-passes false h = absurd (h refl)
 
 true_false : (b : Bool) → b ≡ true → b ≡ false → ⊥
 true_false b e f = cc
@@ -21,7 +17,7 @@ true_false b e f = cc
 pub parted_before : {X : Type 0} (p : X → Bool) (xs : List X) (x : X) (ys : List X) → IsParted p (xs ++ x ∷ ys) → p x ≡ true → AllByRecursion (λ y. p y ≡ true) xs
 parted_before p [] x ys h e = tt
 parted_before p (y ∷ xs) x ys h e =
-    (passes (p y) (λ f. true_false (p x) e (every_back (λ z. p z ≡ false) xs (x ∷ ys) (h.0 f)).0), parted_before p xs x ys h.1 e)
+    (true_from_ne_false (p y) (λ f. true_false (p x) e (every_back (λ z. p z ≡ false) xs (x ∷ ys) (h.0 f)).0), parted_before p xs x ys h.1 e)
 
 pub parted_after : {X : Type 0} (p : X → Bool) (xs : List X) (x : X) (ys : List X) → IsParted p (xs ++ x ∷ ys) → p x ≡ false → AllByRecursion (λ y. p y ≡ false) (x ∷ ys)
 parted_after p [] x ys h e = (e, h.0 e)
@@ -35,12 +31,12 @@ pub parted_front : {X : Type 0} (p : X → Bool) (xs ys : List X) → IsParted p
 parted_front p [] ys h = tt
 parted_front p (x ∷ xs) ys h = (λ e. every_front (λ y. p y ≡ false) xs ys (h.0 e), parted_front p xs ys h.1)
 
--- an element that passes, and those before it
+-- an element that true_from_ne_false, and those before it
 pub passed_to : {X : Type 0} (p : X → Bool) (xs : List X) (i : ℕ) (d : X) → i < length xs → IsParted p xs → p (get_or xs i d) ≡ true → AllByRecursion (λ y. p y ≡ true) (take (suc i) xs)
 passed_to p [] i d lt h e = absurd (omega arith)
 passed_to p (y ∷ xs) zero d lt h e = (e, tt)
 passed_to p (y ∷ xs) (suc i) d lt h e =
-    (passes (p y) (λ f. true_false (p (get_or xs i d)) e (every_at (λ z. p z ≡ false) xs i d (omega arith) (h.0 f))), passed_to p xs i d (omega arith) h.1 e)
+    (true_from_ne_false (p y) (λ f. true_false (p (get_or xs i d)) e (every_at (λ z. p z ≡ false) xs i d (omega arith) (h.0 f))), passed_to p xs i d (omega arith) h.1 e)
 
 -- an element that does not, and those after it
 pub failed_from : {X : Type 0} (p : X → Bool) (xs : List X) (i : ℕ) (d : X) → i < length xs → IsParted p xs → p (get_or xs i d) ≡ false → AllByRecursion (λ y. p y ≡ false) (drop i xs)
@@ -63,11 +59,6 @@ joined_from [] i chunk lt is = absurd (omega arith)
 joined_from (other ∷ chunks) zero chunk lt is = ap (λ c. c.items ++ joined chunks) (sym is)
 joined_from (other ∷ chunks) (suc i) chunk lt is = joined_from chunks i chunk (omega arith) is
 
-pub joined_to : (chunks : List (Vec Slot)) (i : ℕ) (chunk : Vec Slot) → i < length chunks → chunk ≡ get_or chunks i chunk → joined (take (suc i) chunks) ≡ joined (take i chunks) ++ chunk.items
-joined_to [] i chunk lt is = absurd (omega arith)
-joined_to (other ∷ chunks) zero chunk lt is = ap (λ c. c.items ++ []) (sym is) ∙ append-nil chunk.items
-joined_to (other ∷ chunks) (suc i) chunk lt is = ap (λ rows. other.items ++ rows) (joined_to chunks i chunk (omega arith) is) ∙ sym (append_assoc other.items (joined (take i chunks)) chunk.items)
-
 -- the first row of a chunk
 pub begun_by : (chunk : Vec Slot) (x : Slot) → 0 < length chunk.items → x ≡ get_or chunk.items 0 x → chunk.items ≡ x ∷ drop 1 chunk.items
 begun_by chunk x some is = around chunk.items 0 x some is
@@ -83,7 +74,7 @@ split_at_first : (chunks : List (Vec Slot)) (i : ℕ) (chunk : Vec Slot) (x : Sl
 split_at_first chunks i chunk x lt at filled is =
     joined_around chunks i chunk lt at ∙ ap (λ rows. joined (take i chunks) ++ (rows ++ joined (drop (suc i) chunks))) (begun_by chunk x (some_in chunks i chunk lt at filled) is)
 
--- a chunk that begins with a row that passes, and those before it
+-- a chunk that begins with a row that true_from_ne_false, and those before it
 pub chunks_passed : (p : Slot → Bool) (chunks : List (Vec Slot)) (i : ℕ) (chunk : Vec Slot) (x : Slot) → i < length chunks → chunk ≡ get_or chunks i chunk → AreFilled chunks → x ≡ get_or chunk.items 0 x → IsParted p (joined chunks) → p x ≡ true → AllByRecursion (λ y. p y ≡ true) (joined (take i chunks))
 chunks_passed p chunks i chunk x lt at filled is h e =
     parted_before p (joined (take i chunks)) x (drop 1 chunk.items ++ joined (drop (suc i) chunks)) (subst (IsParted p) (split_at_first chunks i chunk x lt at filled is) h) e
@@ -98,24 +89,6 @@ pub counted_to : (chunks : List (Vec Slot)) (i : ℕ) (chunk : Vec Slot) → i <
 counted_to chunks i chunk lt at =
     let e = ap length (joined_around chunks i chunk lt at) ∙ length-append (joined (take i chunks)) (chunk.items ++ joined (drop (suc i) chunks)) in
     omega (arith, e, length-append chunk.items (joined (drop (suc i) chunks)))
-
--- a row in the midst of three lists
-pub put_among : {X : Type 0} (xs ys zs : List X) (n m : ℕ) (x : X) → length xs + m ≡ n → m ≤ length ys → xs ++ ((take m ys ++ x ∷ drop m ys) ++ zs) ≡ take n (xs ++ (ys ++ zs)) ++ x ∷ drop n (xs ++ (ys ++ zs))
-put_among [] [] zs n zero x e le = ap (λ k. take k zs ++ x ∷ drop k zs) e
-put_among [] (y ∷ ys) zs n zero x e le = ap (λ k. take k (y ∷ (ys ++ zs)) ++ x ∷ drop k (y ∷ (ys ++ zs))) e
-put_among [] [] zs n (suc m) x e le = absurd (omega arith)
-put_among [] (y ∷ ys) zs zero (suc m) x e le = absurd (omega arith)
-put_among [] (y ∷ ys) zs (suc n) (suc m) x e le = ap (λ rs. y ∷ rs) (put_among [] ys zs n m x (omega arith) (omega arith))
-put_among (w ∷ xs) ys zs zero m x e le = absurd (omega arith)
-put_among (w ∷ xs) ys zs (suc n) m x e le = ap (λ rs. w ∷ rs) (put_among xs ys zs n m x (omega arith) le)
-
-pub taken_among : {X : Type 0} (xs ys zs : List X) (n m : ℕ) → length xs + m ≡ n → m < length ys → xs ++ ((take m ys ++ drop (suc m) ys) ++ zs) ≡ take n (xs ++ (ys ++ zs)) ++ drop (suc n) (xs ++ (ys ++ zs))
-taken_among [] [] zs n m e lt = absurd (omega arith)
-taken_among [] (y ∷ ys) zs n zero e lt = ap (λ k. take k (y ∷ (ys ++ zs)) ++ drop (suc k) (y ∷ (ys ++ zs))) e
-taken_among [] (y ∷ ys) zs zero (suc m) e lt = absurd (omega arith)
-taken_among [] (y ∷ ys) zs (suc n) (suc m) e lt = ap (λ rs. y ∷ rs) (taken_among [] ys zs n m (omega arith) (omega arith))
-taken_among (w ∷ xs) ys zs zero m e lt = absurd (omega arith)
-taken_among (w ∷ xs) ys zs (suc n) m e lt = ap (λ rs. w ∷ rs) (taken_among xs ys zs n m (omega arith) lt)
 
 -- a row put into a chunk at a place
 pub row_put : (chunks : List (Vec Slot)) (i : ℕ) (chunk : Vec Slot) (position place : ℕ) (slot : Slot) → i < length chunks → chunk ≡ get_or chunks i chunk → length (joined (take i chunks)) + place ≡ position → place ≤ length chunk.items
@@ -162,23 +135,6 @@ take_among [] (y ∷ ys) zs zero (suc m) e le = absurd (omega arith)
 take_among [] (y ∷ ys) zs (suc n) (suc m) e le = ap (λ rs. y ∷ rs) (take_among [] ys zs n m (omega arith) (omega arith))
 take_among (w ∷ xs) ys zs zero m e le = absurd (omega arith)
 take_among (w ∷ xs) ys zs (suc n) m e le = ap (λ rs. w ∷ rs) (take_among xs ys zs n m (omega arith) le)
-
-pub drop_among : {X : Type 0} (xs ys zs : List X) (n m : ℕ) → length xs + m ≡ n → m ≤ length ys → drop n (xs ++ (ys ++ zs)) ≡ drop m ys ++ zs
-drop_among [] ys zs n zero e le = ap (λ k. drop k (ys ++ zs)) (sym e)
-drop_among [] [] zs n (suc m) e le = absurd (omega arith)
-drop_among [] (y ∷ ys) zs zero (suc m) e le = absurd (omega arith)
-drop_among [] (y ∷ ys) zs (suc n) (suc m) e le = drop_among [] ys zs n m (omega arith) (omega arith)
-drop_among (w ∷ xs) ys zs zero m e le = absurd (omega arith)
-drop_among (w ∷ xs) ys zs (suc n) m e le = drop_among xs ys zs n m (omega arith) le
-
-pub got_among : {X : Type 0} (xs ys zs : List X) (n m : ℕ) (x : X) → length xs + m ≡ n → m < length ys → x ≡ get_or ys m x → slice_get (xs ++ (ys ++ zs)) n ≡ Some x
-got_among [] [] zs n m x e lt is = absurd (omega arith)
-got_among [] (y ∷ ys) zs zero zero x e lt is = ap Some (sym is)
-got_among [] (y ∷ ys) zs (suc n) zero x e lt is = absurd (omega arith)
-got_among [] (y ∷ ys) zs zero (suc m) x e lt is = absurd (omega arith)
-got_among [] (y ∷ ys) zs (suc n) (suc m) x e lt is = got_among [] ys zs n m x (omega arith) (omega arith) is
-got_among (w ∷ xs) ys zs zero m x e lt is = absurd (omega arith)
-got_among (w ∷ xs) ys zs (suc n) m x e lt is = got_among xs ys zs n m x (omega arith) lt is
 
 pub got_at : {X : Type 0} (ys : List X) (m : ℕ) (x : X) → m < length ys → x ≡ get_or ys m x → slice_get ys m ≡ Some x
 got_at [] m x lt is = absurd (omega arith)

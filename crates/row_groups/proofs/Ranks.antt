@@ -30,10 +30,6 @@ abbrev pub Ranked : List Row → Type 0
 Ranked [] = Unit {0}
 Ranked (row ∷ rows) = AllByRecursion (λ other. before row other ≡ true) rows × Ranked rows
 
-not_true : (b : Bool) → not b ≡ true → b ≡ false
-not_true true e = sym e
-not_true false e = refl
-
 -- where a test is known
 chosen : {X : Type 0} (b : Bool) (x y : X) → b ≡ true → (if b then x else y) ≡ x
 chosen b x y e = ap (λ d. if d then x else y) e

@@ -1,9 +1,10 @@
 -- Some rows of a block: the places of all others, when these alone change theirs.
-use Rattle.std.proofs.Common.{◌≡◌, ◌≢◌, refl, ap, sym, ◌∙◌, subst, Bool, true, false, ◌||◌, ℕ, suc, ◌<◌, List, [], ◌∷◌, ◌++◌, map, length, take, drop, get_or, Some, ◌==◌, append_assoc}
+use Rattle.std.proofs.Common.{◌≡◌, ◌≢◌, refl, ap, sym, ◌∙◌, subst, true, false, ◌||◌, ℕ, suc, ◌<◌, List, [], ◌∷◌, ◌++◌, map, length, take, drop, get_or, Some, ◌==◌, append_assoc}
 use Rattle.std.specs.List.{AllByRecursion}
-use Rattle.std.proofs.lemmas.Bool.{ne_eqb, eq-eqb}
+use Rattle.std.proofs.lemmas.Bool.{ne_eqb, eq-eqb, or_right}
 use Rattle.std.proofs.lemmas.List.{map-append}
-use Rattle.key_lists.proofs.Every.{every_weaker, every_both, every_unmapped}
+use Rattle.key_lists.proofs.Every.{every_weaker, every_both, every_unmapped, turned}
+use Rattle.key_lists.proofs.Parts.{every_front, every_back}
 use Rattle.slab.specs.Slab.{Slab, get}
 use Rattle.row_handles.specs.declared.block.Block.{Block}
 use Rattle.row_handles.specs.declared.block.Row.{Row}
@@ -12,7 +13,6 @@ use Rattle.row_handles.specs.declared.index.Index.{Index}
 use Rattle.row_handles.specs.Entries.{Entry, Ascend}
 use Rattle.row_handles.specs.Blocks.{IsIndex, IsPlaced, entry_at, place_in, rows_of, rows}
 use Rattle.row_handles.specs.Moves.{has_handle}
-use Rattle.row_handles.proofs.Lists.{every_front, every_back, turned}
 use Rattle.row_handles.proofs.EntryLists.{ascend_back}
 use Rattle.row_handles.proofs.Places.{IsAt, located, apart_lists}
 use Rattle.row_handles.proofs.Inserting.{rows_around}
@@ -21,14 +21,10 @@ no_handle : (handle ceiling : ℕ) (xs : List Row) → AllByRecursion (λ x. x.h
 no_handle handle ceiling [] h = refl
 no_handle handle ceiling (x ∷ xs) h = ap (λ b. b || has_handle handle xs) (ne_eqb x.handle handle h.0) ∙ no_handle handle ceiling xs h.1
 
-or_more : (a b : Bool) → b ≡ true → (a || b) ≡ true
-or_more true b e = refl
-or_more false b e = e
-
 pub own_handles : (xs : List Row) → AllByRecursion (λ row. has_handle row.handle xs ≡ true) xs
 own_handles [] = tt
 own_handles (x ∷ xs) =
-    (ap (λ b. b || has_handle x.handle xs) (eq-eqb x.handle x.handle refl), every_weaker (λ row. has_handle row.handle xs ≡ true) (λ row. has_handle row.handle (x ∷ xs) ≡ true) xs (λ row e. or_more (x.handle == row.handle) (has_handle row.handle xs) e) (own_handles xs))
+    (ap (λ b. b || has_handle x.handle xs) (eq-eqb x.handle x.handle refl), every_weaker (λ row. has_handle row.handle xs ≡ true) (λ row. has_handle row.handle (x ∷ xs) ≡ true) xs (λ row e. or_right (x.handle == row.handle) (has_handle row.handle xs) e) (own_handles xs))
 
 -- the rows in five parts: those of the blocks before, three parts of the block, and those of the blocks behind
 pub five_parts : (front xs ys zs back : List Entry) → front ++ ((xs ++ (ys ++ zs)) ++ back) ≡ (front ++ xs) ++ (ys ++ (zs ++ back))

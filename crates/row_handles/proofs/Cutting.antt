@@ -3,8 +3,8 @@ use Rattle.std.proofs.Common.{◌≡◌, ◌≢◌, ap, sym, ◌∙◌, subst, t
 use Rattle.std.specs.List.{AllByRecursion}
 use Rattle.std.proofs.lemmas.List.{map-append}
 use Rattle.std.proofs.lemmas.Grind.{flat_map-append}
-use Rattle.std.proofs.Math.Seq.{take-suc}
 use Rattle.key_lists.proofs.Every.{every_weaker, every_both, every-append, every-map}
+use Rattle.key_lists.proofs.Parts.{every-take, every-drop, every_front, every_back, around}
 use Rattle.slab.specs.Slab.{get}
 use Rattle.tick_model.specs.declared.update.ShiftRange.{ShiftRange}
 use Rattle.row_handles.specs.declared.block.Block.{Block}
@@ -13,7 +13,6 @@ use Rattle.row_handles.specs.declared.index.Index.{Index}
 use Rattle.row_handles.specs.Entries.{Ascend, AreDistinct}
 use Rattle.row_handles.specs.Blocks.{BeginAt, IsBlock, IsIndex, IsPlaced, entry_at, place_in, rows_of, rows, number_of}
 use Rattle.row_handles.specs.Moves.{AreRenamed, IsBeside, IsBesideRange, IsSplit, IsCut, has_handle}
-use Rattle.row_handles.proofs.Lists.{every_front, every_back, every_first, every_last, around}
 use Rattle.row_handles.proofs.EntryLists.{begin_has, from_begin}
 use Rattle.row_handles.proofs.Listings.{parts, own_block, own_ascend}
 use Rattle.row_handles.proofs.Places.{Keeps, fresh_number}
@@ -89,13 +88,13 @@ module _ (from at : ℕ) (block left right : Block) (old new : Index) (sound : I
   left_block : IsBlock left
   left_block = record {
     begun = subst (λ n. BeginAt n (rows_of left)) (sym splits.left_first) (subst (BeginAt block.first) (sym left_entries) (begin_part block.first block.ceiling from items splits.some is_block.begun));
-    held = subst (λ c. AllByRecursion (λ row. row.depth ≤ c) left.rows.items) (sym splits.left_ceiling) (subst (AllByRecursion (λ row. row.depth ≤ block.ceiling)) (sym splits.left_rows) (every_first (λ row. row.depth ≤ block.ceiling) from items is_block.held));
+    held = subst (λ c. AllByRecursion (λ row. row.depth ≤ c) left.rows.items) (sym splits.left_ceiling) (subst (AllByRecursion (λ row. row.depth ≤ block.ceiling)) (sym splits.left_rows) (every-take (λ row. row.depth ≤ block.ceiling) from items is_block.held));
   }
 
   right_block : IsBlock right
   right_block = record {
     begun = splits.right_begun;
-    held = subst (λ c. AllByRecursion (λ row. row.depth ≤ c) right.rows.items) (sym splits.right_ceiling) (subst (AllByRecursion (λ row. row.depth ≤ block.ceiling)) (sym splits.right_rows) (every_last (λ row. row.depth ≤ block.ceiling) from items is_block.held));
+    held = subst (λ c. AllByRecursion (λ row. row.depth ≤ c) right.rows.items) (sym splits.right_ceiling) (subst (AllByRecursion (λ row. row.depth ≤ block.ceiling)) (sym splits.right_rows) (every-drop (λ row. row.depth ≤ block.ceiling) from items is_block.held));
   }
 
   in_place : (P : Block → Type 0) → P left → P right → AllByRecursion P (take at old.blocks.items) → AllByRecursion P (drop (suc at) old.blocks.items) → AllByRecursion P new.blocks.items
@@ -115,7 +114,7 @@ module _ (from at : ℕ) (block left right : Block) (old new : Index) (sound : I
         (subst (AllByRecursion (λ row. get new.places row.handle ≡ Some (place_in block.number row.depth))) (sym splits.left_rows)
         (rows_stay old.places new.places (drop from items) block.number (take from items) splits.renamed.others
         (apart_lower old sound at block splits.within splits.is (take from items) (drop from items) [] whole)
-        (every_first (λ row. get old.places row.handle ≡ Some (place_in block.number row.depth)) from items own_place.rows)));
+        (every-take (λ row. get old.places row.handle ≡ Some (place_in block.number row.depth)) from items own_place.rows)));
   }
 
   right_placed : IsPlaced new.ceilings new.places right
@@ -126,12 +125,12 @@ module _ (from at : ℕ) (block left right : Block) (old new : Index) (sound : I
         (every_both (λ row. has_handle row.handle (drop from items) ≡ true) (λ row. get old.places row.handle ≡ Some (place_in block.number row.depth)) (λ row. get new.places row.handle ≡ Some (place_in right.number row.depth)) (drop from items)
         (λ row own there. splits.renamed.moved row.handle own ∙ ap (option_map (λ place. place_in right.number place.depth)) there)
         (own_handles (drop from items))
-        (every_last (λ row. get old.places row.handle ≡ Some (place_in block.number row.depth)) from items own_place.rows));
+        (every-drop (λ row. get old.places row.handle ≡ Some (place_in block.number row.depth)) from items own_place.rows));
   }
 
   pub split_index : IsIndex new
   split_index = record {
-    sound = in_place IsBlock left_block right_block (every_first IsBlock at old.blocks.items sound.sound) (every_last IsBlock (suc at) old.blocks.items sound.sound);
+    sound = in_place IsBlock left_block right_block (every-take IsBlock at old.blocks.items sound.sound) (every-drop IsBlock (suc at) old.blocks.items sound.sound);
     ascend = subst Ascend (sym split_rows) sound.ascend;
     small = subst (AllByRecursion (λ x. x.key < 2 ^ 62)) (sym split_rows) sound.small;
     numbered = subst AreDistinct (sym (ap (map number_of) splits.blocks ∙ map-append number_of (take at old.blocks.items) (left ∷ right ∷ drop (suc at) old.blocks.items) ∙ ap (λ n. map number_of (take at old.blocks.items) ++ n ∷ right.number ∷ map number_of (drop (suc at) old.blocks.items)) splits.left_number)) numbers;
@@ -142,10 +141,10 @@ module _ (from at : ℕ) (block left right : Block) (old new : Index) (sound : I
   }
     where
       front_placed : AllByRecursion (IsPlaced old.ceilings old.places) (take at old.blocks.items)
-      front_placed = every_first (IsPlaced old.ceilings old.places) at old.blocks.items sound.placed
+      front_placed = every-take (IsPlaced old.ceilings old.places) at old.blocks.items sound.placed
 
       back_placed : AllByRecursion (IsPlaced old.ceilings old.places) (drop (suc at) old.blocks.items)
-      back_placed = every_last (IsPlaced old.ceilings old.places) (suc at) old.blocks.items sound.placed
+      back_placed = every-drop (IsPlaced old.ceilings old.places) (suc at) old.blocks.items sound.placed
 
       numbers : AreDistinct (map number_of (take at old.blocks.items) ++ block.number ∷ right.number ∷ map number_of (drop (suc at) old.blocks.items))
       numbers =
@@ -208,7 +207,7 @@ module _ (key : ℕ) (blocks : List Block) (at from : ℕ) (block : Block) (foun
         (beside_below key (take at blocks) found.front) (beside_above key (drop (suc at) blocks) found.back);
     others = λ other h.
         let own = own_block (IsBeside other) blocks at block found.within found.is h in
-        in_new (IsBeside other) (left_beside other own) (right_beside other own) (every_first (IsBeside other) at blocks h) (every_last (IsBeside other) (suc at) blocks h);
+        in_new (IsBeside other) (left_beside other own) (right_beside other own) (every-take (IsBeside other) at blocks h) (every-drop (IsBeside other) (suc at) blocks h);
   }
     where
       in_new : (P : Block → Type 0) → P split.left → P split.right → AllByRecursion P (take at blocks) → AllByRecursion P (drop (suc at) blocks) → AllByRecursion P new
@@ -233,13 +232,6 @@ beside_kept key old new range is h =
     every_both (IsBeside range.begin) (IsBeside (range.end + 1)) (IsBesideRange range) new (λ block a b. (a, b))
     (is.others range.begin (every_weaker (IsBesideRange range) (IsBeside range.begin) old (λ block both. both.0) h))
     (is.others (range.end + 1) (every_weaker (IsBesideRange range) (IsBeside (range.end + 1)) old (λ block both. both.1) h))
-
-pub every_next : {X : Type 0} (P : X → Type 0) (xs : List X) (i : ℕ) (d : X) → i < length xs → P (get_or xs i d) → AllByRecursion P (take i xs) → AllByRecursion P (take (i + 1) xs)
-every_next P xs i d lt own h =
-    subst (λ n. AllByRecursion P (take n xs)) (next i) (subst (AllByRecursion P) (sym (take-suc xs i d lt)) (every-append P (take i xs) (get_or xs i d ∷ []) h (own, tt)))
-  where
-    next : (n : ℕ) → suc n ≡ n + 1
-    next n = omega arith
 
 pub found_made : (key : ℕ) (blocks : List Block) (next from : ℕ) (block : Block) → next ≢ 0 → next ≤ length blocks → block ≡ get_or blocks (next - 1) block → AllByRecursion IsBlock blocks → Ascend (rows blocks) → AllByRecursion (λ other. other.first ≤ key) (take next blocks) → AllByRecursion (λ other. key < other.first) (drop next blocks) → AllByRecursion (λ row. block.ceiling - row.depth < key) (take from block.rows.items) → AllByRecursion (λ row. key ≤ block.ceiling - row.depth) (drop from block.rows.items) → Found key blocks (next - 1) from block
 found_made key blocks next from block some within is sound ascend begun above below others = record {

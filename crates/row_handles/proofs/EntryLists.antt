@@ -1,13 +1,14 @@
 -- Lists of rows: the handles under keys, what `with_row` makes of them, and where they begin.
-use Rattle.std.proofs.Common.{◌≡◌, ◌≢◌, refl, ap, sym, ◌∙◌, subst, Bool, true, false, cond, ℕ, ◌<◌, ◌≤◌, arith, List, [], ◌∷◌, ◌++◌, inl, inr, ltb, ◌==◌, Some, None, filter}
+use Rattle.std.proofs.Common.{◌≡◌, ◌≢◌, refl, ap, sym, ◌∙◌, subst, Bool, true, false, cond, ℕ, ◌<◌, ◌≤◌, arith, List, [], ◌∷◌, ◌++◌, inl, inr, ◌==◌, Some, None, filter}
 use Rattle.std.specs.Option.{option_or}
 use Rattle.std.specs.List.{AllByRecursion}
-use Rattle.std.proofs.lemmas.Bool.{ne_eqb, eq-eqb, lt-ltb, cases_eq}
+use Rattle.std.proofs.lemmas.Bool.{ne_eqb, eq-eqb, lt-ltb, cases_eq, le-ltb}
 use Rattle.key_lists.specs.Keys.{IsRising}
 use Rattle.key_lists.proofs.Every.{every_weaker, every_unmapped, every-map, every-filter, every-append}
+use Rattle.key_lists.proofs.Parts.{every_front, every_back}
 use Rattle.row_handles.specs.Entries.{Entry, entry_of, keys_of, handle_under, key_with, with_row, Ascend}
 use Rattle.row_handles.specs.Blocks.{BeginAt}
-use Rattle.row_handles.proofs.Lists.{every_front, every_back, none_some}
+use Rattle.row_handles.proofs.Lists.{none_some}
 
 -- two lists one after the other
 pub handle_under-append : (key : ℕ) (xs ys : List Entry) → handle_under key (xs ++ ys) ≡ option_or (handle_under key xs) (handle_under key ys)
@@ -42,12 +43,9 @@ none_with handle [] h = refl
 none_with handle (x ∷ xs) h = ap (λ b. cond b (Some x.key) (key_with handle xs)) (ne_eqb x.handle handle h.0) ∙ none_with handle xs h.1
 
 -- one row more, past those below its key and before those above it
-not_ltb : (a b : ℕ) → b ≤ a → ltb a b ≡ false
-not_ltb a b h = grind arith
-
 pub with_row-between : (key handle : ℕ) (xs ys : List Entry) → AllByRecursion (λ x. x.key < key) xs → AllByRecursion (λ y. key < y.key) ys → with_row key handle (xs ++ ys) ≡ xs ++ entry_of key handle ∷ ys
 with_row-between key handle [] [] h k = refl
-with_row-between key handle [] (y ∷ ys) h k = ap (λ b. cond b (y ∷ with_row key handle ys) (entry_of key handle ∷ y ∷ ys)) (not_ltb y.key key (omega arith))
+with_row-between key handle [] (y ∷ ys) h k = ap (λ b. cond b (y ∷ with_row key handle ys) (entry_of key handle ∷ y ∷ ys)) (le-ltb y.key key (omega arith))
 with_row-between key handle (x ∷ xs) ys h k =
     ap (λ b. cond b (x ∷ with_row key handle (xs ++ ys)) (entry_of key handle ∷ x ∷ (xs ++ ys))) (lt-ltb x.key key h.0)
     ∙ ap (λ zs. x ∷ zs) (with_row-between key handle xs ys h.1 k)
@@ -99,8 +97,3 @@ pub below_begin : (key : ℕ) (xs ys zs : List Entry) → BeginAt key ys → Asc
 below_begin key [] ys zs begin h = tt
 below_begin key (x ∷ xs) ys zs begin h =
     (begin_has (λ k. x.key < k) key ys begin (every_front (λ y. x.key < y.key) ys zs (every_back (λ y. x.key < y.key) xs (ys ++ zs) h.0)), below_begin key xs ys zs begin h.1)
-
--- each row of the first list is below each of the second
-pub below_all : (xs ys : List Entry) → Ascend (xs ++ ys) → AllByRecursion (λ x. AllByRecursion (λ y. x.key < y.key) ys) xs
-below_all [] ys h = tt
-below_all (x ∷ xs) ys h = (every_back (λ y. x.key < y.key) xs ys h.0, below_all xs ys h.1)

@@ -1,11 +1,12 @@
 -- A row that comes: what the rows, the blocks and the places are afterwards.
-use Rattle.std.proofs.Common.{◌≡◌, ◌≢◌, ap, sym, ◌∙◌, subst, ℕ, zero, suc, ◌+◌, ◌-◌, ◌^◌, ◌<◌, ◌≤◌, arith, List, [], ◌∷◌, ◌++◌, map, length, take, drop, get_or, set, min, Some, None, inl, inr, append_assoc, take-append-drop, Result, Ok, Err}
+use Rattle.std.proofs.Common.{◌≡◌, ◌≢◌, ap, sym, ◌∙◌, subst, ℕ, suc, ◌+◌, ◌-◌, ◌^◌, ◌<◌, ◌≤◌, arith, List, [], ◌∷◌, ◌++◌, map, length, take, drop, get_or, set, min, Some, None, inl, inr, append_assoc, take-append-drop, Result, Ok, Err}
 use Rattle.std.specs.Prelude.{OnErr}
 use Rattle.std.specs.List.{AllByRecursion}
 use Rattle.std.proofs.lemmas.List.{map-append}
 use Rattle.std.proofs.lemmas.Grind.{flat_map-append}
 use Rattle.std.proofs.Math.Seq.{map-set_same}
 use Rattle.key_lists.proofs.Every.{every-append, every-map}
+use Rattle.key_lists.proofs.Parts.{every-take, every-drop, every_front, every_back, around, set_around, every_set}
 use Rattle.slab.specs.Slab.{get}
 use Rattle.row_handles.specs.declared.block.Block.{Block}
 use Rattle.row_handles.specs.declared.block.Row.{Row}
@@ -13,7 +14,7 @@ use Rattle.row_handles.specs.declared.index.Index.{Index}
 use Rattle.row_handles.specs.Entries.{Entry, entry_of, with_row, handle_under, Ascend, AreDistinct}
 use Rattle.row_handles.specs.Blocks.{BeginAt, IsBlock, IsIndex, IsPlaced, entry_at, place_in, rows_of, rows, number_of}
 use Rattle.row_handles.specs.Moves.{IsBeside}
-use Rattle.row_handles.proofs.Lists.{every_front, every_back, every_first, every_last, around, set_around, distinct_more}
+use Rattle.row_handles.proofs.Lists.{distinct_more}
 use Rattle.row_handles.proofs.EntryLists.{absent_all, with_row-between, ascend_between, begin_has, ascend_back}
 use Rattle.row_handles.proofs.Listings.{parts, rows_above, own_block}
 use Rattle.row_handles.proofs.Places.{Keeps, placed_kept, fresh_number}
@@ -37,12 +38,6 @@ pub more_every : (P : Entry → Type 0) (key handle : ℕ) (old new : List Entry
 more_every P key handle old new more own h =
     let both = subst (AllByRecursion P) more.was h in
     subst (AllByRecursion P) (sym more.is) (every-append P more.left (entry_of key handle ∷ more.right) (every_front P more.left more.right both) (own, every_back P more.left more.right both))
-
--- facts of a list of which one element is another
-pub every_set : {X : Type 0} (P : X → Type 0) (xs : List X) (i : ℕ) (x : X) → P x → AllByRecursion P xs → AllByRecursion P (set xs i x)
-every_set P [] i x own h = tt
-every_set P (y ∷ xs) zero x own h = (own, h.1)
-every_set P (y ∷ xs) (suc i) x own h = (h.0, every_set P xs i x own h.1)
 
 begin_more : (first key handle : ℕ) (xs ys : List Entry) → BeginAt first (xs ++ ys) → AllByRecursion (λ x. x.key < key) xs → AllByRecursion (λ y. key < y.key) ys → BeginAt (min first key) (xs ++ entry_of key handle ∷ ys)
 begin_more first key handle [] [] begin below above = absurd begin
@@ -194,7 +189,7 @@ module _ (key depth handle at place : ℕ) (block other : Block) (old new : Inde
 
   back_above : AllByRecursion (λ x. key < x.key) back_rows
   back_above =
-      rows_above key (drop (suc at) old.blocks.items) (every_last IsBlock (suc at) old.blocks.items sound.sound)
+      rows_above key (drop (suc at) old.blocks.items) (every-drop IsBlock (suc at) old.blocks.items sound.sound)
       (ascend_back (lower ++ upper) back_rows (ascend_back front_rows ((lower ++ upper) ++ back_rows) (subst Ascend around_rows sound.ascend))) inserts.back
 
   pub inserted_more : IsOneMore key handle (rows old.blocks.items) (rows new.blocks.items)
@@ -219,8 +214,8 @@ module _ (key depth handle at place : ℕ) (block other : Block) (old new : Inde
     held =
         subst (λ c. AllByRecursion (λ row. row.depth ≤ c) other.rows.items) (sym inserts.ceiling)
         (subst (AllByRecursion (λ row. row.depth ≤ block.ceiling)) (sym inserts.items)
-        (every-append (λ row. row.depth ≤ block.ceiling) (take place block.rows.items) (row ∷ drop place block.rows.items) (every_first (λ row. row.depth ≤ block.ceiling) place block.rows.items is_block.held)
-        (omega (arith, inserts.height), every_last (λ row. row.depth ≤ block.ceiling) place block.rows.items is_block.held)));
+        (every-append (λ row. row.depth ≤ block.ceiling) (take place block.rows.items) (row ∷ drop place block.rows.items) (every-take (λ row. row.depth ≤ block.ceiling) place block.rows.items is_block.held)
+        (omega (arith, inserts.height), every-drop (λ row. row.depth ≤ block.ceiling) place block.rows.items is_block.held)));
   }
 
   kept_places : AllByRecursion (IsPlaced new.ceilings new.places) old.blocks.items
@@ -238,7 +233,7 @@ module _ (key depth handle at place : ℕ) (block other : Block) (old new : Inde
     rows =
         subst (λ n. AllByRecursion (λ row. get new.places row.handle ≡ Some (place_in n row.depth)) other.rows.items) (sym inserts.number)
         (subst (AllByRecursion Stands) (sym inserts.items)
-        (every-append Stands (take place block.rows.items) (row ∷ drop place block.rows.items) (every_first Stands place block.rows.items own_place.rows) (inserts.placed, every_last Stands place block.rows.items own_place.rows)));
+        (every-append Stands (take place block.rows.items) (row ∷ drop place block.rows.items) (every-take Stands place block.rows.items own_place.rows) (inserts.placed, every-drop Stands place block.rows.items own_place.rows)));
   }
 
   pub inserted_index : key < 2 ^ 62 → IsIndex new
@@ -299,9 +294,9 @@ module _ (key depth handle next : ℕ) (block : Block) (old new : Index) (sound 
     was = two_parts;
     is = ap rows begins.blocks ∙ flat_map-append rows_of (take next old.blocks.items) (block ∷ drop next old.blocks.items) ∙ ap (λ s. early ++ (s ++ late)) one_row;
     below =
-        below_beside key (take next old.blocks.items) (every_first IsBlock next old.blocks.items sound.sound) begins.begun (every_first (IsBeside key) next old.blocks.items begins.beside)
+        below_beside key (take next old.blocks.items) (every-take IsBlock next old.blocks.items sound.sound) begins.begun (every-take (IsBeside key) next old.blocks.items begins.beside)
         (every_front (λ x. x.key ≢ key) early late (subst (AllByRecursion (λ x. x.key ≢ key)) two_parts (absent_all key (rows old.blocks.items) begins.absent)));
-    above = rows_above key (drop next old.blocks.items) (every_last IsBlock next old.blocks.items sound.sound) (ascend_back early late (subst Ascend two_parts sound.ascend)) begins.back;
+    above = rows_above key (drop next old.blocks.items) (every-drop IsBlock next old.blocks.items sound.sound) (ascend_back early late (subst Ascend two_parts sound.ascend)) begins.back;
   }
 
   begun_block : IsBlock block
@@ -317,7 +312,7 @@ module _ (key depth handle next : ℕ) (block : Block) (old new : Index) (sound 
   }
 
   in_place : (P : Block → Type 0) → P block → AllByRecursion P old.blocks.items → AllByRecursion P new.blocks.items
-  in_place P own h = subst (AllByRecursion P) (sym begins.blocks) (every-append P (take next old.blocks.items) (block ∷ drop next old.blocks.items) (every_first P next old.blocks.items h) (own, every_last P next old.blocks.items h))
+  in_place P own h = subst (AllByRecursion P) (sym begins.blocks) (every-append P (take next old.blocks.items) (block ∷ drop next old.blocks.items) (every-take P next old.blocks.items h) (own, every-drop P next old.blocks.items h))
 
   pub begun_index : key < 2 ^ 62 → IsIndex new
   begun_index small = record {

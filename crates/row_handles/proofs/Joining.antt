@@ -7,6 +7,7 @@ use Rattle.std.proofs.lemmas.Grind.{flat_map-append}
 use Rattle.std.proofs.Math.Seq.{take-suc}
 use Rattle.key_lists.specs.Keys.{is_among}
 use Rattle.key_lists.proofs.Every.{every_weaker, every_both, every-append, every-map, every_unmapped}
+use Rattle.key_lists.proofs.Parts.{every-take, every-drop, every_front, every_back, every_at, around, every_next}
 use Rattle.slab.specs.Slab.{Slab, ContainsKey, get, Updates}
 use Rattle.row_handles.specs.declared.block.Block.{Block}
 use Rattle.row_handles.specs.declared.block.Row.{Row}
@@ -15,12 +16,11 @@ use Rattle.row_handles.specs.declared.index.Index.{Index}
 use Rattle.row_handles.specs.Entries.{Entry, handles_of, Ascend, AreDistinct}
 use Rattle.row_handles.specs.Blocks.{AreRowsUnder, BeginAt, IsBlock, IsIndex, IsPlaced, entry_at, place_in, rows_of, rows, number_of}
 use Rattle.row_handles.specs.Moves.{handle_in, has_handle}
-use Rattle.row_handles.proofs.Lists.{every_front, every_back, every_at, every_first, every_last, around, distinct_less}
+use Rattle.row_handles.proofs.Lists.{distinct_less}
 use Rattle.row_handles.proofs.Listings.{own_block, own_ascend}
 use Rattle.row_handles.proofs.Places.{located_rows, distinct}
 use Rattle.row_handles.proofs.Inserting.{rows_around}
 use Rattle.row_handles.proofs.Apart.{apart_front, apart_back, blocks_stay}
-use Rattle.row_handles.proofs.Cutting.{every_next}
 use Rattle.row_handles.proofs.Leaving.{all_held, held_less}
 
 -- rows of distinct handles that are put into a block one by one
@@ -134,11 +134,11 @@ module _ (at : ℕ) (left right joined : Block) (moved : List Row) (old new : In
   front_placed : AllByRecursion (IsPlaced new.ceilings new.places) (early ++ left ∷ [])
   front_placed =
       subst (AllByRecursion (IsPlaced new.ceilings new.places)) front_is
-      (blocks_stay old.ceilings new.ceilings old.places new.places right.rows.items (take (suc at) old.blocks.items) others_stay held.0 (apart_front old sound (suc at) right joins.within joins.right_is [] right.rows.items [] whole) (every_first (IsPlaced old.ceilings old.places) (suc at) old.blocks.items sound.placed))
+      (blocks_stay old.ceilings new.ceilings old.places new.places right.rows.items (take (suc at) old.blocks.items) others_stay held.0 (apart_front old sound (suc at) right joins.within joins.right_is [] right.rows.items [] whole) (every-take (IsPlaced old.ceilings old.places) (suc at) old.blocks.items sound.placed))
 
   back_placed : AllByRecursion (IsPlaced new.ceilings new.places) late
   back_placed =
-      blocks_stay old.ceilings new.ceilings old.places new.places right.rows.items late others_stay held.1 (apart_back old sound (suc at) right joins.within joins.right_is [] right.rows.items [] whole) (every_last (IsPlaced old.ceilings old.places) (suc (suc at)) old.blocks.items sound.placed)
+      blocks_stay old.ceilings new.ceilings old.places new.places right.rows.items late others_stay held.1 (apart_back old sound (suc at) right joins.within joins.right_is [] right.rows.items [] whole) (every-drop (IsPlaced old.ceilings old.places) (suc (suc at)) old.blocks.items sound.placed)
 
   left_placed : IsPlaced new.ceilings new.places left
   left_placed = (every_back (IsPlaced new.ceilings new.places) early (left ∷ []) front_placed).0
@@ -178,7 +178,7 @@ module _ (at : ℕ) (left right joined : Block) (moved : List Row) (old new : In
 
   pub joins_index : IsIndex new
   joins_index = record {
-    sound = subst (AllByRecursion IsBlock) (sym joins.blocks) (every-append IsBlock early (joined ∷ late) (every_first IsBlock at old.blocks.items sound.sound) (joined_block, every_last IsBlock (suc (suc at)) old.blocks.items sound.sound));
+    sound = subst (AllByRecursion IsBlock) (sym joins.blocks) (every-append IsBlock early (joined ∷ late) (every-take IsBlock at old.blocks.items sound.sound) (joined_block, every-drop IsBlock (suc (suc at)) old.blocks.items sound.sound));
     ascend = subst Ascend (sym joins_rows) sound.ascend;
     small = subst (AllByRecursion (λ x. x.key < 2 ^ 62)) (sym joins_rows) sound.small;
     numbered = subst AreDistinct (sym (ap (map number_of) joins.blocks ∙ map-append number_of early (joined ∷ late) ∙ ap (λ n. map number_of early ++ n ∷ map number_of late) joins.number)) numbers;

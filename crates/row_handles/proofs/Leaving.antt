@@ -1,14 +1,16 @@
 -- Rows that leave.
-use Rattle.std.proofs.Common.{◌≡◌, ◌≢◌, refl, ap, sym, ◌∙◌, subst, Bool, true, false, not, ◌&&◌, ◌||◌, ℕ, zero, suc, ◌+◌, ◌-◌, ◌^◌, ◌<◌, ◌≤◌, arith, List, [], ◌∷◌, ◌++◌, map, length, take, drop, get_or, set, leb, Some, None, append_assoc, take-append-drop, true≢false, ◌==◌}
+use Rattle.std.proofs.Common.{◌≡◌, ◌≢◌, refl, ap, sym, ◌∙◌, subst, true, false, not, ◌&&◌, ◌||◌, ℕ, zero, suc, ◌+◌, ◌-◌, ◌^◌, ◌<◌, ◌≤◌, arith, List, [], ◌∷◌, ◌++◌, map, length, take, drop, get_or, set, leb, Some, None, append_assoc, take-append-drop}
 use Rattle.std.specs.Prelude.{slice_range}
 use Rattle.std.specs.List.{AllByRecursion, remove}
-use Rattle.std.proofs.lemmas.Bool.{ne_eqb}
+use Rattle.std.proofs.lemmas.Bool.{lt-leb, le-leb}
 use Rattle.std.proofs.lemmas.List.{map-append, drop-take, take-set, drop-set-lt}
 use Rattle.std.proofs.lemmas.List.Elements.{filter-append}
 use Rattle.std.proofs.lemmas.List.Folds.{drop_split}
-use Rattle.std.proofs.lemmas.Grind.{flat_map-append, take-set_at}
+use Rattle.std.proofs.lemmas.Grind.{flat_map-append}
 use Rattle.key_lists.proofs.Every.{every, every_weaker, every_both, every-append, every-map, every_unmapped, filter_none, filter_same, filter_all, filter_filter}
 use Rattle.key_lists.proofs.Among.{among-append}
+use Rattle.key_lists.proofs.Booleans.{and_false, neither}
+use Rattle.key_lists.proofs.Parts.{every-take, every-drop, every_front, every_back, around}
 use Rattle.key_lists.specs.Keys.{is_among}
 use Rattle.row_set.specs.declared.ranges.Range.{Range}
 use Rattle.row_set.specs.Ranges.{keys_in, keys_of, IsRangeFrom, AreApart}
@@ -22,33 +24,20 @@ use Rattle.row_handles.specs.Entries.{Entry, left_rows, Ascend, AreDistinct}
 use Rattle.row_handles.specs.Blocks.{IsBlock, IsIndex, IsPlaced, entry_at, place_in, rows_of, rows, number_of}
 use Rattle.row_handles.specs.Moves.{has_handle}
 use Rattle.row_handles.specs.Drops.{is_between, outside, left_by, AreOutside}
-use Rattle.row_handles.proofs.Lists.{every_front, every_back, every_first, every_last, around, distinct_less, others_of}
+use Rattle.row_handles.proofs.Lists.{distinct_less, others_of}
 use Rattle.row_handles.proofs.EntryLists.{ascend_back}
 use Rattle.row_handles.proofs.Listings.{rows_above, own_block, later_firsts}
 use Rattle.row_handles.proofs.Apart.{all_parts, apart_front, apart_lower, apart_upper, apart_back, rows_stay, blocks_stay}
 
 -- keys that are no keys from first to last, and keys that are
 between_not : (first last key : ℕ) → key < first → is_between first last key ≡ false
-between_not first last key lt = ap (λ b. b && leb key last) (not_leb first key lt)
-  where
-    not_leb : (a b : ℕ) → b < a → leb a b ≡ false
-    not_leb a b h = grind arith
+between_not first last key lt = ap (λ b. b && leb key last) (lt-leb first key lt)
 
 between_past : (first last key : ℕ) → last < key → is_between first last key ≡ false
-between_past first last key lt = ap (λ b. leb first key && b) (not_leb key last lt) ∙ and_false (leb first key)
-  where
-    not_leb : (a b : ℕ) → b < a → leb a b ≡ false
-    not_leb a b h = grind arith
-
-    and_false : (b : Bool) → (b && false) ≡ false
-    and_false true = refl
-    and_false false = refl
+between_past first last key lt = ap (λ b. leb first key && b) (lt-leb key last lt) ∙ and_false (leb first key)
 
 between_is : (first last key : ℕ) → first ≤ key → key ≤ last → is_between first last key ≡ true
-between_is first last key a b = ap (λ t. t && leb key last) (is_leb first key a) ∙ is_leb key last b
-  where
-    is_leb : (a b : ℕ) → a ≤ b → leb a b ≡ true
-    is_leb a b h = grind arith
+between_is first last key a b = ap (λ t. t && leb key last) (le-leb first key a) ∙ le-leb key last b
 
 none_outside : (first last : ℕ) (xs : List Entry) → AllByRecursion (λ x. first ≤ x.key) xs → AllByRecursion (λ x. x.key < last + 1) xs → outside first last xs ≡ []
 none_outside first last xs from to =
@@ -130,7 +119,7 @@ module _ (first last at from to : ℕ) (block : Block) (instead : List Block) (o
   middle_to : AllByRecursion (λ x. x.key < last + 1) middle
   middle_to =
       every-map (λ x. x.key < last + 1) (entry_at block.ceiling) gone
-      (subst (AllByRecursion (λ row. block.ceiling - row.depth < last + 1)) (ap (λ n. drop from (take n items)) total ∙ drop-take from (to - from) items) (every_last (λ row. block.ceiling - row.depth < last + 1) from (take to items) leaves.ended))
+      (subst (AllByRecursion (λ row. block.ceiling - row.depth < last + 1)) (ap (λ n. drop from (take n items)) total ∙ drop-take from (to - from) items) (every-drop (λ row. block.ceiling - row.depth < last + 1) from (take to items) leaves.ended))
     where
       total : to ≡ from + (to - from)
       total = omega (arith, leaves.order)
@@ -163,8 +152,8 @@ module _ (first last at from to : ℕ) (block : Block) (instead : List Block) (o
   kept_rows : AllByRecursion (λ row. get new.places row.handle ≡ Some (place_in block.number row.depth)) (take from items ++ drop to items)
   kept_rows =
       every-append (λ row. get new.places row.handle ≡ Some (place_in block.number row.depth)) (take from items) (drop to items)
-      (rows_stay old.places new.places gone block.number (take from items) leaves.places (apart_lower old sound at block leaves.within leaves.is (take from items) gone (drop to items) whole) (every_first Stands from items own_place.rows))
-      (rows_stay old.places new.places gone block.number (drop to items) leaves.places (apart_upper old sound at block leaves.within leaves.is (take from items) gone (drop to items) whole) (every_last Stands to items own_place.rows))
+      (rows_stay old.places new.places gone block.number (take from items) leaves.places (apart_lower old sound at block leaves.within leaves.is (take from items) gone (drop to items) whole) (every-take Stands from items own_place.rows))
+      (rows_stay old.places new.places gone block.number (drop to items) leaves.places (apart_upper old sound at block leaves.within leaves.is (take from items) gone (drop to items) whole) (every-drop Stands to items own_place.rows))
 
   instead_placed : AllByRecursion (IsPlaced new.ceilings new.places) instead
   instead_placed =
@@ -178,16 +167,16 @@ module _ (first last at from to : ℕ) (block : Block) (instead : List Block) (o
   left_index = record {
     sound =
         subst (AllByRecursion IsBlock) (sym leaves.blocks)
-        (every-append IsBlock (take at old.blocks.items) (instead ++ drop (suc at) old.blocks.items) (every_first IsBlock at old.blocks.items sound.sound) (every-append IsBlock instead (drop (suc at) old.blocks.items) leaves.sound (every_last IsBlock (suc at) old.blocks.items sound.sound)));
+        (every-append IsBlock (take at old.blocks.items) (instead ++ drop (suc at) old.blocks.items) (every-take IsBlock at old.blocks.items sound.sound) (every-append IsBlock instead (drop (suc at) old.blocks.items) leaves.sound (every-drop IsBlock (suc at) old.blocks.items sound.sound)));
     ascend = subst Ascend (sym now_rows) (ascend_less (front ++ lower) middle (upper ++ back) (subst Ascend was sound.ascend));
     small = subst (AllByRecursion (λ x. x.key < 2 ^ 62)) (sym now_rows) (every_less (λ x. x.key < 2 ^ 62) (front ++ lower) middle (upper ++ back) (subst (AllByRecursion (λ x. x.key < 2 ^ 62)) was sound.small));
     numbered = leaves.numbered;
     placed =
         subst (AllByRecursion (IsPlaced new.ceilings new.places)) (sym leaves.blocks)
         (every-append (IsPlaced new.ceilings new.places) (take at old.blocks.items) (instead ++ drop (suc at) old.blocks.items)
-        (blocks_stay old.ceilings new.ceilings old.places new.places gone (take at old.blocks.items) leaves.places leaves.front_held (apart_front old sound at block leaves.within leaves.is (take from items) gone (drop to items) whole) (every_first (IsPlaced old.ceilings old.places) at old.blocks.items sound.placed))
+        (blocks_stay old.ceilings new.ceilings old.places new.places gone (take at old.blocks.items) leaves.places leaves.front_held (apart_front old sound at block leaves.within leaves.is (take from items) gone (drop to items) whole) (every-take (IsPlaced old.ceilings old.places) at old.blocks.items sound.placed))
         (every-append (IsPlaced new.ceilings new.places) instead (drop (suc at) old.blocks.items) instead_placed
-        (blocks_stay old.ceilings new.ceilings old.places new.places gone (drop (suc at) old.blocks.items) leaves.places leaves.back_held (apart_back old sound at block leaves.within leaves.is (take from items) gone (drop to items) whole) (every_last (IsPlaced old.ceilings old.places) (suc at) old.blocks.items sound.placed))));
+        (blocks_stay old.ceilings new.ceilings old.places new.places gone (drop (suc at) old.blocks.items) leaves.places leaves.back_held (apart_back old sound at block leaves.within leaves.is (take from items) gone (drop to items) whole) (every-drop (IsPlaced old.ceilings old.places) (suc at) old.blocks.items sound.placed))));
   }
 
 -- the order of two searches in a block
@@ -204,8 +193,8 @@ order_of first last ceiling (suc from) (suc to) (x ∷ xs) le a b below above =
 pub held_less : (blocks : List Block) (at : ℕ) (block : Block) (old new : Slab ℕ) → at < length blocks → block ≡ get_or blocks at block → AreDistinct (map number_of blocks) → Updates old new block.number None → AllByRecursion (λ b. get old b.number ≡ Some b.ceiling) blocks → AllByRecursion (λ b. get new b.number ≡ Some b.ceiling) (take at blocks) × AllByRecursion (λ b. get new b.number ≡ Some b.ceiling) (drop (suc at) blocks)
 held_less blocks at block old new within is distinct updates held =
     let apart = others_of block.number (map number_of (take at blocks)) (map number_of (drop (suc at) blocks)) (subst AreDistinct (ap (map number_of) (around blocks at block within is) ∙ map-append number_of (take at blocks) (block ∷ drop (suc at) blocks)) distinct) in (
-      stay (take at blocks) (every_unmapped (λ n. n ≢ block.number) number_of (take at blocks) apart.0) (every_first (λ b. get old b.number ≡ Some b.ceiling) at blocks held),
-      stay (drop (suc at) blocks) (every_unmapped (λ n. n ≢ block.number) number_of (drop (suc at) blocks) apart.1) (every_last (λ b. get old b.number ≡ Some b.ceiling) (suc at) blocks held),
+      stay (take at blocks) (every_unmapped (λ n. n ≢ block.number) number_of (take at blocks) apart.0) (every-take (λ b. get old b.number ≡ Some b.ceiling) at blocks held),
+      stay (drop (suc at) blocks) (every_unmapped (λ n. n ≢ block.number) number_of (drop (suc at) blocks) apart.1) (every-drop (λ b. get old b.number ≡ Some b.ceiling) (suc at) blocks held),
     )
   where
     stay : (bs : List Block) → AllByRecursion (λ b. b.number ≢ block.number) bs → AllByRecursion (λ b. get old b.number ≡ Some b.ceiling) bs → AllByRecursion (λ b. get new b.number ≡ Some b.ceiling) bs
@@ -223,13 +212,6 @@ all_held old sound = every_weaker (IsPlaced old.ceilings old.places) (λ b. get 
 pub set_removed : {X : Type 0} (xs : List X) (i : ℕ) (x : X) → i < length xs → remove (set xs i x) i ≡ take i xs ++ drop (suc i) xs
 set_removed xs i x lt = ap (λ ys. ys ++ drop (suc i) (set xs i x)) (take-set xs i x) ∙ ap (λ ys. take i xs ++ ys) (drop-set-lt (suc i) xs i x (omega arith))
 
-pub take_set_next : {X : Type 0} (xs : List X) (i : ℕ) (x : X) → i < length xs → take (i + 1) (set xs i x) ≡ take i xs ++ x ∷ []
-take_set_next xs i x lt = take-set_at xs i (i + 1) x refl lt
-
-pub no_items : {X : Type 0} (xs : List X) → true ≡ (length xs == 0) → xs ≡ []
-no_items [] e = refl
-no_items (x ∷ xs) e = absurd (true≢false (e ∙ ne_eqb (suc (length xs)) 0 (λ f. omega arith)))
-
 -- the rows of the blocks from one on
 pub begin_later : (bound : ℕ) (blocks : List Block) (index : ℕ) (block : Block) → index < length blocks → block ≡ get_or blocks index block → AllByRecursion IsBlock blocks → Ascend (rows blocks) → bound < block.first → AllByRecursion (λ other. bound < other.first) (drop index blocks)
 begin_later bound [] index block lt at sound ascend above = absurd (omega arith)
@@ -237,12 +219,6 @@ begin_later bound (first ∷ blocks) zero block lt at sound ascend above =
     let own : bound < first.first = subst (λ b. bound < b.first) at above in
     (own, every_weaker (λ other. first.first < other.first) (λ other. bound < other.first) blocks (λ other more. omega (arith, own, more)) (later_firsts first blocks sound ascend))
 begin_later bound (first ∷ blocks) (suc index) block lt at sound ascend above = begin_later bound blocks index block (omega arith) at sound.1 (ascend_back (rows_of first) (rows blocks) ascend) above
-
-pub none_left : {X : Type 0} (P : X → Type 0) (xs : List X) (n : ℕ) → length xs ≤ n → AllByRecursion P (drop n xs)
-none_left P [] zero le = tt
-none_left P (x ∷ xs) zero le = absurd (omega arith)
-none_left P [] (suc n) le = tt
-none_left P (x ∷ xs) (suc n) le = none_left P xs n (omega arith)
 
 pub left_all : (first last : ℕ) (old : List Entry) (new : List Block) (index : ℕ) → outside first last (rows new) ≡ outside first last old → AllByRecursion IsBlock new → Ascend (rows new) → AreOutside first last (rows (take index new)) → AllByRecursion (λ block. last < block.first) (drop index new) → rows new ≡ outside first last old
 left_all first last old new index rest sound ascend done above = sym (outside_all first last (rows new) all) ∙ rest
@@ -255,7 +231,7 @@ left_all first last old new index rest sound ascend done above = sym (outside_al
         subst (AreOutside first last) (sym two)
         (every-append (λ x. is_between first last x.key ≡ false) (rows (take index new)) (rows (drop index new)) done
         (every_weaker (λ x. last < x.key) (λ x. is_between first last x.key ≡ false) (rows (drop index new)) (λ x lt. between_past first last x.key lt)
-        (rows_above last (drop index new) (every_last IsBlock index new sound) (ascend_back (rows (take index new)) (rows (drop index new)) (subst Ascend two ascend)) above)))
+        (rows_above last (drop index new) (every-drop IsBlock index new sound) (ascend_back (rows (take index new)) (rows (drop index new)) (subst Ascend two ascend)) above)))
 
 -- range by range
 pub left_by-append : (ranges : List Range) (range : Range) (xs : List Entry) → left_by (ranges ++ range ∷ []) xs ≡ outside range.first range.last (left_by ranges xs)
@@ -272,10 +248,6 @@ left_by_keys (range ∷ ranges) xs =
     (every (λ x. (not (is_between range.first range.last x.key) && not (is_among x.key (keys_of ranges))) ≡ not (is_among x.key (keys_of (range ∷ ranges)))) xs (λ x.
     neither (is_between range.first range.last x.key) (is_among x.key (keys_of ranges))
     ∙ ap not (ap (λ b. b || is_among x.key (keys_of ranges)) (sym (among-in x.key range)) ∙ sym (among-append x.key (keys_in range) (keys_of ranges)))))
-  where
-    neither : (a b : Bool) → (not a && not b) ≡ not (a || b)
-    neither true b = refl
-    neither false b = refl
 
 pub ordered_ranges : (ranges : List Range) → AreApart 0 ranges → AllByRecursion (λ range. range.first ≤ range.last) ranges
 ordered_ranges ranges h = every_weaker (IsRangeFrom 0) (λ range. range.first ≤ range.last) ranges (λ range is. is.ascends) (each_range 0 ranges h)

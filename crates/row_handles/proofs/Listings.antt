@@ -8,11 +8,11 @@ use Rattle.std.proofs.lemmas.List.Sorted.{IsPartitionedBy-leb, IsPartitionedBy-l
 use Rattle.std.proofs.lemmas.List.{map-append}
 use Rattle.std.proofs.lemmas.Grind.{flat_map-append}
 use Rattle.key_lists.proofs.Every.{every_weaker, every-append, every-map, every_unmapped}
+use Rattle.key_lists.proofs.Parts.{every_front, every_back, front_part, back_part, every_at, around, last_taken}
 use Rattle.row_handles.specs.declared.block.Block.{Block}
 use Rattle.row_handles.specs.declared.block.Row.{Row}
 use Rattle.row_handles.specs.Entries.{handle_under, Ascend}
 use Rattle.row_handles.specs.Blocks.{IsBlock, entry_at, rows_of, rows}
-use Rattle.row_handles.proofs.Lists.{every_front, every_back, every_at, front_part, back_part, around, last_taken}
 use Rattle.row_handles.proofs.EntryLists.{handle_under-append, handle_under-above, handle_under-below, ascend_front, ascend_back, begin_has, from_begin, begin_below, below_begin}
 
 -- rows within a block

@@ -1,10 +1,13 @@
 -- Whole blocks that move.
-use Rattle.std.proofs.Common.{◌≡◌, ◌≢◌, refl, ap, sym, ◌∙◌, subst, ℕ, zero, suc, ◌+◌, ◌-◌, length, take, drop, get_or, set, take-append-drop, ◌^◌, ◌<◌, ◌≤◌, arith, List, [], ◌∷◌, ◌++◌, map, Some, None, ℤ, inl, inr, Bool, true, false, cond, ◌&&◌, leb, pos, ◌+ℤ◌, find, option_map, unwrap_or}
+use Rattle.std.proofs.Common.{◌≡◌, ◌≢◌, refl, ap, sym, ◌∙◌, subst, ℕ, zero, suc, ◌+◌, ◌-◌, length, take, drop, get_or, set, take-append-drop, ◌^◌, ◌<◌, ◌≤◌, arith, List, [], ◌∷◌, ◌++◌, map, Some, None, ℤ, inl, inr, false, ◌&&◌, leb, pos, ◌+ℤ◌, option_map, unwrap_or}
 use Rattle.std.proofs.lemmas.List.{map-append}
 use Rattle.std.specs.List.{AllByRecursion}
 use Rattle.std.proofs.lemmas.Int.{ints}
+use Rattle.std.proofs.lemmas.Bool.{lt-leb, le-leb}
 use Rattle.key_lists.specs.Keys.{IsRising}
-use Rattle.key_lists.proofs.Every.{every_weaker, every_both, every-map, every_unmapped, every-append, map_map, map_own}
+use Rattle.key_lists.proofs.Every.{every_weaker, every_both, every-map, every_unmapped, every-append, map_map, map_own, find_none, find_same, turned}
+use Rattle.key_lists.proofs.Booleans.{and_false}
+use Rattle.key_lists.proofs.Parts.{every-take, every-drop, every_front, every_back, around, last_taken, set_around, take_nil}
 use Rattle.tick_model.specs.declared.update.ShiftRange.{ShiftRange}
 use Rattle.tick_model.specs.Shifts.{moved, as_key, delta_at, holds}
 use Rattle.tick_model.specs.Rules.{is_past, shift_fault}
@@ -18,7 +21,7 @@ use Rattle.row_handles.specs.declared.index.Index.{Index}
 use Rattle.row_handles.specs.Entries.{Entry, entry_of, keys_of, moved_row, moved_rows, Ascend, AreDistinct}
 use Rattle.row_handles.specs.Blocks.{BeginAt, IsBlock, IsIndex, IsPlaced, entry_at, rows_of, rows, number_of}
 use Rattle.row_handles.specs.Moves.{IsBeside, IsBesideRange, IsMovable, moved_block}
-use Rattle.row_handles.proofs.Lists.{every_front, every_back, every_first, every_last, last_taken, around, set_around, turned, others_of}
+use Rattle.row_handles.proofs.Lists.{others_of}
 use Rattle.row_handles.proofs.EntryLists.{ascend_by_keys, ascend_front, ascend_back, begin_has, from_begin}
 use Rattle.row_handles.proofs.Listings.{rows_before, own_block}
 
@@ -44,33 +47,23 @@ each_movable shifts (block ∷ blocks) sound small inside = (
 )
 
 -- a range holds all rows of a block that stands beside its ends, or none
-leb_yes : (a b : ℕ) → a ≤ b → leb a b ≡ true
-leb_yes a b h = grind arith
-
-leb_no : (a b : ℕ) → b < a → leb a b ≡ false
-leb_no a b h = grind arith
-
 begin_same : (key : ℕ) (block : Block) → IsBlock block → Ascend (rows_of block) → IsBeside key block → AllByRecursion (λ x. leb key x.key ≡ leb key block.first) (rows_of block)
 begin_same key block is ascend (inl le) =
-    every_weaker (λ x. block.first ≤ x.key) (λ x. leb key x.key ≡ leb key block.first) (rows_of block) (λ x from. leb_yes key x.key (omega (arith, le, from)) ∙ sym (leb_yes key block.first le)) (from_begin block.first (rows_of block) is.begun ascend)
+    every_weaker (λ x. block.first ≤ x.key) (λ x. leb key x.key ≡ leb key block.first) (rows_of block) (λ x from. le-leb key x.key (omega (arith, le, from)) ∙ sym (le-leb key block.first le)) (from_begin block.first (rows_of block) is.begun ascend)
 begin_same key block is ascend (inr h) =
-    every_weaker (λ x. x.key < key) (λ x. leb key x.key ≡ leb key block.first) (rows_of block) (λ x lt. leb_no key x.key lt ∙ sym (leb_no key block.first (own_first (λ k. k < key) block is h))) h
+    every_weaker (λ x. x.key < key) (λ x. leb key x.key ≡ leb key block.first) (rows_of block) (λ x lt. lt-leb key x.key lt ∙ sym (lt-leb key block.first (own_first (λ k. k < key) block is h))) h
 
 end_same : (key : ℕ) (block : Block) → IsBlock block → Ascend (rows_of block) → IsBeside (key + 1) block → AllByRecursion (λ x. leb x.key key ≡ leb block.first key) (rows_of block)
 end_same key block is ascend (inl le) =
-    every_weaker (λ x. block.first ≤ x.key) (λ x. leb x.key key ≡ leb block.first key) (rows_of block) (λ x from. leb_no x.key key (omega (arith, le, from)) ∙ sym (leb_no block.first key (omega (arith, le)))) (from_begin block.first (rows_of block) is.begun ascend)
+    every_weaker (λ x. block.first ≤ x.key) (λ x. leb x.key key ≡ leb block.first key) (rows_of block) (λ x from. lt-leb x.key key (omega (arith, le, from)) ∙ sym (lt-leb block.first key (omega (arith, le)))) (from_begin block.first (rows_of block) is.begun ascend)
 end_same key block is ascend (inr h) =
-    every_weaker (λ x. x.key < key + 1) (λ x. leb x.key key ≡ leb block.first key) (rows_of block) (λ x lt. leb_yes x.key key (omega (arith, lt)) ∙ sym (leb_yes block.first key (omega (arith, own_first (λ k. k < key + 1) block is h)))) h
+    every_weaker (λ x. x.key < key + 1) (λ x. leb x.key key ≡ leb block.first key) (rows_of block) (λ x lt. le-leb x.key key (omega (arith, lt)) ∙ sym (le-leb block.first key (omega (arith, own_first (λ k. k < key + 1) block is h)))) h
 
 holds_same : (range : ShiftRange) (block : Block) → IsBlock block → Ascend (rows_of block) → IsBesideRange range block → AllByRecursion (λ x. holds range x.key ≡ holds range block.first) (rows_of block)
 holds_same range block is ascend beside =
     every_both (λ x. leb range.begin x.key ≡ leb range.begin block.first) (λ x. leb x.key range.end ≡ leb block.first range.end) (λ x. holds range x.key ≡ holds range block.first) (rows_of block)
     (λ x a b. ap (λ t. t && leb x.key range.end) a ∙ ap (λ t. leb range.begin block.first && t) b)
     (begin_same range.begin block is ascend beside.0) (end_same range.end block is ascend beside.1)
-
-find_same : {X : Type 0} (p q : X → Bool) (xs : List X) → AllByRecursion (λ x. p x ≡ q x) xs → find p xs ≡ find q xs
-find_same p q [] h = refl
-find_same p q (x ∷ xs) h = ap (λ b. cond b (Some x) (find p xs)) h.0 ∙ ap (λ o. cond (q x) (Some x) o) (find_same p q xs h.1)
 
 delta_same : (shifts : List ShiftRange) (block : Block) → IsBlock block → Ascend (rows_of block) → AllByRecursion (λ range. IsBesideRange range block) shifts → AllByRecursion (λ x. delta_at shifts x.key ≡ delta_at shifts block.first) (rows_of block)
 delta_same shifts block is ascend beside =
@@ -158,10 +151,6 @@ moved_index shifts old new sound beside allowed blocks held places =
     }
 
 -- blocks that no range reaches stay
-find_none : {X : Type 0} (p : X → Bool) (xs : List X) → AllByRecursion (λ x. p x ≡ false) xs → find p xs ≡ None
-find_none p [] h = refl
-find_none p (x ∷ xs) h = ap (λ b. cond b (Some x) (find p xs)) h.0 ∙ find_none p xs h.1
-
 block_stays : (shifts : List ShiftRange) (block : Block) → IsBlock block → AllByRecursion (λ range. holds range block.first ≡ false) shifts → moved_block shifts block ≡ block
 block_stays shifts block is h =
     ap (λ n. record block { first = n; ceiling = n + (block.ceiling - block.first) }) (ap (λ found. as_key (pos block.first +ℤ unwrap_or (option_map (λ range. range.delta) found) (pos 0))) (find_none (λ range. holds range block.first) shifts h) ∙ ap as_key (nothing_more block.first))
@@ -188,15 +177,11 @@ ends_to key (suc m) (range ∷ next ∷ ranges) d shift len above =
 
 below_stays : (shifts : List ShiftRange) (block : Block) → IsBlock block → AllByRecursion (λ range. block.first < range.begin) shifts → moved_block shifts block ≡ block
 below_stays shifts block is h =
-    block_stays shifts block is (every_weaker (λ range. block.first < range.begin) (λ range. holds range block.first ≡ false) shifts (λ range lt. ap (λ b. b && leb block.first range.end) (leb_no range.begin block.first lt)) h)
+    block_stays shifts block is (every_weaker (λ range. block.first < range.begin) (λ range. holds range block.first ≡ false) shifts (λ range lt. ap (λ b. b && leb block.first range.end) (lt-leb range.begin block.first lt)) h)
 
 above_stays : (shifts : List ShiftRange) (block : Block) → IsBlock block → AllByRecursion (λ range. range.end < block.first) shifts → moved_block shifts block ≡ block
 above_stays shifts block is h =
-    block_stays shifts block is (every_weaker (λ range. range.end < block.first) (λ range. holds range block.first ≡ false) shifts (λ range lt. ap (λ b. leb range.begin block.first && b) (leb_no block.first range.end lt) ∙ and_false (leb range.begin block.first)) h)
-  where
-    and_false : (b : Bool) → (b && false) ≡ false
-    and_false true = refl
-    and_false false = refl
+    block_stays shifts block is (every_weaker (λ range. range.end < block.first) (λ range. holds range block.first ≡ false) shifts (λ range lt. ap (λ b. leb range.begin block.first && b) (lt-leb block.first range.end lt) ∙ and_false (leb range.begin block.first)) h)
 
 firsts_below : (bound : ℕ) (blocks : List Block) → AllByRecursion IsBlock blocks → AllByRecursion (λ x. x.key < bound) (rows blocks) → AllByRecursion (λ block. block.first < bound) blocks
 firsts_below bound [] sound h = tt
@@ -206,10 +191,6 @@ firsts_below bound (block ∷ blocks) sound h =
 -- the rows of the blocks before the last that begins at a key or before it
 pub below_next : (key : ℕ) (blocks : List Block) (next : ℕ) → next ≤ length blocks → AllByRecursion IsBlock blocks → Ascend (rows blocks) → AllByRecursion (λ block. block.first ≤ key) (take next blocks) → AllByRecursion (λ x. x.key < key) (rows (take (next - 1) blocks))
 below_next key [] next le sound ascend begun = subst (λ bs. AllByRecursion (λ x. x.key < key) (rows bs)) (sym (take_nil (next - 1))) tt
-  where
-    take_nil : (n : ℕ) → take {A = Block} n [] ≡ []
-    take_nil zero = refl
-    take_nil (suc n) = refl
 below_next key (block ∷ blocks) zero le sound ascend begun = tt
 below_next key (block ∷ blocks) (suc next) le sound ascend begun =
     let whole = block ∷ blocks in
@@ -233,11 +214,11 @@ moves_begin shifts d blocks next shift le sound ascend begun =
     sym (take-append-drop (next - 1) blocks)
     ∙ ap (λ bs. bs ++ drop (next - 1) blocks) (sym (map_own (moved_block shifts) (take (next - 1) blocks)
     (every_both IsBlock (λ block. block.first < (get_or shifts 0 d).begin) (λ block. moved_block shifts block ≡ block) (take (next - 1) blocks) (λ block is lt. below_stays shifts block is (begins_from block.first shifts d shift lt))
-    (every_first IsBlock (next - 1) blocks sound)
-    (firsts_below (get_or shifts 0 d).begin (take (next - 1) blocks) (every_first IsBlock (next - 1) blocks sound) (below_next (get_or shifts 0 d).begin blocks next le sound ascend begun)))))
+    (every-take IsBlock (next - 1) blocks sound)
+    (firsts_below (get_or shifts 0 d).begin (take (next - 1) blocks) (every-take IsBlock (next - 1) blocks sound) (below_next (get_or shifts 0 d).begin blocks next le sound ascend begun)))))
 
 pub drop_later : {X : Type 0} (P : X → Type 0) (to place : ℕ) (xs : List X) → to ≤ place → AllByRecursion P (drop to xs) → AllByRecursion P (drop place xs)
-drop_later P zero place xs le h = every_last P place xs h
+drop_later P zero place xs le h = every-drop P place xs h
 drop_later P (suc to) zero xs le h = absurd (omega arith)
 drop_later P (suc to) (suc place) [] le h = tt
 drop_later P (suc to) (suc place) (x ∷ xs) le h = drop_later P to place xs (omega arith) h
@@ -245,7 +226,7 @@ drop_later P (suc to) (suc place) (x ∷ xs) le h = drop_later P to place xs (om
 pub moves_end : (shifts : List ShiftRange) (d : ShiftRange) (m : ℕ) (blocks : List Block) (to place : ℕ) → IsShift shifts → length shifts ≡ suc m → to ≤ place → AllByRecursion IsBlock blocks → AllByRecursion (λ block. (get_or shifts m d).end < block.first) (drop to blocks) → map (moved_block shifts) (take place blocks) ++ drop place blocks ≡ map (moved_block shifts) blocks
 moves_end shifts d m blocks to place shift len le sound above =
     ap (λ bs. map (moved_block shifts) (take place blocks) ++ bs) (sym (map_own (moved_block shifts) (drop place blocks)
-    (every_both IsBlock (λ block. (get_or shifts m d).end < block.first) (λ block. moved_block shifts block ≡ block) (drop place blocks) (λ block is lt. above_stays shifts block is (ends_to block.first m shifts d shift len lt)) (every_last IsBlock place blocks sound) (drop_later (λ block. (get_or shifts m d).end < block.first) to place blocks le above))))
+    (every_both IsBlock (λ block. (get_or shifts m d).end < block.first) (λ block. moved_block shifts block ≡ block) (drop place blocks) (λ block is lt. above_stays shifts block is (ends_to block.first m shifts d shift len lt)) (every-drop IsBlock place blocks sound) (drop_later (λ block. (get_or shifts m d).end < block.first) to place blocks le above))))
     ∙ sym (map-append (moved_block shifts) (take place blocks) (drop place blocks))
     ∙ ap (map (moved_block shifts)) (take-append-drop place blocks)
 
@@ -257,11 +238,6 @@ pub moved_more : (f : Block → Block) (old : List Block) (m : ℕ) (held : Bloc
 moved_more f [] m held lt at = absurd (omega arith)
 moved_more f (x ∷ old) zero held lt at = ap (λ b. f b ∷ old) at
 moved_more f (x ∷ old) (suc m) held lt at = ap (λ bs. f x ∷ bs) (moved_more f old m held (omega arith) at)
-
-pub held_at : (f : Block → Block) (old : List Block) (m : ℕ) (held : Block) → m < length old → held ≡ get_or (map f (take m old) ++ drop m old) m held → held ≡ get_or old m held
-held_at f [] m held lt at = absurd (omega arith)
-held_at f (x ∷ old) zero held lt at = at
-held_at f (x ∷ old) (suc m) held lt at = held_at f old m held (omega arith) at
 
 pub length_partly : (f : Block → Block) (old : List Block) (m : ℕ) → length (map f (take m old) ++ drop m old) ≡ length old
 length_partly f [] zero = refl
@@ -281,8 +257,8 @@ held_more blocks at block other old new within is number distinct updates held =
     let apart = others_of block.number (map number_of (take at blocks)) (map number_of (drop (suc at) blocks)) (subst AreDistinct (ap (map number_of) (around blocks at block within is) ∙ map-append number_of (take at blocks) (block ∷ drop (suc at) blocks)) distinct) in
     subst (AllByRecursion (λ b. get new b.number ≡ Some b.ceiling)) (sym (set_around blocks at other within))
     (every-append (λ b. get new b.number ≡ Some b.ceiling) (take at blocks) (other ∷ drop (suc at) blocks)
-    (stay (take at blocks) (every_unmapped (λ n. n ≢ block.number) number_of (take at blocks) apart.0) (every_first (λ b. get old b.number ≡ Some b.ceiling) at blocks held))
-    (ap (get new) number ∙ updates.changed, stay (drop (suc at) blocks) (every_unmapped (λ n. n ≢ block.number) number_of (drop (suc at) blocks) apart.1) (every_last (λ b. get old b.number ≡ Some b.ceiling) (suc at) blocks held)))
+    (stay (take at blocks) (every_unmapped (λ n. n ≢ block.number) number_of (take at blocks) apart.0) (every-take (λ b. get old b.number ≡ Some b.ceiling) at blocks held))
+    (ap (get new) number ∙ updates.changed, stay (drop (suc at) blocks) (every_unmapped (λ n. n ≢ block.number) number_of (drop (suc at) blocks) apart.1) (every-drop (λ b. get old b.number ≡ Some b.ceiling) (suc at) blocks held)))
   where
     stay : (bs : List Block) → AllByRecursion (λ b. b.number ≢ block.number) bs → AllByRecursion (λ b. get old b.number ≡ Some b.ceiling) bs → AllByRecursion (λ b. get new b.number ≡ Some b.ceiling) bs
     stay bs = every_both (λ b. b.number ≢ block.number) (λ b. get old b.number ≡ Some b.ceiling) (λ b. get new b.number ≡ Some b.ceiling) bs (λ b ne there. updates.others b.number ne ∙ there)

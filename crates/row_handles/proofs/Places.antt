@@ -2,14 +2,16 @@
 use Rattle.std.proofs.Common.{◌≡◌, ◌≢◌, refl, ap, sym, ◌∙◌, subst, cond, ℕ, ◌-◌, ◌<◌, arith, List, [], ◌∷◌, ◌++◌, map, Option, Some, None, IsSome, inl, inr, true≢false}
 use Rattle.std.specs.List.{AllByRecursion}
 use Rattle.std.proofs.lemmas.Bool.{ne_eqb, eq-eqb, cases_eq}
+use Rattle.std.proofs.lemmas.Option.{same_Some}
 use Rattle.key_lists.proofs.Every.{every_weaker, every-append, every-map, every_both}
+use Rattle.key_lists.proofs.Parts.{every_back}
 use Rattle.slab.specs.Slab.{Slab, get, Updates}
 use Rattle.row_handles.specs.declared.block.Block.{Block}
 use Rattle.row_handles.specs.declared.block.Row.{Row}
 use Rattle.row_handles.specs.declared.index.Place.{Place}
 use Rattle.row_handles.specs.Entries.{Entry, handles_of, key_with, Ascend, AreDistinct}
 use Rattle.row_handles.specs.Blocks.{IsPlaced, entry_at, place_in, rows_of, rows, number_of}
-use Rattle.row_handles.proofs.Lists.{every_back, none_some, some_same}
+use Rattle.row_handles.proofs.Lists.{none_some}
 use Rattle.row_handles.proofs.EntryLists.{none_with}
 
 -- the places lead from the handle to the key
@@ -38,10 +40,10 @@ module _ (ceilings : Slab ℕ) (places : Slab Place) where
       sym a.is ∙ ap (λ c. c - a.place.depth) ceiling_same ∙ ap (λ p. b.ceiling - p.depth) place_same ∙ b.is
     where
       place_same : a.place ≡ b.place
-      place_same = some_same a.place b.place (sym a.placed ∙ b.placed)
+      place_same = same_Some a.place b.place (sym a.placed ∙ b.placed)
 
       ceiling_same : a.ceiling ≡ b.ceiling
-      ceiling_same = some_same a.ceiling b.ceiling (sym a.held ∙ ap (λ p. get ceilings p.block) place_same ∙ b.held)
+      ceiling_same = same_Some a.ceiling b.ceiling (sym a.held ∙ ap (λ p. get ceilings p.block) place_same ∙ b.held)
 
   pub apart : (x y : Entry) → IsAt ceilings places x.handle x.key → IsAt ceilings places y.handle y.key → x.key < y.key → x.handle ≢ y.handle
   apart x y a b lt e = below_same x.key y.key lt (one_key y.handle x.key y.key (subst (λ h. IsAt ceilings places h x.key) e a) b)

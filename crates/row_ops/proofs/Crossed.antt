@@ -1,11 +1,11 @@
 -- The rows that cross a test in a step of an exact input are those that the filter removes and adds.
-use Rattle.std.proofs.Common.{◌≡◌, refl, ap, ap₂, sym, ◌∙◌, subst, Bool, true, false, cond, not, ◌&&◌, ◌||◌, ℕ, List, [], ◌∷◌, map, filter, Option, Some, true≢false, ℤ}
+use Rattle.std.proofs.Common.{◌≡◌, refl, ap, ap₂, sym, ◌∙◌, subst, Bool, true, false, not, ◌&&◌, ◌||◌, ℕ, List, [], filter, Option, Some, true≢false, ℤ}
 use Rattle.std.specs.Prelude.{option_map, unwrap_or}
 use Rattle.std.specs.List.{AllByRecursion}
 use Rattle.std.specs.Cmp.Rules.{signed_items}
-use Rattle.std.proofs.lemmas.Bool.{not-false, or_parts}
+use Rattle.std.proofs.lemmas.Bool.{not-false}
 use Rattle.key_lists.specs.Keys.{is_among, without}
-use Rattle.key_lists.proofs.Among.{among-filter, each_among, of_among}
+use Rattle.key_lists.proofs.Among.{among-filter, each_among, of_among, absent-filter}
 use Rattle.key_lists.proofs.Every.{every_both, every_weaker, every_unmapped, every-map, every-filter, filter_filter, filter_same, filter-map}
 use Rattle.key_lists.proofs.Rising.{rising-filter, rising_same, rising_some}
 use Rattle.row_set.specs.Sets.{common, united}
@@ -76,15 +76,6 @@ comes false false p f = f refl
 and_true : (p t : Bool) → t ≡ true → (p && t) ≡ p
 and_true true t e = e
 and_true false t e = refl
-
--- a key of none of the elements is that of none of those that pass
-none_named : {X : Type 0} (f : X → ℕ) (test : X → Bool) (key : ℕ) (xs : List X) → is_among key (map f xs) ≡ false → is_among key (map f (filter test xs)) ≡ false
-none_named {X = X} f test key [] e = refl
-none_named {X = X} f test key (x ∷ xs) e =
-    elim (test x) as (λ b. is_among key (map f (cond b (x ∷ filter test xs) (filter test xs))) ≡ false) [
-      | true ↦ ap₂ (λ a b. a || b) (or_parts _ _ e).0 (none_named f test key xs (or_parts _ _ e).1)
-      | false ↦ none_named f test key xs (or_parts _ _ e).1
-    ]
 
 module _ (test : List ℤ → Bool) (t : Ticking) (e : IsExact t) where
   abbrev shown : Tick
@@ -216,9 +207,9 @@ module _ (test : List ℤ → Bool) (t : Ticking) (e : IsExact t) where
             let found = of_named (λ (pair : KeyPair). pair.new) Knows key (kept t e) all_known own in
             subst (λ k. ((passes_at test t.new k && (false && is_among k (keys t.new.rows))) || is_among k (new_keys (filter (λ pair. is_modified t e pair && passes_first pair) (kept t e)))) ≡ (not (is_among k (new_keys (filter both (kept t e)))) && (passes_at test t.new k && is_among k (keys t.new.rows)))) found.1.1 (coming_of found.0 found.1.0)
         | false ↦ λ other.
-            ap (λ b. (passes_at test t.new key && is_among key (keys t.new.rows)) || b) (none_named (λ (pair : KeyPair). pair.new) (λ pair. is_modified t e pair && passes_first pair) key (kept t e) other)
+            ap (λ b. (passes_at test t.new key && is_among key (keys t.new.rows)) || b) (absent-filter (λ (pair : KeyPair). pair.new) (λ pair. is_modified t e pair && passes_first pair) key (kept t e) other)
             ∙ or_none (passes_at test t.new key && is_among key (keys t.new.rows))
-            ∙ ap (λ b. not b && (passes_at test t.new key && is_among key (keys t.new.rows))) (sym (none_named (λ (pair : KeyPair). pair.new) both key (kept t e) other))
+            ∙ ap (λ b. not b && (passes_at test t.new key && is_among key (keys t.new.rows))) (sym (absent-filter (λ (pair : KeyPair). pair.new) both key (kept t e) other))
       ]) refl
       ∙ sym (added_parts key)
     where

@@ -1,4 +1,3 @@
 pub mod Crossed
-pub mod Fresh
 pub mod Viewed
 pub mod Walked

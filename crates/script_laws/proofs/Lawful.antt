@@ -6,7 +6,7 @@ use Rattle.std.proofs.lemmas.Bool.{cond_both, and_from, lt-ltb, le-leb, ltb-fals
 use Rattle.std.proofs.lemmas.List.{length-map, map_push, get_or_append_left}
 use Rattle.std.proofs.lemmas.List.Folds.{list_all-append}
 use Rattle.std.proofs.lemmas.List.Sums.{fold-append}
-use Rattle.key_lists.proofs.Every.{every_weaker, every-append}
+use Rattle.key_lists.proofs.Every.{every_weaker, every-append, pass_all}
 use Rattle.tick_model.specs.declared.plan.ColumnSpec.{ColumnSpec}
 use Rattle.tick_model.specs.declared.plan.Node.{Node}
 use Rattle.tick_model.specs.declared.plan.Published.{Published}
@@ -27,7 +27,7 @@ use Rattle.script_laws.proofs.Unbroken.{IsUnbroken, unbroken, where_unbroken}
 use Rattle.script_laws.proofs.Bound.{inputs_bound, key_bounds_bound, names_bound, tables_bound}
 use Rattle.script_laws.proofs.Columns.{IsTable, columns_fit_same, one_or_more}
 use Rattle.script_laws.proofs.Fitting.{IsFitting, draft_fits, source_fits}
-use Rattle.script_laws.proofs.Ordered.{all_tested, are_distinct-push, number_distinct-push, rises-in_order, every-in_order}
+use Rattle.script_laws.proofs.Ordered.{are_distinct-push, number_distinct-push, rises-in_order, every-in_order}
 
 -- a node with a number among nodes with columns
 pub record IsNode (ranks : List ℕ) (tables : List (List ColumnSpec)) (number : ℕ) (node : Node) : Type 0 where
@@ -245,11 +245,11 @@ module _ (ranks : List ℕ) where
       (and_from (named && columns_named && apart && some) narrow
       (and_from (named && columns_named && apart) some
       (and_from (named && columns_named) apart
-      (and_from named columns_named is.name (all_tested (λ (column : ColumnSpec). is_name column.name) node.columns is.table.named))
+      (and_from named columns_named is.name (pass_all (λ (column : ColumnSpec). is_name column.name) node.columns is.table.named))
       is.apart)
       (le-leb 1 (length node.columns) (one_or_more node.columns is.table.some)))
       (le-leb (length node.columns) 32 is.narrow))
-      (ap (list_all (λ input. nat_lt input number)) (inputs_bound ranks node.op) ∙ all_tested (λ input. nat_lt input number) (inputs_of node.op) (every_weaker (λ input. input < number) (λ input. nat_lt input number ≡ true) (inputs_of node.op) (λ input less. lt-ltb input number less) is.inputs)))
+      (ap (list_all (λ input. nat_lt input number)) (inputs_bound ranks node.op) ∙ pass_all (λ input. nat_lt input number) (inputs_of node.op) (every_weaker (λ input. input < number) (λ input. nat_lt input number ≡ true) (inputs_of node.op) (λ input less. lt-ltb input number less) is.inputs)))
       (ap (λ tables. columns_fit (bound_op ranks node.op) (table_at tables) node.columns) (tables_bound ranks all) ∙ is.fits)
 
   nodes_pass : (all : List Node) (number : ℕ) (nodes : List Node) → AreNodes ranks (tables_of all) number nodes → list_all (node_lawful (with_ranks all)) (enumerate_from number (with_ranks nodes)) ≡ true
@@ -295,10 +295,10 @@ module _ (ranks : List ℕ) where
       (nodes_pass nodes 0 nodes is.nodes))
       (ap bounds_fit (key_bounds_bound ranks nodes) ∙ is.room))
       is.rising)
-      (all_tested (λ node. nat_lt node (length (with_ranks nodes))) script.plan.printed
+      (pass_all (λ node. nat_lt node (length (with_ranks nodes))) script.plan.printed
       (every_weaker (λ node. node < length nodes) (λ node. nat_lt node (length (with_ranks nodes)) ≡ true) script.plan.printed (λ node less. lt-ltb node (length (with_ranks nodes)) (omega (arith, counted, less))) is.printed)))
       is.published_apart)
-      (all_tested (publication_lawful (with_ranks nodes)) script.plan.published
+      (pass_all (publication_lawful (with_ranks nodes)) script.plan.published
       (every_weaker (IsPublication (tables_of nodes)) (λ publication. publication_lawful (with_ranks nodes) publication ≡ true) script.plan.published (publication_passes nodes) is.publications)))
       (le-leb (published_words script.plan.published) 1048576 is.words)
 

@@ -8,10 +8,6 @@ use Rattle.tick_model.specs.Plans.{rises, number_distinct}
 use Rattle.script_reader.specs.Checks.{in_order, is_among}
 use Rattle.script_laws.proofs.Columns.{other_names}
 
-pub all_tested : {X : Type 0} (p : X → Bool) (xs : List X) → AllByRecursion (λ x. p x ≡ true) xs → list_all p xs ≡ true
-all_tested p [] all = refl
-all_tested p (x ∷ xs) all = and_from (p x) (list_all p xs) all.0 (all_tested p xs all.1)
-
 -- names
 none_of_more : (names : List (List ℕ)) (name new : List ℕ) → is_one_of names name ≡ false → same_name name new ≡ false → is_one_of (names ++ new ∷ []) name ≡ false
 none_of_more [] name new none other = or_from (same_name name new) false other refl

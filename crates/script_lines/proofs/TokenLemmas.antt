@@ -1,10 +1,7 @@
 -- One token after another, as a loop reads them.
-use Rattle.std.proofs.Common.{◌≡◌, ℕ, zero, suc, ◌<◌, ◌≤◌, eqb, false, List, [], ◌∷◌, ◌++◌, length, drop, Option, Some, None, Result, Ok, Err, refl, sym, ap, ◌∙◌, arith}
-use Rattle.std.proofs.lemmas.Bool.{lt-ltb, le-ltb}
-use Rattle.std.proofs.lemmas.List.{append_assoc, append-nil, length-drop}
-use Rattle.std.specs.Prelude.{if◌then◌else◌}
+use Rattle.std.proofs.Common.{◌≡◌, ℕ, zero, suc, ◌<◌, eqb, false, List, [], ◌∷◌, ◌++◌, length, drop, Option, Some, None, Result, Ok, Err, refl, sym, ap, ◌∙◌, arith}
+use Rattle.std.proofs.lemmas.List.{append_assoc, length-drop}
 use Rattle.script_lines.specs.declared.fault.ScriptKind.{ScriptKind}
-use Rattle.script_lines.specs.declared.fault.ScriptKind.TheVariants.{BadLine}
 use Rattle.script_lines.specs.declared.token.Token.{Token}
 use Rattle.script_lines.specs.Answers.{◌>>=◌}
 use Rattle.script_lines.specs.Tokens.{front_by, lexeme_at, onto, tokens_after, at_most_512, tokens_of}
@@ -59,16 +56,9 @@ abbrev pub behind : List Token → Result (List Token) ScriptKind → Result (Li
 behind tokens (Ok later) = Ok (tokens ++ later)
 behind tokens (Err kind) = Err kind
 
-behind-nil : (read : Result (List Token) ScriptKind) → behind [] read ≡ read
-behind-nil (Ok later) = refl
-behind-nil (Err kind) = refl
-
 behind-onto : (tokens : List Token) (token : Token) (read : Result (List Token) ScriptKind) → behind tokens (onto (Ok (Some token)) read) ≡ behind (tokens ++ token ∷ []) read
 behind-onto tokens token (Ok later) = ap Ok (sym (append_assoc tokens (token ∷ []) later))
 behind-onto tokens token (Err kind) = refl
-
-pub reads_first : (line : List ℕ) → tokens_after 0 line ≡ behind [] (tokens_after 0 line)
-reads_first line = sym (behind-nil (tokens_after 0 line))
 
 pub reads_token : (line text rest : List ℕ) (tokens : List Token) (token : Token) → tokens_after 0 line ≡ behind tokens (tokens_after 0 text) → front_by lexeme_at text ≡ Ok (Some token, rest) → tokens_after 0 line ≡ behind (tokens ++ token ∷ []) (tokens_after 0 rest)
 reads_token line text rest tokens token so_far read = so_far ∙ ap (behind tokens) (read_on text rest (Some token) read) ∙ behind-onto tokens token (tokens_after 0 rest)
@@ -78,18 +68,6 @@ reads_blank line text rest tokens so_far read = so_far ∙ ap (behind tokens) (r
 
 pub reads_bad : (line text : List ℕ) (tokens : List Token) (kind : ScriptKind) → tokens_after 0 line ≡ behind tokens (tokens_after 0 text) → 0 < length text → front_by lexeme_at text ≡ Err kind → tokens_of line ≡ Err kind
 reads_bad line text tokens kind so_far some read = ap at_most_512 (so_far ∙ ap (behind tokens) (read_none text kind some read))
-
-reads_all : (line text : List ℕ) (tokens : List Token) → tokens_after 0 line ≡ behind tokens (tokens_after 0 text) → length text ≡ 0 → tokens_after 0 line ≡ Ok tokens
-reads_all line [] tokens so_far none = so_far ∙ ap Ok (append-nil tokens)
-reads_all line (byte ∷ bytes) tokens so_far none = absurd (omega arith)
-
-pub reads_few : (line text : List ℕ) (tokens : List Token) → tokens_after 0 line ≡ behind tokens (tokens_after 0 text) → length text ≡ 0 → length tokens ≤ 512 → tokens_of line ≡ Ok tokens
-reads_few line text tokens so_far none few =
-    ap at_most_512 (reads_all line text tokens so_far none) ∙ ap (λ b. if b then Err BadLine else Ok tokens) (le-ltb 512 (length tokens) few)
-
-pub reads_many : (line text : List ℕ) (tokens : List Token) → tokens_after 0 line ≡ behind tokens (tokens_after 0 text) → length text ≡ 0 → 512 < length tokens → tokens_of line ≡ Err BadLine
-reads_many line text tokens so_far none many =
-    ap at_most_512 (reads_all line text tokens so_far none) ∙ ap (λ b. if b then Err BadLine else Ok tokens) (lt-ltb 512 (length tokens) many)
 
 pub not_empty : (n : ℕ) → eqb n 0 ≡ false → 0 < n
 not_empty zero none = cc none

@@ -1,5 +1,5 @@
 -- A list that is rewritten in place, a member at a time.
-use Rattle.std.proofs.Common.{◌≡◌, refl, ap, sym, ◌∙◌, ℕ, ◌+◌, ◌<◌, ◌≤◌, arith, List, [], ◌∷◌, ◌++◌, length, map, take, drop, get_or, set}
+use Rattle.std.proofs.Common.{◌≡◌, ap, sym, ◌∙◌, ℕ, ◌+◌, ◌<◌, ◌≤◌, arith, List, [], ◌∷◌, ◌++◌, length, map, take, drop, get_or, set}
 use Rattle.std.proofs.lemmas.List.{map_more, map_push, take_more_set, take_all, drop_more, drop-drop, drop-set-lt, length-set, drop_all, append-nil}
 
 -- the first members of the new list are seen by f as the old ones by g, and the others are the old ones
@@ -9,9 +9,6 @@ pub record IsRewritten {X Y : Type 0} (f g : X → Y) (i : ℕ) (old new : List 
   pub long : length new ≡ length old
 
 module _ {X Y : Type 0} (f g : X → Y) where
-  pub none_rewritten : (old : List X) → IsRewritten f g 0 old old
-  none_rewritten old = record { done = refl; rest = refl; long = refl }
-
   same_here : (i : ℕ) (old new : List X) (d : X) → IsRewritten f g i old new → i < length new → get_or new i d ≡ get_or old i d
   same_here i old new d h within =
       let in_old : i < length old = omega (arith, h.long) in

@@ -1,23 +1,20 @@
 -- Lists that are walked from the front.
-use Rattle.std.proofs.Common.{◌≡◌, refl, ap, sym, ◌∙◌, subst, Bool, true, false, cond, ℕ, zero, suc, ◌+◌, ◌<◌, arith, add-one, ap₂, unwrap_or, List, [], ◌∷◌, ◌++◌, map, filter, take, length, Option, Some}
+use Rattle.std.proofs.Common.{◌≡◌, refl, ap, sym, ◌∙◌, subst, Bool, true, false, cond, ℕ, zero, suc, ◌+◌, ◌<◌, arith, add-one, ap₂, List, [], ◌∷◌, ◌++◌, map, filter, take, length, Some}
 use Rattle.std.specs.Prelude.{slice_get}
 use Rattle.std.specs.List.{AllByRecursion}
 use Rattle.std.proofs.lemmas.List.{append-nil}
 use Rattle.std.proofs.lemmas.List.Elements.{filter-append}
-use Rattle.std.proofs.lemmas.Option.{none-some}
+use Rattle.std.proofs.lemmas.Option.{none-some, same_Some}
 use Rattle.key_lists.specs.Keys.{IsRising}
 use Rattle.key_lists.proofs.Every.{every-map, every_unmapped, every-filter}
 use Rattle.row_changes.proofs.Comparing.{length-pairs_of}
 use Rattle.shift_data.specs.Moves.{pairs_of}
 use Rattle.tick_model.specs.declared.update.KeyPair.{KeyPair}
 
-some_same : {X : Type 0} {x y : X} → Some x ≡ Some y → x ≡ y
-some_same {X = X} {x = x} e = ap (λ (found : Option X). unwrap_or found x) e
-
 -- one element more
 take_suc : {X : Type 0} (xs : List X) (n : ℕ) (x : X) → slice_get xs n ≡ Some x → take (suc n) xs ≡ take n xs ++ x ∷ []
 take_suc [] n x e = absurd (none-some x e)
-take_suc (y ∷ ys) zero x e = ap (λ first. first ∷ []) (some_same e)
+take_suc (y ∷ ys) zero x e = ap (λ first. first ∷ []) (same_Some _ _ e)
 take_suc (y ∷ ys) (suc n) x e = ap (λ rest. y ∷ rest) (take_suc ys n x e)
 
 pub take_next : {X : Type 0} (xs : List X) (n : ℕ) (x : X) → slice_get xs n ≡ Some x → take (n + 1) xs ≡ take n xs ++ x ∷ []
@@ -36,7 +33,7 @@ none_more test xs n x made e fails so_far = so_far ∙ sym (filter_next test xs 
 -- what holds of all elements holds of the one at a place
 pub of_place : {X : Type 0} (P : X → Type 0) (n : ℕ) (xs : List X) (x : X) → AllByRecursion P xs → slice_get xs n ≡ Some x → P x
 of_place P n [] x h e = absurd (none-some x e)
-of_place P zero (y ∷ ys) x h e = subst P (some_same e) h.0
+of_place P zero (y ∷ ys) x h e = subst P (same_Some _ _ e) h.0
 of_place P (suc n) (y ∷ ys) x h e = of_place P n ys x h.1 e
 
 -- the numbers of those before an element are below its own, where they rise
@@ -66,7 +63,7 @@ chosen_below test some found key below so_far = subst (AllByRecursion (λ other.
 pub pair_at : (old new : List ℕ) (n k l : ℕ) → slice_get old n ≡ Some k → slice_get new n ≡ Some l → slice_get (pairs_of old new) n ≡ (let pair : KeyPair = record { old = k; new = l } in Some pair)
 pair_at [] new n k l e f = absurd (none-some k e)
 pair_at (k' ∷ old) [] n k l e f = absurd (none-some l f)
-pair_at (k' ∷ old) (l' ∷ new) zero k l e f = ap₂ (λ a b. let pair : KeyPair = record { old = a; new = b } in Some pair) (some_same e) (some_same f)
+pair_at (k' ∷ old) (l' ∷ new) zero k l e f = ap₂ (λ a b. let pair : KeyPair = record { old = a; new = b } in Some pair) (same_Some _ _ e) (same_Some _ _ f)
 pair_at (k' ∷ old) (l' ∷ new) (suc n) k l e f = pair_at old new n k l e f
 
 pub pairs_of-last : (old new : List ℕ) (pair : KeyPair) → length old ≡ length new → pairs_of (old ++ pair.old ∷ []) (new ++ pair.new ∷ []) ≡ pairs_of old new ++ pair ∷ []

@@ -14,6 +14,8 @@ use Rattle.std.proofs.lemmas.List.Sorted.{list_any-IsPermutation, sorted_far}
 use Rattle.key_lists.specs.Keys.{is_among}
 use Rattle.key_lists.proofs.Among.{among-append}
 use Rattle.key_lists.proofs.Every.{every_both, every_weaker}
+use Rattle.key_lists.proofs.Booleans.{or_false, or_true}
+use Rattle.key_lists.proofs.Parts.{every_front, every_back}
 use Rattle.tick_model.specs.declared.plan.SortBy.{SortBy}
 use Rattle.sort_op.specs.declared.entry.Entry.{Entry}
 use Rattle.sort_op.specs.Entries.{comes_before, is_in, is_same, place_of, AreDistinct, Falls, IsWhole, Rises}
@@ -21,9 +23,8 @@ use Rattle.sort_op.specs.Places.{AreFound, is_place}
 use Rattle.sort_op.proofs.Batched.{same_flip}
 use Rattle.sort_op.proofs.Comparing.{before_trans, behind, entries_total, is_same_own, other_before}
 use Rattle.sort_op.proofs.EntryPlaces.{place_is}
-use Rattle.sort_op.proofs.Inserted.{or_none, others_than_first}
-use Rattle.sort_op.proofs.Members.{or_true}
-use Rattle.sort_op.proofs.Rises.{every_back, every_front, rises_back}
+use Rattle.sort_op.proofs.Inserted.{others_than_first}
+use Rattle.sort_op.proofs.Rises.{rises_back}
 use Rattle.sort_op.proofs.Searches.{each_other}
 
 -- the entry at a place is one of some
@@ -51,7 +52,7 @@ module _ (entry : Entry) (came : List Entry) where
       none_one (entry ∷ came) back at (every_both (λ other. is_same entry other ≡ false) (λ other. is_in other came ≡ false) (λ other. is_in other (entry ∷ came) ≡ false) back (λ other e h. other_of other e ∙ h) b none)
       ∙ sym (ap₂ (λ a b. a || b) (none_one came back (suc at) none) (ne_eqb 0 (suc at) (λ e. omega (arith, e))))
   one_more (other ∷ front) back zero f b none =
-      other_of other f.0 ∙ sym (ap (λ t. is_in other came || t) (ne_eqb (suc (length front)) 0 (λ e. omega (arith, e))) ∙ or_none (is_in other came))
+      other_of other f.0 ∙ sym (ap (λ t. is_in other came || t) (ne_eqb (suc (length front)) 0 (λ e. omega (arith, e))) ∙ or_false (is_in other came))
   one_more (other ∷ front) back (suc at) f b none = one_more front back at f.1 b none ∙ ap (λ t. is_one came (front ++ back) at || t) (later (length front) at)
     where
       later : (m n : ℕ) → (m == n) ≡ (suc m == suc n)
@@ -93,7 +94,7 @@ module _ (by : List SortBy) where
     split = apart;
     found = λ at.
         among-append at positions (place ∷ [])
-        ∙ ap₂ (λ a b. a || b) (h.found at ∙ place_is by old h.came at rises ∙ ap (λ xs. is_one h.came xs at) (sym parts)) (or_none (place == at) ∙ ap (λ n. n == at) (sym (length-take-le place old within)))
+        ∙ ap₂ (λ a b. a || b) (h.found at ∙ place_is by old h.came at rises ∙ ap (λ xs. is_one h.came xs at) (sym parts)) (or_false (place == at) ∙ ap (λ n. n == at) (sym (length-take-le place old within)))
         ∙ sym (one_more entry h.came (take place old) (drop place old) at front back none)
         ∙ ap (λ xs. is_one (entry ∷ h.came) xs at) (sym is)
         ∙ sym (place_is by now (entry ∷ h.came) at rises_now);

@@ -5,6 +5,7 @@ use Rattle.std.specs.List.{AllByRecursion}
 use Rattle.std.proofs.lemmas.Bool.{cases_Bool}
 use Rattle.std.proofs.lemmas.List.{take_more}
 use Rattle.key_lists.proofs.Every.{every, every_weaker, filter_all, filter_filter, filter_same}
+use Rattle.key_lists.proofs.Booleans.{or_assoc, neither, same_truth, or_false}
 use Rattle.tick_model.specs.declared.plan.SortBy.{SortBy}
 use Rattle.sort_op.specs.declared.entry.Entry.{Entry}
 use Rattle.sort_op.specs.Entries.{comes_before, is_in, is_same, place_of, Rises}
@@ -17,12 +18,7 @@ remove_between [] x ys = refl
 remove_between (z ∷ xs) x ys = ap (λ zs. z ∷ zs) (remove_between xs x ys)
 
 pub same_flip : (a b : Entry) → is_same a b ≡ is_same b a
-same_flip a b = both (is_same a b) (is_same b a) (λ e. ap (λ z. is_same b z) (same_is a b e) ∙ is_same_own b) (λ e. ap (λ z. is_same a z) (same_is b a e) ∙ is_same_own a)
-  where
-    both : (s t : Bool) → (s ≡ true → t ≡ true) → (t ≡ true → s ≡ true) → s ≡ t
-    both true t f g = sym (f refl)
-    both false true f g = g refl
-    both false false f g = refl
+same_flip a b = same_truth (is_same a b) (is_same b a) (λ e. ap (λ z. is_same b z) (same_is a b e) ∙ is_same_own b) (λ e. ap (λ z. is_same a z) (same_is b a e) ∙ is_same_own a)
 
 -- the entries with another are those around it, or it is none of them
 Around : Entry → List Entry → Type 0
@@ -72,16 +68,8 @@ removed_is by entry old new place rises is some none =
     ]
 
 pub in_more : (entry : Entry) (entries : List Entry) (more : Entry) → is_in entry (entries ++ more ∷ []) ≡ (is_in entry entries || is_same more entry)
-in_more entry [] more = or_none (is_same more entry)
-  where
-    or_none : (b : Bool) → (b || false) ≡ b
-    or_none true = refl
-    or_none false = refl
+in_more entry [] more = or_false (is_same more entry)
 in_more entry (x ∷ entries) more = ap (λ b. is_same x entry || b) (in_more entry entries more) ∙ or_assoc (is_same x entry) (is_in entry entries) (is_same more entry)
-  where
-    or_assoc : (a b c : Bool) → (a || (b || c)) ≡ ((a || b) || c)
-    or_assoc true b c = refl
-    or_assoc false b c = refl
 
 -- one entry after the other
 pub removed_more : (by : List SortBy) (all leaving old new : List Entry) (i : ℕ) (entry : Entry) (place : Option ℕ) → i < length leaving → entry ≡ get_or leaving i entry → old ≡ filter (λ x. not (is_in x (take i leaving))) all → Rises by old
@@ -93,10 +81,6 @@ removed_more by all leaving old new i entry place lt at so rises is some none =
     ∙ filter_same (λ x. not (is_in x (take i leaving)) && not (is_same x entry)) (λ x. not (is_in x (take (i + 1) leaving))) all
     (every (λ x. (not (is_in x (take i leaving)) && not (is_same x entry)) ≡ not (is_in x (take (i + 1) leaving))) all
     (λ x. neither (is_in x (take i leaving)) (is_same x entry) ∙ ap not (ap (λ b. is_in x (take i leaving) || b) (same_flip x entry) ∙ sym (in_more x (take i leaving) entry) ∙ ap (is_in x) (ap (λ y. take i leaving ++ y ∷ []) at ∙ sym (take_more leaving i entry lt)))))
-  where
-    neither : (a b : Bool) → (not a && not b) ≡ not (a || b)
-    neither true b = refl
-    neither false b = refl
 
 -- before the first
 pub removed_none : (all leaving : List Entry) → all ≡ filter (λ x. not (is_in x (take 0 leaving))) all

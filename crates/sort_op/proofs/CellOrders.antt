@@ -1,9 +1,8 @@
 -- Sort cells compared column by column.
-use Rattle.std.proofs.Common.{◌≡◌, refl, ap, ap₂, sym, ◌∙◌, ℕ, zero, suc, ◌+◌, ◌<◌, ◌≤◌, arith, List, [], ◌∷◌, length, drop, get_or, add-one, ℤ, true, false, not, ◌==◌, true≢false}
+use Rattle.std.proofs.Common.{◌≡◌, refl, ap, ap₂, sym, ◌∙◌, ℕ, zero, suc, ◌+◌, ◌<◌, arith, List, [], ◌∷◌, length, drop, get_or, add-one, ℤ, true, false, not, ◌==◌, true≢false}
 use Rattle.std.specs.Ordering.{ordering_then, ordering_index}
 use Rattle.std.specs.declared.cmp.Ordering.{Ordering}
 use Rattle.std.specs.declared.cmp.Ordering.TheVariants.{Less, Equal, Greater}
-use Rattle.std.proofs.lemmas.List.{drop_all}
 use Rattle.tick_model.specs.declared.plan.SortBy.{SortBy}
 use Rattle.tick_model.specs.Tables.{cell}
 use Rattle.tick_model.specs.Sort.{column_cmp}
@@ -33,9 +32,6 @@ cells_more i by xs ys d lt =
     ap (λ rest. cells_cmp rest (drop i xs) (drop i ys)) (head_first by i d lt)
     ∙ ap₂ ordering_then (ap₂ (column_cmp (get_or by i d)) (cell-drop i xs) (cell-drop i ys))
     (ap₂ (cells_cmp (drop (suc i) by)) (drop-next i xs) (drop-next i ys) ∙ ap (λ n. cells_from n by xs ys) (sym (add-one i)))
-
-pub cells_end : (i : ℕ) (by : List SortBy) (xs ys : List ℤ) → length by ≤ i → cells_from i by xs ys ≡ Equal
-cells_end i by xs ys le = ap (λ rest. cells_cmp rest (drop i xs) (drop i ys)) (drop_all i by le)
 
 -- the first that is not equal decides
 pub decided : (r s : Ordering) → not (ordering_index r == 1) ≡ true → ordering_then r s ≡ r

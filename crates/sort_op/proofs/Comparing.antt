@@ -82,14 +82,6 @@ module _ (by : List SortBy) where
   pub not_before_own : (x : Entry) → comes_before by x x ≡ false
   not_before_own x = ap is_lt (tied_itself o x)
 
-  -- an entry behind one that is not before another is not before it
-  pub past_more : (x y z : Entry) → comes_before by x z ≡ false → comes_before by x y ≡ true → comes_before by y z ≡ false
-  past_more x y z h k =
-      elim (cases_Bool (comes_before by y z)) [
-        | inl less ↦ absurd (true≢false (sym (before_trans x y z k less) ∙ h))
-        | inr more ↦ more
-      ]
-
   -- an entry is no other that stands before or behind it
   pub other_before : (x y : Entry) → comes_before by x y ≡ true → is_same x y ≡ false
   other_before x y h =

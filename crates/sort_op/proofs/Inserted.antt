@@ -9,11 +9,11 @@ use Rattle.std.proofs.lemmas.List.Folds.{list_any-append}
 use Rattle.std.proofs.lemmas.List.Sorted.{All-permutation, list_any-IsPermutation, sum_by-IsPermutation}
 use Rattle.std.proofs.lemmas.List.Sums.{sum_by-append}
 use Rattle.key_lists.proofs.Every.{all_from, every_both}
+use Rattle.key_lists.proofs.Parts.{every_front, every_back}
 use Rattle.sort_op.specs.declared.entry.Entry.{Entry}
 use Rattle.sort_op.specs.Entries.{is_in, is_same, place_of, AreDistinct}
 use Rattle.sort_op.proofs.Batched.{in_more, same_flip}
 use Rattle.sort_op.proofs.Comparing.{is_same_own}
-use Rattle.sort_op.proofs.Rises.{every_back, every_front}
 use Rattle.sort_op.proofs.Searches.{place_none}
 
 -- an entry that is not in has no place
@@ -97,7 +97,3 @@ distinct_permuted xs ys h distinct x = subst (λ n. n ≤ 1) (sym (sum_by-IsPerm
 
 pub in_permuted : (xs ys : List Entry) → IsPermutation xs ys → (x : Entry) → is_in x ys ≡ is_in x xs
 in_permuted xs ys h x = sym (list_any-IsPermutation (λ other. is_same other x) xs ys h)
-
-pub or_none : (b : Bool) → (b || false) ≡ b
-or_none true = refl
-or_none false = refl

@@ -8,6 +8,7 @@ use Rattle.std.proofs.lemmas.List.{drop_all}
 use Rattle.key_lists.specs.Keys.{is_among, IsRising}
 use Rattle.key_lists.proofs.Among.{among_below, among_past, each_among}
 use Rattle.key_lists.proofs.Every.{every_weaker}
+use Rattle.key_lists.proofs.Parts.{drop_got, every_got}
 use Rattle.row_set.proofs.Windows.{rising-drop}
 use Rattle.tick_model.specs.declared.plan.SortBy.{SortBy}
 use Rattle.sort_op.specs.declared.entry.Entry.{Entry}
@@ -15,7 +16,6 @@ use Rattle.sort_op.specs.Entries.{is_in, Rises}
 use Rattle.sort_op.specs.Places.{AreFound, left_from}
 use Rattle.sort_op.proofs.EntryPlaces.{place_is}
 use Rattle.sort_op.proofs.Made.{held_within}
-use Rattle.sort_op.proofs.Rises.{every_got, none_some, some_same}
 
 -- where none is left out
 left_none : (first : ℕ) (entries : List Entry) → left_from first [] entries ≡ entries
@@ -63,11 +63,6 @@ left_one (entry ∷ entries) (suc at) first position later is within above =
     )
 
 -- what is left out from one place of the positions on
-drop_got : (xs : List ℕ) (n x : ℕ) → slice_get xs n ≡ Some x → drop n xs ≡ x ∷ drop (suc n) xs
-drop_got [] n x at = none_some x at
-drop_got (y ∷ xs) zero x at = ap (λ z. z ∷ xs) (some_same y x at)
-drop_got (y ∷ xs) (suc n) x at = drop_got xs n x at
-
 pub left_more : (entries : List Entry) (positions : List ℕ) (n next position : ℕ) → next ≡ suc n → IsRising positions → AllByRecursion (λ position. position < length entries) positions → slice_get positions n ≡ Some position
     → (position < length (left_from 0 (drop next positions) entries)) × (left_from 0 (drop n positions) entries ≡ remove (left_from 0 (drop next positions) entries) position)
 left_more entries positions n next position is rising within at =

@@ -5,10 +5,11 @@ use Rattle.std.specs.List.{AllByRecursion}
 use Rattle.std.specs.Option.{ok_or, option_map_or}
 use Rattle.chunk_list.specs.Chunked.{joined, IsChunk}
 use Rattle.key_lists.proofs.Every.{every-append}
+use Rattle.key_lists.proofs.Parts.{every_front, every_back, every_remove}
 use Rattle.tick_model.specs.declared.plan.SortBy.{SortBy}
 use Rattle.sort_op.specs.declared.entry.Entry.{Entry}
 use Rattle.sort_op.specs.Entries.{comes_before, count_before, entries, found, is_same, place_of, IsOrder, IsWhole, Order, Rises}
-use Rattle.sort_op.proofs.Rises.{every_back, every_front, every_without, rises_back, rises_with, rises_without}
+use Rattle.sort_op.proofs.Rises.{rises_back, rises_with, rises_without}
 use Rattle.sort_op.proofs.Searches.{count_is, each_other, others_before, others_behind, others_past, place_here, place_none, FirstIsOther}
 
 -- the first of those from a place on
@@ -102,6 +103,6 @@ order_more order is entry own n within less more new sizes absent so = record {
 pub order_less : (order : Order) → IsOrder order → (n : ℕ) (new : List (List Entry)) → AllByRecursion IsChunk new → joined new ≡ remove (entries order) n → IsOrder (record { by = order.by; chunks = new })
 order_less order is n new sizes so = record {
   rising = subst (Rises order.by) (sym so) (rises_without order.by (entries order) n is.rising);
-  whole = subst (AllByRecursion (IsWhole order.by)) (sym so) (every_without (IsWhole order.by) (entries order) n is.whole);
+  whole = subst (AllByRecursion (IsWhole order.by)) (sym so) (every_remove (IsWhole order.by) (entries order) n is.whole);
   chunks = sizes;
 }

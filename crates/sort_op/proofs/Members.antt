@@ -5,8 +5,9 @@ use Rattle.std.specs.List.{AllByRecursion, list_any}
 use Rattle.std.proofs.lemmas.Bool.{and_left, and_parts, and_right, cases_Bool, cases_eq, eqb-false, eqb-true, eq-eqb, ltb-true, ltb-false, ne_eqb, or_cases, or_parts}
 use Rattle.std.proofs.lemmas.List.Sums.{length-filter}
 use Rattle.key_lists.specs.Keys.{is_among, IsRising}
-use Rattle.key_lists.proofs.Among.{among-append, among_below}
-use Rattle.key_lists.proofs.Every.{every_weaker, filter_none, map_map, map_same}
+use Rattle.key_lists.proofs.Among.{among-append, among_below, absent-filter}
+use Rattle.key_lists.proofs.Every.{every_weaker, filter_none, map_map, map_same, any-map}
+use Rattle.key_lists.proofs.Booleans.{or_swap, same_truth, or_true}
 use Rattle.tick_model.specs.declared.plan.SortBy.{SortBy}
 use Rattle.tick_model.specs.declared.table.PlainRow.{PlainRow}
 use Rattle.tick_model.specs.declared.table.PlainTable.{PlainTable}
@@ -22,34 +23,15 @@ use Rattle.sort_op.proofs.Comparing.{same_is}
 use Rattle.sort_op.proofs.Inserted.{in_none}
 use Rattle.sort_op.proofs.SortedRows.{own_in}
 
--- tests over lists
-pub any-map : {X Y : Type 0} (p : Y → Bool) (f : X → Y) (xs : List X) → list_any p (map f xs) ≡ list_any (λ x. p (f x)) xs
-any-map p f [] = refl
-any-map p f (x ∷ xs) = ap (λ b. p (f x) || b) (any-map p f xs)
-
 pub any_as : {X : Type 0} (p q : X → Bool) (xs : List X) → ((x : X) → p x ≡ q x) → list_any p xs ≡ list_any q xs
 any_as p q [] h = refl
 any_as p q (x ∷ xs) h = ap₂ (λ a b. a || b) (h x) (any_as p q xs h)
-
-or_turned : (a b c : Bool) → (a || (b || c)) ≡ (b || (a || c))
-or_turned true true c = refl
-or_turned true false c = refl
-or_turned false b c = refl
-
-pub or_true : (a : Bool) → (a || true) ≡ true
-or_true true = refl
-or_true false = refl
-
-pub both_ways : (s t : Bool) → (s ≡ true → t ≡ true) → (t ≡ true → s ≡ true) → s ≡ t
-both_ways true t f g = sym (f refl)
-both_ways false true f g = g refl
-both_ways false false f g = refl
 
 any-place : {X : Type 0} (p : X → Bool) (less : X → X → Bool) (x : X) (xs : List X) → list_any p (place less x xs) ≡ (p x || list_any p xs)
 any-place p less x [] = refl
 any-place p less x (y ∷ ys) =
     elim (less y x) as (λ b. list_any p (cond b (y ∷ place less x ys) (x ∷ y ∷ ys)) ≡ (p x || (p y || list_any p ys))) [
-      | true ↦ ap (λ b. p y || b) (any-place p less x ys) ∙ or_turned (p y) (p x) (list_any p ys)
+      | true ↦ ap (λ b. p y || b) (any-place p less x ys) ∙ or_swap (p y) (p x) (list_any p ys)
       | false ↦ refl
     ]
 
@@ -75,20 +57,11 @@ pub unequal_flip : (a b : ℕ) → (a == b) ≡ false → (b == a) ≡ false
 unequal_flip a b e = ne_eqb b a (λ same. eqb-false a b e (sym same))
 
 module _ {X : Type 0} (f : X → ℕ) where
-  out-filter : (q : X → Bool) (key : ℕ) (xs : List X) → is_among key (map f xs) ≡ false → is_among key (map f (filter q xs)) ≡ false
-  out-filter q key [] out = refl
-  out-filter q key (x ∷ xs) out =
-      let parts = or_parts (f x == key) (is_among key (map f xs)) out in
-      elim (q x) as (λ b. is_among key (map f (cond b (x ∷ filter q xs) (filter q xs))) ≡ false) [
-        | true ↦ ap₂ (λ a b. a || b) parts.0 (out-filter q key xs parts.1)
-        | false ↦ out-filter q key xs parts.1
-      ]
-
   pub apart-filter : (q : X → Bool) (xs : List X) → AreApart (map f xs) → AreApart (map f (filter q xs))
   apart-filter q [] h = tt
   apart-filter q (x ∷ xs) h =
       elim (q x) as (λ b. AreApart (map f (cond b (x ∷ filter q xs) (filter q xs)))) [
-        | true ↦ (out-filter q (f x) xs h.0, apart-filter q xs h.1)
+        | true ↦ (absent-filter f q (f x) xs h.0, apart-filter q xs h.1)
         | false ↦ apart-filter q xs h.1
       ]
 
@@ -178,7 +151,7 @@ each_in (x ∷ xs) =
 
 pub any_same : (p : Entry → Bool) (xs ys : List Entry) → ((x : Entry) → is_in x xs ≡ is_in x ys) → list_any p xs ≡ list_any p ys
 any_same p xs ys h =
-    both_ways (list_any p xs) (list_any p ys)
+    same_truth (list_any p xs) (list_any p ys)
     (any_from p xs ys (every_weaker (λ x. is_in x xs ≡ true) (λ x. is_in x ys ≡ true) xs (λ x e. sym (h x) ∙ e) (each_in xs)))
     (any_from p ys xs (every_weaker (λ x. is_in x ys ≡ true) (λ x. is_in x xs ≡ true) ys (λ x e. h x ∙ e) (each_in ys)))
 

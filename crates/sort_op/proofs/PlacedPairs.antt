@@ -8,6 +8,7 @@ use Rattle.std.proofs.lemmas.Option.{none-some, same_Some}
 use Rattle.key_lists.specs.Keys.{is_among, IsRising}
 use Rattle.key_lists.proofs.Among.{each_among}
 use Rattle.key_lists.proofs.Every.{every_both, every_unmapped, every_weaker}
+use Rattle.key_lists.proofs.Booleans.{same_truth}
 use Rattle.shown_rows.proofs.Named.{of_named}
 use Rattle.shown_rows.proofs.Walks.{of_place}
 use Rattle.tick_laws.proofs.Placed.{find_has, row_at-in_order}
@@ -19,7 +20,7 @@ use Rattle.tick_model.specs.Tables.{keys, row_at}
 use Rattle.tick_model.specs.Updates.{new_keys, old_keys}
 use Rattle.tick_model.proofs.Among.{each_found}
 use Rattle.sort_op.proofs.KeptPlaces.{place_kept, places_from}
-use Rattle.sort_op.proofs.Members.{AreApart, apart-ordered, apart_rising, both_ways, unequal_flip}
+use Rattle.sort_op.proofs.Members.{AreApart, apart-ordered, apart_rising, unequal_flip}
 
 -- a key that is not among others is unequal to each
 others_unequal : (key : ℕ) (others : List ℕ) → is_among key others ≡ false → AllByRecursion (λ other. (other == key) ≡ false) others
@@ -174,4 +175,4 @@ module _ (by : List SortBy) (old new : List PlainRow) (rising_old : IsRising (ke
               ap (λ n. is_among n (new_keys placed)) (sym at) ∙ found.1.0.1
 
       pub new_place : (i : ℕ) (row : PlainRow) → slice_get news i ≡ Some row → is_among i (new_keys placed) ≡ is_among row.key (new_keys kept)
-      new_place i row here = both_ways (is_among i (new_keys placed)) (is_among row.key (new_keys kept)) (new_of i row here) (new_from i row here)
+      new_place i row here = same_truth (is_among i (new_keys placed)) (is_among row.key (new_keys kept)) (new_of i row here) (new_from i row here)

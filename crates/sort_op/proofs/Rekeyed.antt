@@ -1,13 +1,13 @@
 -- An order whose keys move as the keys of its rows do.
-use Rattle.std.proofs.Common.{◌≡◌, refl, ap, sym, ◌∙◌, subst, Bool, true, false, cond, ℕ, ◌<◌, ◌^◌, arith, List, [], ◌∷◌, ◌==◌, map, true≢false, pos, ◌+ℤ◌, is_lt, ltb-true, lt-ltb}
+use Rattle.std.proofs.Common.{◌≡◌, refl, ap, sym, ◌∙◌, subst, Bool, true, false, cond, ℕ, ◌<◌, ◌^◌, arith, List, [], ◌∷◌, ◌==◌, map, true≢false, is_lt, ltb-true, lt-ltb}
 use Rattle.std.specs.Prelude.{nat_lt}
 use Rattle.std.specs.List.{AllByRecursion}
 use Rattle.std.specs.Cmp.{IsStrictWeakOrder}
 use Rattle.std.specs.Ordering.{nat_cmp, ordering_then}
 use Rattle.std.specs.declared.cmp.Ordering.{Ordering}
 use Rattle.std.specs.declared.cmp.Ordering.TheVariants.{Less, Equal, Greater}
-use Rattle.std.proofs.lemmas.Int.{ints}
 use Rattle.std.proofs.lemmas.List.Sorted.{IsStrictWeakOrder-by_number}
+use Rattle.table_update.proofs.StillKeys.{still_key}
 use Rattle.chunk_list.specs.Chunked.{joined, IsChunk}
 use Rattle.chunk_list.proofs.Changing.{joined-changed}
 use Rattle.key_lists.specs.Keys.{IsRising}
@@ -114,15 +114,8 @@ module _ (shifts : List ShiftRange) where
         chunks = sizes;
       }
 
--- where no row moves, no key does
-stays : (key : ℕ) → as_key (moved [] key) ≡ key
-stays key = ap as_key (still key)
-  where
-    still : (n : ℕ) → pos n +ℤ pos 0 ≡ pos n
-    still n = omega (arith, ints)
-
 pub none_rekeyed : (lists : List (List Entry)) → map (map (rekeyed [])) lists ≡ lists
 none_rekeyed lists = map_own (map (rekeyed [])) lists (every (λ list. map (rekeyed []) list ≡ list) lists (λ list. map_own (rekeyed []) list (every (λ entry. rekeyed [] entry ≡ entry) list own)))
   where
     own : (entry : Entry) → rekeyed [] entry ≡ entry
-    own entry = ap (λ key. let moved : Entry = record entry { key = key } in moved) (stays entry.key)
+    own entry = ap (λ key. let moved : Entry = record entry { key = key } in moved) (still_key entry.key)

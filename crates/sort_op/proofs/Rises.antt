@@ -1,39 +1,14 @@
 -- Lists of entries that rise: their parts, an entry more and an entry less.
-use Rattle.std.proofs.Common.{◌≡◌, subst, true, ℕ, zero, suc, arith, List, [], ◌∷◌, ◌++◌, get_or, Option, Some, None}
-use Rattle.std.specs.Prelude.{remove, slice_get}
+use Rattle.std.proofs.Common.{◌≡◌, true, ℕ, zero, suc, arith, List, [], ◌∷◌, ◌++◌, get_or}
+use Rattle.std.specs.Prelude.{remove}
 use Rattle.std.specs.List.{AllByRecursion}
 use Rattle.std.specs.List.Sorted.{IsPartitionedBy}
 use Rattle.key_lists.proofs.Every.{every-append, all_from}
+use Rattle.key_lists.proofs.Parts.{every_front, every_back, every_remove}
 use Rattle.tick_model.specs.declared.plan.SortBy.{SortBy}
 use Rattle.sort_op.specs.declared.entry.Entry.{Entry}
 use Rattle.sort_op.specs.Entries.{comes_before, Rises}
 use Rattle.sort_op.proofs.Comparing.{before_trans}
-
-pub every_front : {X : Type 0} (P : X → Type 0) (xs ys : List X) → AllByRecursion P (xs ++ ys) → AllByRecursion P xs
-every_front P [] ys h = tt
-every_front P (x ∷ xs) ys h = (h.0, every_front P xs ys h.1)
-
-pub every_back : {X : Type 0} (P : X → Type 0) (xs ys : List X) → AllByRecursion P (xs ++ ys) → AllByRecursion P ys
-every_back P [] ys h = h
-every_back P (x ∷ xs) ys h = every_back P xs ys h.1
-
-pub every_without : {X : Type 0} (P : X → Type 0) (xs : List X) (i : ℕ) → AllByRecursion P xs → AllByRecursion P (remove xs i)
-every_without P [] zero h = tt
-every_without P [] (suc i) h = tt
-every_without P (x ∷ xs) zero h = h.1
-every_without P (x ∷ xs) (suc i) h = (h.0, every_without P xs i h.1)
-
-pub none_some : {X A : Type 0} (x : X) → ◌≡◌ {A = Option X} None (Some x) → A
-none_some x e = absurd (cc)
-
-pub some_same : {X : Type 0} (x y : X) → Some x ≡ Some y → x ≡ y
-some_same x y e = cc
-
--- what holds of all holds of the one at a place
-pub every_got : {X : Type 0} (P : X → Type 0) (xs : List X) (i : ℕ) (x : X) → slice_get xs i ≡ Some x → AllByRecursion P xs → P x
-every_got P [] i x at h = none_some x at
-every_got P (y ∷ xs) zero x at h = subst P (some_same y x at) h.0
-every_got P (y ∷ xs) (suc i) x at h = every_got P xs i x at h.1
 
 module _ (by : List SortBy) where
   pub rises_back : (xs ys : List Entry) → Rises by (xs ++ ys) → Rises by ys
@@ -49,7 +24,7 @@ module _ (by : List SortBy) where
   rises_without [] zero r = tt
   rises_without [] (suc i) r = tt
   rises_without (x ∷ xs) zero r = r.1
-  rises_without (x ∷ xs) (suc i) r = (every_without (λ y. comes_before by x y ≡ true) xs i r.0, rises_without xs i r.1)
+  rises_without (x ∷ xs) (suc i) r = (every_remove (λ y. comes_before by x y ≡ true) xs i r.0, rises_without xs i r.1)
 
   module _ (entry : Entry) where
     -- the entries before another come first

@@ -1,5 +1,5 @@
 -- The positions that a step of a sort touches, before it or now, from the keys of their rows.
-use Rattle.std.proofs.Common.{◌≡◌, refl, ap, sym, ◌∙◌, Bool, true, false, not, ◌&&◌, ◌||◌, ◌==◌, ℕ, zero, suc, ◌+◌, arith, List, [], ◌∷◌, Option, Some, None, true≢false, inl, inr}
+use Rattle.std.proofs.Common.{◌≡◌, refl, ap, sym, ◌∙◌, true, false, not, ◌&&◌, ◌||◌, ◌==◌, ℕ, zero, suc, ◌+◌, arith, List, [], ◌∷◌, Option, Some, None, true≢false, inl, inr}
 use Rattle.std.specs.Prelude.{slice_get}
 use Rattle.std.specs.List.{AllByRecursion}
 use Rattle.std.specs.Option.{option_map_or}
@@ -9,6 +9,7 @@ use Rattle.key_lists.specs.Keys.{is_among, IsRising, without}
 use Rattle.key_lists.proofs.Among.{among-filter, each_among}
 use Rattle.key_lists.proofs.Every.{every_weaker}
 use Rattle.key_lists.proofs.Rising.{rising_same, rising_some}
+use Rattle.key_lists.proofs.Booleans.{and_true, or_true}
 use Rattle.shown_rows.proofs.Walks.{of_place}
 use Rattle.tick_laws.proofs.Placed.{every-in_order}
 use Rattle.tick_model.specs.declared.plan.SortBy.{SortBy}
@@ -21,7 +22,6 @@ use Rattle.sort_op.specs.Places.{is_place}
 use Rattle.sort_op.specs.Reading.{entries_under}
 use Rattle.sort_op.specs.Sorted.{entries_of}
 use Rattle.sort_op.proofs.EntryPlaces.{place_under}
-use Rattle.sort_op.proofs.Members.{or_true}
 use Rattle.sort_op.proofs.PlacedCells.{cells_placed, place_within, row_there}
 
 numbered_here : (n i : ℕ) (rows : List PlainRow) (row : PlainRow) → slice_get rows i ≡ Some row → is_among (n + i) (keys (numbered n rows)) ≡ true
@@ -31,10 +31,6 @@ numbered_here n (suc i) (first ∷ rows) row at =
     let e : n + suc i ≡ n + 1 + i = omega arith in
     ap (λ b. (n == (n + suc i)) || b) (ap (λ k. is_among k (keys (numbered (n + 1) rows))) e ∙ numbered_here (n + 1) i rows row at)
     ∙ or_true (n == (n + suc i))
-
-and_true : (b : Bool) → (b && true) ≡ b
-and_true true = refl
-and_true false = refl
 
 module _ (by : List SortBy) (table : PlainTable) (rising : IsRising (keys table.rows)) where
   abbrev row_in : ℕ → Option PlainRow

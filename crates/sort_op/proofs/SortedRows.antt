@@ -5,9 +5,8 @@ use Rattle.std.specs.Ordering.{nat_cmp, ordering_reverse, ordering_then}
 use Rattle.std.specs.declared.cmp.Ordering.{Ordering}
 use Rattle.std.specs.declared.cmp.Ordering.TheVariants.{Less, Equal, Greater}
 use Rattle.std.proofs.lemmas.Bool.{cases_Bool, lt-ltb, or_cases}
-use Rattle.std.proofs.lemmas.List.{length-map}
 use Rattle.key_lists.specs.Keys.{IsRising}
-use Rattle.key_lists.proofs.Every.{every, every_weaker, every-map}
+use Rattle.key_lists.proofs.Every.{every_weaker, every-map}
 use Rattle.tick_model.specs.declared.plan.SortBy.{SortBy}
 use Rattle.tick_model.specs.declared.table.PlainRow.{PlainRow}
 use Rattle.tick_model.specs.Sort.{column_cmp, in_order, sort_cmp}
@@ -16,7 +15,7 @@ use Rattle.tick_model.proofs.SortOrders.{sort_total}
 use Rattle.tick_laws.proofs.Placed.{in_order_placed, IsPlaced, Stands}
 use Rattle.sort_op.specs.declared.entry.Entry.{Entry}
 use Rattle.sort_op.specs.Cells.{cells_cmp}
-use Rattle.sort_op.specs.Entries.{IsWhole, Rises, comes_before, is_in, is_same}
+use Rattle.sort_op.specs.Entries.{Rises, comes_before, is_in, is_same}
 use Rattle.sort_op.specs.Sorted.{entries_of, entry_of, sort_cells}
 use Rattle.sort_op.proofs.Comparing.{before_trans, is_same_own, not_before_own, other_behind, same_is}
 
@@ -49,12 +48,6 @@ entries_rise by (row ∷ rows) h =
 -- the entries of a table's rows
 pub sorted_rises : (by : List SortBy) (rows : List PlainRow) → IsRising (keys rows) → Rises by (entries_of by rows)
 sorted_rises by rows r = entries_rise by (in_order by rows) (in_order_placed by rows r)
-
-pub entry_whole : (by : List SortBy) (row : PlainRow) → IsWhole by (entry_of by row)
-entry_whole by row = length-map by (λ sort. cell row.cells sort.column)
-
-pub sorted_whole : (by : List SortBy) (rows : List PlainRow) → AllByRecursion (IsWhole by) (entries_of by rows)
-sorted_whole by rows = every-map (IsWhole by) (entry_of by) (in_order by rows) (every (λ row. IsWhole by (entry_of by row)) (in_order by rows) (entry_whole by))
 
 pub own_in : (entry : Entry) (entries : List Entry) → is_in entry (entry ∷ entries) ≡ true
 own_in entry entries = ap (λ b. b || is_in entry entries) (is_same_own entry)

@@ -7,7 +7,7 @@ use Rattle.std.proofs.lemmas.Bool.{or_from, or_left, or_right, le-ltb, lt-leb}
 use Rattle.std.proofs.lemmas.Int.{ints}
 use Rattle.key_lists.specs.Keys.{is_among, IsRising, without}
 use Rattle.key_lists.proofs.Among.{among-append, among-filter, each_among, of_among}
-use Rattle.key_lists.proofs.Every.{every_weaker, every-filter, filter_passes}
+use Rattle.key_lists.proofs.Every.{every_weaker, every-filter, filter_passes, find_same}
 use Rattle.key_lists.proofs.Rising.{rising_same, rising_some}
 use Rattle.row_set.specs.Sets.{common, united}
 use Rattle.row_set.proofs.United.{among-united, united_rises}
@@ -28,11 +28,6 @@ named update = united update.removed (united update.added update.modified)
 
 pub named_rise : (update : Update) → IsRising update.modified → IsRising (named update)
 named_rise update rising = united_rises update.removed (united update.added update.modified) (united_rises update.added update.modified rising)
-
--- two tests that agree on all keys find one key
-found_same : (p q : ℕ → Bool) (keys : List ℕ) → AllByRecursion (λ key. p key ≡ q key) keys → find p keys ≡ find q keys
-found_same p q [] h = refl
-found_same p q (key ∷ keys) h = ap₂ (λ b o. cond b (Some key) o) h.0 (found_same p q keys h.1)
 
 -- rising keys break no order where none moves
 same_place : (key : ℕ) → moved [] key ≡ pos key
@@ -88,19 +83,19 @@ module _ (limit : ℕ) (here keys : List ℕ) (update : Update) (still : update.
 
   removed_same : find (λ key. not (is_among key here)) update.removed ≡ find (λ key. not (is_among key keys)) update.removed
   removed_same =
-      found_same (λ key. not (is_among key here)) (λ key. not (is_among key keys)) update.removed
+      find_same (λ key. not (is_among key here)) (λ key. not (is_among key keys)) update.removed
       (every_weaker (λ key. is_among key here ≡ is_among key keys) (λ key. not (is_among key here) ≡ not (is_among key keys)) update.removed (λ key e. ap not e) (all_same update.removed removed_named))
 
   added_same : find (λ key. is_among key (landed update.shifted (without update.removed here))) update.added ≡ find (λ key. is_among key (landed update.shifted (without update.removed keys))) update.added
   added_same =
-      found_same (λ key. is_among key (landed update.shifted (without update.removed here))) (λ key. is_among key (landed update.shifted (without update.removed keys))) update.added
+      find_same (λ key. is_among key (landed update.shifted (without update.removed here))) (λ key. is_among key (landed update.shifted (without update.removed keys))) update.added
       (every_weaker (λ key. is_among key here ≡ is_among key keys) (λ key. is_among key (landed update.shifted (without update.removed here)) ≡ is_among key (landed update.shifted (without update.removed keys))) update.added same_places
       (all_same update.added (λ key e. coming_named key (or_left (is_among key update.added) (is_among key update.modified) e))))
 
   modified_same : find (λ key. not (is_among key (landed update.shifted (without update.removed here) ++ update.added))) update.modified
       ≡ find (λ key. not (is_among key (landed update.shifted (without update.removed keys) ++ update.added))) update.modified
   modified_same =
-      found_same (λ key. not (is_among key (landed update.shifted (without update.removed here) ++ update.added))) (λ key. not (is_among key (landed update.shifted (without update.removed keys) ++ update.added))) update.modified
+      find_same (λ key. not (is_among key (landed update.shifted (without update.removed here) ++ update.added))) (λ key. not (is_among key (landed update.shifted (without update.removed keys) ++ update.added))) update.modified
       (every_weaker (λ key. is_among key here ≡ is_among key keys) (λ key. not (is_among key (landed update.shifted (without update.removed here) ++ update.added)) ≡ not (is_among key (landed update.shifted (without update.removed keys) ++ update.added))) update.modified same_absent
       (all_same update.modified (λ key e. coming_named key (or_right (is_among key update.added) (is_among key update.modified) e))))
 

@@ -1,17 +1,18 @@
 -- A block carries a table's rows and the told ones alike.
-use Rattle.std.proofs.Common.{◌≡◌, refl, ap, ap₂, sym, ◌∙◌, subst, Option, Bool, true, false, not, ◌||◌, ◌&&◌, ℕ, ◌^◌, List, [], ◌∷◌, ◌++◌, map, ℤ, Some, None, true≢false, unwrap_or, inl, inr, lit≤}
+use Rattle.std.proofs.Common.{◌≡◌, refl, ap, ap₂, sym, ◌∙◌, subst, Option, Bool, true, false, not, ◌||◌, ◌&&◌, ℕ, ◌^◌, List, [], ◌++◌, map, ℤ, Some, None, true≢false, unwrap_or, inl, inr, lit≤}
 use Rattle.std.specs.Prelude.{option_map}
 use Rattle.std.specs.List.{AllByRecursion}
 use Rattle.std.specs.Option.{is_some, option_or}
 use Rattle.std.proofs.lemmas.Bool.{and_parts, not-false, or_cases, or_left, or_right}
 use Rattle.std.proofs.lemmas.List.Elements.{filter-append}
+use Rattle.std.proofs.lemmas.List.{append-nil}
 use Rattle.key_lists.specs.Keys.{is_among, IsRising, without}
-use Rattle.key_lists.proofs.Among.{among-append, among-filter, each_among, of_among}
-use Rattle.key_lists.proofs.Every.{every_weaker, every_unmapped, filter_all, filter_none, filter_same}
+use Rattle.key_lists.proofs.Among.{among-append, among-filter, each_among, of_among, apart_back}
+use Rattle.key_lists.proofs.Every.{every_weaker, every_unmapped, filter_all, filter_none, filter_same, none_pass}
 use Rattle.key_lists.proofs.Rising.{as_filter, rising_some}
 use Rattle.shift_data.specs.Moves.{IsLawful}
 use Rattle.shown_rows.proofs.Named.{of_named}
-use Rattle.table_update.proofs.KeysAfter.{KeepsRules, none_pass, rules_kept}
+use Rattle.table_update.proofs.KeysAfter.{KeepsRules, rules_kept}
 use Rattle.table_update.proofs.LawfulParts.{lawful_below, lawful_some, places_rise}
 use Rattle.tick_laws.specs.Checked.{IsChecked, keys_after}
 use Rattle.tick_laws.proofs.Blocks.{block_told}
@@ -26,8 +27,9 @@ use Rattle.tick_model.specs.Tables.{cells_at, keys, row_at}
 use Rattle.tick_model.specs.Updates.{adding, modifying, removing, rows_at, shifting}
 use Rattle.tick_model.proofs.Among.{rows_among}
 use Rattle.tick_table.proofs.NewKeys.{among-adding}
+use Rattle.tick_table.proofs.CarriedRows.{keys-removing}
 use Rattle.source_changes.specs.Stepping.{put_rows, told_after}
-use Rattle.source_changes.proofs.Looked.{among-put_rows, cells_at-stay, is_there, keys-removing, keys-shifting, rising-put_rows, row_at-adding, row_at-modified, row_at-put_rows}
+use Rattle.source_changes.proofs.Looked.{among-put_rows, cells_at-stay, is_there, keys-shifting, rising-put_rows, row_at-adding, row_at-modified, row_at-put_rows}
 
 abbrev pub cells_of : Option PlainRow → List ℤ
 cells_of o = unwrap_or (option_map (λ (row : PlainRow). row.cells) o) []
@@ -50,11 +52,7 @@ rows_in_first rows others h =
     ∙ ap₂ (λ (a b : List PlainRow). a ++ b)
     (filter_same (λ (row : PlainRow). is_among row.key (keys rows)) (λ row. true) rows (rows_among rows) ∙ filter_all rows)
     (filter_none (λ (row : PlainRow). is_among row.key (keys rows)) others (every_unmapped (λ key. is_among key (keys rows) ≡ false) (λ (row : PlainRow). row.key) others h))
-    ∙ append_none rows
-  where
-    append_none : (xs : List PlainRow) → xs ++ [] ≡ xs
-    append_none [] = refl
-    append_none (x ∷ xs) = ap (λ rest. x ∷ rest) (append_none xs)
+    ∙ append-nil rows
 
 rows_in_second : (rows others : List PlainRow) → AllByRecursion (λ key. is_among key (keys others) ≡ false) (keys rows) → rows_at (keys others) (rows ++ others) ≡ others
 rows_in_second rows others h =
@@ -62,14 +60,6 @@ rows_in_second rows others h =
     ∙ ap₂ (λ (a b : List PlainRow). a ++ b)
     (filter_none (λ (row : PlainRow). is_among row.key (keys others)) rows (every_unmapped (λ key. is_among key (keys others) ≡ false) (λ (row : PlainRow). row.key) rows h))
     (filter_same (λ (row : PlainRow). is_among row.key (keys others)) (λ row. true) others (rows_among others) ∙ filter_all others)
-
--- two lists that are apart are so both ways
-apart_swap : (xs ys : List ℕ) → AllByRecursion (λ y. is_among y xs ≡ false) ys → AllByRecursion (λ x. is_among x ys ≡ false) xs
-apart_swap xs ys h = every_weaker (λ x. is_among x xs ≡ true) (λ x. is_among x ys ≡ false) xs (λ x own. go x own (is_among x ys) refl) (each_among xs)
-  where
-    go : (x : ℕ) → is_among x xs ≡ true → (b : Bool) → is_among x ys ≡ b → b ≡ false
-    go x own true e = absurd (true≢false (sym own ∙ of_among (λ y. is_among y xs ≡ false) x ys h e))
-    go x own false e = refl
 
 module _ (table : PlainTable) (block : Block) (checked : IsChecked (2 ^ 40) (keys table.rows) (update_of block)) where
   abbrev pub survivors : List ℕ
@@ -108,7 +98,7 @@ module _ (table : PlainTable) (block : Block) (checked : IsChecked (2 ^ 40) (key
   carried_rows : new_rows ≡ modifying block.modified (adding block.added stay)
   carried_rows =
       ap₂ (λ (modified added : List PlainRow). modifying modified (adding added stay))
-      (rows_in_second block.added block.modified (apart_swap (keys block.added) (keys block.modified) modified_apart))
+      (rows_in_second block.added block.modified (apart_back (keys block.added) (keys block.modified) modified_apart))
       (rows_in_first block.added block.modified modified_apart)
 
   pub carried_keys : keys new_rows ≡ keys_after (keys table.rows) (update_of block)

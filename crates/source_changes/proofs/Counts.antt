@@ -3,7 +3,8 @@ use Rattle.std.proofs.Common.{◌≡◌, ap, true, false, cond, ℕ, ◌+◌, �
 use Rattle.std.proofs.lemmas.List.{length-map}
 use Rattle.std.specs.Prelude.{nat_lt}
 use Rattle.key_lists.specs.Keys.{is_among, IsRising, without}
-use Rattle.row_set.specs.Sets.{united, with_key}
+use Rattle.row_set.specs.Sets.{with_key}
+use Rattle.row_set.proofs.United.{length-united}
 use Rattle.tick_laws.specs.Checked.{keys_after}
 use Rattle.tick_laws.proofs.ResultCells.{length-filter_most}
 use Rattle.tick_model.specs.Rules.{landed, update_fault}
@@ -11,18 +12,6 @@ use Rattle.tick_model.specs.Shifts.{as_key, moved}
 use Rattle.tick_model.specs.Updates.{Update}
 use Rattle.table_update.specs.Coalesced.{added_by_both, modified_by_both}
 use Rattle.table_update.proofs.CoalescedKeys.{united_added, united_modified}
-
-length-with_key : (key : ℕ) (ks : List ℕ) → length (with_key key ks) ≤ 1 + length ks
-length-with_key key [] = omega arith
-length-with_key key (other ∷ ks) =
-    elim (nat_lt key other) as (λ b. length (cond b (key ∷ other ∷ ks) (cond (key == other) (other ∷ ks) (other ∷ with_key key ks))) ≤ 1 + length (other ∷ ks)) [
-      | true ↦ omega arith
-      | false ↦ elim (key == other) as (λ b. length (cond b (other ∷ ks) (other ∷ with_key key ks)) ≤ 1 + length (other ∷ ks)) [ true ↦ omega arith | false ↦ omega (arith, length-with_key key ks) ]
-    ]
-
-pub length-united : (xs ys : List ℕ) → length (united xs ys) ≤ length xs + length ys
-length-united [] ys = omega arith
-length-united (x ∷ xs) ys = omega (arith, length-with_key x (united xs ys), length-united xs ys)
 
 -- where keys move that stay
 length-staying : (next : Update) (keys : List ℕ) → length (landed next.shifted (without next.removed keys)) ≤ length keys

@@ -8,7 +8,7 @@ use Rattle.std.proofs.lemmas.Int.{ints}
 use Rattle.key_lists.specs.Keys.{is_among, IsRising, without}
 use Rattle.key_lists.proofs.Every.{every_weaker, every-filter, every-append}
 use Rattle.key_lists.proofs.Rising.{rising_some}
-use Rattle.row_set.proofs.Held.{each_from}
+use Rattle.key_lists.proofs.Ranges.{each_from}
 use Rattle.tick_laws.specs.Checked.{IsChecked, keys_after}
 use Rattle.tick_laws.proofs.Blocks.{block_told}
 use Rattle.tick_laws.proofs.CheckedUpdates.{keys-carry}

@@ -1,17 +1,18 @@
 -- The update so far and then the next one, also where it is the first that changes anything: it has the parts of both together.
-use Rattle.std.proofs.Common.{◌≡◌, refl, ap, ap₂, sym, ◌∙◌, subst, Bool, true, false, cond, not, ◌&&◌, ℕ, ◌^◌, arith, List, [], ◌∷◌, map, filter, pos, ◌+ℤ◌, None, true≢false}
+use Rattle.std.proofs.Common.{◌≡◌, refl, ap, ap₂, sym, ◌∙◌, subst, Bool, true, false, cond, not, ◌&&◌, ℕ, ◌^◌, List, [], map, filter, None}
 use Rattle.std.specs.List.{AllByRecursion}
 use Rattle.std.proofs.lemmas.Bool.{and_parts, not-false}
-use Rattle.std.proofs.lemmas.Int.{ints}
 use Rattle.key_lists.specs.Keys.{is_among, IsRising, without}
-use Rattle.key_lists.proofs.Every.{every, every_weaker, filter_all, filter_same, map_own, map_same}
+use Rattle.key_lists.proofs.Every.{every, every_weaker, filter_all, filter_same, map_own, map_same, none_pass}
 use Rattle.key_lists.proofs.Rising.{as_filter}
 use Rattle.row_set.specs.Sets.{united}
 use Rattle.shift_data.specs.Moves.{IsLawful, canonical, pair_through, unapplied}
 use Rattle.table_update.specs.Coalesced.{added_by_both, coalesced, kept_by_both, modified_by_both, removed_by_both}
 use Rattle.table_update.proofs.CoalescedKeys.{kept_pairs, united_added, united_modified, united_removed}
-use Rattle.table_update.proofs.KeysAfter.{none_pass, rules_kept}
+use Rattle.table_update.proofs.KeysAfter.{rules_kept}
+use Rattle.table_update.proofs.StillKeys.{still_key}
 use Rattle.tick_laws.specs.Checked.{keys_after, put_keys}
+use Rattle.tick_laws.proofs.EmptyUpdates.{none_is}
 use Rattle.tick_model.specs.declared.update.KeyPair.{KeyPair}
 use Rattle.tick_model.specs.declared.update.ShiftRange.{ShiftRange}
 use Rattle.tick_model.specs.Changes.{is_empty, is_none}
@@ -20,15 +21,8 @@ use Rattle.tick_model.specs.Shifts.{as_key, moved, shifted}
 use Rattle.tick_model.specs.Updates.{Update, kept_pair}
 use Rattle.source_changes.specs.Stepping.{first_update, update_after}
 
-none_is : {X : Type 0} (xs : List X) → is_none xs ≡ true → xs ≡ []
-none_is [] e = refl
-none_is (x ∷ xs) e = absurd (true≢false (sym e))
-
-still : (key : ℕ) → as_key (moved [] key) ≡ key
-still key = let same : pos key +ℤ pos 0 ≡ pos key = omega (arith, ints) in ap as_key same
-
 pub unmoved : (keys : List ℕ) → landed [] (without [] keys) ≡ keys
-unmoved keys = map_own (λ key. as_key (moved [] key)) (without [] keys) (every (λ key. as_key (moved [] key) ≡ key) (without [] keys) still) ∙ filter_all keys
+unmoved keys = map_own (λ key. as_key (moved [] key)) (without [] keys) (every (λ key. as_key (moved [] key) ≡ key) (without [] keys) still_key) ∙ filter_all keys
 
 module _ (old : List ℕ) (first next : Update) (f : update_fault (2 ^ 62) old first ≡ None) (n : update_fault (2 ^ 62) (keys_after old first) next ≡ None)
     (rising : IsRising old) (added_rise : IsRising first.added) (modified_rise : IsRising first.modified)
@@ -51,7 +45,7 @@ module _ (old : List ℕ) (first next : Update) (f : update_fault (2 ^ 62) old f
     stays removed =
         ap (filter (λ key. not (is_among (as_key (moved [] key)) removed))) (filter_all old)
         ∙ filter_same (λ key. not (is_among (as_key (moved [] key)) removed)) (λ key. not (is_among key removed)) old
-        (every (λ key. not (is_among (as_key (moved [] key)) removed) ≡ not (is_among key removed)) old (λ key. ap (λ k. not (is_among k removed)) (still key)))
+        (every (λ key. not (is_among (as_key (moved [] key)) removed) ≡ not (is_among key removed)) old (λ key. ap (λ k. not (is_among k removed)) (still_key key)))
 
     kept_are : kept_by_both old first next ≡ map (kept_pair next) (without next.removed old)
     kept_are =
@@ -60,7 +54,7 @@ module _ (old : List ℕ) (first next : Update) (f : update_fault (2 ^ 62) old f
         ∙ ap (map (pair_through [] next.shifted)) (stays next.removed)
         ∙ map_same (pair_through [] next.shifted) (kept_pair next) (without next.removed old)
         (every (λ key. pair_through [] next.shifted key ≡ kept_pair next key) (without next.removed old)
-        (λ key. ap (λ k. let pair : KeyPair = record { old = key; new = as_key (moved next.shifted k) } in pair) (still key)))
+        (λ key. ap (λ k. let pair : KeyPair = record { old = key; new = as_key (moved next.shifted k) } in pair) (still_key key)))
 
     removed_there : AllByRecursion (λ key. is_among key old ≡ true) next.removed
     removed_there =
@@ -72,7 +66,7 @@ module _ (old : List ℕ) (first next : Update) (f : update_fault (2 ^ 62) old f
     removed_is =
         sym (as_filter next.removed old removed_next rising removed_there)
         ∙ sym (filter_same (λ key. is_among (as_key (moved [] key)) next.removed) (λ key. is_among key next.removed) old
-        (every (λ key. is_among (as_key (moved [] key)) next.removed ≡ is_among key next.removed) old (λ key. ap (λ k. is_among k next.removed) (still key))))
+        (every (λ key. is_among (as_key (moved [] key)) next.removed ≡ is_among key next.removed) old (λ key. ap (λ k. is_among k next.removed) (still_key key))))
         ∙ ap (λ keys. unapplied [] keys next.removed) (sym (filter_all old))
         ∙ sym (ap₂ (λ (shifts : List ShiftRange) (removed : List ℕ). united removed (unapplied shifts (without removed old) next.removed)) nothing.3 nothing.0)
         ∙ united_removed old first next f n rising

@@ -1,5 +1,5 @@
 -- The keys of ranges and of rows, gathered one after the other.
-use Rattle.std.proofs.Common.{◌≡◌, refl, ap, sym, ◌∙◌, Bool, true, false, ◌||◌, ℕ, zero, suc, ◌+◌, ◌-◌, ◌<◌, ◌≤◌, ◌^◌, arith, List, [], ◌∷◌, ◌++◌, length, get_or, take, add-one}
+use Rattle.std.proofs.Common.{◌≡◌, ap, sym, ◌∙◌, ℕ, zero, suc, ◌+◌, ◌-◌, ◌<◌, ◌≤◌, ◌^◌, arith, List, [], ◌∷◌, ◌++◌, length, get_or, take, add-one}
 use Rattle.std.specs.Prelude.{flat_map}
 use Rattle.std.specs.List.{AllByRecursion, range_with_len}
 use Rattle.std.proofs.Math.Seq.{take-suc}
@@ -9,20 +9,17 @@ use Rattle.key_lists.specs.Keys.{is_among, IsRising}
 use Rattle.key_lists.proofs.Among.{among-append}
 use Rattle.key_lists.proofs.Every.{every, every_weaker, every_unmapped, every-append}
 use Rattle.key_lists.proofs.Rising.{rising-append, rising_same}
+use Rattle.key_lists.proofs.Booleans.{or_turned}
+use Rattle.key_lists.proofs.Parts.{every-take, every_at}
+use Rattle.key_lists.proofs.Ranges.{each_from}
 use Rattle.row_set.specs.Sets.{united}
-use Rattle.row_set.proofs.Held.{each_from, range_rises}
+use Rattle.row_set.proofs.Held.{range_rises}
 use Rattle.row_set.proofs.United.{among-united, united_rises}
-use Rattle.tick_laws.proofs.ResultTables.{every-take}
 use Rattle.tick_model.specs.declared.table.PlainRow.{PlainRow}
 use Rattle.tick_model.specs.declared.update.KeyRange.{KeyRange}
 use Rattle.tick_model.specs.LawfulRuns.{AreRanges}
 use Rattle.tick_model.specs.Sources.{keys_within}
 use Rattle.tick_model.specs.Tables.{keys}
-
-pub every_at : {X : Type 0} (P : X → Type 0) (xs : List X) (i : ℕ) (d : X) → AllByRecursion P xs → i < length xs → P (get_or xs i d)
-every_at P [] i d h less = absurd (omega (arith, less))
-every_at P (x ∷ xs) zero d h less = h.0
-every_at P (x ∷ xs) (suc i) d h less = every_at P xs i d h.1 (omega (arith, less))
 
 pub range_at : (ranges : List KeyRange) (i : ℕ) (d : KeyRange) → AreRanges ranges → i < length ranges → ((get_or ranges i d).first ≤ (get_or ranges i d).last) × ((get_or ranges i d).last < 2 ^ 40)
 range_at [] i d h less = absurd (omega (arith, less))
@@ -55,7 +52,7 @@ keys_before : (ranges : List KeyRange) (i : ℕ) (d : KeyRange) → AreRanges ra
 keys_before [] i d h less = absurd (omega (arith, less))
 keys_before (range ∷ ranges) zero d h less = tt
 keys_before (range ∷ ranges) (suc i) d h less =
-    let above : range.last < (get_or ranges i d).first = every_at (λ (next : KeyRange). range.last < next.first) ranges i d h.2 (omega (arith, less)) in
+    let above : range.last < (get_or ranges i d).first = every_at (λ (next : KeyRange). range.last < next.first) ranges i d (omega (arith, less)) h.2 in
     every-append (λ key. key < (get_or ranges i d).first) (keys_within range) (flat_map keys_within (take i ranges))
     (every_weaker (λ key. key < range.last + 1) (λ key. key < (get_or ranges i d).first) (keys_within range) (λ key low. omega (arith, low, above)) (keys_up_to range h.0))
     (keys_before ranges i d h.3 (omega (arith, less)))
@@ -64,13 +61,7 @@ keys_before (range ∷ ranges) (suc i) d h less =
 united_behind : (bound : ℕ) (keys others : List ℕ) → AllByRecursion (λ key. bound ≤ key) keys → IsRising keys → AllByRecursion (λ key. key < bound) others → IsRising others → united keys others ≡ others ++ keys
 united_behind bound keys others above r below s =
     rising_same (united keys others) (others ++ keys) (united_rises keys others s) (rising-append bound others keys below above s r)
-    (λ key. among-united key keys others ∙ swap (is_among key keys) (is_among key others) ∙ sym (among-append key others keys))
-  where
-    swap : (a b : Bool) → (a || b) ≡ (b || a)
-    swap true true = refl
-    swap true false = refl
-    swap false true = refl
-    swap false false = refl
+    (λ key. among-united key keys others ∙ or_turned (is_among key keys) (is_among key others) ∙ sym (among-append key others keys))
 
 pub ranges_more : (ranges : List KeyRange) (i : ℕ) (d : KeyRange) → AreRanges ranges → i < length ranges → united (keys_within (get_or ranges i d)) (flat_map keys_within (take i ranges)) ≡ flat_map keys_within (take (i + 1) ranges)
 ranges_more ranges i d h less =
@@ -85,7 +76,7 @@ pub keys_below : (rows : List PlainRow) (i : ℕ) (d : PlainRow) → IsRising (k
 keys_below [] i d r less = absurd (omega (arith, less))
 keys_below (row ∷ rows) zero d r less = tt
 keys_below (row ∷ rows) (suc i) d r less = (
-  every_at (λ (other : PlainRow). row.key < other.key) rows i d (every_unmapped (λ key. row.key < key) (λ (other : PlainRow). other.key) rows r.0) (omega (arith, less)),
+  every_at (λ (other : PlainRow). row.key < other.key) rows i d (omega (arith, less)) (every_unmapped (λ key. row.key < key) (λ (other : PlainRow). other.key) rows r.0),
   keys_below rows i d r.1 (omega (arith, less)),
 )
 

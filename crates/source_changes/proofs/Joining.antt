@@ -16,10 +16,6 @@ use Rattle.source_changes.proofs.Waited.{both_joined, both_waits}
 abbrev pub made : List ℕ → Update → Option Update → Gathered
 made keys update waiting = record { keys = keys; update = update; waiting = waiting }
 
--- what is gathered does not depend on how its parts are written
-pub gathered_parts : (old : List ℕ) (g : Gathered) → IsGathered old g → IsGathered old (made g.keys g.update g.waiting)
-gathered_parts old g h = h
-
 module _ (old : List ℕ) (old_set : IsKeySet old) (keys : List ℕ) (update : Update) where
   module _ (next : Update) (h : IsGathered old (made keys update None)) (sets : AreSets next) (applies : update_fault (2 ^ 62) keys next ≡ None) where
     follows : update_fault (2 ^ 62) (keys_after old update) next ≡ None

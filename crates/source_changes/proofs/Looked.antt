@@ -6,7 +6,7 @@ use Rattle.std.specs.Option.{is_some, option_or}
 use Rattle.std.proofs.lemmas.Bool.{cases_eq, ne_eqb, eq-eqb, eqb-true, eqb-false, ltb-true, ltb-false, or_parts, or_from}
 use Rattle.key_lists.specs.Keys.{is_among, IsRising, without}
 use Rattle.key_lists.proofs.Among.{among_below, among-filter, of_among}
-use Rattle.key_lists.proofs.Every.{every_weaker, every_unmapped, filter-map, map_map}
+use Rattle.key_lists.proofs.Every.{every_weaker, every_unmapped, map_map}
 use Rattle.tick_model.specs.declared.table.PlainRow.{PlainRow}
 use Rattle.tick_model.specs.declared.update.ShiftRange.{ShiftRange}
 use Rattle.tick_model.specs.Rules.{landed}
@@ -15,6 +15,7 @@ use Rattle.tick_model.specs.Tables.{cells_at, keys, row_at}
 use Rattle.tick_model.specs.Updates.{adding, insert_row, modifying, moved_row, removing, shifting}
 use Rattle.tick_model.proofs.Among.{rest_above, row_at-filter, row_below}
 use Rattle.tick_table.proofs.NewKeys.{among-adding, key-row_at}
+use Rattle.tick_table.proofs.CarriedRows.{keys-removing}
 use Rattle.source_changes.specs.Stepping.{put_row, put_rows}
 
 -- a row is found exactly under the keys of the rows
@@ -148,9 +149,6 @@ row_at-modified key modified rows h =
 -- rows that move
 pub keys-shifting : (shifts : List ShiftRange) (rows : List PlainRow) → keys (shifting shifts rows) ≡ landed shifts (keys rows)
 keys-shifting shifts rows = map_map (λ (row : PlainRow). row.key) (moved_row shifts) rows ∙ sym (map_map (λ key. as_key (moved shifts key)) (λ (row : PlainRow). row.key) rows)
-
-pub keys-removing : (removed : List ℕ) (rows : List PlainRow) → keys (removing removed rows) ≡ without removed (keys rows)
-keys-removing removed rows = sym (filter-map (λ key. not (is_among key removed)) (λ (row : PlainRow). row.key) rows)
 
 row_at-shifting : (shifts : List ShiftRange) (key : ℕ) (rows : List PlainRow) → IsRising (landed shifts (keys rows)) → is_among key (keys rows) ≡ true → row_at (as_key (moved shifts key)) (shifting shifts rows) ≡ option_map (moved_row shifts) (row_at key rows)
 row_at-shifting shifts key [] r h = absurd (true≢false (sym h))

@@ -1,5 +1,5 @@
 -- Told rows in a map by key: as they are found, put, taken away and moved.
-use Rattle.std.proofs.Common.{◌≡◌, refl, ap, ap₂, sym, ◌∙◌, subst, Bool, true, false, cond, not, ◌||◌, ◌&&◌, ◌==◌, ℕ, ◌+◌, ◌^◌, ◌<◌, ◌≤◌, arith, List, [], ◌∷◌, ◌++◌, append_assoc, length, get_or, take, map, add-one, ℤ, pos, Bor, Some, None, Less, Equal, Greater, nat_cmp, leb, inl, inr, filter, unwrap_or, Ordering}
+use Rattle.std.proofs.Common.{◌≡◌, refl, ap, ap₂, sym, ◌∙◌, subst, Bool, true, false, cond, not, ◌&&◌, ◌==◌, ℕ, ◌+◌, ◌^◌, ◌<◌, ◌≤◌, arith, List, [], ◌∷◌, ◌++◌, append_assoc, length, get_or, take, map, add-one, ℤ, pos, Bor, Some, None, Less, Equal, Greater, nat_cmp, leb, inl, inr, filter, unwrap_or, Ordering}
 use Rattle.std.proofs.Math.Seq.{take-suc}
 use Rattle.std.specs.BTreeMap.{insert_entry, is_at}
 use Rattle.std.specs.BTreeMap.Range.{entries_between, range_contains}
@@ -13,9 +13,11 @@ use Rattle.std.proofs.lemmas.Bool.{and_right, cases_eq, cases_lt, eq-eqb, eqb-tr
 use Rattle.std.proofs.lemmas.Grind.{flat_map-append}
 use Rattle.std.proofs.lemmas.Int.{ints}
 use Rattle.std.proofs.lemmas.List.{append-nil}
+use Rattle.table_update.proofs.StillKeys.{still_key}
 use Rattle.key_lists.specs.Keys.{is_among, IsRising}
 use Rattle.key_lists.proofs.Among.{among-append}
 use Rattle.key_lists.proofs.Every.{every, every_weaker, filter-map, filter_all, filter_filter, filter_same, map_map, map_own}
+use Rattle.key_lists.proofs.Booleans.{neither, is_eq-nat_cmp}
 use Rattle.row_set.specs.declared.ranges.Range.{Range}
 use Rattle.row_set.specs.Ranges.{AreApart, holds, keys_in, keys_of}
 use Rattle.row_set.proofs.Held.{among-in}
@@ -36,21 +38,11 @@ use Rattle.source_changes.proofs.Looked.{keys-shifting}
 abbrev Told : Type 0
 Told = ℕ × Bor (List ℤ)
 
-equal_keys : (a b : ℕ) → is_eq (nat_cmp a b) ≡ (b == a)
-equal_keys a b =
-    elim (cases_lt a b) [
-      | inl below ↦ ap is_eq (sym (nat_cmp_is a b Less below)) ∙ sym (ne_eqb b a (λ e. omega arith))
-      | inr not_below ↦ elim (cases_eq a b) [
-        | inl same ↦ ap is_eq (sym (nat_cmp_is a b Equal same)) ∙ sym (eq-eqb b a (sym same))
-        | inr other ↦ let above : b < a = omega arith in ap is_eq (sym (nat_cmp_is a b Greater above)) ∙ sym (ne_eqb b a (λ e. other (sym e)))
-      ]
-    ]
-
 -- the row under a key
 pub cells_found : (key : ℕ) (entries : List Told) → option_map (λ (cells : Bor (List ℤ)). cells.now) (lookup (is_at (nat_cmp key)) entries) ≡ option_map (λ (row : PlainRow). row.cells) (row_at key (map told_row entries))
 cells_found key [] = refl
 cells_found key (entry ∷ entries) =
-    ap (λ b. option_map (λ (cells : Bor (List ℤ)). cells.now) (cond b (Some entry.1) (lookup (is_at (nat_cmp key)) entries))) (equal_keys key entry.0)
+    ap (λ b. option_map (λ (cells : Bor (List ℤ)). cells.now) (cond b (Some entry.1) (lookup (is_at (nat_cmp key)) entries))) (is_eq-nat_cmp key entry.0)
     ∙ elim (entry.0 == key) as (λ b. option_map (λ (cells : Bor (List ℤ)). cells.now) (cond b (Some entry.1) (lookup (is_at (nat_cmp key)) entries)) ≡ option_map (λ (row : PlainRow). row.cells) (cond b (Some (told_row entry)) (row_at key (map told_row entries)))) [
       | true ↦ refl
       | false ↦ cells_found key entries
@@ -139,7 +131,7 @@ pub left_without : (key : ℕ) (range : Range) (entries : List Told) → holds k
 left_without key range [] h = refl
 left_without key range (entry ∷ entries) h =
     (elim (is_eq (nat_cmp key entry.0)) as (λ b. is_eq (nat_cmp key entry.0) ≡ b → filter (outside range) (cond b entries (entry ∷ remove_entry (is_at (nat_cmp key)) entries)) ≡ filter (outside range) (entry ∷ entries)) [
-      | true ↦ λ e. sym (ap (λ b. cond (not b) (entry ∷ filter (outside range) entries) (filter (outside range) entries)) (ap (λ k. holds k range) (eqb-true entry.0 key (sym (equal_keys key entry.0) ∙ e)) ∙ h))
+      | true ↦ λ e. sym (ap (λ b. cond (not b) (entry ∷ filter (outside range) entries) (filter (outside range) entries)) (ap (λ k. holds k range) (eqb-true entry.0 key (sym (is_eq-nat_cmp key entry.0) ∙ e)) ∙ h))
       | false ↦ λ e. ap (λ rest. cond (outside range entry) (entry ∷ rest) rest) (left_without key range entries h)
     ]) refl
 
@@ -154,10 +146,6 @@ left_more ranges i d entries less =
     filter_filter (outside (get_or ranges i d)) (λ (entry : Told). not (is_among entry.0 (keys_of (take i ranges)))) entries
     ∙ filter_same (λ (entry : Told). not (is_among entry.0 (keys_of (take i ranges))) && outside (get_or ranges i d) entry) (λ entry. not (is_among entry.0 (keys_of (take (i + 1) ranges)))) entries (every (λ (entry : Told). (not (is_among entry.0 (keys_of (take i ranges))) && outside (get_or ranges i d) entry) ≡ not (is_among entry.0 (keys_of (take (i + 1) ranges)))) entries (λ entry. each entry.0))
   where
-    neither : (a b : Bool) → (not a && not b) ≡ not (a || b)
-    neither true b = refl
-    neither false b = refl
-
     more : keys_of (take (i + 1) ranges) ≡ keys_of (take i ranges) ++ keys_in (get_or ranges i d)
     more =
         ap (λ n. keys_of (take n ranges)) (add-one i) ∙ ap keys_of (take-suc ranges i d less)
@@ -228,10 +216,7 @@ told_left removed entries = sym (filter-map (λ (row : PlainRow). not (is_among 
 -- with no range, and with all rows moved
 pub none_shifted : (shifts : List ShiftRange) (rows : List PlainRow) → shifts ≡ [] → rows ≡ shifting shifts rows
 none_shifted shifts rows none =
-    sym (ap (λ shifts. shifting shifts rows) none ∙ map_own (moved_row []) rows (every (λ (row : PlainRow). moved_row [] row ≡ row) rows (λ row. ap (λ key. let made : PlainRow = record { key = key; cells = row.cells } in made) (still row.key))))
-  where
-    still : (key : ℕ) → as_key (moved [] key) ≡ key
-    still key = let same : key + 0 ≡ key = omega arith in same
+    sym (ap (λ shifts. shifting shifts rows) none ∙ map_own (moved_row []) rows (every (λ (row : PlainRow). moved_row [] row ≡ row) rows (λ row. ap (λ key. let made : PlainRow = record { key = key; cells = row.cells } in made) (still_key row.key))))
 
 pub all_moved : (shifts : List ShiftRange) (entries done all : List Told) → entries ≡ [] → IsLawful shifts (map_keys all) → put_rows (shifting shifts (map told_row entries)) (map told_row done) ≡ put_rows (shifting shifts (map told_row all)) [] → map told_row done ≡ shifting shifts (map told_row all)
 all_moved shifts entries done all none law whole =

@@ -2,6 +2,7 @@
 use Rattle.std.proofs.Common.{◌≡◌, refl, ap, ap₂, sym, ◌∙◌, ℕ, List, [], ◌∷◌, ◌++◌, ℤ, Some, subst, length, unwrap_or}
 use Rattle.std.specs.Prelude.{flat_map, option_map}
 use Rattle.std.specs.List.{AllByRecursion}
+use Rattle.std.proofs.lemmas.List.{append-nil}
 use Rattle.key_lists.specs.Keys.{IsRising}
 use Rattle.tick_laws.proofs.LawfulSources.{rising_range}
 use Rattle.tick_laws.proofs.WholeUpdates.{between-replaced}
@@ -28,10 +29,6 @@ cells_of_keys : (all rows : List PlainRow) → AllByRecursion (λ row. row_at ro
 cells_of_keys all [] h = refl
 cells_of_keys all (row ∷ rows) h = ap₂ (λ (a b : List ℤ). a ++ b) (sym (ap (λ o. unwrap_or (option_map (λ (row : PlainRow). row.cells) o) []) h.0)) (cells_of_keys all rows h.1)
 
-append_none : (xs : List ℕ) → xs ++ [] ≡ xs
-append_none [] = refl
-append_none (x ∷ xs) = ap (λ rest. x ∷ rest) (append_none xs)
-
 -- all rows come
 pub opening_is : (table : PlainTable) → IsOpenedTable table → (change : Change) → change.update.removed ≡ [] → change.update.added ≡ keys table.rows → change.update.modified ≡ [] → change.update.shifted ≡ [] → change.update.columns ≡ []
     → change.cells ≡ flat_map (λ (row : PlainRow). row.cells) table.rows → change ≡ change_of (opened table)
@@ -45,4 +42,4 @@ opening_is table h change r a m s o c =
     rising = subst IsRising (sym h.keys_are) (rising_range 0 (length table.rows)).1
 
     cells_are : change.cells ≡ flat_map (λ key. cells_at key table.rows) (keys table.rows ++ [])
-    cells_are = c ∙ cells_of_keys table.rows table.rows (each_found table.rows rising) ∙ ap (flat_map (λ key. cells_at key table.rows)) (sym (append_none (keys table.rows)))
+    cells_are = c ∙ cells_of_keys table.rows table.rows (each_found table.rows rising) ∙ ap (flat_map (λ key. cells_at key table.rows)) (sym (append-nil (keys table.rows)))

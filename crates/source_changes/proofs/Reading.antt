@@ -5,12 +5,12 @@ use Rattle.std.specs.List.{AllByRecursion}
 use Rattle.std.specs.Option.{option_or}
 use Rattle.std.proofs.lemmas.Bool.{and_parts, eqb-true}
 use Rattle.std.proofs.lemmas.Option.{none-some}
+use Rattle.std.proofs.lemmas.List.{map-id}
 use Rattle.key_lists.specs.Keys.{is_among, without}
 use Rattle.key_lists.proofs.Among.{among-filter, each_among, of_among}
 use Rattle.key_lists.proofs.Every.{every_weaker, map_map}
 use Rattle.tick_laws.specs.Checked.{keys_after}
 use Rattle.tick_laws.specs.Replaced.{no_update}
-use Rattle.tick_laws.proofs.ToldRows.{map_id}
 use Rattle.tick_model.specs.declared.table.PlainRow.{PlainRow}
 use Rattle.tick_model.specs.declared.table.PlainTable.{PlainTable}
 use Rattle.tick_model.specs.Shifts.{as_key, moved}
@@ -35,7 +35,7 @@ module _ (step : Stepping) (key : ℕ) where
       ]) refl h
 
   keys_now : keys (now_of step).rows ≡ keys_after (keys step.old.rows) step.update
-  keys_now = map_map (λ (row : PlainRow). row.key) (row_now step) (keys_after (keys step.old.rows) step.update) ∙ map_id (keys_after (keys step.old.rows) step.update)
+  keys_now = map_map (λ (row : PlainRow). row.key) (row_now step) (keys_after (keys step.old.rows) step.update) ∙ map-id (keys_after (keys step.old.rows) step.update)
 
   module _ (here : is_among key (keys (now_of step).rows) ≡ true) where
     cells_are : cells_at key (now_of step).rows ≡ cells_now step key

@@ -6,12 +6,12 @@ use Rattle.std.specs.Option.{option_or}
 use Rattle.std.proofs.lemmas.Bool.{not-false}
 use Rattle.std.proofs.lemmas.List.{length-map}
 use Rattle.key_lists.specs.Keys.{is_among, IsRising, without}
-use Rattle.key_lists.proofs.Every.{every, every_weaker}
-use Rattle.key_lists.proofs.Rising.{as_filter}
+use Rattle.key_lists.proofs.Every.{every, every_weaker, none_pass}
+use Rattle.key_lists.proofs.Rising.{as_filter, rising_count}
 use Rattle.source_changes.specs.declared.faults.KeyFault.{KeyFault}
 use Rattle.source_changes.specs.declared.faults.KeyFault.TheVariants.{Memory, Broken}
 use Rattle.source_changes.specs.Faults.{IsRuleOf, keys_fault}
-use Rattle.table_update.proofs.KeysAfter.{none_pass, rules_kept}
+use Rattle.table_update.proofs.KeysAfter.{rules_kept}
 use Rattle.tick_laws.specs.Checked.{keys_after, put_key, put_keys}
 use Rattle.tick_model.specs.declared.update.FeedRule.{FeedRule}
 use Rattle.tick_model.specs.declared.update.FeedRule.TheVariants.{Update as ByUpdate}
@@ -20,15 +20,8 @@ use Rattle.tick_model.specs.Shifts.{as_key, moved}
 use Rattle.tick_model.specs.Sources.{too_many}
 use Rattle.tick_model.specs.Updates.{Update}
 
--- rising keys below a bound are not more than it
-rising_from : (low bound : ℕ) (keys : List ℕ) → low ≤ bound → AllByRecursion (λ key. low ≤ key) keys → AllByRecursion (λ key. key < bound) keys → IsRising keys → low + length keys ≤ bound
-rising_from low bound [] room above below rising = omega (arith, room)
-rising_from low bound (key ∷ keys) room above below rising =
-    let rest = rising_from (key + 1) bound keys (omega (arith, below.0)) (every_weaker (λ other. key < other) (λ other. key + 1 ≤ other) keys (λ other more. omega (arith, more)) rising.0) below.1 rising.1 in
-    omega (arith, rest, above.0)
-
 pub few_rising : (bound : ℕ) (keys : List ℕ) → IsRising keys → AllByRecursion (λ key. key < bound) keys → length keys ≤ bound
-few_rising bound keys rising below = let count = rising_from 0 bound keys (omega arith) (every (λ key. 0 ≤ key) keys (λ key. omega arith)) below rising in omega (arith, count)
+few_rising bound keys rising below = let count = rising_count 0 bound keys (omega arith) (every (λ key. 0 ≤ key) keys (λ key. omega arith)) below rising in omega (arith, count)
 
 -- the keys that pass a test, and those that do not
 length-parted : (p : ℕ → Bool) (keys : List ℕ) → length (filter (λ key. not (p key)) keys) + length (filter p keys) ≡ length keys

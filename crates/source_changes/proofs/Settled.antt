@@ -1,11 +1,11 @@
 -- The update that two updates of a table make together may be applied, and leaves the keys that both leave.
 use Rattle.std.proofs.Common.{◌≡◌, refl, ap, ap₂, sym, ◌∙◌, subst, Bool, true, false, cond, not, ◌||◌, ℕ, ◌<◌, ◌^◌, List, [], ◌++◌, map, filter, None, lit≤}
 use Rattle.std.specs.List.{AllByRecursion}
+use Rattle.std.proofs.lemmas.List.{map-id}
 use Rattle.key_lists.specs.Keys.{is_among, IsRising, without}
 use Rattle.key_lists.proofs.Among.{among-append, each_among, of_among}
-use Rattle.key_lists.proofs.Every.{every_weaker, every-append, every-filter, every-map, every_unmapped, map_map}
+use Rattle.key_lists.proofs.Every.{every_weaker, every-append, every-filter, every-map, every_unmapped, map_map, find_none}
 use Rattle.row_set.specs.Sets.{IsKeySet, united}
-use Rattle.row_set.proofs.Lookups.{find_none}
 use Rattle.table_update.specs.Coalesced.{coalesced, is_modified, kept_by_both, key_pairs, modified_by_both}
 use Rattle.table_update.proofs.KeysAfter.{KeepsRules, rules_kept}
 use Rattle.tick_laws.specs.Checked.{IsChecked, carried_tick, keys_after}
@@ -13,7 +13,7 @@ use Rattle.tick_laws.specs.Replaced.{followed}
 use Rattle.tick_laws.proofs.Carried.{pairs-between}
 use Rattle.tick_laws.proofs.CheckedUpdates.{keys-carry, tick-carry}
 use Rattle.tick_laws.proofs.Composed.{composed_tick}
-use Rattle.tick_laws.proofs.ToldRows.{map_id, none_without}
+use Rattle.tick_laws.proofs.ToldRows.{none_without}
 use Rattle.tick_model.specs.declared.table.PlainRow.{PlainRow}
 use Rattle.tick_model.specs.declared.table.PlainTable.{PlainTable}
 use Rattle.tick_model.specs.declared.update.KeyPair.{KeyPair}
@@ -36,7 +36,7 @@ abbrev bare_table : List ℕ → PlainTable
 bare_table ks = record { width = 0; rows = map bare ks }
 
 bare_keys : (ks : List ℕ) → keys (map bare ks) ≡ ks
-bare_keys ks = map_map (λ (row : PlainRow). row.key) bare ks ∙ map_id ks
+bare_keys ks = map_map (λ (row : PlainRow). row.key) bare ks ∙ map-id ks
 
 bare_rows : (ks : List ℕ) → AllByRecursion (λ key. key < 2 ^ 62) ks → AllByRecursion (IsRow 0) (map bare ks)
 bare_rows ks below = every-map (IsRow 0) bare ks (every_weaker (λ key. key < 2 ^ 62) (λ key. IsRow 0 (bare key)) ks (λ key less. record { key = less; whole = refl }) below)

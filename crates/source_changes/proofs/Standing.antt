@@ -6,9 +6,8 @@ use Rattle.std.specs.Option.{option_or}
 use Rattle.std.proofs.lemmas.Bool.{and_parts, or_cases, or_parts}
 use Rattle.key_lists.specs.Keys.{is_among, IsRising, without}
 use Rattle.key_lists.proofs.Among.{among-append, among-filter, each_among, of_among}
-use Rattle.key_lists.proofs.Every.{every, every_weaker, every_both, every-map, every_unmapped, every-filter, every-append, filter_passes, map_map}
+use Rattle.key_lists.proofs.Every.{every, every_weaker, every_both, every-map, every_unmapped, every-filter, every-append, filter_passes, map_map, find_none}
 use Rattle.key_lists.proofs.Rising.{rising-filter}
-use Rattle.row_set.proofs.Lookups.{find_none}
 use Rattle.shift_data.specs.Moves.{pair_through}
 use Rattle.shown_rows.proofs.Named.{named_by, of_named}
 use Rattle.table_update.specs.Coalesced.{Follow, is_modified, kept_by_both, key_pairs}

@@ -3,9 +3,10 @@ use Rattle.std.proofs.Common.{◌≡◌, refl, ap, ap₂, sym, ◌∙◌, subst,
 use Rattle.std.specs.Prelude.{sum_by}
 use Rattle.std.specs.List.{AllByRecursion}
 use Rattle.std.proofs.Math.ListN.{drop_of_length-le}
-use Rattle.std.proofs.lemmas.List.{append-nil, length-map}
+use Rattle.std.proofs.lemmas.List.{append-nil, length-map, get_or-map}
 use Rattle.std.proofs.lemmas.List.Sums.{sum_by-drop_more, sum_by-set}
 use Rattle.key_lists.proofs.Every.{map_map}
+use Rattle.key_lists.proofs.Parts.{map_set}
 use Rattle.tick_model.specs.declared.feed.Block.{Block}
 use Rattle.tick_model.specs.declared.plan.Plan.{Plan}
 use Rattle.tick_model.specs.declared.table.PlainTable.{PlainTable}
@@ -21,7 +22,7 @@ use Rattle.source_changes.specs.Faults.{IsFault, record_fault}
 use Rattle.source_changes.specs.Reads.{block_reads, read_rows, step_reads}
 use Rattle.source_changes.specs.Stepping.{Stepping, ticked}
 use Rattle.source_changes.specs.Taking.{IsTaking, taking}
-use Rattle.source_changes.proofs.Walked.{AreSources, below_at, fault_at, faults_next, get-map, map-set, sources_next, steps_in, ticks_next, whole_at, width_at}
+use Rattle.source_changes.proofs.Walked.{AreSources, below_at, fault_at, faults_next, sources_next, steps_in, ticks_next, whole_at, width_at}
 
 pub every_set : {X : Type 0} (P : X → Type 0) (xs : List X) (place : ℕ) (x : X) → AllByRecursion P xs → P x → AllByRecursion P (set xs place x)
 every_set P [] place x h p = tt
@@ -49,7 +50,7 @@ module _ (plan : Plan) (texts : ℕ) (blocks : List Block) (i : ℕ) (block : Bl
   bound = steps_in_turn plan texts blocks i block sources p lawful is less h here
 
   same : get_or steps p (taking d) ≡ taking source
-  same = get-map taking sources p d (taking d) bound
+  same = get_or-map taking sources p d (taking d) bound
 
   pub below_there : AllByRecursion (λ key. key < 2 ^ 40) (keys (ticked (taking source)).new.rows)
   below_there = subst (λ step. AllByRecursion (λ key. key < 2 ^ 40) (keys (ticked step).new.rows)) same (below_at plan texts blocks i block steps (taking d) p lawful is less h here)
@@ -88,7 +89,7 @@ module _ (plan : Plan) (texts : ℕ) (blocks : List Block) (i : ℕ) (block : Bl
     step_fine = ap (λ step. block_fault (ticked step).new block) same ∙ fine
 
     set_is : map taking (set sources p new) ≡ set steps p (taking new)
-    set_is = map-set taking sources p new
+    set_is = map_set taking sources p new
 
     pub sources_follow : AreSources (sources_of plan.nodes) (map taking (set sources p new))
     sources_follow =

@@ -3,7 +3,7 @@ use Rattle.std.proofs.Common.{◌≡◌, refl, ap, ap₂, sym, ◌∙◌, subst,
 use Rattle.std.proofs.lemmas.Bool.{not-false}
 use Rattle.key_lists.specs.Keys.{is_among, IsRising, without}
 use Rattle.key_lists.proofs.Among.{among-append, among-filter, of_among}
-use Rattle.key_lists.proofs.Every.{every, map_map, map_own}
+use Rattle.key_lists.proofs.Every.{every, map_map, map_own, none_pass}
 use Rattle.key_lists.proofs.Rising.{rising_same, rising_some}
 use Rattle.row_set.specs.Sets.{IsKeySet, united}
 use Rattle.row_set.proofs.United.{among-united, united_rises}
@@ -18,7 +18,7 @@ use Rattle.tick_laws.proofs.CheckedUpdates.{among-put_keys, keys_after-below, ke
 use Rattle.tick_laws.proofs.ComposedThrice.{composed-associative}
 use Rattle.table_update.specs.Coalesced.{added_by_both, coalesced, key_pairs, kept_by_both, modified_by_both}
 use Rattle.table_update.proofs.CoalescedKeys.{united_added, united_modified}
-use Rattle.table_update.proofs.KeysAfter.{none_pass, rules_kept}
+use Rattle.table_update.proofs.KeysAfter.{rules_kept}
 use Rattle.table_update.proofs.StillKeys.{still_places, still_removed, still_shifted}
 use Rattle.source_changes.specs.Stepping.{first_update, update_after}
 use Rattle.source_changes.specs.Waiting.{MayWait}

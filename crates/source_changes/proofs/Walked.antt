@@ -2,8 +2,9 @@
 use Rattle.std.proofs.Common.{◌≡◌, refl, ap, sym, ◌∙◌, subst, ℕ, zero, suc, ◌<◌, ◌≤◌, ◌^◌, arith, List, [], ◌∷◌, ◌++◌, map, length, get_or, set, None, lit≤, drop, ◌+◌}
 use Rattle.std.specs.List.{AllByRecursion}
 use Rattle.std.specs.Option.{option_or}
-use Rattle.std.proofs.lemmas.List.{drop_more}
+use Rattle.std.proofs.lemmas.List.{drop_more, get_or_default, get_or-map}
 use Rattle.key_lists.proofs.Every.{every_weaker, every-map}
+use Rattle.key_lists.proofs.Parts.{map_set, every_at}
 use Rattle.tick_laws.specs.Bounded.{AreSourceTables}
 use Rattle.tick_laws.proofs.Blocks.{block_checked, block_told}
 use Rattle.tick_laws.proofs.CheckedUpdates.{keys-carry, keys_after-below}
@@ -26,7 +27,6 @@ use Rattle.source_changes.specs.declared.faults.BatchFault.{BatchFault}
 use Rattle.source_changes.specs.Blocks.{IsReadable}
 use Rattle.source_changes.specs.Faults.{IsFault, record_fault}
 use Rattle.source_changes.specs.Stepping.{IsStepping, Stepping, ticked}
-use Rattle.source_changes.proofs.Gathered.{every_at}
 
 -- a source whose step is a tick's, with its width and its bound
 pub record IsSource (source : Node) (step : Stepping) : Type 0 where
@@ -46,12 +46,6 @@ sources_from [] (step ∷ steps) s t = t
 sources_from (source ∷ sources) [] s t = t
 sources_from (source ∷ sources) (step ∷ steps) s t = (record { stepping = s.0; width_is = t.0.width_is; below = t.0.below }, sources_from sources steps s.1 t.1)
 
-pub each_stepping : (sources : List Node) (steps : List Stepping) → AreSources sources steps → AllByRecursion IsStepping steps
-each_stepping [] [] h = tt
-each_stepping [] (step ∷ steps) h = absurd h
-each_stepping (source ∷ sources) [] h = tt
-each_stepping (source ∷ sources) (step ∷ steps) h = (h.0.stepping, each_stepping sources steps h.1)
-
 pub count_is : (sources : List Node) (steps : List Stepping) → AreSources sources steps → length steps ≡ length sources
 count_is [] [] h = refl
 count_is [] (step ∷ steps) h = absurd h
@@ -70,16 +64,6 @@ sources_set [] (x ∷ steps) place step h s = absurd h
 sources_set (source ∷ sources) [] place step h s = absurd h
 sources_set (source ∷ sources) (x ∷ steps) zero step h s = (s, h.1)
 sources_set (source ∷ sources) (x ∷ steps) (suc place) step h s = (h.0, sources_set sources steps place step h.1 s)
-
-pub map-set : {X Y : Type 0} (f : X → Y) (xs : List X) (place : ℕ) (x : X) → map f (set xs place x) ≡ set (map f xs) place (f x)
-map-set f [] place x = refl
-map-set f (y ∷ ys) zero x = refl
-map-set f (y ∷ ys) (suc place) x = ap (λ rest. f y ∷ rest) (map-set f ys place x)
-
-pub get-map : {X Y : Type 0} (f : X → Y) (xs : List X) (place : ℕ) (d : X) (e : Y) → place < length xs → get_or (map f xs) place e ≡ f (get_or xs place d)
-get-map f [] place d e less = absurd (omega (arith, less))
-get-map f (x ∷ xs) zero d e less = refl
-get-map f (x ∷ xs) (suc place) d e less = get-map f xs place d e (omega (arith, less))
 
 -- a lawful block can be read, and is of a source's width
 module _ (plan : Plan) (texts : ℕ) (block : Block) (l : IsLawfulBlock plan texts block) where
@@ -136,7 +120,7 @@ module _ (plan : Plan) (steps : List Stepping) (block : Block) (step : Stepping)
   at = source_number plan.nodes block.table
 
   tick_there : at < length steps → get_or steps at step ≡ step → tick_at (map ticked steps) at ≡ ticked step
-  tick_there less is = get-map ticked steps at step no_tick less ∙ ap ticked is
+  tick_there less is = get_or-map ticked steps at step no_tick less ∙ ap ticked is
 
   pub fault_found : at < length steps → get_or steps at step ≡ step → (rest : List Block) (fault : BatchFault) → IsFault (record_fault block (block_fault (ticked step).new block)) fault → IsFault (blocks_fault plan (map ticked steps) (block ∷ rest)) fault
   fault_found less is rest Memory h = tt
@@ -149,7 +133,7 @@ module _ (plan : Plan) (steps : List Stepping) (block : Block) (step : Stepping)
     after_is =
         ap (λ tick. set (map ticked steps) at (carry_on tick block)) (tick_there less is)
         ∙ ap (set (map ticked steps) at) (sym on)
-        ∙ sym (map-set ticked steps at new)
+        ∙ sym (map_set ticked steps at new)
 
     pub fault_goes_on : block_fault (ticked step).new block ≡ None → (rest : List Block) → blocks_fault plan (map ticked steps) (block ∷ rest) ≡ blocks_fault plan (map ticked (set steps at new)) rest
     fault_goes_on fine rest =
@@ -167,22 +151,17 @@ module _ (plan : Plan) (steps : List Stepping) (block : Block) (step : Stepping)
           below = subst (λ (tick : Tick). AllByRecursion (λ key. key < 2 ^ 40) (keys tick.new.rows)) (sym on) (stays_below plan texts block l (ticked step).new fine);
         })
 
-get_same : {X : Type 0} (xs : List X) (i : ℕ) (d e : X) → i < length xs → get_or xs i d ≡ get_or xs i e
-get_same [] i d e less = absurd (omega (arith, less))
-get_same (x ∷ xs) zero d e less = refl
-get_same (x ∷ xs) (suc i) d e less = get_same xs i d e (omega (arith, less))
-
 -- where its node and its step are
 pub node_at : (plan : Plan) (texts : ℕ) (blocks : List Block) (i : ℕ) (block : Block) → AllByRecursion (IsLawfulBlock plan texts) blocks → block ≡ get_or blocks i block → i < length blocks → block.table < length plan.nodes
-node_at plan texts blocks i block lawful is less = node_there plan texts block (subst (IsLawfulBlock plan texts) (sym is) (every_at (IsLawfulBlock plan texts) blocks i block lawful less))
+node_at plan texts blocks i block lawful is less = node_there plan texts block (subst (IsLawfulBlock plan texts) (sym is) (every_at (IsLawfulBlock plan texts) blocks i block less lawful))
 
 pub readable_at : (plan : Plan) (texts : ℕ) (blocks : List Block) (i : ℕ) (block : Block) → AllByRecursion (IsLawfulBlock plan texts) blocks → block ≡ get_or blocks i block → i < length blocks → IsReadable block
-readable_at plan texts blocks i block lawful is less = readable plan texts block (subst (IsLawfulBlock plan texts) (sym is) (every_at (IsLawfulBlock plan texts) blocks i block lawful less))
+readable_at plan texts blocks i block lawful is less = readable plan texts block (subst (IsLawfulBlock plan texts) (sym is) (every_at (IsLawfulBlock plan texts) blocks i block less lawful))
 
 pub steps_in : (plan : Plan) (texts : ℕ) (blocks : List Block) (i : ℕ) (block : Block) (steps : List Stepping) (p : ℕ) → AllByRecursion (IsLawfulBlock plan texts) blocks → block ≡ get_or blocks i block → i < length blocks
     → AreSources (sources_of plan.nodes) steps → p ≡ source_number plan.nodes block.table → p < length steps
 steps_in plan texts blocks i block steps p lawful is less h here =
-    let there = source_is_there plan texts block (subst (IsLawfulBlock plan texts) (sym is) (every_at (IsLawfulBlock plan texts) blocks i block lawful less)) in
+    let there = source_is_there plan texts block (subst (IsLawfulBlock plan texts) (sym is) (every_at (IsLawfulBlock plan texts) blocks i block less lawful)) in
     let count = count_is (sources_of plan.nodes) steps h in
     omega (arith, count, there, here)
 
@@ -193,7 +172,7 @@ module _ (plan : Plan) (texts : ℕ) (blocks : List Block) (i : ℕ) (block : Bl
   step_at = get_or steps p d
 
   l : IsLawfulBlock plan texts block
-  l = subst (IsLawfulBlock plan texts) (sym is) (every_at (IsLawfulBlock plan texts) blocks i block lawful less)
+  l = subst (IsLawfulBlock plan texts) (sym is) (every_at (IsLawfulBlock plan texts) blocks i block less lawful)
 
   pub steps_bound : p < length steps
   steps_bound = steps_in plan texts blocks i block steps p lawful is less h here
@@ -219,7 +198,7 @@ module _ (plan : Plan) (texts : ℕ) (blocks : List Block) (i : ℕ) (block : Bl
   place_in = subst (λ q. q < length steps) here steps_bound
 
   is_step : get_or steps (source_number plan.nodes block.table) step_at ≡ step_at
-  is_step = ap (λ q. get_or steps q step_at) (sym here) ∙ get_same steps p step_at d steps_bound
+  is_step = ap (λ q. get_or steps q step_at) (sym here) ∙ get_or_default steps p step_at d steps_bound
 
   pub fault_at : (fault : BatchFault) → IsFault (record_fault block (block_fault (ticked step_at).new block)) fault → IsFault (blocks_fault plan (map ticked steps) (drop i blocks)) fault
   fault_at fault f = subst (λ rest. IsFault (blocks_fault plan (map ticked steps) rest) fault) (sym seam) (fault_found plan steps block step_at place_in is_step (drop (i + 1) blocks) fault f)

@@ -1,6 +1,6 @@
 -- What a hand's seat has, from node to node.
-use Rattle.std.proofs.Common.{◌≡◌, ◌≢◌, ℕ, zero, suc, ◌+◌, ◌-◌, ◌<◌, Bool, true, false, ◌==◌, ◌||◌, eqb, sym, refl, ap, ◌∙◌, subst, arith, inl, inr, Option, Some, None, List, [], ◌∷◌, ◌++◌}
-use Rattle.std.specs.Prelude.{◌⊎◌, IfOk, IfSome, MatchOption, Result, Ok, Err}
+use Rattle.std.proofs.Common.{◌≡◌, ◌≢◌, ℕ, zero, suc, ◌+◌, ◌-◌, ◌<◌, Bool, true, false, ◌==◌, ◌||◌, sym, refl, ap, ◌∙◌, subst, arith, inl, inr, Option, Some, None, List, [], ◌∷◌, ◌++◌}
+use Rattle.std.specs.Prelude.{◌⊎◌, IfOk, MatchOption, Result, Ok, Err}
 use Rattle.std.specs.List.{list_any}
 use mathlib.Core.Logic.{dite}
 use mathlib.Core.Option.{some}
@@ -49,14 +49,7 @@ inputs_none n (x ∷ xs) is = counted (x.to == n) (list_any (λ (y : Edge). y.to
     counted true b k is rest = absurd (true_false is)
     counted false b k is rest = let none_more = rest is in omega (arith, none_more)
 
-pub fresh_cases : (found : Option ℕ) (kept : List ℕ) → kept ≡ [] → IfSome found (λ n. list_any (eqb n) kept ≡ false)
-fresh_cases None kept eq = tt
-fresh_cases (Some n) kept eq = ap (list_any (eqb n)) eq
-
 module _ {W : Type 0} where
-  pub gone_nowhere : (u : View W) → IsGoneOn u u
-  gone_nowhere u = record { parts = refl; back = λ m is. is }
-
   pub gone_on : (u v w : View W) → IsGoneOn u v → IsGoneOn v w → IsGoneOn u w
   gone_on u v w one two = record { parts = two.parts ∙ one.parts; back = λ m is. two.back m (one.back m is) }
 
@@ -108,9 +101,6 @@ module _ {W : Type 0} (plan : Plan W) where
       back m (inl e) = subst (IsListed (rest ++ n ∷ [])) (sym e) (listed_last rest n)
       back m (inr is) = listed_first rest (n ∷ []) m is
 
-  pub empty_held : (u : View W) (found : List ℕ) → found ≡ [] → IsHeld plan u (IsListed found) → IsHeld plan u NoNode
-  empty_held u found eq held = held_as u (IsListed []) NoNode (λ m is. true_false (sym is)) (λ m is. absurd is) (subst (λ l. IsHeld plan u (IsListed l)) eq held)
-
   pub emptied_held : (u : View W) (kept found : List ℕ) → found ≡ [] → IsHeld plan u (λ m. IsListed kept m ⊎ IsListed found m) → IsHeld plan u (IsListed kept)
   emptied_held u kept found eq held = held_as u (λ m. IsListed kept m ⊎ IsListed [] m) (IsListed kept) one (λ m is. inl is) (subst (λ l. IsHeld plan u (λ m. IsListed kept m ⊎ IsListed l m)) eq held)
     where
@@ -120,13 +110,6 @@ module _ {W : Type 0} (plan : Plan W) where
 
   pub none_kept_held : (u : View W) (kept found : List ℕ) → kept ≡ [] → IsHeld plan u (λ m. IsListed kept m ⊎ IsListed found m) → IsHeld plan u (IsListed found)
   none_kept_held u kept found eq held = held_as u (λ m. IsListed [] m ⊎ IsListed found m) (IsListed found) one (λ m is. inr is) (subst (λ l. IsHeld plan u (λ m. IsListed l m ⊎ IsListed found m)) eq held)
-    where
-      one : (m : ℕ) → IsListed [] m ⊎ IsListed found m → IsListed found m
-      one m (inl is) = absurd (true_false (sym is))
-      one m (inr is) = is
-
-  pub beside_none_held : (u : View W) (kept found : List ℕ) → kept ≡ [] → IsHeld plan u (IsListed found) → IsHeld plan u (λ m. IsListed kept m ⊎ IsListed found m)
-  beside_none_held u kept found eq held = subst (λ l. IsHeld plan u (λ m. IsListed l m ⊎ IsListed found m)) (sym eq) (held_as u (IsListed found) (λ m. IsListed [] m ⊎ IsListed found m) (λ m is. inr is) one held)
     where
       one : (m : ℕ) → IsListed [] m ⊎ IsListed found m → IsListed found m
       one m (inl is) = absurd (true_false (sym is))

@@ -2,7 +2,7 @@
 use Rattle.std.proofs.Common.{◌≡◌, ℕ, ◌<◌, ◌+◌, Bool, true, false, ◌||◌, eqb, List, [], ◌∷◌, ◌++◌, length, length-append, Option, Some, None, sym, refl, ap, ◌∙◌, subst, arith, inl, inr}
 use Rattle.std.specs.Prelude.{◌⊎◌, IfSome, option_to_list}
 use Rattle.std.specs.List.{list_any, AllByRecursion, IsDistinct}
-use Rattle.std.proofs.lemmas.Bool.{eq-eqb, eqb-true, ne_eqb}
+use Rattle.std.proofs.lemmas.Bool.{eq-eqb, eqb-true, ne_eqb, or_right, or_left, or_cases, or_parts}
 use Rattle.std.proofs.lemmas.List.{append-nil}
 use Rattle.std.proofs.lemmas.List.Folds.{list_any-append}
 use Rattle.std.proofs.lemmas.Map.Steps.{length-le_from_distinct_below}
@@ -11,29 +11,14 @@ use Rattle.steal_workers.specs.Lists.{IsListed}
 pub true_false : true ≡ false → ⊥
 true_false e = cc
 
-pub or_cases : (a b : Bool) → (a || b) ≡ true → (a ≡ true) ⊎ (b ≡ true)
-or_cases true b is = inl refl
-or_cases false b is = inr is
-
-or_false : (a b : Bool) → (a || b) ≡ false → (a ≡ false) × (b ≡ false)
-or_false true b is = absurd (true_false is)
-or_false false b is = (refl, is)
-
-or_first : (a b : Bool) → a ≡ true → (a || b) ≡ true
-or_first a b is = ap (λ z. z || b) is
-
-or_second : (a b : Bool) → b ≡ true → (a || b) ≡ true
-or_second true b is = refl
-or_second false b is = is
-
 pub eqb_turned : (a b : ℕ) → eqb a b ≡ false → eqb b a ≡ false
 eqb_turned a b is = ne_eqb b a (λ e. true_false (sym (eq-eqb a b (sym e)) ∙ is))
 
 pub listed_first : (xs ys : List ℕ) (n : ℕ) → IsListed xs n → IsListed (xs ++ ys) n
-listed_first xs ys n is = list_any-append (eqb n) xs ys ∙ or_first (list_any (eqb n) xs) (list_any (eqb n) ys) is
+listed_first xs ys n is = list_any-append (eqb n) xs ys ∙ or_left (list_any (eqb n) xs) (list_any (eqb n) ys) is
 
 pub listed_second : (xs ys : List ℕ) (n : ℕ) → IsListed ys n → IsListed (xs ++ ys) n
-listed_second xs ys n is = list_any-append (eqb n) xs ys ∙ or_second (list_any (eqb n) xs) (list_any (eqb n) ys) is
+listed_second xs ys n is = list_any-append (eqb n) xs ys ∙ or_right (list_any (eqb n) xs) (list_any (eqb n) ys) is
 
 pub listed_alone : (n m : ℕ) → IsListed (m ∷ []) n → n ≡ m
 listed_alone n m is = go (or_cases (eqb n m) false is)
@@ -50,7 +35,7 @@ listed_cases xs m n is = go (or_cases (list_any (eqb n) xs) (list_any (eqb n) (m
     go (inr last) = inr (listed_alone n m last)
 
 pub listed_last : (xs : List ℕ) (m : ℕ) → IsListed (xs ++ m ∷ []) m
-listed_last xs m = listed_second xs (m ∷ []) m (or_first (eqb m m) false (eq-eqb m m refl))
+listed_last xs m = listed_second xs (m ∷ []) m (or_left (eqb m m) false (eq-eqb m m refl))
 
 all_push : (P : ℕ → Type 0) (xs : List ℕ) (x : ℕ) → AllByRecursion P xs → P x → AllByRecursion P (xs ++ x ∷ [])
 all_push P [] x all own = (own, tt)
@@ -64,7 +49,7 @@ pub distinct_push : (xs : List ℕ) (x : ℕ) → IsDistinct eqb xs → list_any
 unfolding IsDistinct
 distinct_push [] x all absent = (tt, tt)
 distinct_push (y ∷ ys) x all absent =
-    let apart = or_false (eqb x y) (list_any (eqb x) ys) absent in
+    let apart = or_parts (eqb x y) (list_any (eqb x) ys) absent in
     (all_push (λ z. eqb y z ≡ false) ys x all.0 (eqb_turned x y apart.0), distinct_push ys x all.1 apart.1)
 
 pub distinct_front : (xs : List ℕ) (x : ℕ) → IsDistinct eqb (xs ++ x ∷ []) → IsDistinct eqb xs × (list_any (eqb x) xs ≡ false)

@@ -5,6 +5,7 @@ use mathlib.Core.Option.{some, none, some-injective, some-ne-none}
 use native.Mathlib.Decide.{ℕ_discrete}
 use lib.ListN.{get_elem?}
 use Rattle.std.specs.Vec.{with_item}
+use Rattle.graph_words.proofs.Marks.{below_of}
 use Rattle.crossbeam_deque.specs.Handles.{worker_deque, worker_view, stealer_deque}
 use Rattle.crossbeam_deque.proofs.Lists.{at_map, at_set, at_snoc, set_again, set_here}
 use Rattle.steal_workers.specs.declared.hand.Hand.{Hand}
@@ -14,7 +15,7 @@ use Rattle.steal_workers.specs.Deques.{IsRested, IsSameDeque}
 use Rattle.steal_workers.specs.Hands.{AllEmpty, AllRested, hand_mark, hand_marks, raid_mark}
 use Rattle.steal_workers.specs.Musters.{HandMark, IsCrewed, RaidMark, idle_on, nothing, passes_at, passes_in, passes_of, passes_out}
 use Rattle.steal_workers.proofs.Tallies.{nothing_left}
-use Rattle.steal_workers.proofs.Mustering.{armed_crewed, cut_crewed, disarmed_crewed, idle_crewed, joined_crewed, less_passes, none_passes, of_set_else, of_set_here, of_there, one_pass, out_most, out_none, out_set, within_at}
+use Rattle.steal_workers.proofs.Mustering.{armed_crewed, cut_crewed, disarmed_crewed, idle_crewed, joined_crewed, less_passes, none_passes, of_set_else, of_set_here, of_there, one_pass, out_most, out_none, out_set}
 
 pub map_set : {A B : Type 0} (f : A → B) (xs : List A) (i : ℕ) (a : A) → map f (set xs i a) ≡ set (map f xs) i (f a)
 map_set f [] i a = refl
@@ -39,11 +40,6 @@ pub past_end : {A : Type 0} (xs : List A) (i : ℕ) → length xs ≤ i → get_
 past_end [] i past = refl
 past_end (x ∷ xs) zero past = absurd (omega (arith, past))
 past_end (x ∷ xs) (suc i) past = past_end xs i (omega (arith, past))
-
-pub some_at : {A : Type 0} (xs : List A) (i : ℕ) → i < length xs → (a : A) × (get_elem? xs i ≡ some a)
-some_at [] i within = absurd (omega (arith, within))
-some_at (x ∷ xs) zero within = (x, refl)
-some_at (x ∷ xs) (suc i) within = some_at xs i (omega (arith, within))
 
 abbrev pub parts_with : Hand → ℕ
 parts_with h = (worker_view h.own.deque).parts
@@ -74,7 +70,7 @@ pub all_parts : (hands : List Hand) (k : ℕ) (h : Hand) → IsCrewed nothing (h
 all_parts hands k h kept there gone =
     let counted = kept.counted k (hand_mark h) (at_map hand_mark hands k h there) in
     let long = map_length hand_mark hands in
-    let none_out = out_none k (hand_marks hands) (λ i within. gone i k (omega (arith, within, long)) (within_at hands k h there)) in
+    let none_out = out_none k (hand_marks hands) (λ i within. gone i k (omega (arith, within, long)) (below_of hands k h there)) in
     omega (arith, counted, none_out)
 
 pub no_raid : (hands : List Hand) (i k : ℕ) (h : Hand) → get_elem? hands i ≡ some h → length h.raids.items ≤ k → passes_of (hand_marks hands) i k ≡ 0
@@ -129,19 +125,13 @@ module _ (hands : List Hand) (i k : ℕ) (h : Hand) (r r' : Raid) (there : get_e
       ∙ none_passes (hand_marks hands) i k (hand_mark h) (hand_mark (with_raid h k r')) (raid_mark r) (raid_mark r') (at_map hand_mark hands i h there) refl refl (map_set raid_mark h.raids.items k r') (at_map raid_mark h.raids.items k r raid_there) deque is
 
 pub raid_here : (h : Hand) (k : ℕ) (r r' : Raid) → get_elem? h.raids.items k ≡ some r → get_elem? (with_raid h k r').raids.items k ≡ some r'
-raid_here h k r r' there = set_here h.raids.items k r' (within_at h.raids.items k r there)
+raid_here h k r r' there = set_here h.raids.items k r' (below_of h.raids.items k r there)
 
 -- what is empty under the rule
 pub rested_empty : (hands : List Hand) → AllRested hands → AllEmpty hands
 rested_empty hands rested k h at =
     let whole = rested k h at in
     nothing_left h.own.deque.end.pass.id (worker_view h.own.deque) (ap (λ v. v.parts) whole) (ap (λ v. length v.pushed) whole ∙ sym (ap (λ v. length v.taken) whole))
-
--- one more deque is at rest
-pub rest_more : (old new : List Hand) (n : ℕ) → ((k : ℕ) (h : Hand) → k < n → get_elem? old k ≡ some h → IsRested h.own.deque) → ((h : Hand) → get_elem? new n ≡ some h → IsRested h.own.deque) → ((k : ℕ) → k ≢ n → get_elem? new k ≡ get_elem? old k) → (k : ℕ) (h : Hand) → k < n + 1 → get_elem? new k ≡ some h → IsRested h.own.deque
-rest_more old new n before here others k h within at = dite (ℕ_discrete k n)
-    (λ e. here h (ap (get_elem? new) (sym e) ∙ at))
-    (λ ne. before k h (omega (arith, within, ne)) (sym (others k ne) ∙ at))
 
 -- hands without raids
 abbrev pub AllBare : List Hand → Type 0

@@ -1,5 +1,6 @@
 -- Where the parts of the deques are, as passes are given and come back.
 use Rattle.std.proofs.Common.{◌≡◌, ◌≢◌, ℕ, zero, suc, ◌+◌, ◌<◌, ◌≤◌, Bool, true, false, cond, eqb, eq-eqb, ne_eqb, List, [], ◌∷◌, length, set, sym, refl, ap, ◌∙◌, subst, arith, ⊎_elim}
+use Rattle.graph_words.proofs.Marks.{below_of}
 use mathlib.Core.Logic.{dite}
 use mathlib.Core.Option.{some, none, some-injective, some-ne-none}
 use mathlib.Core.Option as maybe
@@ -15,11 +16,6 @@ pub out_set : (k i : ℕ) (hands : List HandMark) (m m' : HandMark) → get_elem
 out_set k i [] m m' there = absurd (some-ne-none m (sym there))
 out_set k zero (x ∷ xs) m m' there = let same : passes_at k x ≡ passes_at k m = ap (passes_at k) (some-injective x m there) in omega (arith, same)
 out_set k (suc i) (x ∷ xs) m m' there = let rest = out_set k i xs m m' there in omega (arith, rest)
-
-pub within_at : {A : Type 0} (xs : List A) (i : ℕ) (x : A) → get_elem? xs i ≡ some x → i < length xs
-within_at [] i x there = absurd (some-ne-none x (sym there))
-within_at (y ∷ ys) zero x there = omega arith
-within_at (y ∷ ys) (suc i) x there = let rest = within_at ys i x there in omega (arith, rest)
 
 few_passes : (o : maybe.Option RaidMark) → passes_in o ≤ 1
 few_passes none = omega arith
@@ -125,7 +121,7 @@ module _ (hands : List HandMark) (k : ℕ) (m m' : HandMark) (there : get_elem? 
 module _ (hands : List HandMark) (i k : ℕ) (m m' : HandMark) (r r' : RaidMark) (there : get_elem? hands i ≡ some m) (deque : m'.deque ≡ m.deque) (parts : m'.parts ≡ m.parts)
     (raids : m'.raids ≡ set m.raids k r') (raid_there : get_elem? m.raids k ≡ some r) (raid_deque : r'.deque ≡ r.deque) where
   new_there : get_elem? m'.raids k ≡ some r'
-  new_there = ap (λ l. get_elem? l k) raids ∙ set_here m.raids k r' (within_at m.raids k r raid_there)
+  new_there = ap (λ l. get_elem? l k) raids ∙ set_here m.raids k r' (below_of m.raids k r raid_there)
 
   others_same : (j : ℕ) → j ≢ k → passes_at j m' ≡ passes_at j m
   others_same j ne = ap (λ l. passes_in (get_elem? l j)) raids ∙ ap passes_in (set_else m.raids k j r' ne)

@@ -1,5 +1,6 @@
 -- Each step on a deque keeps its rule.
 use Rattle.std.proofs.Common.{◌≡◌, ◌≢◌, ℕ, zero, suc, ◌+◌, ◌-◌, ◌<◌, ◌≤◌, List, [], ◌∷◌, ◌++◌, length, set, sym, refl, ap, ◌∙◌, subst, arith, ⊎_elim, ◌==◌, cond}
+use Rattle.std.proofs.lemmas.List.{nil_from_length}
 use mathlib.Core.Logic.{dite}
 use native.Mathlib.Decide.{ℕ_discrete}
 use mathlib.Core.Option.{some, some-injective, some-ne-none}
@@ -30,10 +31,6 @@ weigh_append h (x ∷ xs) ys = let rest = weigh_append h xs ys in omega (arith, 
 weigh_length : (xs : List ℕ) → weigh (λ n. 1) xs ≡ length xs
 weigh_length [] = refl
 weigh_length (x ∷ xs) = let rest = weigh_length xs in omega (arith, rest)
-
-nothing_long : (xs : List ℕ) → length xs ≡ 0 → xs ≡ []
-nothing_long [] none = refl
-nothing_long (x ∷ xs) none = absurd (omega arith)
 
 abbrev parts_of : Log → ℕ
 parts_of v = v.parts
@@ -146,7 +143,7 @@ finds port v logs kept there all = let sum = whole_length port v all [] logs kep
 
 -- where as many were taken as were pushed, nothing is there
 pub nothing_left : (port : ℕ) (v : Log) → v.parts ≡ 1024 → IsEven v → Learns IsTallied port v (λ items. items ≡ [])
-nothing_left port v all even items logs kept there = let sum = whole_length port v all items logs kept there in nothing_long items (omega (arith, sum, even))
+nothing_left port v all even items logs kept there = let sum = whole_length port v all items logs kept there in nil_from_length items (omega (arith, sum, even))
 
 pub cuts : (port : ℕ) (v : Log) → 1 < v.parts → Forks IsTallied port v (log (v.parts - 1) v.pushed v.taken) (log 1 [] [])
 cuts port v some_part items logs kept there =

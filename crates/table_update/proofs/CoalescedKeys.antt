@@ -2,11 +2,12 @@
 use Rattle.std.proofs.Common.{◌≡◌, refl, ap, ap₂, sym, ◌∙◌, subst, Bool, true, false, cond, not, ◌&&◌, ◌||◌, ◌==◌, ℕ, ◌<◌, ◌≤◌, ◌^◌, arith, List, [], ◌∷◌, ◌++◌, map, filter, Some, None, Option, true≢false, inl, inr}
 use Rattle.std.specs.Prelude.{find, option_map}
 use Rattle.std.specs.List.{AllByRecursion, cons_option}
-use Rattle.std.proofs.lemmas.Bool.{and_parts, or_right, or_from, or_parts, or_cases, not-false, eqb-true, cases_Bool, cases_eq, eq-eqb, ne_eqb, or_left}
+use Rattle.std.proofs.lemmas.Bool.{and_parts, or_right, or_cases, not-false, eqb-true, cases_Bool, cases_eq, eq-eqb, ne_eqb, or_left}
 use Rattle.key_lists.specs.Keys.{is_among, IsRising, without}
-use Rattle.key_lists.proofs.Among.{among-filter, among-append, among_below, each_among, of_among}
-use Rattle.key_lists.proofs.Every.{every, every_weaker, every_unmapped, filter-map, map_map, map_own}
+use Rattle.key_lists.proofs.Among.{among-filter, among-append, among_below, each_among, of_among, absent-filter}
+use Rattle.key_lists.proofs.Every.{every, every_weaker, every_unmapped, filter-map, map_map, map_own, none_pass}
 use Rattle.key_lists.proofs.Rising.{rising_some, rising_same}
+use Rattle.key_lists.proofs.Booleans.{or_assoc, or_swap}
 use Rattle.row_set.specs.Sets.{united}
 use Rattle.row_set.proofs.United.{among-united, united_rises}
 use Rattle.tick_model.specs.declared.update.KeyPair.{KeyPair}
@@ -17,7 +18,7 @@ use Rattle.tick_laws.specs.Checked.{keys_after, IsChecked}
 use Rattle.tick_laws.proofs.CheckedUpdates.{among-put_keys, keys_after-rise}
 use Rattle.shift_data.specs.Moves.{IsLawful, pair_through, unapplied}
 use Rattle.table_update.specs.Coalesced.{key_pairs, kept_by_both, is_modified, modified_after, removed_by_both, added_by_both, modified_by_both}
-use Rattle.table_update.proofs.KeysAfter.{KeepsRules, rules_kept, none_pass}
+use Rattle.table_update.proofs.KeysAfter.{KeepsRules, rules_kept}
 use Rattle.table_update.proofs.LawfulParts.{lawful_some, places_rise}
 
 -- tests of a key, by the sets that have it
@@ -71,21 +72,11 @@ modified_test true false c h = absurd (true≢false (sym (h refl)))
 modified_test false l true h = refl
 modified_test false l false h = refl
 
--- a place of no key is none of some of them
-some_places : (f : ℕ → ℕ) (p : ℕ → Bool) (place : ℕ) (keys : List ℕ) → is_among place (map f keys) ≡ false → is_among place (map f (filter p keys)) ≡ false
-some_places f p place [] e = refl
-some_places f p place (key ∷ keys) e =
-    let parts : ((f key == place) ≡ false) × (is_among place (map f keys) ≡ false) = or_parts (f key == place) (is_among place (map f keys)) e in
-    elim (p key) as (λ b. is_among place (map f (cond b (key ∷ filter p keys) (filter p keys))) ≡ false) [
-      | true ↦ or_from (f key == place) (is_among place (map f (filter p keys))) parts.0 (some_places f p place keys parts.1)
-      | false ↦ some_places f p place keys parts.1
-    ]
-
 place_of_some : (f : ℕ → ℕ) (p : ℕ → Bool) (place : ℕ) (keys : List ℕ) → is_among place (map f (filter p keys)) ≡ true → is_among place (map f keys) ≡ true
 place_of_some f p place keys e =
     elim (cases_Bool (is_among place (map f keys))) [
       | inl there ↦ there
-      | inr nowhere ↦ absurd (true≢false (sym e ∙ some_places f p place keys nowhere))
+      | inr nowhere ↦ absurd (true≢false (sym e ∙ absent-filter f p place keys nowhere))
     ]
 
 -- the places of rising keys that fail a test are those that are no places of the keys that pass it
@@ -110,7 +101,7 @@ split_places f q place (key ∷ keys) rising =
     ]
   where
     none_of : (p : ℕ → Bool) → is_among place (map f keys) ≡ false → is_among place (map f (filter p keys)) ≡ false
-    none_of p later = some_places f p place keys later
+    none_of p later = absent-filter f p place keys later
 
     both : (e l c : Bool) → e ≡ true → ((e || l) && not (e || c)) ≡ false
     both true l c h = refl
@@ -129,11 +120,11 @@ either_places f a b place (key ∷ keys) =
       | true ↦
           elim (b key) as (λ y. ((f key == place) || is_among place (map f (filter (λ key. a key || b key) keys))) ≡ (((f key == place) || is_among place (map f (filter a keys))) || is_among place (map f (cond y (key ∷ filter b keys) (filter b keys))))) [
             | true ↦ ap (λ r. (f key == place) || r) (either_places f a b place keys) ∙ twice (f key == place) (is_among place (map f (filter a keys))) (is_among place (map f (filter b keys)))
-            | false ↦ ap (λ r. (f key == place) || r) (either_places f a b place keys) ∙ left (f key == place) (is_among place (map f (filter a keys))) (is_among place (map f (filter b keys)))
+            | false ↦ ap (λ r. (f key == place) || r) (either_places f a b place keys) ∙ or_assoc (f key == place) (is_among place (map f (filter a keys))) (is_among place (map f (filter b keys)))
           ]
       | false ↦
           elim (b key) as (λ y. is_among place (map f (cond y (key ∷ filter (λ key. a key || b key) keys) (filter (λ key. a key || b key) keys))) ≡ (is_among place (map f (filter a keys)) || is_among place (map f (cond y (key ∷ filter b keys) (filter b keys))))) [
-            | true ↦ ap (λ r. (f key == place) || r) (either_places f a b place keys) ∙ right (f key == place) (is_among place (map f (filter a keys))) (is_among place (map f (filter b keys)))
+            | true ↦ ap (λ r. (f key == place) || r) (either_places f a b place keys) ∙ or_swap (f key == place) (is_among place (map f (filter a keys))) (is_among place (map f (filter b keys)))
             | false ↦ either_places f a b place keys
           ]
     ]
@@ -141,15 +132,6 @@ either_places f a b place (key ∷ keys) =
     twice : (e x y : Bool) → (e || (x || y)) ≡ ((e || x) || (e || y))
     twice true x y = refl
     twice false x y = refl
-
-    left : (e x y : Bool) → (e || (x || y)) ≡ ((e || x) || y)
-    left true x y = refl
-    left false x y = refl
-
-    right : (e x y : Bool) → (e || (x || y)) ≡ (x || (e || y))
-    right true true y = refl
-    right true false y = refl
-    right false x y = refl
 
 -- a modified key is that of a row that stays
 modified_stays : (limit : ℕ) (old : List ℕ) (update : Update) → KeepsRules limit old update → (key : ℕ) → is_among key update.modified ≡ true → is_among key (landed update.shifted (without update.removed old)) ≡ true

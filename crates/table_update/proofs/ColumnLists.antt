@@ -1,5 +1,5 @@
 -- The columns of a set, by the bits of its number.
-use Rattle.std.proofs.Common.{◌≡◌, refl, ap, ap₂, sym, ◌∙◌, subst, Bool, true, false, ◌&&◌, ◌||◌, ◌==◌, ℕ, zero, suc, ◌<◌, ◌≤◌, ◌^◌, ◌*◌, ◌%◌, arith, List, [], ◌∷◌, filter, max, inl, inr, w32}
+use Rattle.std.proofs.Common.{◌≡◌, refl, ap, ap₂, sym, ◌∙◌, subst, true, false, ◌&&◌, ◌||◌, ◌==◌, ℕ, zero, suc, ◌<◌, ◌≤◌, ◌^◌, ◌*◌, ◌%◌, arith, List, [], ◌∷◌, filter, max, inl, inr, w32}
 use Rattle.std.specs.Int.{bit_at}
 use Rattle.std.specs.Prelude.{bit_or}
 use Rattle.std.proofs.lemmas.Bool.{cases_eq, cases_lt, eq-eqb, ne_eqb, or_left, or_from, and_right, and_left, or_right, false_from_ne_true, true≢false, eqb-true, eqb-false, cases_Bool}
@@ -7,6 +7,7 @@ use Rattle.std.proofs.lemmas.Nat.Bits.{bit_at_set_same, bit_at_set_other, bit_at
 use Rattle.key_lists.specs.Keys.{is_among, IsRising}
 use Rattle.key_lists.proofs.Among.{among-filter}
 use Rattle.key_lists.proofs.Rising.{rising_some, rising_same}
+use Rattle.key_lists.proofs.Booleans.{and_true}
 use Rattle.row_set.specs.declared.ranges.Range.{Range}
 use Rattle.row_set.specs.Ranges.{keys_from}
 use Rattle.row_set.specs.Sets.{with_key, united}
@@ -21,10 +22,6 @@ every_column = record { first = 0; last = 31 }
 pub columns_rise : (bits : ℕ) → IsRising (columns_of bits)
 unfolding columns_of
 columns_rise bits = rising_some (has_bit bits) (keys_from 0 31) (range_rises 0 32)
-
-and_true : (b : Bool) → (b && true) ≡ b
-and_true true = refl
-and_true false = refl
 
 pub among-columns : (column bits : ℕ) → column < 32 → is_among column (columns_of bits) ≡ has_bit bits column
 unfolding columns_of

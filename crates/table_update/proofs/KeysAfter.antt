@@ -1,12 +1,13 @@
 -- The keys that an update leaves, by the edits of a set.
-use Rattle.std.proofs.Common.{◌≡◌, refl, ap, sym, ◌∙◌, Bool, true, false, cond, not, ◌||◌, ◌++◌, inl, inr, ◌==◌, ℕ, ◌^◌, ltb, List, [], ◌∷◌, Option, Some, None}
+use Rattle.std.proofs.Common.{◌≡◌, refl, ap, ◌∙◌, false, cond, not, ◌||◌, ◌++◌, ◌==◌, ℕ, ◌^◌, ltb, List, [], ◌∷◌, Option, None}
 use Rattle.std.specs.Prelude.{find, option_map, length}
 use Rattle.std.specs.List.{AllByRecursion}
 use Rattle.std.specs.Option.{option_or}
-use Rattle.std.proofs.lemmas.Bool.{or_parts, or_from, cases_eq, eq-eqb, ne_eqb}
-use Rattle.std.proofs.lemmas.Option.{none-some}
+use Rattle.std.proofs.lemmas.Bool.{or_parts, or_from}
 use Rattle.key_lists.specs.Keys.{is_among, IsRising, without}
 use Rattle.key_lists.proofs.Among.{among_below}
+use Rattle.key_lists.proofs.Every.{none_pass}
+use Rattle.key_lists.proofs.Booleans.{eqb_swap}
 use Rattle.row_set.specs.Sets.{with_key, united}
 use Rattle.row_set.proofs.United.{among-united}
 use Rattle.tick_model.specs.declared.update.UpdateFault.TheVariants.{RemovedAbsent, AddedTaken, ModifiedAbsent, ModifiedAdded}
@@ -22,22 +23,6 @@ with_key-put key (other ∷ others) e =
     let apart : ((other == key) ≡ false) × (is_among key others ≡ false) = or_parts (other == key) (is_among key others) e in
     ap (λ b. cond (ltb key other) (key ∷ other ∷ others) (cond b (other ∷ others) (other ∷ with_key key others))) (eqb_swap key other ∙ apart.0)
     ∙ ap (λ keys. cond (ltb key other) (key ∷ other ∷ others) (other ∷ keys)) (with_key-put key others apart.1)
-  where
-    eqb_swap : (x y : ℕ) → (x == y) ≡ (y == x)
-    eqb_swap x y =
-        elim (cases_eq x y) [
-          | inl same ↦ eq-eqb x y same ∙ sym (eq-eqb y x (sym same))
-          | inr other ↦ ne_eqb x y other ∙ sym (ne_eqb y x (λ e. other (sym e)))
-        ]
-
--- where nothing is found, nothing passes
-pub none_pass : {X : Type 0} (p : X → Bool) (xs : List X) → find p xs ≡ None → AllByRecursion (λ x. p x ≡ false) xs
-none_pass p [] e = tt
-none_pass p (x ∷ xs) e =
-    (elim (p x) as (λ b. p x ≡ b → AllByRecursion (λ x. p x ≡ false) (x ∷ xs)) [
-      | true ↦ λ t. absurd (none-some x (sym e ∙ ap (λ b. cond b (Some x) (find p xs)) t))
-      | false ↦ λ t. (t, none_pass p xs (sym (ap (λ b. cond b (Some x) (find p xs)) t) ∙ e))
-    ]) refl
 
 united-put : (added keys : List ℕ) → IsRising added → AllByRecursion (λ key. is_among key keys ≡ false) added → united added keys ≡ put_keys added keys
 united-put [] keys rising free = refl

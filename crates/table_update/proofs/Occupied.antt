@@ -1,12 +1,12 @@
 -- Keys to which rows that stay move, and the rules of the added and the modified keys.
-use Rattle.std.proofs.Common.{◌≡◌, refl, ap, ap₂, sym, ◌∙◌, subst, Bool, true, false, cond, not, ◌&&◌, ◌||◌, ℕ, List, [], ◌∷◌, ◌++◌, map, filter, Some, None, Option}
+use Rattle.std.proofs.Common.{◌≡◌, refl, ap, sym, ◌∙◌, subst, Bool, true, false, cond, not, ◌&&◌, ◌||◌, ℕ, List, [], ◌∷◌, ◌++◌, map, filter, Some, None, Option}
 use Rattle.std.specs.Prelude.{find, slice_get, option_map}
-use Rattle.std.specs.List.{AllByRecursion}
 use Rattle.std.specs.Option.{option_or}
 use Rattle.key_lists.specs.Keys.{is_among, IsRising}
 use Rattle.key_lists.proofs.Among.{among-filter, among-append, each_among}
-use Rattle.key_lists.proofs.Every.{every_weaker, filter-map, and_swap}
+use Rattle.key_lists.proofs.Every.{every_weaker, filter-map, and_swap, find_same}
 use Rattle.key_lists.proofs.Rising.{rising_some, rising_same}
+use Rattle.key_lists.proofs.Booleans.{and_true}
 use Rattle.row_set.specs.Sets.{common, united}
 use Rattle.row_set.proofs.United.{among-united}
 use Rattle.tick_model.specs.declared.update.ShiftRange.{ShiftRange}
@@ -34,10 +34,6 @@ pub get-filter : (p : ℕ → Bool) (xs : List ℕ) → slice_get (filter p xs) 
 get-filter p [] = refl
 get-filter p (x ∷ xs) = elim (p x) as (λ b. slice_get (cond b (x ∷ filter p xs) (filter p xs)) 0 ≡ cond b (Some x) (find p xs)) [ true ↦ refl | false ↦ get-filter p xs ]
 
-find_same : (p q : ℕ → Bool) (xs : List ℕ) → AllByRecursion (λ x. p x ≡ q x) xs → find p xs ≡ find q xs
-find_same p q [] h = refl
-find_same p q (x ∷ xs) h = ap₂ (λ b o. cond b (Some x) o) h.0 (find_same p q xs h.1)
-
 -- a modified key that is neither among the places that are modified nor added
 pub absent_places : (modified places added : List ℕ) → find (λ key. not (is_among key (united (common modified places) added))) modified ≡ find (λ key. not (is_among key (places ++ added))) modified
 absent_places modified places added =
@@ -49,7 +45,3 @@ absent_places modified places added =
     ∙ ap (λ b. b || is_among key added) (among-filter (λ key. is_among key places) key modified ∙ ap (λ b. is_among key places && b) here ∙ and_true (is_among key places))
     ∙ sym (among-append key places added)))
     (each_among modified))
-  where
-    and_true : (b : Bool) → (b && true) ≡ b
-    and_true true = refl
-    and_true false = refl

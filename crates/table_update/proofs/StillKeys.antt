@@ -1,14 +1,14 @@
 -- What two updates that move no rows, one after the other, remove, add, modify and move, by edits of the sets of the first.
-use Rattle.std.proofs.Common.{◌≡◌, refl, ap, ap₂, sym, ◌∙◌, Bool, true, false, not, ◌&&◌, ◌||◌, ℕ, ◌^◌, arith, List, [], map, filter, pos, ◌+ℤ◌, None, true≢false}
+use Rattle.std.proofs.Common.{◌≡◌, refl, ap, ap₂, sym, ◌∙◌, Bool, true, false, not, ◌&&◌, ◌||◌, ℕ, ◌^◌, arith, List, [], filter, pos, ◌+ℤ◌, None, true≢false}
 use Rattle.std.proofs.lemmas.Bool.{not-false}
 use Rattle.std.proofs.lemmas.Int.{ints}
 use Rattle.key_lists.specs.Keys.{is_among, IsRising, without}
 use Rattle.key_lists.proofs.Among.{among-filter, of_among}
-use Rattle.key_lists.proofs.Every.{every, map_map, map_own, map_same}
+use Rattle.key_lists.proofs.Every.{every, map_own, map_same, none_pass}
 use Rattle.key_lists.proofs.Rising.{rising_some, rising_same}
+use Rattle.key_lists.proofs.Booleans.{or_turned}
 use Rattle.row_set.specs.Sets.{united}
 use Rattle.row_set.proofs.United.{among-united, united_rises}
-use Rattle.tick_model.specs.declared.table.PlainRow.{PlainRow}
 use Rattle.tick_model.specs.declared.update.KeyPair.{KeyPair}
 use Rattle.tick_model.specs.declared.update.ShiftRange.{ShiftRange}
 use Rattle.tick_model.specs.Rules.{landed, update_fault}
@@ -16,50 +16,32 @@ use Rattle.tick_model.specs.Shifts.{moved, as_key, shifted}
 use Rattle.tick_model.specs.Sources.{same_key}
 use Rattle.tick_model.specs.Updates.{Update}
 use Rattle.tick_laws.specs.Checked.{keys_after}
-use Rattle.tick_laws.proofs.WholeUpdates.{between-unchanged}
+use Rattle.tick_laws.proofs.WholeUpdates.{nothing_moves}
 use Rattle.shift_data.specs.Moves.{pair_through}
 use Rattle.table_update.specs.Coalesced.{kept_by_both, removed_by_both, added_by_both, modified_by_both}
-use Rattle.table_update.proofs.KeysAfter.{rules_kept, none_pass}
+use Rattle.table_update.proofs.KeysAfter.{rules_kept}
 use Rattle.table_update.proofs.CoalescedKeys.{kept_keys, kept_pairs, in_between, is_apart, united_removed, united_added, united_modified}
 
 -- no range moves no key
-stays : (key : ℕ) → as_key (moved [] key) ≡ key
-stays key = ap as_key own
-  where
-    own : pos key +ℤ pos 0 ≡ pos key
-    own = omega (arith, ints)
+pub still_key : (key : ℕ) → as_key (moved [] key) ≡ key
+still_key key = let same : pos key +ℤ pos 0 ≡ pos key = omega (arith, ints) in ap as_key same
 
 landed_still : (keys : List ℕ) → landed [] keys ≡ keys
-landed_still keys = map_own (λ key. as_key (moved [] key)) keys (every (λ key. as_key (moved [] key) ≡ key) keys stays)
+landed_still keys = map_own (λ key. as_key (moved [] key)) keys (every (λ key. as_key (moved [] key) ≡ key) keys still_key)
 
 pub still_places : (shifts : List ShiftRange) (keys : List ℕ) → shifts ≡ [] → landed shifts keys ≡ keys
 still_places shifts keys still = ap (λ ranges. landed ranges keys) still ∙ landed_still keys
 
--- pairs of one key have no ranges
-abbrev row : ℕ → PlainRow
-row key = record { key = key; cells = [] }
-
-still_pairs : (keys : List ℕ) → shifted (map same_key keys) ≡ []
-still_pairs keys =
-    ap (λ own. shifted (map same_key own)) (sym (map_map (λ (row : PlainRow). row.key) row keys ∙ map_own (λ key. key) keys (every (λ (key : ℕ). key ≡ key) keys (λ key. refl))))
-    ∙ ap (λ (update : Update). update.shifted) (between-unchanged (record { width = 0; rows = map row keys }))
-
 same_pair : (first next : List ShiftRange) (key : ℕ) → first ≡ [] → next ≡ [] → pair_through first next key ≡ same_key key
 same_pair first next key still next_still =
     ap₂ (λ shifts others. pair_through shifts others key) still next_still
-    ∙ ap (λ place. let pair : KeyPair = record { old = key; new = place } in pair) (ap (λ place. as_key (moved [] place)) (stays key) ∙ stays key)
+    ∙ ap (λ place. let pair : KeyPair = record { old = key; new = place } in pair) (ap (λ place. as_key (moved [] place)) (still_key key) ∙ still_key key)
 
 -- the keys of two lists, whichever is put into the other
 united_swap : (keys others : List ℕ) → IsRising keys → IsRising others → united keys others ≡ united others keys
 united_swap keys others rise others_rise =
     rising_same (united keys others) (united others keys) (united_rises keys others others_rise) (united_rises others keys rise)
-    (λ key. among-united key keys others ∙ or_swap (is_among key keys) (is_among key others) ∙ sym (among-united key others keys))
-  where
-    or_swap : (a b : Bool) → (a || b) ≡ (b || a)
-    or_swap true true = refl
-    or_swap true false = refl
-    or_swap false true = refl
-    or_swap false false = refl
+    (λ key. among-united key keys others ∙ or_turned (is_among key keys) (is_among key others) ∙ sym (among-united key others keys))
 
 -- a key that the second one removes was added or stayed
 gone_test : (a s x r : Bool) → (a ≡ true → s ≡ false) → (x ≡ true → (a || s) ≡ true) → ((not a && x) || r) ≡ (r || (x && s))
@@ -84,7 +66,7 @@ module _ (old : List ℕ) (first next : Update) (f : update_fault (2 ^ 62) old f
   pub still_shifted : shifted (kept_by_both old first next) ≡ []
   still_shifted =
       ap shifted (kept_pairs old first next f n ∙ map_same (pair_through first.shifted next.shifted) same_key (kept_keys old first next f n) (every (λ key. pair_through first.shifted next.shifted key ≡ same_key key) (kept_keys old first next f n) (λ key. same_pair first.shifted next.shifted key still next_still)))
-      ∙ still_pairs (kept_keys old first next f n)
+      ∙ nothing_moves (kept_keys old first next f n)
 
   module _ (added_rise : IsRising first.added) where
     -- what both remove
@@ -108,7 +90,7 @@ module _ (old : List ℕ) (first next : Update) (f : update_fault (2 ^ 62) old f
         gone = filter asked stay
 
         own_place : (key : ℕ) → as_key (moved first.shifted key) ≡ key
-        own_place key = ap (λ shifts. as_key (moved shifts key)) still ∙ stays key
+        own_place key = ap (λ shifts. as_key (moved shifts key)) still ∙ still_key key
 
         apart : (key : ℕ) → is_among key first.added ≡ true → is_among key stay ≡ false
         apart key here = ap (is_among key) (sym (still_places first.shifted stay still)) ∙ is_apart old first next f n added_rise key here

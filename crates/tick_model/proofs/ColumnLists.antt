@@ -2,6 +2,7 @@
 use Rattle.std.proofs.Common.{◌≡◌, refl, ap, sym, ◌∙◌, Bool, true, false, ◌&&◌, ◌==◌, ℕ, ◌<◌, ◌≤◌, arith, List, [], ◌∷◌, ◌++◌, map, length, take, drop, Option, inl, inr, drop-cons, eq-eqb}
 use Rattle.std.proofs.lemmas.Bool.{ne_eqb, cases_lt}
 use Rattle.std.proofs.lemmas.List.{drop_all, length-map}
+use Rattle.key_lists.proofs.Booleans.{and_false}
 use Rattle.tick_model.specs.declared.plan.ColumnSpec.{ColumnSpec}
 use Rattle.tick_model.specs.declared.plan.Kind.{Kind}
 use Rattle.tick_model.specs.declared.plan.Kind.TheVariants.{Long}
@@ -39,10 +40,6 @@ follow_apart [] (y ∷ ys) kinds h = absurd (omega arith)
 follow_apart (x ∷ xs) (y ∷ ys) kinds h =
     ap (λ rest. same_name x.name y.name && same_kind x.kind y.kind && rest) (follow_apart xs ys kinds (omega arith))
     ∙ and_apart (same_name x.name y.name && same_kind x.kind y.kind) (same_columns (take (length ys) xs) ys) (have_kinds (drop (length ys) xs) kinds)
-
-and_false : (a : Bool) → (a && false) ≡ false
-and_false true = refl
-and_false false = refl
 
 pub follow_short : (columns input : List ColumnSpec) (kinds : List (Option Kind)) → length columns < length input → follow columns input kinds ≡ false
 follow_short columns [] kinds h = absurd (omega arith)

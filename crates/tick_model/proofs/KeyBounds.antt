@@ -7,6 +7,7 @@ use Rattle.std.proofs.lemmas.Bool.Decides.{Decides-by_and, Decides-ltb}
 use Rattle.std.proofs.lemmas.List.{append-nil, get_or_append_left}
 use Rattle.std.proofs.Math.Seq.{get_or-append_seam}
 use Rattle.key_lists.proofs.Every.{every_weaker, map_same}
+use Rattle.key_lists.proofs.Booleans.{and_false}
 use Rattle.std.proofs.lemmas.List.Folds.{list_all-append}
 use Rattle.std.proofs.lemmas.List.Sums.{fold_more}
 use Rattle.tick_model.specs.declared.plan.Node.{Node}
@@ -45,10 +46,6 @@ bound_fails limit nodes n node bounds bound within here known own past =
     ap test (more.1 ∙ ap (λ first. first ++ more.0) (bounds_more nodes n node within here ∙ ap (λ bounds. with_bound bounds node) (sym known) ∙ ap (λ bound. bounds ++ bound ∷ []) (sym own)))
     ∙ list_all-append (λ bound. nat_lt bound limit) (bounds ++ bound ∷ []) more.0
     ∙ ap (λ b. b && test more.0) (list_all-append (λ bound. nat_lt bound limit) bounds (bound ∷ []) ∙ ap (λ b. test bounds && (b && true)) (le-ltb bound limit past) ∙ and_false (test bounds))
-  where
-    and_false : (a : Bool) → (a && false) ≡ false
-    and_false true = refl
-    and_false false = refl
 
 pub bounds_pass : (limit : ℕ) (bounds : List ℕ) → All (λ bound. bound < limit) bounds → list_all (λ bound. nat_lt bound limit) bounds ≡ true
 bounds_pass limit bounds h = (Decides-by_and (λ bound. nat_lt bound limit) (λ bound. bound < limit) (list_all (λ bound. nat_lt bound limit)) (λ bound. Decides-ltb bound limit) refl (λ _ _. refl) bounds).1 h

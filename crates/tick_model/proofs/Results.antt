@@ -6,6 +6,7 @@ use Rattle.std.proofs.lemmas.Bool.{and_parts, leb-true, ltb-false}
 use Rattle.std.proofs.lemmas.List.{length-map}
 use Rattle.std.proofs.lemmas.List.Sums.{length-filter, count_by-le-length, sum_by-cons}
 use Rattle.key_lists.proofs.Every.{every_weaker, every-map, every-filter, every-append, all_from}
+use Rattle.key_lists.proofs.Parts.{every-take, every-drop}
 use Rattle.tick_model.specs.declared.plan.Agg.{Agg}
 use Rattle.tick_model.specs.declared.plan.ColumnSpec.{ColumnSpec}
 use Rattle.tick_model.specs.declared.plan.Expr.{Expr}
@@ -30,7 +31,7 @@ use Rattle.tick_model.specs.HeadTail.{head_table, tail_table}
 use Rattle.tick_model.specs.Plans.{kinds_of, kind_of, kind_at, agg_kind, test_fits, is_bound, is_test_bound, same_columns, have_kinds, keep_names, follow, some_of, same_kind_at, has_kind, columns_fit, bound_of}
 use Rattle.tick_model.specs.Evaluation.{inputs_of, result, fault_of}
 use Rattle.tick_model.specs.Ready.{HaveRoom}
-use Rattle.tick_model.proofs.TableRows.{every-take, every-drop, every-ordered, length-ordered, length-numbered, numbered_whole, numbered_below, last_below, region_within}
+use Rattle.tick_model.proofs.TableRows.{every-ordered, length-ordered, length-numbered, numbered_whole, numbered_below, last_below, region_within}
 use Rattle.tick_model.proofs.Widths.{same_width, kinds_width, follow_width}
 
 -- the table has the node's width and at most 4,194,304 rows, whole ones, and keys below the node's bound, which is a multiple of 65,536
@@ -71,7 +72,7 @@ viewed_result exprs input width bound h = record {
   regions = h.regions;
 }
 
-taken_width : (take : List ℕ) (right : Option PlainRow) → length (taken take right) ≡ length take
+pub taken_width : (take : List ℕ) (right : Option PlainRow) → length (taken take right) ≡ length take
 taken_width take None = length-map take (λ _. null)
 taken_width take (Some row) = length-map take (cell row.cells)
 

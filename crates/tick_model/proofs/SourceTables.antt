@@ -23,10 +23,6 @@ no_tables_left n tables h =
       | inr after ↦ ap (are_source_tables []) (drop_all n tables after) ∙ sym (eq-eqb n (length tables) (omega arith))
     ]
 
--- past the last table there may be no sources
-pub no_sources_left : (node : Node) (nodes : List Node) (n : ℕ) (tables : List PlainTable) → length tables ≤ n → are_source_tables (node ∷ nodes) (drop n tables) ≡ false
-no_sources_left node nodes n tables h = ap (are_source_tables (node ∷ nodes)) (drop_all n tables h)
-
 -- a source's table, by its place
 pub record IsSourceAt (width : ℕ) (tables : List PlainTable) (place : ℕ) : Type 0 where
   pub within : place < length tables

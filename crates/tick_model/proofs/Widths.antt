@@ -27,11 +27,7 @@ kinds_width (c ∷ columns) [] h = absurd (true≢false (sym h))
 kinds_width (c ∷ columns) (k ∷ kinds) h = ap (λ n. suc n) (kinds_width columns kinds (and_parts (has_kind c.kind k) (have_kinds columns kinds) h).1)
 
 pub follow_width : (columns input : List ColumnSpec) (kinds : List (Option Kind)) → follow columns input kinds ≡ true → length columns ≡ length input + length kinds
-follow_width columns [] kinds h = kinds_width (columns) kinds (by_none columns kinds h) ∙ omega arith
-  where
-    by_none : (columns : List ColumnSpec) (kinds : List (Option Kind)) → follow columns [] kinds ≡ true → have_kinds columns kinds ≡ true
-    by_none [] kinds h = h
-    by_none (x ∷ xs) kinds h = h
+follow_width columns [] kinds h = kinds_width columns kinds h ∙ omega arith
 follow_width [] (y ∷ ys) kinds h = absurd (true≢false (sym h))
 follow_width (x ∷ xs) (y ∷ ys) kinds h =
     let rest = follow_width xs ys kinds (and_parts (same_name x.name y.name && same_kind x.kind y.kind) (follow xs ys kinds) h).1 in
@@ -56,7 +52,7 @@ follow_some [] (y ∷ ys) kinds h = absurd (true≢false (sym h))
 follow_some (x ∷ xs) (y ∷ ys) kinds h = follow_some xs ys kinds (and_parts (same_name x.name y.name && same_kind x.kind y.kind) (follow xs ys kinds) h).1
 
 -- what has a kind is within the columns
-long_some : (k : Option Kind) → is_some (long_alone k) ≡ true → is_some k ≡ true
+pub long_some : (k : Option Kind) → is_some (long_alone k) ≡ true → is_some k ≡ true
 long_some None h = h
 long_some (Some Long) h = refl
 long_some (Some Text) h = refl

@@ -1,11 +1,12 @@
 -- The rows that an update leaves are those that it makes of a table.
-use Rattle.std.proofs.Common.{◌≡◌, refl, ap, ap₂, sym, ◌∙◌, subst, Bool, true, false, not, ◌||◌, ℕ, ◌*◌, ◌^◌, List, [], ◌++◌, length, drop, ℤ, true≢false, append-nil}
+use Rattle.std.proofs.Common.{◌≡◌, refl, ap, ap₂, sym, ◌∙◌, subst, Bool, true, false, not, ◌||◌, ℕ, ◌*◌, ◌^◌, List, [], ◌++◌, length, drop, ℤ, append-nil}
 use Rattle.std.specs.List.{AllByRecursion}
 use Rattle.std.proofs.lemmas.List.Elements.{filter-append}
+use Rattle.std.proofs.lemmas.Bool.{not-false}
 use Rattle.key_lists.specs.Keys.{is_among, IsRising, without}
-use Rattle.key_lists.proofs.Among.{each_among, of_among, among-append}
-use Rattle.key_lists.proofs.Every.{every_weaker, every_unmapped, filter_same, filter_none, filter_all, filter-map}
-use Rattle.table_update.proofs.KeysAfter.{none_pass, rules_kept}
+use Rattle.key_lists.proofs.Among.{each_among, among-append, apart_back}
+use Rattle.key_lists.proofs.Every.{every_weaker, every_unmapped, filter_same, filter_none, filter_all, filter-map, none_pass}
+use Rattle.table_update.proofs.KeysAfter.{rules_kept}
 use Rattle.tick_model.specs.declared.table.PlainRow.{PlainRow}
 use Rattle.tick_model.specs.declared.table.PlainTable.{PlainTable}
 use Rattle.tick_model.specs.Changes.{rows_under, told_keys}
@@ -13,10 +14,10 @@ use Rattle.tick_model.specs.Rules.{landed}
 use Rattle.tick_model.specs.Tables.{keys}
 use Rattle.tick_model.specs.Updates.{Update, rows_at, carry, removing, shifting, adding, modifying}
 use Rattle.tick_laws.specs.Checked.{IsChecked}
-use Rattle.tick_laws.proofs.CheckedUpdates.{modified_not_added, keys_after-rise, keys-stay, keys-carry}
+use Rattle.tick_laws.proofs.CheckedUpdates.{modified_not_added, keys_after-rise, keys-stay, keys-carry, keys-modifying}
 use Rattle.tick_table.specs.SlotRows.{put_rows, stepped}
 use Rattle.tick_table.proofs.NewKeys.{among-adding}
-use Rattle.tick_table.proofs.Puts.{put_rows-append, put_rows-new, put_rows-known, keys-modifying, keys-rows_under, rows_under-append}
+use Rattle.tick_table.proofs.Puts.{put_rows-append, put_rows-new, put_rows-known, keys-rows_under, rows_under-append}
 
 -- all rows of a list have keys of a list, or none has
 rows_at-all : (ks : List ℕ) (rows : List PlainRow) → keys rows ≡ ks → rows_at ks rows ≡ rows
@@ -37,21 +38,6 @@ rows_at-second ks first second e h = filter-append (λ (row : PlainRow). is_amon
 -- the keys of the rows that are left
 pub keys-removing : (removed : List ℕ) (rows : List PlainRow) → keys (removing removed rows) ≡ without removed (keys rows)
 keys-removing removed rows = sym (filter-map (λ key. not (is_among key removed)) (λ (row : PlainRow). row.key) rows)
-
--- a list that has none of another's members has none in it
-apart_back : (xs ys : List ℕ) → AllByRecursion (λ y. is_among y xs ≡ false) ys → AllByRecursion (λ x. is_among x ys ≡ false) xs
-apart_back xs ys h = every_weaker (λ x. is_among x xs ≡ true) (λ x. is_among x ys ≡ false) xs not_both (each_among xs)
-  where
-    not_both : (x : ℕ) → is_among x xs ≡ true → is_among x ys ≡ false
-    not_both x own =
-        (elim (is_among x ys) as (λ b. is_among x ys ≡ b → b ≡ false) [
-          | true ↦ λ e. absurd (true≢false (sym own ∙ of_among (λ y. is_among y xs ≡ false) x ys h e))
-          | false ↦ λ e. refl
-        ]) refl
-
-not_false : (b : Bool) → not b ≡ false → b ≡ true
-not_false true h = refl
-not_false false h = absurd (true≢false h)
 
 or_turned : (a b : Bool) → (b || a) ≡ true → (a || b) ≡ true
 or_turned true b h = refl
@@ -116,7 +102,7 @@ module _ (table : PlainTable) (update : Update) (cells : List ℤ) (h : IsChecke
   modified_there =
       every_weaker (λ key. not (is_among key (landed update.shifted (without update.removed (keys table.rows)) ++ update.added)) ≡ false) (λ key. is_among key (keys (adding added_rows stay)) ≡ true) update.modified
       (λ key here. together_among key ∙ or_turned (is_among key update.added) (is_among key (landed update.shifted (without update.removed (keys table.rows))))
-      (sym (among-append key (landed update.shifted (without update.removed (keys table.rows))) update.added) ∙ not_false (is_among key (landed update.shifted (without update.removed (keys table.rows)) ++ update.added)) here))
+      (sym (among-append key (landed update.shifted (without update.removed (keys table.rows))) update.added) ∙ not-false (is_among key (landed update.shifted (without update.removed (keys table.rows)) ++ update.added)) here))
       not_none
 
   together_rise : IsRising (keys (adding added_rows stay))

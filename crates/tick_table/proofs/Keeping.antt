@@ -3,9 +3,10 @@ use Rattle.std.proofs.Common.{◌≡◌, refl, ap, ap₂, sym, ◌∙◌, subst,
 use Rattle.std.specs.Prelude.{IsSome, OnErr, OnOk, Result, Ok, Err, option_map}
 use Rattle.std.specs.List.{AllByRecursion}
 use Rattle.column_source.specs.Entries.{Entry, Ascend, cell_under, entry_of, keys_of, left_entries, moved_entry, moved_entries, put}
-use Rattle.column_source.proofs.EntryLists.{every-put, every_front}
+use Rattle.column_source.proofs.EntryLists.{every-put}
 use Rattle.key_lists.specs.Keys.{is_among, IsRising}
 use Rattle.key_lists.proofs.Every.{every_weaker, every_both, every_unmapped, every-map, every-append, every-filter, filter-map, map_map, map_same}
+use Rattle.key_lists.proofs.Parts.{every_front}
 use Rattle.tick_model.specs.declared.table.PlainRow.{PlainRow}
 use Rattle.tick_model.specs.declared.update.ShiftRange.{ShiftRange}
 use Rattle.tick_model.specs.Shifts.{as_key}
@@ -121,16 +122,6 @@ module _ (slots : SlotCells) (now before : List Entry) (stale : List ℤ) (h : A
     where
       used : (slot : ℤ) → uses slot new.free ≡ uses slot slots.free + uses slot stale
       used slot = ap (uses slot) free ∙ uses-append slot slots.free (reverse stale) ∙ omega (arith, uses-reverse slot stale)
-
-  pub kept_bare : AreKept slots now before []
-  kept_bare = record {
-    now_slots = h.now_slots;
-    before_slots = h.before_slots;
-    free_slots = h.free_slots;
-    stale_slots = tt;
-    once = λ slot. omega (arith, h.once slot);
-    apart = h.apart;
-  }
 
   pub kept_left : (removed : List ℕ) → IsRising removed → AllByRecursion (λ key. IsSome (cell_under key now)) removed → AreKept slots (left_entries removed now) before (stale ++ slots_under removed now)
   kept_left removed rises there = record {

@@ -1,19 +1,11 @@
 -- The keys of rows that are added and found.
-use Rattle.std.proofs.Common.{◌≡◌, refl, ap, ◌∙◌, Bool, true, false, cond, ◌||◌, ◌==◌, ℕ, List, [], ◌∷◌, Some, ltb, unwrap_or}
+use Rattle.std.proofs.Common.{◌≡◌, refl, ap, ◌∙◌, true, false, cond, ◌||◌, ◌==◌, ℕ, List, [], ◌∷◌, Some, ltb, unwrap_or}
 use Rattle.std.proofs.lemmas.Bool.{eqb-true}
 use Rattle.key_lists.specs.Keys.{is_among}
+use Rattle.key_lists.proofs.Booleans.{or_assoc, or_swap}
 use Rattle.tick_model.specs.declared.table.PlainRow.{PlainRow}
 use Rattle.tick_model.specs.Tables.{keys, row_at}
 use Rattle.tick_model.specs.Updates.{insert_row, adding}
-
-or_swap : (a b c : Bool) → (a || (b || c)) ≡ (b || (a || c))
-or_swap true true c = refl
-or_swap true false c = refl
-or_swap false b c = refl
-
-or_assoc : (a b c : Bool) → (a || (b || c)) ≡ ((a || b) || c)
-or_assoc true b c = refl
-or_assoc false b c = refl
 
 pub among-insert_row : (key : ℕ) (row : PlainRow) (rows : List PlainRow) → is_among key (keys (insert_row row rows)) ≡ ((row.key == key) || is_among key (keys rows))
 among-insert_row key row [] = refl

@@ -3,26 +3,17 @@ use Rattle.std.proofs.Common.{◌≡◌, refl, ap, ap₂, sym, ◌∙◌, subst,
 use Rattle.std.specs.List.{AllByRecursion}
 use Rattle.std.proofs.Math.Nat.{suc-mul}
 use Rattle.std.proofs.lemmas.List.{drop-drop}
-use Rattle.std.proofs.lemmas.Bool.{cases_lt, ne_eqb, eq-eqb, eqb-true, eqb-false, lt-ltb, or_parts, or_from, or_right}
+use Rattle.std.proofs.lemmas.Bool.{cases_lt, ne_eqb, eq-eqb, eqb-true, eqb-false, lt-ltb, or_parts, or_from, or_right, le-ltb}
+use Rattle.tick_laws.proofs.CheckedUpdates.{keys-modifying}
 use Rattle.key_lists.specs.Keys.{is_among, IsRising}
 use Rattle.key_lists.proofs.Among.{among_below}
 use Rattle.key_lists.proofs.Every.{every_both, every_weaker, every_unmapped, map_map, map_own, map_same, every}
-use Rattle.column_source.proofs.EntryLists.{not_ltb}
+use Rattle.key_lists.proofs.Booleans.{or_swap, or_twice}
 use Rattle.tick_model.specs.declared.table.PlainRow.{PlainRow}
 use Rattle.tick_model.specs.Changes.{rows_under}
 use Rattle.tick_model.specs.Tables.{keys, row_at}
 use Rattle.tick_model.specs.Updates.{insert_row, adding, modifying}
-use Rattle.tick_table.proofs.NewKeys.{key-row_at}
 use Rattle.tick_table.specs.SlotRows.{put_row, put_rows}
-
-or_twice : (a b : Bool) → (a || (a || b)) ≡ (a || b)
-or_twice true b = refl
-or_twice false b = refl
-
-or_swap : (a b c : Bool) → (a || (b || c)) ≡ (b || (a || c))
-or_swap true true c = refl
-or_swap true false c = refl
-or_swap false b c = refl
 
 -- the keys after a row was put
 pub among-put_row : (key : ℕ) (row : PlainRow) (rows : List PlainRow) → is_among key (keys (put_row row rows)) ≡ ((row.key == key) || is_among key (keys rows))
@@ -57,10 +48,10 @@ put_new row (other ∷ others) h =
       | inl less ↦
           ap (λ b. cond b (other ∷ put_row row others) (cond (other.key == row.key) (row ∷ others) (row ∷ other ∷ others))) (lt-ltb other.key row.key less)
           ∙ ap (λ rest. other ∷ rest) (put_new row others apart.1)
-          ∙ sym (ap (λ b. cond b (row ∷ other ∷ others) (other ∷ insert_row row others)) (not_ltb row.key other.key (omega arith)))
+          ∙ sym (ap (λ b. cond b (row ∷ other ∷ others) (other ∷ insert_row row others)) (le-ltb row.key other.key (omega arith)))
       | inr more ↦
           let differs = eqb-false other.key row.key apart.0 in
-          ap (λ b. cond b (other ∷ put_row row others) (cond (other.key == row.key) (row ∷ others) (row ∷ other ∷ others))) (not_ltb other.key row.key (omega arith))
+          ap (λ b. cond b (other ∷ put_row row others) (cond (other.key == row.key) (row ∷ others) (row ∷ other ∷ others))) (le-ltb other.key row.key (omega arith))
           ∙ ap (λ b. cond b (row ∷ others) (row ∷ other ∷ others)) apart.0
           ∙ sym (ap (λ b. cond b (row ∷ other ∷ others) (other ∷ insert_row row others)) (lt-ltb row.key other.key (omega (arith, differs))))
     ]
@@ -70,7 +61,7 @@ insert_first : (row other : PlainRow) (others : List PlainRow) → row.key < oth
 insert_first row other others less = ap (λ b. cond b (row ∷ other ∷ others) (other ∷ insert_row row others)) (lt-ltb row.key other.key less)
 
 insert_later : (row other : PlainRow) (others : List PlainRow) → other.key ≤ row.key → insert_row row (other ∷ others) ≡ other ∷ insert_row row others
-insert_later row other others most = ap (λ b. cond b (row ∷ other ∷ others) (other ∷ insert_row row others)) (not_ltb row.key other.key most)
+insert_later row other others most = ap (λ b. cond b (row ∷ other ∷ others) (other ∷ insert_row row others)) (le-ltb row.key other.key most)
 
 insert_two : (a b : PlainRow) (rows : List PlainRow) → a.key < b.key → insert_row a (insert_row b rows) ≡ insert_row b (insert_row a rows)
 insert_two a b [] less = insert_first a b [] less ∙ sym (insert_later b a [] (omega arith))
@@ -132,7 +123,7 @@ put_known row (other ∷ others) rising here =
     at : (b : Bool) → (other.key == row.key) ≡ b → row.key ≤ other.key → put_row row (other ∷ others) ≡ modifying (row ∷ []) (other ∷ others)
     at true e most =
         let same = eqb-true other.key row.key e in
-        ap (λ b. cond b (other ∷ put_row row others) (cond (other.key == row.key) (row ∷ others) (row ∷ other ∷ others))) (not_ltb other.key row.key most)
+        ap (λ b. cond b (other ∷ put_row row others) (cond (other.key == row.key) (row ∷ others) (row ∷ other ∷ others))) (le-ltb other.key row.key most)
         ∙ ap (λ b. cond b (row ∷ others) (row ∷ other ∷ others)) e
         ∙ ap₂ (λ (first : PlainRow) (rest : List PlainRow). first ∷ rest)
         (sym (ap (λ b. unwrap_or (cond b (Some row) None) other) (eq-eqb row.key other.key (sym same))))
@@ -146,12 +137,6 @@ put_known row (other ∷ others) rising here =
         absurd (true≢false
         (sym here ∙ or_from (other.key == row.key) (is_among row.key (keys others)) e
         (among_below row.key (keys others) (every_weaker (λ k. other.key < k) (λ k. row.key < k) (keys others) (λ k above. omega (arith, above, less)) rising.0))))
-
-pub keys-modifying : (modified rows : List PlainRow) → keys (modifying modified rows) ≡ keys rows
-keys-modifying modified rows =
-    map_map (λ (row : PlainRow). row.key) (λ (row : PlainRow). unwrap_or (row_at row.key modified) row) rows
-    ∙ map_same (λ (row : PlainRow). (unwrap_or (row_at row.key modified) row).key) (λ (row : PlainRow). row.key) rows
-    (every (λ (row : PlainRow). (unwrap_or (row_at row.key modified) row).key ≡ row.key) rows (λ row. key-row_at row.key modified row refl))
 
 modifying-modifying : (row : PlainRow) (modified rows : List PlainRow) → row_at row.key modified ≡ None → modifying modified (modifying (row ∷ []) rows) ≡ modifying (row ∷ modified) rows
 modifying-modifying row modified rows once =

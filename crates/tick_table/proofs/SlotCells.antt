@@ -1,7 +1,6 @@
 -- The cells of slots: as the cells of one are written, and as a new one comes.
-use Rattle.std.proofs.Common.{◌≡◌, refl, ap, ap₂, sym, ◌∙◌, subst, ℕ, ◌+◌, ◌*◌, ◌<◌, ◌≤◌, arith, List, [], ◌∷◌, ◌++◌, length, take, drop, get_or, set, ℤ, pos, negsuc, inl, inr, length-append, length-drop}
+use Rattle.std.proofs.Common.{◌≡◌, refl, ap, sym, ◌∙◌, subst, ℕ, ◌+◌, ◌*◌, ◌<◌, ◌≤◌, arith, List, [], ◌∷◌, ◌++◌, length, take, drop, get_or, set, ℤ, pos, negsuc, inl, inr, length-append, length-drop}
 use Rattle.std.specs.List.{range_with_len}
-use Rattle.std.proofs.Math.Nat.{add-mul}
 use Rattle.std.proofs.lemmas.Bool.{cases_lt}
 use Rattle.std.proofs.lemmas.Int.{ints}
 use Rattle.std.proofs.lemmas.Nat.{row_fits}
@@ -24,9 +23,6 @@ slot_place count (negsuc n) h = let some = h.some in absurd (omega (arith, ints,
 pub wider : (count more : ℕ) (slot : ℤ) → count ≤ more → IsSlot count slot → IsSlot more slot
 wider count more slot most h = record { some = h.some; few = let few = h.few in omega (arith, ints, few, most) }
 
-pub last_slot : (count : ℕ) → IsSlot (count + 1) (pos count)
-last_slot count = record { some = omega (arith, ints); few = omega (arith, ints) }
-
 -- a slot ends where the next begins or before
 pub slot_fits : (slot count width : ℕ) → slot < count → slot * width + width ≤ count * width
 slot_fits slot count width h = row_fits slot width count width h (omega arith)
@@ -36,11 +32,6 @@ length-slot_list width count cells = length-map (range_with_len 0 count) (slot_c
 
 pub at-slot_list : (width count : ℕ) (cells : List ℤ) (slot : ℕ) (d : List ℤ) → slot < count → get_or (slot_list width count cells) slot d ≡ slot_cells width cells slot
 at-slot_list width count cells slot d h = get_or-map-range_with_len (slot_cells width cells) 0 count slot slot d h (omega arith)
-
-pub length-slot_cells : (width count : ℕ) (cells : List ℤ) (slot : ℕ) → length cells ≡ count * width → slot < count → length (slot_cells width cells slot) ≡ width
-length-slot_cells width count cells slot whole h =
-    let fits = slot_fits slot count width h in
-    length-take-le width (drop (slot * width) cells) (omega (arith, length-drop (slot * width) cells, fits, whole))
 
 -- the place at which the cells of a slot begin
 pub placed : (width count : ℕ) (cells : List ℤ) (view : SlotCells) (slot : ℤ) (index : ℕ) → length cells ≡ count * width → slot_list width count cells ≡ view.rows → IsSlot (length view.rows) slot → pos index ≡ slot
@@ -122,9 +113,6 @@ module _ (width count : ℕ) (cells row : List ℤ) (whole : length cells ≡ co
             ∙ sym (get_or_push (slot_list width count cells) row d k (length-slot_list width count cells ∙ sym same))
       ]))
 
-  pub length-opened : length (cells ++ row) ≡ (count + 1) * width
-  length-opened = length-append cells row ∙ omega (arith, whole, fits, add-mul count 1 width)
-
 -- a row was put into a slot that was free, or into a new one
 pub filled_over : (row : List ℤ) (old new : SlotCells) (slot : ℤ) → new.width ≡ old.width → new.rows ≡ set old.rows (as_key slot) row → old.free ≡ new.free ++ slot ∷ [] → IsSlot (length old.rows) slot → IsFilled row old new slot
 filled_over row old new slot w rows free own =
@@ -135,16 +123,4 @@ filled_over row old new slot w rows free own =
       here = ap (λ (rows : List (List ℤ)). get_or rows (as_key slot) []) rows ∙ get_or-set_same old.rows (as_key slot) row [] (slot_below (length old.rows) slot own);
       others = λ other below apart. ap (λ (rows : List (List ℤ)). get_or rows other []) rows ∙ get_or-set_other old.rows (as_key slot) other row [] apart;
       source = inl free;
-    }
-
-pub filled_new : (row : List ℤ) (old new : SlotCells) (slot : ℤ) → new.width ≡ old.width → new.rows ≡ old.rows ++ row ∷ [] → new.free ≡ old.free → slot ≡ pos (length old.rows) → IsFilled row old new slot
-filled_new row old new slot w rows free last =
-    let same : length new.rows ≡ length old.rows + 1 = ap length rows ∙ length_push old.rows row in
-    let place : as_key slot ≡ length old.rows = ap as_key last in record {
-      width = w;
-      more = omega (arith, same);
-      inside = subst (λ n. IsSlot n slot) (sym same) (subst (IsSlot (length old.rows + 1)) (sym last) (last_slot (length old.rows)));
-      here = ap₂ (λ (rows : List (List ℤ)) (n : ℕ). get_or rows n []) rows place ∙ get_or_push old.rows row [] (length old.rows) refl;
-      others = λ other below apart. ap (λ (rows : List (List ℤ)). get_or rows other []) rows ∙ get_or_append_left old.rows (row ∷ []) [] other below;
-      source = inr (free, last);
     }

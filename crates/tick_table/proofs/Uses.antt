@@ -7,6 +7,7 @@ use Rattle.std.specs.Cmp.{signed_Decides}
 use Rattle.std.proofs.lemmas.Bool.{eqb-true, ne_eqb, eq-eqb, ltb-true, ltb-false}
 use Rattle.std.proofs.lemmas.Int.{ints}
 use Rattle.std.proofs.lemmas.List.{reverse-append}
+use Rattle.std.proofs.lemmas.Option.{same_Some}
 use Rattle.column_source.specs.Entries.{Entry, Ascend, cell_under, entry_of, keys_of, left_entries, put}
 use Rattle.column_source.proofs.EntryLists.{cell_under-above, cell_under-filter}
 use Rattle.key_lists.specs.Keys.{is_among, IsRising}
@@ -87,9 +88,6 @@ uses-put other key slot (entry ∷ entries) =
       ]
     ]
 
-same_some : (a b : ℤ) → Some a ≡ Some b → a ≡ b
-same_some a b e = cc
-
 none_some : (a : ℤ) → ◌≡◌ {A = Option ℤ} None (Some a) → ⊥
 none_some a e = cc
 
@@ -108,7 +106,7 @@ uses-put_over other key slot left (entry ∷ entries) rises found = go (ltb entr
     in_place : key ≤ entry.key → (b : Bool) → (entry.key == key) ≡ b
         → uses other (slots_of (cond b (entry_of key slot ∷ entries) (entry_of key slot ∷ entry ∷ entries))) + uses other (left ∷ []) ≤ uses other (slots_of (entry ∷ entries)) + uses other (slot ∷ [])
     in_place most true e =
-        let own : entry.cell ≡ left = same_some entry.cell left (sym (ap (λ b. cond b (Some entry.cell) (cell_under key entries)) e) ∙ found) in
+        let own : entry.cell ≡ left = same_Some entry.cell left (sym (ap (λ b. cond b (Some entry.cell) (cell_under key entries)) e) ∙ found) in
         let same : uses other (entry.cell ∷ []) ≡ uses other (left ∷ []) = ap (λ x. uses other (x ∷ [])) own in
         omega (arith, first, same, uses-first other slot (slots_of entries))
     in_place most false e =

@@ -3,14 +3,13 @@ use Rattle.std.proofs.Common.{◌≡◌, refl, ap, ap₂, sym, ◌∙◌, subst,
 use Rattle.std.specs.Borrow.{Bor}
 use Rattle.std.proofs.Math.ListN.{get_or-map as get_or_map}
 use Rattle.std.proofs.lemmas.Bool.{cases_lt}
-use Rattle.std.proofs.lemmas.List.{get_or-map, length-map}
+use Rattle.std.proofs.lemmas.List.{get_or-map, length-map, map-id}
 use Rattle.key_lists.proofs.Every.{map_map}
 use Rattle.merge_op.specs.Merged.{news, tables}
 use Rattle.tick_laws.specs.Bounded.{AreSourceTables}
 use Rattle.tick_laws.specs.Reached.{IsReached}
 use Rattle.tick_laws.proofs.LawfulSources.{sources_bounded}
 use Rattle.tick_laws.proofs.SourceTicks.{source_old}
-use Rattle.tick_laws.proofs.ToldRows.{map_id}
 use Rattle.tick_model.specs.declared.feed.Batch.{Batch}
 use Rattle.tick_model.specs.declared.feed.Run.{Run}
 use Rattle.tick_model.specs.declared.plan.Node.{Node}
@@ -35,7 +34,7 @@ entered_first run h = record {
 }
 
 pub first_sources : (run : Run) → sources run 0 ≡ run.opening
-first_sources run = map_map new_table opened run.opening ∙ map_id run.opening
+first_sources run = map_map new_table opened run.opening ∙ map-id run.opening
 
 -- at the next step
 pub entered_next : (run : Run) (step : ℕ) → IsLawfulRun run → IsReached run step → step < length run.batches → batch_fault run (step + 1) ≡ None → IsEntered run (step + 1)

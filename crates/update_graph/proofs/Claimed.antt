@@ -1,5 +1,6 @@
 -- What is known of claims for a step of a run.
-use Rattle.std.proofs.Common.{◌≡◌, ap, sym, ◌∙◌, subst, ℕ, ◌+◌, ◌^◌, ◌<◌, zero, suc, arith, Bool, true, false, not, List, [], ◌∷◌, map, length, get_or, refl}
+use Rattle.std.proofs.Common.{◌≡◌, ap, sym, ◌∙◌, subst, ℕ, ◌+◌, ◌^◌, ◌<◌, arith, Bool, true, false, not, List, map, length, get_or}
+use Rattle.std.proofs.lemmas.List.{get_or_default}
 use mathlib.Core.Option.{some}
 use lib.ListN.{get_elem?}
 use Rattle.graph_words.specs.declared.graph.Edge.{Edge}
@@ -102,10 +103,5 @@ module _ (run : Run) (plan : Plan Tag) (c : IsClaimed run plan) where
   source_claimed n within none = no_inputs run c.entered.lawful n (node_within n within) (sym (ap (inputs n) c.edges) ∙ none)
 
 -- whether a node has an operator
-pub any_default : {X : Type 0} (xs : List X) (k : ℕ) (d e : X) → k < length xs → get_or xs k d ≡ get_or xs k e
-any_default [] k d e within = absurd (omega (arith, within))
-any_default (x ∷ xs) zero d e within = refl
-any_default (x ∷ xs) (suc k) d e within = any_default xs k d e (omega (arith, within))
-
 pub operator_is : (run : Run) (n : ℕ) (own : Node) (b : Bool) → n < length run.plan.nodes → own ≡ get_or run.plan.nodes n own → b ≡ is_source own → is_operator run n ≡ not b
-operator_is run n own b within there is = ap (λ (x : Node). not (is_source x)) (sym (there ∙ any_default run.plan.nodes n own no_node within)) ∙ ap not (sym is)
+operator_is run n own b within there is = ap (λ (x : Node). not (is_source x)) (sym (there ∙ get_or_default run.plan.nodes n own no_node within)) ∙ ap not (sym is)

@@ -1,5 +1,5 @@
 -- The works of a step, as claims take them and give them back.
-use Rattle.std.proofs.Common.{◌≡◌, refl, ap, ap₂, sym, ◌∙◌, subst, ℕ, zero, suc, ◌+◌, ◌-◌, ◌≤◌, arith, List, [], ◌∷◌, ◌++◌, map, length, get_or}
+use Rattle.std.proofs.Common.{◌≡◌, refl, ap, ap₂, sym, ◌∙◌, subst, ℕ, zero, suc, ◌+◌, ◌-◌, ◌≤◌, arith, List, [], ◌∷◌, map, length, get_or}
 use Rattle.std.specs.List.{range_with_len}
 use Rattle.std.proofs.lemmas.List.FromFn.{length-map-range_with_len}
 use mathlib.Core.Option.{some, some-injective, some-ne-none}
@@ -49,10 +49,6 @@ works_back run step count works many h =
     from_tagged run step 0 works (λ n w there. let t = h n w there in let own : n ≡ 0 + n = omega arith in as_tag w run step n t.0 t.1 t.2 ∙ ap (tag run step) own)
     ∙ ap (λ k. map (tag run step) (range_with_len 0 k)) many
 
-pub map_snoc : {X Y : Type 0} (f : X → Y) (xs : List X) (x : X) → map f (xs ++ x ∷ []) ≡ map f xs ++ f x ∷ []
-map_snoc f [] x = refl
-map_snoc f (y ∷ ys) x = ap (λ l. f y ∷ l) (map_snoc f ys x)
-
 -- the works that claims take
 pub works_tagged : (run : Run) (step : ℕ) (works : List Tag) → works ≡ tags run step (length works) → (n m : ℕ) (w u : Tag) → get_elem? works n ≡ some w → get_elem? works m ≡ some u → IsTagged names u.run n u.step w
 works_tagged run step works same n m w u there other =
@@ -78,12 +74,6 @@ claimed run step works plan entered later same first nodes edges =
 -- a run without nodes has the same works at each step
 pub count_works : (run : Run) (step n : ℕ) (works : List Tag) → works ≡ tags run step n → length works ≡ n
 count_works run step n works same = ap length same ∙ length-map-range_with_len (tag run step) 0 n
-
-pub no_works : (run : Run) (step next n : ℕ) (works : List Tag) → works ≡ tags run step n → length works ≡ 0 → works ≡ tags run next n
-no_works run step next n works same none =
-    let many = count_works run step n works same in
-    let zero_nodes : n ≡ 0 = omega arith in
-    same ∙ ap (tags run step) zero_nodes ∙ sym (ap (tags run next) zero_nodes)
 
 -- as many as there are
 pub whole_works : (run : Run) (step n : ℕ) (works : List Tag) → works ≡ tags run step n → works ≡ tags run step (length works)

@@ -1,7 +1,8 @@
 -- How much a step of an operator reads, in the words of the run.
-use Rattle.std.proofs.Common.{◌≡◌, sym, ◌∙◌, subst, ℕ, ◌+◌, ◌*◌, ◌≤◌, arith, true, false, true≢false, List, map}
+use Rattle.std.proofs.Common.{◌≡◌, sym, ◌∙◌, subst, ℕ, ◌+◌, ◌*◌, ◌≤◌, true, false, true≢false, List, map}
 use Rattle.std.specs.Prelude.{sum, Result, Ok, Err, OnOk}
 use Rattle.std.specs.List.{AllByRecursion}
+use Rattle.key_lists.proofs.Every.{pass_all}
 use Rattle.merge_op.specs.Merged.{counted_in}
 use Rattle.operators.specs.Operating.{result_width}
 use Rattle.operators.specs.Planned.{input_widths}
@@ -15,7 +16,6 @@ use Rattle.tick_table.specs.Ticking.{Ticking}
 use Rattle.update_graph.specs.Reads.{all_defined, most_reads}
 use Rattle.update_graph.specs.Stands.{is_defined, shown}
 use Rattle.update_graph.specs.Tags.{Tag, op_at}
-use Rattle.update_graph.proofs.Numbering.{pass_each}
 
 pub counted_reads : (run : Run) (step n before after : ℕ) (op : Op) (widths : List ℕ) (all : List Ticking) (change : Change) → op ≡ op_at run n → widths ≡ input_widths run.plan (op_at run n) → all ≡ map (shown run step) (inputs_of (op_at run n)) → change ≡ change_of (tick run step n)
     → after ≤ before + 4 * (sum widths + result_width op widths) * (counted_in all + counted change.update) → after ≤ before + most_reads run step n
@@ -25,18 +25,11 @@ counted_reads run step n before after op widths all change op_is widths_are all_
     let c = subst (λ t. after ≤ before + 4 * (sum (input_widths run.plan (op_at run n)) + result_width (op_at run n) (input_widths run.plan (op_at run n))) * (counted_in t + counted change.update)) all_are b in
     subst (λ (k : Change). after ≤ before + 4 * (sum (input_widths run.plan (op_at run n)) + result_width (op_at run n) (input_widths run.plan (op_at run n))) * (counted_in (map (shown run step) (inputs_of (op_at run n))) + counted k.update)) change_is c
 
-pub few_reads : (run : Run) (step n before after : ℕ) → after ≡ before → after ≤ before + most_reads run step n
-few_reads run step n before after same = omega arith
-
 -- where all shares have tables, it is not so that one has none
 pub defined_all : (shares : List Tag) → AllByRecursion (λ (share : Tag). is_defined share.run share.step share.node ≡ true) shares → all_defined shares ≡ false → ⊥
-defined_all shares h none = true≢false (sym (pass_each (λ (share : Tag). is_defined share.run share.step share.node) shares h) ∙ none)
+defined_all shares h none = true≢false (sym (pass_all (λ (share : Tag). is_defined share.run share.step share.node) shares h) ∙ none)
 
 -- what is true whatever a call answers, and what follows from what is true where it gives a value
 pub always : {X E P : Type 0} (answer : Result X E) → P → OnOk answer P
 always (Ok value) p = p
 always (Err error) p = tt
-
-pub weaker : {X E P Q : Type 0} (answer : Result X E) → (P → Q) → OnOk answer P → OnOk answer Q
-weaker (Ok value) f p = f p
-weaker (Err error) f p = tt

@@ -2,8 +2,9 @@
 use Rattle.std.proofs.Common.{◌≡◌, ◌≢◌, ℕ, ◌+◌, ◌<◌, sym, refl, ap, ◌∙◌, subst, arith, inl, inr, Option, Some, None, List, [], ◌++◌, length, append-nil, append_assoc, eqb, false, get_or}
 use Rattle.std.specs.Prelude.{◌⊎◌, option_to_list}
 use Rattle.std.specs.List.{list_any}
-use Rattle.std.proofs.lemmas.Bool.{eqb-false}
+use Rattle.std.proofs.lemmas.Bool.{eqb-false, or_cases}
 use Rattle.std.proofs.lemmas.List.Folds.{list_any-append}
+use Rattle.std.proofs.lemmas.Option.{same_Some, none-some}
 use mathlib.Core.Logic.{dite}
 use mathlib.Core.Option.{some, some-injective}
 use native.Mathlib.Decide.{ℕ_discrete}
@@ -14,15 +15,15 @@ use Rattle.graph_words.specs.declared.table.Mark.TheVariants.{Unmarked, Untaken,
 use Rattle.graph_words.specs.declared.table.View.{View}
 use Rattle.graph_words.specs.Marks.{IsHadMark, at, put}
 use Rattle.graph_words.specs.Seats.{Has}
-use Rattle.graph_words.proofs.Marks.{at_put, at_put_else, some_input}
+use Rattle.graph_words.proofs.Marks.{at_put, at_put_else, some_input, below_of}
 use Rattle.steal_workers.specs.Holdings.{IsReady, IsSettled, KeepsOthers}
 use Rattle.steal_workers.specs.Lists.{IsListed}
-use Rattle.steal_workers.proofs.Listing.{listed_cases, listed_first, listed_last, or_cases, true_false}
+use Rattle.steal_workers.proofs.Listing.{listed_cases, listed_first, listed_last, true_false}
+use Rattle.steal_workers.proofs.Holding.{has_mark}
 use Rattle.update_graph.specs.Edges.{comes_from}
 use Rattle.update_graph.specs.Steps.{IsDelivered, IsHandedOver, IsHanding, IsListing, IsWorked}
 use Rattle.update_graph.specs.Tags.{Tag}
 use Rattle.update_graph.proofs.Handing.{apart, had_marked, out_at, still_untaken, untouched_still}
-use Rattle.update_graph.proofs.Holding.{has_mark, inside, none_some, some_same}
 use Rattle.update_graph.proofs.PlanEdges.{edge_there}
 use Rattle.update_graph.proofs.Walking.{no_edge}
 
@@ -132,10 +133,10 @@ module _ (plan : Plan Tag) (u : View Tag) (node : ℕ) where
         go (inr is) = inr (grown_first xs found m is)
 
     came_more : (m : ℕ) (b : Option ℕ) → found ≡ b → (at w.nodes m ≡ at u.nodes m) ⊎ IsListed ys m
-    came_more m None none = came_through m (o.came m (λ is. none_some m (sym none ∙ is)))
+    came_more m None none = came_through m (o.came m (λ is. none-some m (sym none ∙ is)))
     came_more m (Some n) some_is = dite (ℕ_discrete m n)
         (λ e. inr (grown_last xs found m (some_is ∙ ap Some (sym e))))
-        (λ ne. came_through m (o.came m (λ is. ne (sym (some_same n m (sym some_is ∙ is))))))
+        (λ ne. came_through m (o.came m (λ is. ne (sym (same_Some n m (sym some_is ∙ is))))))
 
     pub listing_over : IsListing plan u w node (count + 1) ys
     listing_over = record {
@@ -188,13 +189,10 @@ module _ (plan : Plan Tag) (u : View Tag) (node : ℕ) where
 
 -- a node whose work is put back and whose edges are delivered
 module _ (plan : Plan Tag) (node : ℕ) (u c d : View Tag) (found : List ℕ) (own : IsReady plan u node) (w : IsWorked plan u c node) (l : IsListing plan c d node (length plan.edges.items) found) where
-  pub listed_parts : d.parts ≡ u.parts
-  listed_parts = l.parts ∙ w.parts
-
   pub listed_settled : IsSettled plan d node
   listed_settled = record {
     back = l.stays node (has_mark (at c.nodes node) PutBack w.back tt) ∙ w.back;
-    delivered = λ e x there from. l.delivered e x there (inside plan.edges.items e x there) from;
+    delivered = λ e x there from. l.delivered e x there (below_of plan.edges.items e x there) from;
   }
 
   pub listed_came : (m : ℕ) → IsListed found m → at u.nodes m ≡ Unmarked

@@ -22,6 +22,7 @@ use Rattle.tick_laws.proofs.ReachedTables.{bounded_at, lesser_inputs, reached_ta
 use Rattle.tick_laws.proofs.RunTicks.{tick_of_inputs}
 use Rattle.tick_laws.proofs.SourceTicks.{source_new, source_old, source_tick}
 use Rattle.tick_laws.proofs.TickNodes.{tick_cases, tick_from}
+use Rattle.tick_laws.proofs.OpeningTicks.{opened_width, empty_is}
 use Rattle.update_graph.specs.Entered.{IsEntered}
 use Rattle.update_graph.specs.Stands.{is_defined}
 use Rattle.update_graph.specs.Tags.{no_node, node_at, op_at}
@@ -69,21 +70,10 @@ result_before run (suc step) e n within is =
 pub table_after_fine : (run : Run) (step : ℕ) → IsEntered run step → (n : ℕ) → n < length run.plan.nodes → is_defined run step n ≡ true → IsTable (table_at (state run step) n)
 table_after_fine run step e n within has = (bounded_at run e.lawful step e.batches n within has).is_table
 
--- a table without rows
-empty_is : (table : PlainTable) (width : ℕ) → table.width ≡ width → table.rows ≡ [] → let empty : PlainTable = record { width = width; rows = [] } in table ≡ empty
-empty_is table width w r =
-    ap (λ w. let t : PlainTable = record { width = w; rows = table.rows } in t) w
-    ∙ ap (λ rows. let t : PlainTable = record { width = width; rows = rows } in t) r
-
 opened_rows : (opening : List PlainTable) (place : ℕ) → (get_or (map opened opening) place no_tick).old.rows ≡ []
 opened_rows [] place = refl
 opened_rows (table ∷ opening) zero = refl
 opened_rows (table ∷ opening) (suc place) = opened_rows opening place
-
-opened_width : (opening : List PlainTable) (place : ℕ) → (get_or (map opened opening) place no_tick).old.width ≡ (get_or (map opened opening) place no_tick).new.width
-opened_width [] place = refl
-opened_width (table ∷ opening) zero = refl
-opened_width (table ∷ opening) (suc place) = opened_width opening place
 
 width_empty : (run : Run) (nodes : List Node) (n : ℕ) → n < length nodes → (empty_at (record run.plan { nodes = nodes }) n).width ≡ length (get_or nodes n no_node).columns
 width_empty run [] n h = absurd (omega (arith, h))

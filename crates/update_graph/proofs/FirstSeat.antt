@@ -12,11 +12,12 @@ use Rattle.graph_words.specs.declared.table.View.{View}
 use Rattle.graph_words.specs.Marks.{IsHadMark, at, inputs, start_mark}
 use Rattle.graph_words.specs.Seats.{Has}
 use Rattle.graph_words.specs.Views.{IsUntouched, first_view, mark_node}
-use Rattle.graph_words.proofs.Marks.{at_put, at_put_else}
+use Rattle.graph_words.proofs.Marks.{at_put, at_put_else, below_of}
 use Rattle.graph_words.proofs.Opens.{at_starts}
 use Rattle.steal_workers.specs.Holdings.{IsHeld, IsReady, IsSettled, SourcesBack}
 use Rattle.steal_workers.specs.Lists.{IsListed}
 use Rattle.steal_workers.proofs.Listing.{listed_first, listed_second, true_false}
+use Rattle.steal_workers.proofs.Holding.{has_mark}
 use Rattle.tick_model.specs.declared.feed.Run.{Run}
 use Rattle.update_graph.specs.Edges.{edges_of}
 use Rattle.update_graph.specs.Holdings.{IsClaimed, IsNew, IsOpened, IsUnopened}
@@ -24,7 +25,6 @@ use Rattle.update_graph.specs.Steps.{IsHanding, IsListing}
 use Rattle.update_graph.specs.Tags.{Tag, is_operator}
 use Rattle.update_graph.proofs.Claimed.{source_claimed}
 use Rattle.update_graph.proofs.CrewNodes.{listed_either}
-use Rattle.update_graph.proofs.Holding.{has_mark, inside}
 use Rattle.update_graph.proofs.PlanEdges.{no_inputs, source_inputs}
 
 start_none : (n : ℕ) → IsHadMark (start_mark n) → n ≡ 0
@@ -190,7 +190,7 @@ module _ (run : Run) (plan : Plan Tag) (claimed : IsClaimed run plan) where
     new_other m ne has (inr own) = inr (record { source = own.source; new = record { untaken = still_at m ne has ∙ own.new.untaken; untouched = still_untouched m ne own.new.untouched } })
 
     settled_here : IsSettled plan d n
-    settled_here = record { back = l.stays n had_here ∙ back_here; delivered = λ k x there from. l.delivered k x there (inside plan.edges.items k x there) from }
+    settled_here = record { back = l.stays n had_here ∙ back_here; delivered = λ k x there from. l.delivered k x there (below_of plan.edges.items k x there) from }
 
     pub opened_more : IsOpened run plan d (n + 1) ys
     opened_more = record {

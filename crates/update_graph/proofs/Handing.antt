@@ -1,6 +1,8 @@
 -- The view of a seat while it works a node, one edge at a time.
 use Rattle.std.proofs.Common.{◌≡◌, ◌≢◌, ℕ, ◌+◌, ◌<◌, Bool, true, false, sym, refl, ap, ap₂, ◌∙◌, subst, arith, Option, Some, None, List, [], ◌∷◌, ◌++◌, length, map, take, get_or}
 use Rattle.std.proofs.lemmas.Bool.{eqb-false, eqb-true}
+use Rattle.std.proofs.lemmas.List.{map_push}
+use Rattle.std.proofs.lemmas.Option.{same_Some, none-some}
 use mathlib.Core.Option.{some, some-injective}
 use lib.ListN.{get_elem?}
 use Rattle.graph_words.specs.declared.graph.Edge.{Edge}
@@ -14,8 +16,6 @@ use Rattle.graph_words.proofs.Marks.{at_put, at_put_else}
 use Rattle.update_graph.specs.Edges.{froms_to, goes_to}
 use Rattle.update_graph.specs.Steps.{IsBegun, IsDelivered, IsTaking, IsWorked}
 use Rattle.update_graph.specs.Tags.{Tag}
-use Rattle.update_graph.proofs.ClaimedWorks.{map_snoc}
-use Rattle.update_graph.proofs.Holding.{none_some, some_same}
 use Rattle.update_graph.proofs.PlanEdges.{edge_there, froms_more, froms_same}
 use Rattle.update_graph.proofs.Walking.{no_edge}
 
@@ -52,7 +52,7 @@ module _ (edges : List Edge) (u : View Tag) (node : ℕ) where
     taken_more v w shares more share e within goes h marked share_is more_is =
         let to_is = eqb-true (get_or edges e no_edge).to node goes in (
           taking_more v w e (get_or edges e no_edge) h.0 (edge_there edges e no_edge within) to_is marked,
-          more_is ∙ ap₂ (λ these (t : Tag). these ++ t ∷ []) h.1 share_is ∙ sym (ap (map named) (froms_more node e edges no_edge within to_is) ∙ map_snoc named (froms_to node (take e edges)) (get_or edges e no_edge).from),
+          more_is ∙ ap₂ (λ these (t : Tag). these ++ t ∷ []) h.1 share_is ∙ sym (ap (map named) (froms_more node e edges no_edge within to_is) ∙ map_push named (froms_to node (take e edges)) (get_or edges e no_edge).from),
         )
 
 -- a node whose shares are taken, and then its work
@@ -93,7 +93,7 @@ module _ (plan : Plan Tag) (u v : View Tag) (edge to : ℕ) (made : Bool) (eq : 
         parts = refl;
         stays = λ m has. refl;
         came = λ m other. refl;
-        finds = λ m is. absurd (none_some m is);
+        finds = λ m is. absurd (none-some m is);
       }
 
   -- the node is ready
@@ -107,7 +107,7 @@ module _ (plan : Plan Tag) (u v : View Tag) (edge to : ℕ) (made : Bool) (eq : 
         stays = λ m has. at_put_else u.nodes to m Untaken (λ e. had_marked (at u.nodes m) has (ap (λ k. at u.nodes k) e ∙ fresh));
         came = λ m other. at_put_else u.nodes to m Untaken (λ e. other (ap Some (sym e)));
         finds = λ m is.
-            let same : m ≡ to = sym (some_same to m is) in
+            let same : m ≡ to = sym (same_Some to m is) in
             record {
               same = same;
               fresh = ap (λ k. at u.nodes k) same ∙ fresh;

@@ -1,19 +1,18 @@
 -- The numbers of nodes, counted and listed.
 use Rattle.std.proofs.Common.{◌≡◌, refl, ap, ap₂, sym, ◌∙◌, ℕ, zero, suc, ◌+◌, ◌<◌, ◌≤◌, ◌==◌, arith, inl, inr, Bool, true, false, cond, List, [], ◌∷◌, ◌++◌, append-nil, take, length, get_or}
 use Rattle.std.specs.Prelude.{count_by, filter}
-use Rattle.std.specs.List.{AllByRecursion, list_all, range_with_len}
-use Rattle.std.proofs.lemmas.Bool.{and_from, cases_lt, eq-eqb, eqb-true}
-use Rattle.std.proofs.lemmas.List.{take_more}
+use Rattle.std.specs.List.{AllByRecursion, range_with_len}
+use Rattle.std.proofs.lemmas.Bool.{cases_lt, eq-eqb, ne_eqb}
+use Rattle.std.proofs.lemmas.List.{take_more, map-id}
 use Rattle.std.proofs.lemmas.List.Elements.{filter-append}
 use Rattle.std.proofs.lemmas.List.FromFn.{map-range_with_len_more}
 use Rattle.std.proofs.lemmas.List.Sums.{sum_by-append, sum_by-cons}
-use Rattle.tick_laws.proofs.ToldRows.{map_id}
 use Rattle.tick_model.specs.declared.plan.Node.{Node}
 use Rattle.tick_model.specs.Evaluation.{is_source, source_number}
 use Rattle.update_graph.specs.Tags.{no_node}
 
 pub range_more : (n : ℕ) → range_with_len 0 (n + 1) ≡ range_with_len 0 n ++ n ∷ []
-range_more n = sym (map_id (range_with_len 0 (n + 1))) ∙ map-range_with_len_more (λ k. k) 0 n n (omega arith) ∙ ap (λ all. all ++ n ∷ []) (map_id (range_with_len 0 n))
+range_more n = sym (map-id (range_with_len 0 (n + 1))) ∙ map-range_with_len_more (λ k. k) 0 n n (omega arith) ∙ ap (λ all. all ++ n ∷ []) (map-id (range_with_len 0 n))
 
 -- one more number that passes, or does not
 pub filter_more : (p : ℕ → Bool) (n : ℕ) → p n ≡ true → filter p (range_with_len 0 (n + 1)) ≡ filter p (range_with_len 0 n) ++ n ∷ []
@@ -28,10 +27,6 @@ filter_same_more p n h =
 pub range_all : (P : ℕ → Type 0) (a n : ℕ) → ((k : ℕ) → k < a + n → P k) → AllByRecursion P (range_with_len a n)
 range_all P a zero h = tt
 range_all P a (suc n) h = (h a (omega arith), range_all P (a + 1) n (λ k less. h k (omega (arith, less))))
-
-pub pass_each : {X : Type 0} (p : X → Bool) (xs : List X) → AllByRecursion (λ x. p x ≡ true) xs → list_all p xs ≡ true
-pass_each p [] h = refl
-pass_each p (x ∷ xs) h = and_from (p x) (list_all p xs) h.0 (pass_each p xs h.1)
 
 -- the sources before a node and the one more
 source_more : (nodes : List Node) (n : ℕ) → n < length nodes → (b : Bool) → is_source (get_or nodes n no_node) ≡ b → source_number nodes (n + 1) ≡ source_number nodes n + cond b 1 0
@@ -54,20 +49,13 @@ no_next_source nodes n within is = source_more nodes n within false is ∙ omega
 count_cons : (m x : ℕ) (xs : List ℕ) → count_by (λ k. k == m) (x ∷ xs) ≡ cond (x == m) 1 0 + count_by (λ k. k == m) xs
 count_cons m x xs = sum_by-cons (λ k. cond (k == m) 1 0) x xs
 
-other : (a m : ℕ) → (a ≡ m → ⊥) → (a == m) ≡ false
-other a m h = go (a == m) refl
-  where
-    go : (b : Bool) → (a == m) ≡ b → b ≡ false
-    go true e = absurd (h (eqb-true a m e))
-    go false e = refl
-
 pub counted_before : (p : ℕ → Bool) (a n m : ℕ) → m < a → count_by (λ k. k == m) (filter p (range_with_len a n)) ≡ 0
 counted_before p a zero m less = refl
 counted_before p a (suc n) m less =
     let rest = filter p (range_with_len (a + 1) n) in
     let none = counted_before p (a + 1) n m (omega (arith, less)) in
     elim (p a) as (λ b. count_by (λ k. k == m) (cond b (a ∷ rest) rest) ≡ 0) [
-      | true ↦ count_cons m a rest ∙ ap₂ (λ b k. cond b 1 0 + k) (other a m (λ e. omega (arith, e, less))) none
+      | true ↦ count_cons m a rest ∙ ap₂ (λ b k. cond b 1 0 + k) (ne_eqb a m (λ e. omega (arith, e, less))) none
       | false ↦ none
     ]
 
@@ -77,7 +65,7 @@ counted_past p a (suc n) m more =
     let rest = filter p (range_with_len (a + 1) n) in
     let none = counted_past p (a + 1) n m (omega (arith, more)) in
     elim (p a) as (λ b. count_by (λ k. k == m) (cond b (a ∷ rest) rest) ≡ 0) [
-      | true ↦ count_cons m a rest ∙ ap₂ (λ b k. cond b 1 0 + k) (other a m (λ e. omega (arith, e, more))) none
+      | true ↦ count_cons m a rest ∙ ap₂ (λ b k. cond b 1 0 + k) (ne_eqb a m (λ e. omega (arith, e, more))) none
       | false ↦ none
     ]
 
@@ -89,7 +77,7 @@ counted_once p a (suc n) m low high =
       | inl less ↦
           let once = counted_once p (a + 1) n m (omega (arith, less)) (omega (arith, high)) in
           elim (p a) as (λ b. count_by (λ k. k == m) (cond b (a ∷ rest) rest) ≡ cond (p m) 1 0) [
-            | true ↦ count_cons m a rest ∙ ap₂ (λ b k. cond b 1 0 + k) (other a m (λ e. omega (arith, e, less))) once ∙ omega arith
+            | true ↦ count_cons m a rest ∙ ap₂ (λ b k. cond b 1 0 + k) (ne_eqb a m (λ e. omega (arith, e, less))) once ∙ omega arith
             | false ↦ once
           ]
       | inr least ↦

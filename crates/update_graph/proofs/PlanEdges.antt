@@ -1,8 +1,8 @@
 -- The edges of a lawful plan.
-use Rattle.std.proofs.Common.{◌≡◌, ◌≢◌, refl, ap, ap₂, sym, ◌∙◌, subst, ℕ, zero, suc, ◌+◌, ◌*◌, ◌^◌, ◌<◌, ◌≤◌, ◌==◌, ◌&&◌, arith, Bool, true, false, true≢false, cond, not, List, [], ◌∷◌, ◌++◌, append-nil, append_assoc, length, length-append, take, get_or, eq-eqb, ne_eqb}
+use Rattle.std.proofs.Common.{◌≡◌, ◌≢◌, refl, ap, ap₂, sym, ◌∙◌, subst, ℕ, zero, suc, ◌+◌, ◌*◌, ◌^◌, ◌<◌, ◌≤◌, ◌==◌, ◌&&◌, arith, Bool, true, false, true≢false, cond, List, [], ◌∷◌, ◌++◌, append-nil, append_assoc, length, length-append, take, get_or, eq-eqb, ne_eqb}
 use Rattle.std.specs.Prelude.{nat_le}
 use Rattle.std.specs.List.{AllByRecursion, list_all}
-use Rattle.std.proofs.lemmas.Bool.{and_parts, eqb-true, leb-true}
+use Rattle.std.proofs.lemmas.Bool.{and_parts, eqb-true, leb-true, not-true, not-false}
 use Rattle.std.proofs.lemmas.List.{length-take-le, take_more}
 use mathlib.Core.Option.{some, some-injective, some-ne-none}
 use lib.ListN.{get_elem?}
@@ -201,24 +201,16 @@ source_few (Head from rows) is = absurd (true≢false (sym is))
 source_few (Tail from rows) is = absurd (true≢false (sym is))
 source_few (AsOf left right on at taken) is = absurd (true≢false (sym is))
 
-not_true : (b : Bool) → not b ≡ true → b ≡ false
-not_true true h = absurd (true≢false (sym h))
-not_true false h = refl
-
-not_false : (b : Bool) → not b ≡ false → b ≡ true
-not_false true h = refl
-not_false false h = absurd (true≢false h)
-
 module _ (run : Run) (h : IsLawfulRun run) where
   pub operator_inputs : (n : ℕ) → n < length run.plan.nodes → is_operator run n ≡ true → HasInputs (op_at run n)
-  operator_inputs n within is = has_inputs (op_at run n) (columns_at run.plan.nodes) (node_at run n).columns ((lawful_plan run.plan no_node h.plan).nodes n within).columns (not_true (is_source_op (op_at run n)) is)
+  operator_inputs n within is = has_inputs (op_at run n) (columns_at run.plan.nodes) (node_at run n).columns ((lawful_plan run.plan no_node h.plan).nodes n within).columns (not-true (is_source_op (op_at run n)) is)
 
   pub node_few : (n : ℕ) → n < length run.plan.nodes → length (inputs_of (op_at run n)) ≤ 16
   node_few n within = go (is_operator run n) refl
     where
       go : (b : Bool) → is_operator run n ≡ b → length (inputs_of (op_at run n)) ≤ 16
       go true is = (operator_inputs n within is).few
-      go false is = let none = ap length (source_few (op_at run n) (not_false (is_source_op (op_at run n)) is)) in omega arith
+      go false is = let none = ap length (source_few (op_at run n) (not-false (is_source_op (op_at run n)) is)) in omega arith
 
   pub few_edges : length (edges_of run.plan) < 2 ^ 32
   few_edges = let a = few_from 0 run.plan.nodes node_few in let b = few_nodes run h in omega arith
@@ -245,12 +237,12 @@ module _ (run : Run) (h : IsLawfulRun run) where
       go true is = is
       go false is =
           let count = inputs_count x.to (edge_ends e x there).1 in
-          let none = ap length (source_few (op_at run x.to) (not_false (is_source_op (op_at run x.to)) is)) in
+          let none = ap length (source_few (op_at run x.to) (not-false (is_source_op (op_at run x.to)) is)) in
           let some_one = some_input x.to e (edges_of run.plan) x there refl in
           absurd (omega arith)
 
   pub source_inputs : (n : ℕ) → n < length run.plan.nodes → is_operator run n ≡ false → inputs n (edges_of run.plan) ≡ 0
-  source_inputs n within is = inputs_count n within ∙ ap length (source_few (op_at run n) (not_false (is_source_op (op_at run n)) is))
+  source_inputs n within is = inputs_count n within ∙ ap length (source_few (op_at run n) (not-false (is_source_op (op_at run n)) is))
 
   pub no_inputs : (n : ℕ) → n < length run.plan.nodes → inputs n (edges_of run.plan) ≡ 0 → is_operator run n ≡ false
   no_inputs n within none = go (is_operator run n) refl

@@ -1,9 +1,9 @@
 -- What the inputs of a node hand to it at a step that a run enters, and what its operator makes of them.
-use Rattle.std.proofs.Common.{◌≡◌, refl, ap, ap₂, sym, ◌∙◌, subst, ℕ, ◌<◌, ◌≤◌, arith, Bool, true, false, not, true≢false, List, [], ◌∷◌, map, length, Option, Some, None}
-use Rattle.std.specs.Prelude.{slice_index, ◌&&◌, IfOk, Ok, Result}
+use Rattle.std.proofs.Common.{◌≡◌, refl, ap, ap₂, sym, ◌∙◌, subst, ℕ, ◌<◌, ◌≤◌, arith, Bool, true, false, List, [], ◌∷◌, map, length, Option, Some, None}
+use Rattle.std.specs.Prelude.{slice_index, IfOk, Ok, Result}
 use Rattle.std.specs.List.{AllByRecursion, list_all}
-use Rattle.std.proofs.lemmas.Bool.{and_from}
-use Rattle.key_lists.proofs.Every.{every-map, every_unmapped, every_weaker, map_map, map_same}
+use Rattle.std.proofs.lemmas.List.Folds.{list_all-map}
+use Rattle.key_lists.proofs.Every.{every-map, every_unmapped, every_weaker, map_map, map_same, pass_all}
 use Rattle.merge_op.specs.Merged.{news, olds}
 use Rattle.operators.specs.Inputs.{AreTables, AreTicks, HasKeys}
 use Rattle.operators.specs.Planned.{input_widths}
@@ -29,25 +29,12 @@ use Rattle.update_graph.specs.Tags.{Tag, node_at, op_at, tag}
 use Rattle.update_graph.proofs.EnteredTicks.{entered_tick, lesser, operated_is, operator_outcome_at}
 use Rattle.update_graph.proofs.OperatorLaws.{have_keys}
 
--- a test of all elements of a list that is made of another
-all-map : {X Y : Type 0} (p : Y → Bool) (f : X → Y) (xs : List X) → list_all p (map f xs) ≡ list_all (λ x. p (f x)) xs
-all-map p f [] = refl
-all-map p f (x ∷ xs) = ap (λ b. p (f x) && b) (all-map p f xs)
-
-pass_all : {X : Type 0} (p : X → Bool) (xs : List X) → AllByRecursion (λ x. p x ≡ true) xs → list_all p xs ≡ true
-pass_all p [] h = refl
-pass_all p (x ∷ xs) h = and_from (p x) (list_all p xs) h.0 (pass_all p xs h.1)
-
 -- what an operator makes, by cases
 abbrev made_of : Bool → Option NodeFault → PlainTable → Outcome
 made_of b fault table = elim b [ true ↦ or_fault fault table | false ↦ NoInput ]
 
 applied_is : (op : Op) (done : List Outcome) (b : Bool) (fault : Option NodeFault) → list_all (λ input. has_table (outcome_at done input)) (inputs_of op) ≡ b → fault_of op (table_at done) ≡ fault → applied op done ≡ made_of b fault (result op (table_at done))
 applied_is op done b fault e f = ap₂ (λ b fault. made_of b fault (result op (table_at done))) e f
-
-pub not_true : (b : Bool) → not b ≡ true → b ≡ false
-not_true true h = absurd (true≢false (sym h))
-not_true false h = refl
 
 -- an input of a node
 pub record IsInput (run : Run) (step input : ℕ) : Type 0 where
@@ -74,7 +61,7 @@ module _ (run : Run) (step : ℕ) (e : IsEntered run step) (n : ℕ) (within : n
     no_input shares same h =
         operator_outcome_at run e.lawful step n within is
         ∙ applied_is op (state run step) false (fault_of op (table_at (state run step)))
-        (sym (all-map (λ (share : Tag). is_defined share.run share.step share.node) (tag run step) inputs) ∙ ap (list_all (λ (share : Tag). is_defined share.run share.step share.node)) (sym same) ∙ h) refl
+        (sym (list_all-map (λ (share : Tag). is_defined share.run share.step share.node) (tag run step) inputs) ∙ ap (list_all (λ (share : Tag). is_defined share.run share.step share.node)) (sym same) ∙ h) refl
 
     module _ (defined : AllByRecursion (λ input. is_defined run step input ≡ true) inputs) where
       each : (all : List ℕ) → AllByRecursion (λ input. input < n) all → AllByRecursion (λ input. is_defined run step input ≡ true) all → AllByRecursion (IsInput run step) all

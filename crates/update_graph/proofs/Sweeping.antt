@@ -1,5 +1,5 @@
 -- A step's nodes, one more at a time.
-use Rattle.std.proofs.Common.{◌≡◌, refl, ap, ap₂, sym, ◌∙◌, subst, ℕ, zero, suc, ◌+◌, ◌<◌, ◌≤◌, ◌==◌, arith, inl, inr, Bool, true, false, cond, not, true≢false, List, [], ◌∷◌, ◌++◌, map, drop, length, get_or, Option, Some, None}
+use Rattle.std.proofs.Common.{◌≡◌, refl, ap, ap₂, sym, ◌∙◌, subst, ℕ, suc, ◌+◌, ◌<◌, ◌≤◌, ◌==◌, arith, inl, inr, Bool, true, false, cond, not, true≢false, List, [], ◌∷◌, ◌++◌, map, drop, length, get_or, Option, Some, None}
 use Rattle.std.specs.Arc.{arc_value}
 use Rattle.std.specs.Prelude.{count_by, option_map}
 use Rattle.std.specs.List.{list_all, range_with_len}
@@ -9,7 +9,7 @@ use Rattle.std.proofs.Math.Seq.{drop-cons}
 use Rattle.std.proofs.lemmas.Bool.{cases_lt}
 use Rattle.std.proofs.lemmas.List.{drop_all, get_or-map, get_or_past, length-map}
 use Rattle.std.proofs.lemmas.List.FromFn.{get_or-map-range_with_len, length-map-range_with_len, map-range_with_len_more}
-use Rattle.key_lists.proofs.Every.{every-map, map_map}
+use Rattle.key_lists.proofs.Every.{every-map, map_map, pass_all}
 use Rattle.merge_op.specs.Merged.{tables}
 use Rattle.tick_laws.specs.Bounded.{AreSourceTables}
 use Rattle.tick_laws.specs.Reached.{IsReached}
@@ -35,11 +35,7 @@ use Rattle.update_graph.specs.Stands.{AreHanded, is_defined, shown}
 use Rattle.update_graph.specs.Sweeps.{operators}
 use Rattle.update_graph.specs.Tags.{Tag, is_operator, no_node, node_at, tag, tags}
 use Rattle.update_graph.proofs.EnteredTicks.{source_table_at, tick_of_source}
-use Rattle.update_graph.proofs.Numbering.{counted_once, counted_past, pass_each, range_all}
-
-pub not_false : (b : Bool) → not b ≡ false → b ≡ true
-not_false true h = refl
-not_false false h = absurd (true≢false h)
+use Rattle.update_graph.proofs.Numbering.{counted_once, counted_past, range_all}
 
 -- one more tag
 pub tags_more : (run : Run) (step n : ℕ) (before after : List Tag) (next : Tag) → after ≡ before ++ next ∷ [] → before ≡ tags run step n → next ≡ tag run step n → after ≡ tags run step (n + 1)
@@ -58,11 +54,6 @@ is_tag run step n k all one same within there =
     let a = ap length same in
     let b = length-tags run step n in
     there ∙ ap (λ these. get_or these k one) same ∙ tag_at run step n k one (omega arith)
-
-pub any_default : {X : Type 0} (xs : List X) (k : ℕ) (d e : X) → k < length xs → get_or xs k d ≡ get_or xs k e
-any_default [] k d e within = absurd (omega (arith, within))
-any_default (x ∷ xs) zero d e within = refl
-any_default (x ∷ xs) (suc k) d e within = any_default xs k d e (omega (arith, within))
 
 -- the place of a source
 as_many : (sources : List Node) (tables : List PlainTable) → AreSourceTables sources tables → length tables ≡ length sources
@@ -174,7 +165,7 @@ module _ (run : Run) (step : ℕ) (e : IsEntered run step) (fine : node_fault 0 
   all_handed : list_all (λ (share : Tag). is_defined share.run share.step share.node) shares ≡ true
   all_handed =
       ap (list_all (λ (share : Tag). is_defined share.run share.step share.node)) same
-      ∙ pass_each (λ (share : Tag). is_defined share.run share.step share.node) (tags run step (length run.plan.nodes))
+      ∙ pass_all (λ (share : Tag). is_defined share.run share.step share.node) (tags run step (length run.plan.nodes))
       (every-map (λ (share : Tag). is_defined share.run share.step share.node ≡ true) (tag run step) (range_with_len 0 (length run.plan.nodes))
       (range_all (λ k. is_defined run step k ≡ true) 0 (length run.plan.nodes) (λ k less. (reached_tables run e.lawful step (reached_here run step e fine)).each k (omega (arith, less)))))
 

@@ -9,11 +9,13 @@ use Rattle.std.proofs.lemmas.Fmt.{decimal_injective, signed_decimal_injective}
 use Rattle.std.proofs.lemmas.Int.{ints}
 use Rattle.std.proofs.lemmas.List.{append-nil, length-map}
 use Rattle.std.proofs.lemmas.List.Elements.{filter-append}
+use Rattle.tick_table.proofs.Puts.{keys-rows_under}
 use Rattle.tick_model.specs.declared.plan.ColumnSpec.{ColumnSpec}
 use Rattle.tick_model.specs.declared.table.PlainRow.{PlainRow}
 use Rattle.tick_model.specs.declared.update.ShiftRange.{ShiftRange}
 use Rattle.key_lists.specs.Keys.{runs}
 use Rattle.key_lists.proofs.Every.{every, every-map, every-append}
+use Rattle.key_lists.proofs.Parts.{every_front, every_back}
 use Rattle.tick_model.specs.Changes.{Change, rows_under, told_keys, is_none, is_empty}
 use Rattle.tick_model.specs.LawfulRuns.{AreTexts}
 use Rattle.tick_model.specs.Names.{same_name}
@@ -26,7 +28,7 @@ use Rattle.update_text.proofs.Backwards.{AreApart, first_same, rest_same, unmapp
 use Rattle.update_text.proofs.Quoting.{records_same}
 use Rattle.update_text.specs.Reading.{IsToldRow}
 use Rattle.update_text.proofs.RowsBack.{row_same}
-use Rattle.update_text.proofs.RowsUnder.{every_front, every_back, keys_under, rows_under-append, cells_under, told_under}
+use Rattle.update_text.proofs.RowsUnder.{rows_under-append, cells_under, told_under}
 use Rattle.update_text.proofs.RunsBack.{runs_same, runs_below}
 
 abbrev Record : Type 0
@@ -198,10 +200,10 @@ told_same columns texts change other names h p q e =
     (every_back (IsToldRow columns texts) (rows_added columns change) (rows_modified columns change) mine) (every_back (IsToldRow columns texts) (rows_added columns other) (rows_modified columns other) its)
     (sym (modified_told columns texts change) ∙ ap (filter (has_tag (codes "m"))) e ∙ modified_told columns texts other) in
     let added : change.update.added ≡ other.update.added =
-    sym (keys_under (length columns) change.update.added change.cells) ∙ ap keys added_rows ∙ keys_under (length columns) other.update.added other.cells in
+    sym (keys-rows_under (length columns) change.update.added change.cells) ∙ ap keys added_rows ∙ keys-rows_under (length columns) other.update.added other.cells in
     let modified : change.update.modified ≡ other.update.modified =
-    sym (keys_under (length columns) change.update.modified (drop (length columns * length change.update.added) change.cells)) ∙ ap keys modified_rows
-    ∙ keys_under (length columns) other.update.modified (drop (length columns * length other.update.added) other.cells) in
+    sym (keys-rows_under (length columns) change.update.modified (drop (length columns * length change.update.added) change.cells)) ∙ ap keys modified_rows
+    ∙ keys-rows_under (length columns) other.update.modified (drop (length columns * length other.update.added) other.cells) in
     let which = columns_same columns change.update.columns other.update.columns names p.columns_there q.columns_there
     (sym (columns_told columns texts change) ∙ ap (filter (has_tag (codes "c"))) e ∙ columns_told columns texts other) in
     let cells : change.cells ≡ other.cells =

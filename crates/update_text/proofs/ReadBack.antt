@@ -1,20 +1,22 @@
 -- A change, read back from the records of its parts.
-use Rattle.std.proofs.Common.{◌≡◌, refl, ap, sym, ◌∙◌, subst, Bool, true, false, true≢false, cond, ℕ, suc, ◌+◌, ◌*◌, ◌^◌, ◌<◌, ◌≤◌, arith, List, [], ◌∷◌, ◌++◌, length, length-append, drop, map, append_assoc, ne_eqb}
+use Rattle.std.proofs.Common.{◌≡◌, refl, ap, sym, ◌∙◌, subst, Bool, true, false, cond, ℕ, ◌+◌, ◌*◌, ◌^◌, ◌<◌, ◌≤◌, arith, List, [], ◌∷◌, ◌++◌, length, length-append, drop, map, append_assoc, ne_eqb}
 use Rattle.std.specs.Prelude.{ℤ, codes, flat_map, FitsSigned, ◌==◌, Result, Ok, Err, IfOk, OnOk}
 use Rattle.std.specs.Int.{w64}
 use Rattle.std.specs.List.{AllByRecursion}
-use Rattle.std.proofs.lemmas.Bool.{and_parts}
 use Rattle.std.proofs.lemmas.Grind.{flat_map-append}
 use Rattle.std.proofs.lemmas.List.{append-nil, map-append}
+use Rattle.tick_laws.proofs.LawfulSources.{length-fit_columns}
+use Rattle.tick_table.proofs.Puts.{keys-rows_under}
 use Rattle.key_lists.specs.Keys.{IsRising, is_among, runs}
 use Rattle.key_lists.proofs.Every.{every_both, every_weaker, every-append, filter_none}
+use Rattle.key_lists.proofs.Parts.{every_front, every_back}
 use Rattle.row_set.specs.Sets.{IsKeySet, common}
 use Rattle.shift_data.specs.ShiftLists.{IsShiftList}
 use Rattle.tick_model.specs.declared.plan.ColumnSpec.{ColumnSpec}
 use Rattle.tick_model.specs.declared.table.PlainRow.{PlainRow}
 use Rattle.tick_model.specs.declared.update.ShiftRange.{ShiftRange}
 use Rattle.tick_model.specs.Changes.{Change, is_empty, is_none, rows_under, told_keys}
-use Rattle.tick_model.specs.Printable.{IsPrintable, IsShiftRange, fit_columns, fits_kind}
+use Rattle.tick_model.specs.Printable.{IsPrintable, IsShiftRange, fit_columns}
 use Rattle.tick_model.specs.Tables.{keys}
 use Rattle.tick_model.specs.Texts.{column_name, columns_record, record_text, records_text, removed_record, row_record, shift_record, step_record}
 use Rattle.update_text.specs.declared.printed.PrintedFault.{PrintedFault}
@@ -26,7 +28,6 @@ use Rattle.update_text.proofs.Backwards.{some_is_none}
 use Rattle.update_text.proofs.ChangeRecords.{five_texts, first_and_parts}
 use Rattle.update_text.proofs.ChangesBack.{rows_added, rows_modified, rows_told_all, cells_told}
 use Rattle.update_text.proofs.ReadRows.{none_from_test}
-use Rattle.update_text.proofs.RowsUnder.{every_front, every_back, keys_under}
 use Rattle.update_text.proofs.RunsBack.{keys_of-runs, runs_below, runs_ordered}
 
 -- records of another tag
@@ -69,9 +70,6 @@ module _ (columns : List ColumnSpec) (texts : List (List ℕ)) (change : Change)
   no_columns_tag tag rest other h (c ∷ cs) =
       ap (λ (text : List ℕ). has_tag tag (text ++ rest)) (append-nil (record_text (codes "c" ∷ map (column_name columns) (c ∷ cs)))) ∙ other cs c rest
 
-  pub modified_ends : has_tag 109 (let end : List ℕ = [] in end) ≡ false
-  modified_ends = refl
-
   pub columns_end : has_tag 99 behind_columns ≡ false
   columns_end = no_tag 99 (row_record (109 ∷ []) texts columns) (rows_modified columns change) [] (λ x u. refl) refl
 
@@ -113,7 +111,7 @@ module _ (columns : List ColumnSpec) (texts : List (List ℕ)) (change : Change)
   added_ahead bytes p e = record { fit = every_front (IsToldRow columns texts) (rows_added columns change) (rows_modified columns change) (rows_told_all columns texts change p); told = e; ends = added_ends }
 
   pub added_keys : keys (rows_added columns change) ≡ change.update.added
-  added_keys = keys_under (length columns) change.update.added change.cells
+  added_keys = keys-rows_under (length columns) change.update.added change.cells
 
   pub added_rise : IsPrintable columns texts change → IsRising (keys (rows_added columns change))
   added_rise p = subst IsRising (sym added_keys) p.added
@@ -122,7 +120,7 @@ module _ (columns : List ColumnSpec) (texts : List (List ℕ)) (change : Change)
   modified_ahead bytes p e = record { fit = every_back (IsToldRow columns texts) (rows_added columns change) (rows_modified columns change) (rows_told_all columns texts change p); told = e; ends = refl }
 
   pub modified_keys : keys (rows_modified columns change) ≡ change.update.modified
-  modified_keys = keys_under (length columns) change.update.modified (drop (length columns * length change.update.added) change.cells)
+  modified_keys = keys-rows_under (length columns) change.update.modified (drop (length columns * length change.update.added) change.cells)
 
   pub modified_rise : IsPrintable columns texts change → IsRising (keys (rows_modified columns change))
   modified_rise p = subst IsRising (sym modified_keys) p.modified
@@ -144,15 +142,8 @@ parts_same removed added modified cs shifted cells change a b c d e f =
     ∙ ap (λ x. change_from own.removed own.added own.modified own.shifted x cells) e
     ∙ ap (λ x. change_from own.removed own.added own.modified own.shifted own.columns x) f
 
--- whole rows of the columns
-fit_length : (texts : ℕ) (columns : List ColumnSpec) (row : List ℤ) → fit_columns texts columns row ≡ true → length row ≡ length columns
-fit_length texts [] [] e = refl
-fit_length texts [] (cell ∷ row) e = absurd (true≢false (sym e))
-fit_length texts (column ∷ columns) [] e = absurd (true≢false (sym e))
-fit_length texts (column ∷ columns) (cell ∷ row) e = ap suc (fit_length texts columns row (and_parts (fits_kind texts column.kind cell) (fit_columns texts columns row) e).1)
-
 rows_whole : (columns : List ColumnSpec) (texts : List (List ℕ)) (rows : List PlainRow) → AllByRecursion (IsToldRow columns texts) rows → AllByRecursion (λ row. length row.cells ≡ length columns) rows
-rows_whole columns texts rows h = every_weaker (IsToldRow columns texts) (λ (row : PlainRow). length row.cells ≡ length columns) rows (λ row told. fit_length (length texts) columns row.cells told.fit) h
+rows_whole columns texts rows h = every_weaker (IsToldRow columns texts) (λ (row : PlainRow). length row.cells ≡ length columns) rows (λ row told. length-fit_columns (length texts) columns row.cells told.fit) h
 
 count_cells : (width : ℕ) (rows : List PlainRow) → AllByRecursion (λ row. length row.cells ≡ width) rows → length (cells_of rows) ≡ width * length (keys rows)
 count_cells width [] h = omega arith
@@ -213,10 +204,6 @@ none_common added modified both e apart = ap (λ (ks : List ℕ). length ks == 0
 pub empty_test : (keys : List ℕ) → (length keys == 0) ≡ is_none keys
 empty_test [] = refl
 empty_test (key ∷ keys) = ne_eqb (length (key ∷ keys)) 0 (λ e. omega arith)
-
-pub ok_weaker : {T : Type 0} (result : Result T PrintedFault) (P Q : T → Type 0) → ((x : T) → P x → Q x) → IfOk result P → IfOk result Q
-ok_weaker (Ok x) P Q f h = f x h
-ok_weaker (Err fault) P Q f h = h
 
 pub ok_three : {T : Type 0} (result : Result T PrintedFault) (P Q : T → Type 0) (R : Type 0) (S : T → Type 0) → ((x : T) → P x → Q x → R → S x) → IfOk result P → IfOk result Q → OnOk result R → IfOk result S
 ok_three (Ok x) P Q R S f p q r = f x p q r

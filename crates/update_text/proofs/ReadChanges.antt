@@ -6,13 +6,13 @@ use Rattle.std.specs.Ordering.{int_eq}
 use Rattle.std.specs.List.{AllByRecursion, range_with_len}
 use Rattle.std.proofs.lemmas.Bool.{ltb-true, leb-true}
 use Rattle.key_lists.proofs.Every.{every-append}
+use Rattle.key_lists.proofs.Parts.{every_front, every_back}
 use Rattle.row_set.specs.Ranges.{keys_from}
 use Rattle.shift_data.specs.declared.shifts.ShiftFault.{ShiftFault}
 use Rattle.shift_data.specs.declared.shifts.ShiftFault.TheVariants.{Backward, NotAscending, ZeroDelta}
 use Rattle.shift_data.specs.Pushes.{not_past, push_fault}
 use Rattle.tick_model.specs.declared.update.ShiftRange.{ShiftRange}
 use Rattle.tick_model.specs.Printable.{IsShift}
-use Rattle.update_text.proofs.RowsUnder.{every_front, every_back}
 
 pub run_first : (first last : ℕ) → first ≤ last → keys_from first last ≡ first ∷ range_with_len (first + 1) (last - first)
 run_first first last h = let e : last + 1 - first ≡ suc (last - first) = omega arith in ap (range_with_len first) e

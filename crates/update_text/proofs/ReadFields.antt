@@ -5,7 +5,7 @@ use Rattle.std.specs.List.{list_any, position_or_len}
 use Rattle.std.proofs.lemmas.Bool.{or_parts, or_from, cases_eq, ltb-false}
 use Rattle.tick_model.specs.Texts.{needs_quotes, doubled, field_text, comma_before}
 use Rattle.update_text.specs.Reading.{begins_with_end, has_tag, is_end, next_fields}
-use Rattle.update_text.proofs.Backwards.{first_same, rest_same, cons_same, some_is_none, ended_is_none}
+use Rattle.update_text.proofs.Backwards.{first_same, rest_same, cons_same, some_is_none}
 use Rattle.update_text.proofs.Quoting.{doubled_cases, inner, quoted, quoted_before}
 
 -- a byte that needs no quotes ends no field
@@ -72,9 +72,6 @@ quoted_end left (x ∷ todo) rest alone e =
           let f : 34 ∷ left ≡ x ∷ (inner todo ++ 34 ∷ rest) = e ∙ ap (λ bytes. (bytes ++ inner todo) ++ 34 ∷ rest) once.1 in
           absurd (once.0 (sym (first_same 34 x left (inner todo ++ 34 ∷ rest) f)))
     ]
-
-pub quoted_some : (todo rest : List ℕ) → [] ≡ inner todo ++ 34 ∷ rest → ⊥
-quoted_some todo rest e = ended_is_none (inner todo) 34 rest (sym e)
 
 -- a field that begins with a quote stands in quotes, and only such a field
 plain_no_quote : (told rest left : List ℕ) → list_any needs_quotes told ≡ false → begins_with_end rest ≡ true → told ++ rest ≡ 34 ∷ left → ⊥

@@ -1,5 +1,5 @@
 -- Rows, their cells and their keys, read back.
-use Rattle.std.proofs.Common.{◌≡◌, refl, ap, sym, ◌∙◌, subst, Bool, true, false, true≢false, cond, ◌&&◌, ◌==◌, ℕ, zero, suc, ◌+◌, ◌-◌, ◌<◌, ◌≤◌, arith, List, [], ◌∷◌, ◌++◌, length, take, drop, get_or, map, append_assoc, inl, inr, ◌||◌, eq-eqb, eqb-true}
+use Rattle.std.proofs.Common.{◌≡◌, refl, ap, sym, ◌∙◌, subst, true, false, true≢false, cond, ◌&&◌, ◌==◌, ℕ, zero, suc, ◌+◌, ◌-◌, ◌<◌, ◌≤◌, arith, List, [], ◌∷◌, ◌++◌, length, take, drop, get_or, map, append_assoc, inl, inr, eq-eqb, eqb-true}
 use Rattle.std.specs.Prelude.{ℤ, FitsSigned, Some, None, Result, Ok, Err, ◌⊎◌, slice_get}
 use Rattle.std.specs.Int.{w64}
 use Rattle.std.specs.List.{AllByRecursion, range_with_len}
@@ -12,10 +12,12 @@ use Rattle.std.specs.declared.cmp.Ordering.TheVariants.{Less, Equal, Greater}
 use Rattle.std.proofs.lemmas.Bool.{and_parts, or_from, cases_eq, cases_lt}
 use Rattle.std.proofs.lemmas.Bool.Decides.{Decides-int_eq}
 use Rattle.std.proofs.lemmas.List.{drop_more, get_or_default, take_more}
+use Rattle.std.proofs.lemmas.Option.{same_Some}
 use Rattle.key_lists.specs.Keys.{IsRising, is_among}
 use Rattle.key_lists.proofs.Among.{among-append}
 use Rattle.key_lists.proofs.Every.{every_weaker}
 use Rattle.key_lists.proofs.Rising.{rising-append, rising_same}
+use Rattle.key_lists.proofs.Booleans.{or_turned}
 use Rattle.row_set.specs.Ranges.{keys_from}
 use Rattle.row_set.specs.Sets.{last_key, united}
 use Rattle.row_set.proofs.Held.{range_rises}
@@ -122,13 +124,6 @@ found_text texts place (Err i) h less bound search_ =
     greater_is_not_equal : Greater ≡ Equal → ⊥
     greater_is_not_equal e = cc
 
--- keys behind others
-or_turned : (a b : Bool) → (a || b) ≡ (b || a)
-or_turned true true = refl
-or_turned true false = refl
-or_turned false true = refl
-or_turned false false = refl
-
 pub united_behind : (bound : ℕ) (ks keys : List ℕ) → AllByRecursion (λ key. key < bound) keys → AllByRecursion (λ key. bound ≤ key) ks → IsRising keys → IsRising ks → united ks keys ≡ keys ++ ks
 united_behind bound ks keys below above rising behind =
     rising_same (united ks keys) (keys ++ ks) (united_rises ks keys rising) (rising-append bound keys ks below above rising behind)
@@ -145,10 +140,7 @@ united_range first last keys below rising =
 -- the last of rising keys is the greatest
 pub last_greatest : (keys : List ℕ) (bound last : ℕ) → IsRising keys → last_key keys ≡ Some last → last < bound → AllByRecursion (λ key. key < bound) keys
 last_greatest [] bound last rising e less = tt
-last_greatest (key ∷ []) bound last rising e less = (omega (arith, some_same key last e), tt)
-  where
-    some_same : (a b : ℕ) → Some a ≡ Some b → a ≡ b
-    some_same a b e = cc
+last_greatest (key ∷ []) bound last rising e less = (omega (arith, same_Some key last e), tt)
 last_greatest (key ∷ next ∷ keys) bound last rising e less =
     let others = last_greatest (next ∷ keys) bound last rising.1 (sym (ap (λ n. slice_get (key ∷ next ∷ keys) n) (place (length keys))) ∙ e) less in
     (omega (arith, rising.0.0, others.0), others)
@@ -158,10 +150,7 @@ last_greatest (key ∷ next ∷ keys) bound last rising e less =
 
 pub last_below : (keys : List ℕ) (bound last : ℕ) → last_key keys ≡ Some last → AllByRecursion (λ key. key < bound) keys → last < bound
 last_below [] bound last e h = absurd (cc)
-last_below (key ∷ []) bound last e h = omega (arith, some_same key last e, h.0)
-  where
-    some_same : (a b : ℕ) → Some a ≡ Some b → a ≡ b
-    some_same a b e = cc
+last_below (key ∷ []) bound last e h = omega (arith, same_Some key last e, h.0)
 last_below (key ∷ next ∷ keys) bound last e h = last_below (next ∷ keys) bound last (sym (ap (λ n. slice_get (key ∷ next ∷ keys) n) (place (length keys))) ∙ e) h.1
   where
     place : (n : ℕ) → suc (suc n) - 1 ≡ suc (suc n - 1)
@@ -214,11 +203,6 @@ next_cell texts columns k todo column less same fit =
         let parts = and_parts (fits_kind (length texts) column.kind cell) (fit_columns (length texts) (drop (k + 1) columns) later) fit in
         (cell, later, refl, parts.0, parts.1, ap (λ some. cell_texts texts some (cell ∷ later)) seam)
 
--- no cells are told where there are no columns
-pub no_cells : (texts : ℕ) (todo : List ℤ) → fit_columns texts [] todo ≡ true → todo ≡ []
-no_cells texts [] fit = refl
-no_cells texts (cell ∷ todo) fit = absurd (true≢false (sym fit))
-
 -- the first of the items that are told, and that there is none
 module _ {X : Type 0} (record_of : X → List (List ℕ)) (Fits : X → Type 0) (tag : ℕ) where
   pub first_ahead : (items : List X) (rest bytes : List ℕ) → AreAhead record_of Fits tag items rest bytes → has_tag tag bytes ≡ true →
@@ -258,9 +242,6 @@ none_last (key ∷ keys) bound e = absurd (some_at (key ∷ keys) (length (key �
 pub none_from_test : (field : List ℕ) → (length field == 0) ≡ true → field ≡ []
 none_from_test [] e = refl
 none_from_test (byte ∷ field) e = let zero_ : length (byte ∷ field) ≡ 0 = eqb-true (length (byte ∷ field)) 0 e in absurd (omega (arith, zero_))
-
-pub one_key : (key : ℕ) → keys_from key key ≡ key ∷ []
-one_key key = let e : key + 1 - key ≡ suc 0 = omega arith in ap (range_with_len key) e
 
 pub gives_memory : {T : Type 0} (result : Result T PrintedFault) (P : T → Type 0) (fault : PrintedFault) → IsErrAnd result (λ e. e ≡ fault) → fault ≡ Memory → Gives result P
 gives_memory (Ok x) P fault h e = absurd h

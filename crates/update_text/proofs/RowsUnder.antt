@@ -1,37 +1,15 @@
 -- Rows under their keys, with their cells one after the other.
-use Rattle.std.proofs.Common.{◌≡◌, refl, ap, ◌∙◌, true, ℕ, zero, suc, ◌+◌, ◌*◌, ◌^◌, ◌<◌, arith, List, [], ◌∷◌, ◌++◌, length, length-drop, take, drop}
+use Rattle.std.proofs.Common.{◌≡◌, refl, ap, ◌∙◌, true, ℕ, ◌+◌, ◌*◌, ◌^◌, ◌<◌, arith, List, [], ◌∷◌, ◌++◌, length, length-drop, take, drop}
 use Rattle.std.specs.Prelude.{ℤ, flat_map, FitsSigned}
 use Rattle.std.specs.Int.{w64}
 use Rattle.std.specs.List.{AllByRecursion}
 use Rattle.std.proofs.lemmas.List.{drop-drop, take-append-drop}
+use Rattle.key_lists.proofs.Parts.{every-take, every-drop}
 use Rattle.tick_model.specs.declared.plan.ColumnSpec.{ColumnSpec}
 use Rattle.tick_model.specs.declared.table.PlainRow.{PlainRow}
 use Rattle.tick_model.specs.Changes.{rows_under}
 use Rattle.tick_model.specs.Printable.{fit_columns}
-use Rattle.tick_model.specs.Tables.{keys}
 use Rattle.update_text.specs.Reading.{IsToldRow}
-
-pub every-take : {X : Type 0} (P : X → Type 0) (n : ℕ) (xs : List X) → AllByRecursion P xs → AllByRecursion P (take n xs)
-every-take P zero xs h = tt
-every-take P (suc n) [] h = tt
-every-take P (suc n) (x ∷ xs) h = (h.0, every-take P n xs h.1)
-
-pub every-drop : {X : Type 0} (P : X → Type 0) (n : ℕ) (xs : List X) → AllByRecursion P xs → AllByRecursion P (drop n xs)
-every-drop P zero xs h = h
-every-drop P (suc n) [] h = tt
-every-drop P (suc n) (x ∷ xs) h = every-drop P n xs h.1
-
-pub every_front : {X : Type 0} (P : X → Type 0) (xs ys : List X) → AllByRecursion P (xs ++ ys) → AllByRecursion P xs
-every_front P [] ys h = tt
-every_front P (x ∷ xs) ys h = (h.0, every_front P xs ys h.1)
-
-pub every_back : {X : Type 0} (P : X → Type 0) (xs ys : List X) → AllByRecursion P (xs ++ ys) → AllByRecursion P ys
-every_back P [] ys h = h
-every_back P (x ∷ xs) ys h = every_back P xs ys h.1
-
-pub keys_under : (width : ℕ) (ks : List ℕ) (cells : List ℤ) → keys (rows_under width ks cells) ≡ ks
-keys_under width [] cells = refl
-keys_under width (k ∷ ks) cells = ap (λ others. k ∷ others) (keys_under width ks (drop width cells))
 
 pub rows_under-append : (width : ℕ) (ks ls : List ℕ) (cells : List ℤ) →
     rows_under width (ks ++ ls) cells ≡ rows_under width ks cells ++ rows_under width ls (drop (width * length ks) cells)

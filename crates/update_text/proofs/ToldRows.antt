@@ -59,10 +59,6 @@ left_step count done size more =
     let e : count - done ≡ suc (count - (done + 1)) = omega arith in
     ap (λ n. n * size) e ∙ omega arith
 
--- one row is there, and then enough for the others
-pub one_fits : (count done size room : ℕ) → done < count → (count - done) * size ≤ room → size ≤ room
-one_fits count done size room more h = omega (arith, left_step count done size more)
-
 pub others_fit : (count done size : ℕ) (left : List ℕ) → done < count → (count - done) * size ≤ length left → (count - (done + 1)) * size ≤ length (drop size left)
 others_fit count done size left more h = omega (arith, left_step count done size more, length-drop size left)
 

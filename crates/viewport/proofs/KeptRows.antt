@@ -6,11 +6,10 @@ use Rattle.std.specs.Option.{option_or}
 use Rattle.std.proofs.lemmas.Bool.{eqb-true}
 use Rattle.key_lists.specs.Keys.{is_among, IsRising, without}
 use Rattle.key_lists.proofs.Among.{among-filter, each_among, of_among}
-use Rattle.key_lists.proofs.Every.{every_unmapped, every_weaker, filter_passes}
+use Rattle.key_lists.proofs.Every.{every_unmapped, every_weaker, filter_passes, find_none}
 use Rattle.key_lists.proofs.Rising.{rising_same, rising_some}
 use Rattle.row_changes.specs.Parts.{tick_along}
 use Rattle.row_set.specs.Sets.{united}
-use Rattle.row_set.proofs.Lookups.{find_none}
 use Rattle.shift_data.specs.Moves.{IsLawful}
 use Rattle.table_update.specs.Coalesced.{coalesced, key_pairs, kept_by_both}
 use Rattle.table_update.proofs.CoalescedKeys.{united_added, united_modified}

@@ -10,7 +10,6 @@ use Rattle.row_changes.proofs.Comparing.{pairs_of-keys}
 use Rattle.shift_data.specs.Moves.{IsLawful, pairs_of, unapplied}
 use Rattle.table_update.specs.Coalesced.{key_pairs}
 use Rattle.table_update.proofs.KeysAfter.{rules_kept}
-use Rattle.table_update.proofs.LawfulParts.{lawful_some}
 use Rattle.tick_laws.specs.Replaced.{no_update}
 use Rattle.tick_laws.proofs.Carried.{pairs-between}
 use Rattle.tick_laws.proofs.OperatorTicks.{all_both_in}
@@ -71,9 +70,6 @@ module _ (slice : Slice) (last table : PlainTable) (kept : Update) (s : IsStandi
 
   pub staying_lawful : IsLawful kept.shifted staying
   staying_lawful = (rules_kept (2 ^ 62) before kept s.lawful).shifted
-
-  pub stayed_lawful : IsLawful kept.shifted stayed
-  stayed_lawful = lawful_some kept.shifted (λ key. is_among (place key) now) staying staying_lawful
 
   pub message_is_tick : IsTick (tick_along last (cut slice table) in_both)
   message_is_tick = all_both_in (kept_tick slice last table (key_pairs before kept)) last (cut slice table) s.tick s.tick.old_table (cut_table slice table t) s.tick.one_width

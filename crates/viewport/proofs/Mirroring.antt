@@ -38,14 +38,5 @@ told_fault table change (AddedTaken key) h = elim h [ inl e ↦ absurd (cc) | in
 told_fault table change (ModifiedAbsent key) h = elim h [ inl e ↦ absurd (cc) | inr e ↦ inr (by_update table change (ModifiedAbsent key) e) ]
 told_fault table change (ModifiedAdded key) h = elim h [ inl e ↦ absurd (cc) | inr e ↦ inr (by_update table change (ModifiedAdded key) e) ]
 
--- every other fault is told as it is
-pub other_fault : (fault : UpdateFault) → (fault ≡ NoMemory → ⊥) → ByUpdate fault ≡ fault_of fault
-other_fault NoMemory other = absurd (other refl)
-other_fault (RemovedAbsent key) other = refl
-other_fault (ShiftBreaks first second) other = refl
-other_fault (AddedTaken key) other = refl
-other_fault (ModifiedAbsent key) other = refl
-other_fault (ModifiedAdded key) other = refl
-
 pub by_count : (table : PlainTable) (change : Change) (fault : Option MirrorFault) → update_fault (2 ^ 62) (keys table.rows) change.update ≡ None → fault ≡ count_fault table.width change → mirror_fault table change ≡ fault
 by_count table change fault e counted = ap (λ (fault : Option UpdateFault). option_or (option_map ByUpdate fault) (count_fault table.width change)) e ∙ sym counted

@@ -6,7 +6,8 @@ use Rattle.key_lists.specs.Keys.{is_among, IsRising}
 use Rattle.key_lists.proofs.Among.{each_among}
 use Rattle.key_lists.proofs.Every.{every, every_weaker}
 use Rattle.tick_laws.proofs.OperatorTicks.{keys_mapped}
-use Rattle.tick_laws.proofs.ResultTables.{every-drop, every-take, mapped_table}
+use Rattle.key_lists.proofs.Parts.{every-take, every-drop}
+use Rattle.tick_laws.proofs.ResultTables.{mapped_table}
 use Rattle.tick_laws.proofs.SliceTicks.{slice_table}
 use Rattle.tick_model.specs.declared.table.PlainRow.{PlainRow}
 use Rattle.tick_model.specs.declared.table.PlainTable.{PlainTable}

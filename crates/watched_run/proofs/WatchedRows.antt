@@ -4,12 +4,12 @@ use Rattle.std.specs.List.{AllByRecursion, range_with_len}
 use Rattle.std.proofs.lemmas.List.FromFn.{fill_by_all, length-range_with_len}
 use Rattle.key_lists.specs.Keys.{IsRising}
 use Rattle.key_lists.proofs.Every.{every-map, every_weaker}
+use Rattle.key_lists.proofs.Parts.{every-take, every-drop}
 use Rattle.tick_laws.specs.Fitting.{FitsColumns, HasColumns}
 use Rattle.tick_laws.specs.Reached.{IsReached, table_before}
 use Rattle.tick_laws.proofs.FittingNodes.{node_fits}
 use Rattle.tick_laws.proofs.LawfulSources.{length-fit_columns, rising_range}
 use Rattle.tick_laws.proofs.ReachedTables.{bounded_at, reached_tables}
-use Rattle.tick_laws.proofs.ResultTables.{every-drop, every-take}
 use Rattle.tick_laws.proofs.RunTicks.{lawful_ticks, reached_before}
 use Rattle.tick_laws.proofs.SliceTicks.{slice_carries, slice_first_tick, slice_is_tick}
 use Rattle.tick_laws.proofs.ToldRows.{change-carries}

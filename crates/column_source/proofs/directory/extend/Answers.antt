@@ -1,9 +1,10 @@
 use Rattle.std.proofs.Common.{◌≡◌, ◌+◌, ◌-◌, ◌≤◌, ap, sym, ◌∙◌, subst, set, arith, SFits, w64, rules, to_z-of_z}
 use Rattle.std.specs.List.{AllByRecursion}
 use Rattle.std.proofs.lemmas.Result.{on_ok_weaker, on_err_weaker}
+use Rattle.key_lists.proofs.Parts.{every_set}
 use Rattle.column_source.specs.Entries.{put}
 use Rattle.column_source.specs.Blocks.{IsBlock, AreApart, rows_of, rows, kept}
-use Rattle.column_source.proofs.Replaced.{rows_replaced, same_rows, same_kept, sound_at, apart_replaced, every_replaced}
+use Rattle.column_source.proofs.Replaced.{rows_replaced, same_rows, same_kept, sound_at, apart_replaced}
 use Rattle.column_source.proofs.directory.extend.Goals as goal
 use Rattle.column_source.proofs.directory.extend.Goals.{After-put}
 
@@ -32,7 +33,7 @@ pub returns-clause-kept : goal.returns-clause-kept
 returns-clause-kept c = ap kept (placed c) ∙ same_kept c.args.blocks.now c.args.index c.take-block.result c.extend-extended.new.self c.requires.last.within c.take-block.ensures.taken c.extend-extended.ensures.kept
 
 pub returns-clause-sound : goal.returns-clause-sound
-returns-clause-sound c = subst (AllByRecursion IsBlock) (sym (placed c)) (every_replaced IsBlock c.args.blocks.now c.args.index c.extend-extended.new.self c.extend-extended.ensures.sound c.requires.sound)
+returns-clause-sound c = subst (AllByRecursion IsBlock) (sym (placed c)) (every_set IsBlock c.args.blocks.now c.args.index c.extend-extended.new.self c.extend-extended.ensures.sound c.requires.sound)
 
 pub returns-clause-apart : goal.returns-clause-apart
 returns-clause-apart c = λ apart. subst (AreApart 0) (sym (placed c)) (apart_replaced 0 c.args.blocks.now c.args.index c.take-block.result c.extend-extended.new.self c.take-block.ensures.taken c.extend-extended.ensures.first_before c.extend-extended.ensures.len_before apart)

@@ -1,14 +1,14 @@
 use Rattle.std.proofs.Common.{◌≡◌, ◌+◌, ◌-◌, ◌<◌, ◌≤◌, ap, sym, ◌∙◌, subst, length, set, arith, Some, SFits, w64, rules, to_z-of_z}
+use Rattle.key_lists.proofs.Parts.{some_at}
 use Rattle.column_source.specs.Blocks.{IsColumn, IsWritten, rows, kept}
 use Rattle.column_source.specs.Notes.{restored}
-use Rattle.column_source.proofs.Parts.{one_at}
 use Rattle.column_source.proofs.Replaced.{Overwrites, overwritten_rows, overwritten_column, overwritten_before}
 use Rattle.column_source.proofs.directory.overwrite.Goals as goal
 use Rattle.column_source.proofs.directory.overwrite.Goals.{After-put}
 
 pub overflow_sub-place : goal.overflow_sub-place
 overflow_sub-place c =
-    let found = one_at c.args.blocks.now c.args.index c.requires.last.within in
+    let found = some_at c.args.blocks.now c.args.index c.requires.last.within in
     omega (arith, c.requires.last.begins found.0 found.1, c.first.ensures found.0 found.1)
 
 shown : (c : After-put) → Overwrites c.args.key (c.args.key - c.first.result) c.args.cell c.args.blocks.now c.args.index c.take-block.result c.write.new.self c.note.new.notes.entries

@@ -1,6 +1,5 @@
 use Rattle.std.proofs.Common.{◌+◌, ◌-◌, ◌<◌, ◌≤◌, ap, length, arith}
-use Rattle.column_source.proofs.Listings.{last_taken}
-use Rattle.column_source.proofs.Parts.{one_at}
+use Rattle.key_lists.proofs.Parts.{some_at, last_taken}
 use Rattle.column_source.proofs.Replaced.{put_or_same, rows_below, last_begun}
 use Rattle.column_source.proofs.directory.set.Goals as goal
 
@@ -13,7 +12,7 @@ overflow_sub-place c =
     let blocks = c.args.blocks.now in
     let next = c.begun_by-next.result in
     let lt : next - 1 < length blocks = omega (arith, c.if-next-eq0.false, c.begun_by-next.ensures.within) in
-    let found = one_at blocks (next - 1) lt in
+    let found = some_at blocks (next - 1) lt in
     omega (arith, c.first.ensures found.0 found.1, last_taken (λ other. other.first ≤ c.args.key) blocks next found.0 c.if-next-eq0.false c.begun_by-next.ensures.within found.1 c.begun_by-next.ensures.begun)
 
 pub overwrite-requires-clause-last : goal.overwrite-requires-clause-last
@@ -42,7 +41,7 @@ insert-requires-2-clause-below c =
     let blocks = c.args.blocks.now in
     let next = c.begun_by-next.result in
     let lt : next - 1 < length blocks = omega (arith, c.if-next-eq0.false, c.begun_by-next.ensures.within) in
-    let found = one_at blocks (next - 1) lt in
+    let found = some_at blocks (next - 1) lt in
     let block = found.0 in
     let begins : block.first ≤ c.args.key = last_taken (λ other. other.first ≤ c.args.key) blocks next block c.if-next-eq0.false c.begun_by-next.ensures.within found.1 c.begun_by-next.ensures.begun in
     let ends : block.first + length block.slots.items ≤ c.args.key = omega (arith, c.if-place-len.false, ap length (c.slots-len.ensures block found.1), c.first.ensures block found.1, begins) in

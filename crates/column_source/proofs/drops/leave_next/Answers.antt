@@ -2,12 +2,12 @@ use Rattle.std.proofs.Common.{◌≡◌, ◌+◌, ap, sym, ◌∙◌, subst, ref
 use Rattle.std.proofs.lemmas.List.{length-set}
 use Rattle.std.specs.List.{AllByRecursion}
 use Rattle.key_lists.proofs.Every.{every-append}
+use Rattle.key_lists.proofs.Parts.{every-take, every-drop, every_set, no_items}
 use Rattle.column_source.specs.Blocks.{IsBlock, rows}
 use Rattle.column_source.specs.Drops.{Leaves, AreOutside}
 use Rattle.column_source.specs.Gaps.{around}
-use Rattle.column_source.proofs.Leaving.{left_in_place, left_done, left_away, no_items}
-use Rattle.column_source.proofs.Parts.{every_first, every_last}
-use Rattle.column_source.proofs.Replaced.{sound_at, every_replaced}
+use Rattle.column_source.proofs.Leaving.{left_in_place, left_done, left_away}
+use Rattle.column_source.proofs.Replaced.{sound_at}
 use Rattle.column_source.proofs.GapLists.{put_next, put_inside, next_around, within_around, some_items, front_again}
 use Rattle.column_source.proofs.drops.leave_next.Goals as goal
 
@@ -57,7 +57,7 @@ returns-then-is_empty-clause-sound c =
     let next : gap.end + 1 ≡ suc gap.end = omega arith in
     subst (AllByRecursion IsBlock)
     (sym (ap (λ n. take gap.start c.put.new.self ++ drop n c.put.new.self) next ∙ ap (λ bs. take gap.start bs ++ drop (suc gap.end) bs) (c.put.ensures ∙ c.take-block.ensures.others new) ∙ put_inside gap.start gap.end blocks new c.requires.gap.order c.requires.within))
-    (every-append IsBlock (take gap.start list) (drop (suc gap.start) list) (every_first IsBlock gap.start list c.requires.sound) (every_last IsBlock (suc gap.start) list c.requires.sound))
+    (every-append IsBlock (take gap.start list) (drop (suc gap.start) list) (every-take IsBlock gap.start list c.requires.sound) (every-drop IsBlock (suc gap.start) list c.requires.sound))
 
 pub returns-then-is_empty-clause-done : goal.returns-then-is_empty-clause-done
 returns-then-is_empty-clause-done c = λ done.
@@ -107,7 +107,7 @@ returns-clause-sound c =
     let made = c.pass_on.ensures.same ∙ ap (λ bs. take gap.start bs ++ drop gap.end bs) (c.put.ensures ∙ c.take-block.ensures.others new) ∙ put_next gap.start gap.end blocks new c.requires.gap.order c.requires.within in
     let len : vec_len new.slots ≡ length new.slots.items = omega arith in
     subst (AllByRecursion IsBlock) (sym made)
-    (every_replaced IsBlock list gap.start new (c.leave_block.ensures.sound (some_items new.slots.items (sym c.if-is_empty.false ∙ c.is_empty-is_empty.ensures ∙ ap (λ n. n == 0) len))) c.requires.sound)
+    (every_set IsBlock list gap.start new (c.leave_block.ensures.sound (some_items new.slots.items (sym c.if-is_empty.false ∙ c.is_empty-is_empty.ensures ∙ ap (λ n. n == 0) len))) c.requires.sound)
 
 pub returns-clause-done : goal.returns-clause-done
 returns-clause-done c = λ done.

@@ -1,10 +1,10 @@
 use Rattle.std.proofs.Common.{◌<◌, ◌≤◌, sym, refl, subst, take, length, arith}
 use Rattle.std.specs.List.{AllByRecursion}
+use Rattle.key_lists.proofs.Parts.{some_at, none_left}
 use Rattle.column_source.specs.Blocks.{IsBlock, rows}
 use Rattle.column_source.specs.Drops.{Leaves, AreOutside}
 use Rattle.column_source.specs.Gaps.{around}
-use Rattle.column_source.proofs.Parts.{one_at}
-use Rattle.column_source.proofs.Dropping.{begin_later, none_left}
+use Rattle.column_source.proofs.Dropping.{begin_later}
 use Rattle.column_source.proofs.GapLists.{behind_gap, next_around, within_around}
 use Rattle.column_source.proofs.Leaving.{leaves_none, leaves_then, left_all, below_outside}
 use Rattle.column_source.proofs.drops.leave_rows.Goals as goal
@@ -43,7 +43,7 @@ returns-else-first-last-clause-rows c =
     let blocks = c.loop-gap.blocks in
     let list = around gap blocks in
     let within : gap.end < length blocks = omega (arith, c.loop-gap-test.true, c.len.ensures) in
-    let found = one_at blocks gap.end within in
+    let found = some_at blocks gap.end within in
     let above : c.args.last < found.0.first = omega (arith, c.if-first-last.false, c.first.ensures found.0 found.1) in
     left_all c.args.first c.args.last (around c.args.gap.now c.args.blocks.now) list gap.start is.leaves is.done
     (begin_later c.args.last list gap.start found.0 (within_around gap blocks list is.gap refl within) (next_around gap blocks list found.0 is.gap refl within found.1) is.sound (is.leaves.ascend c.requires.ascend) above)

@@ -1,7 +1,7 @@
 use Rattle.std.proofs.Common.{sym, ◌∙◌, subst, refl, arith, take, length, ◌<◌}
 use Rattle.std.specs.List.{AllByRecursion}
+use Rattle.key_lists.proofs.Parts.{some_at}
 use Rattle.column_source.specs.Drops.{AreNoted}
-use Rattle.column_source.proofs.Parts.{one_at}
 use Rattle.column_source.proofs.Dropping.{noted_before, noted_later, noted_all, begin_later, every_more}
 use Rattle.column_source.proofs.drops.note_rows.Goals as goal
 
@@ -21,7 +21,7 @@ loop-index-preserved c =
     let blocks = c.args.blocks.now in
     let index = c.loop-index.index in
     let lt : index < length blocks = omega (arith, c.loop-index-test.true, c.len.ensures) in
-    let found = one_at blocks index lt in
+    let found = some_at blocks index lt in
     record {
       before = c.note_block.ensures.before ∙ is.before;
       stays = λ key some. c.note_block.ensures.stays key (is.stays key some);
@@ -37,7 +37,7 @@ returns-else-first-last-clause-noted c =
     let blocks = c.args.blocks.now in
     let index = c.loop-index.index in
     let lt : index < length blocks = omega (arith, c.loop-index-test.true, c.len.ensures) in
-    let found = one_at blocks index lt in
+    let found = some_at blocks index lt in
     let above : c.args.last < found.0.first = omega (arith, c.if-first-last.false, c.first.ensures found.0 found.1) in
     noted_all c.args.first c.args.last c.loop-index.notes.entries blocks index c.loop-index.invariant.noted
     (begin_later c.args.last blocks index found.0 lt found.1 c.requires.column.sound c.requires.column.ascend above)

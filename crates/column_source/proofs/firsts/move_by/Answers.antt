@@ -1,10 +1,10 @@
 use Rattle.std.proofs.Common.{◌≡◌, ◌<◌, ◌^◌, ap, sym, ◌∙◌, subst, false, ℕ, get_or, set, length, arith, pos, ◌+ℤ◌, to_z, of_z, to_z-of_z, w64, ℤ}
 use Rattle.std.proofs.lemmas.List.{get_or_default}
 use Rattle.std.proofs.lemmas.List.Edits.{map_over_more}
+use Rattle.key_lists.proofs.Parts.{every_at}
 use Rattle.tick_model.specs.Rules.{is_past}
 use Rattle.tick_model.specs.Shifts.{as_key}
 use Rattle.column_source.proofs.FirstLists.{unmoved_at}
-use Rattle.column_source.proofs.Parts.{every_at}
 use Rattle.column_source.proofs.firsts.move_by.Goals as goal
 
 pub landing-place-requires-clause-key : goal.landing-place-requires-clause-key

@@ -5,11 +5,11 @@ use Rattle.std.proofs.lemmas.List.{take_rest, drop-drop}
 use Rattle.std.proofs.Math.Seq.{take-add}
 use borrow.Rule.Slice.PartMut.{put_mid}
 use Rattle.key_lists.proofs.Every.{every_weaker, every-append}
+use Rattle.key_lists.proofs.Parts.{every-take, every-drop}
 use Rattle.tick_model.specs.Rules.{is_past, landed}
 use Rattle.tick_model.specs.Shifts.{as_key}
 use Rattle.column_source.specs.Moves.{IsLanding}
 use Rattle.column_source.proofs.FirstLists.{rise_back, lands_within, landed_held}
-use Rattle.column_source.proofs.Parts.{every_first, every_last}
 use Rattle.column_source.proofs.firsts.move_range.Goals as goal
 
 pub below-held-requires : goal.below-held-requires
@@ -24,12 +24,12 @@ move_by-requires-clause-lands c =
     let rest : List ℕ = drop from keys in
     let count : from + held - from ≡ held = omega arith in
     let fits : SFits w64 range.delta = search rules in
-    let begun : AllByRecursion (λ key. range.begin ≤ key) (take held rest) = every_first (λ key. range.begin ≤ key) held rest c.below-from.ensures.others in
+    let begun : AllByRecursion (λ key. range.begin ≤ key) (take held rest) = every-take (λ key. range.begin ≤ key) held rest c.below-from.ensures.others in
     let ended : AllByRecursion (λ key. key < range.end + 1) (take held rest) = subst (λ s. AllByRecursion (λ key. key < range.end + 1) (take held s)) (take_rest keys from) c.below-held.ensures.below in
     let to = every_weaker (λ key. key < range.end + 1) (λ key. key ≤ range.end) (take held rest) (λ key lt. omega (arith, lt)) ended in
     subst (λ n. AllByRecursion (λ key. (key < 2 ^ 62) × (is_past (2 ^ 62) (pos key +ℤ to_z w64 (of_z w64 range.delta)) ≡ false)) (take n rest)) (sym count)
     (subst (λ d. AllByRecursion (λ key. (key < 2 ^ 62) × (is_past (2 ^ 62) (pos key +ℤ d) ≡ false)) (take held rest)) (sym (to_z-of_z fits))
-    (lands_within range (take held rest) begun to (every_first (IsLanding range) held rest (every_last (IsLanding range) from keys c.requires.movable))))
+    (lands_within range (take held rest) begun to (every-take (IsLanding range) held rest (every-drop (IsLanding range) from keys c.requires.movable))))
 
 pub returns-clause-moved : goal.returns-clause-moved
 returns-clause-moved c =
@@ -41,7 +41,7 @@ returns-clause-moved c =
     let front : List ℕ = take from keys in
     let count : from + held - from ≡ held = omega arith in
     let fits : SFits w64 range.delta = search rules in
-    let begun : AllByRecursion (λ key. range.begin ≤ key) (take held rest) = every_first (λ key. range.begin ≤ key) held rest c.below-from.ensures.others in
+    let begun : AllByRecursion (λ key. range.begin ≤ key) (take held rest) = every-take (λ key. range.begin ≤ key) held rest c.below-from.ensures.others in
     let ended : AllByRecursion (λ key. key < range.end + 1) (take held rest) = subst (λ s. AllByRecursion (λ key. key < range.end + 1) (take held s)) (take_rest keys from) c.below-held.ensures.below in
     let to = every_weaker (λ key. key < range.end + 1) (λ key. key ≤ range.end) (take held rest) (λ key lt. omega (arith, lt)) ended in
     ap (put_mid from (from + held - from) keys) c.move_by.ensures

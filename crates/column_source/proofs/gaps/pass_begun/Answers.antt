@@ -1,7 +1,7 @@
 use Rattle.std.proofs.Common.{◌<◌, ◌≤◌, sym, ◌∙◌, subst, refl, length, take, arith}
 use Rattle.std.specs.List.{AllByRecursion}
+use Rattle.key_lists.proofs.Parts.{some_at}
 use Rattle.column_source.specs.Gaps.{around}
-use Rattle.column_source.proofs.Parts.{one_at}
 use Rattle.column_source.proofs.Dropping.{every_more}
 use Rattle.column_source.proofs.GapLists.{next_around, within_around}
 use Rattle.column_source.proofs.gaps.pass_begun.Goals as goal
@@ -16,7 +16,7 @@ loop-gap-preserved c =
     let gap = c.loop-gap.gap in
     let list = around c.args.gap.now c.args.blocks.now in
     let within : gap.end < length blocks = omega (arith, c.loop-gap-test.true, c.len.ensures) in
-    let here = one_at blocks gap.end within in
+    let here = some_at blocks gap.end within in
     record {
       gap = c.pass_on.ensures.gap;
       same = c.pass_on.ensures.same ∙ is.same;

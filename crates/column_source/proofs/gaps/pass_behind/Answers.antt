@@ -1,7 +1,7 @@
 use Rattle.std.proofs.Common.{◌≡◌, ◌-◌, ◌≤◌, sym, ◌∙◌, subst, refl, suc, take, drop, arith}
 use Rattle.std.specs.List.{AllByRecursion}
+use Rattle.key_lists.proofs.Parts.{some_at}
 use Rattle.column_source.specs.Gaps.{around}
-use Rattle.column_source.proofs.Parts.{one_at}
 use Rattle.column_source.proofs.Steps.{one_before}
 use Rattle.column_source.proofs.GapLists.{around_at, around_length, begun_front}
 use Rattle.column_source.proofs.gaps.pass_behind.Goals as goal
@@ -19,7 +19,7 @@ loop-gap-preserved c =
     let gap = c.loop-gap.gap in
     let list = around c.args.gap.now c.args.blocks.now in
     let i = gap.start - 1 in
-    let here = one_at blocks i (omega (arith, c.loop-gap-test.true, is.gap.order, is.gap.within)) in
+    let here = some_at blocks i (omega (arith, c.loop-gap-test.true, is.gap.order, is.gap.within)) in
     let start_is : gap.start ≡ suc i = omega (arith, c.loop-gap-test.true) in
     let own : c.args.key ≤ here.0.first = omega (arith, c.if-first-key.true, c.first.ensures here.0 here.1) in
     record {
@@ -38,7 +38,7 @@ returns-else-first-key-clause-begun c =
     let gap = c.loop-gap.gap in
     let list = around c.args.gap.now c.args.blocks.now in
     let i = gap.start - 1 in
-    let here = one_at blocks i (omega (arith, c.loop-gap-test.true, is.gap.order, is.gap.within)) in
+    let here = some_at blocks i (omega (arith, c.loop-gap-test.true, is.gap.order, is.gap.within)) in
     let start_is : suc i ≡ gap.start = omega (arith, c.loop-gap-test.true) in
     subst (λ n. AllByRecursion (λ block. block.first ≤ c.args.key) (take n list)) start_is
     (begun_front c.args.key list i here.0 c.requires.sound c.requires.ascend (omega (arith, c.loop-gap-test.true, around_length gap blocks list is.gap is.same)) (around_at gap blocks list here.0 is.gap is.same (omega (arith, c.loop-gap-test.true)) here.1) (omega (arith, c.if-first-key.false, c.first.ensures here.0 here.1)))

@@ -1,11 +1,11 @@
 use Rattle.std.proofs.Common.{◌≡◌, ◌+◌, ◌≤◌, ap, sym, ◌∙◌, subst, length, arith, rules}
+use Rattle.key_lists.proofs.Parts.{some_at, same_at}
 use Rattle.column_source.specs.declared.block.Block.{Block}
 use Rattle.column_source.specs.Blocks.{AreCopies}
 use Rattle.column_source.specs.Joins.{joined_slots}
 use Rattle.column_source.proofs.Copies.{copies_self, copies_put}
 use Rattle.column_source.proofs.GapLists.{taken_other}
-use Rattle.column_source.proofs.Parts.{one_at, ok_of, err_of}
-use Rattle.column_source.proofs.Replaced.{same_at}
+use Rattle.column_source.proofs.Parts.{ok_of, err_of}
 use Rattle.column_source.proofs.joins.join_to.Goals as goal
 
 pub returns-in_default-clause-same : goal.returns-in_default-clause-same
@@ -13,8 +13,8 @@ returns-in_default-clause-same c = λ no. copies_self c.args.blocks.now
 
 pub overflow_add-len_before : goal.overflow_add-len_before
 overflow_add-len_before c =
-    let left = one_at c.args.blocks.now c.args.left (omega (arith, c.requires.order, c.requires.within)) in
-    let right = one_at c.args.blocks.now c.args.right c.requires.within in
+    let left = some_at c.args.blocks.now c.args.left (omega (arith, c.requires.order, c.requires.within)) in
+    let right = some_at c.args.blocks.now c.args.right c.requires.within in
     let joint = c.in-Some.ensures left.0 right.0 left.1 right.1 in
     let is = c.requires.sound right.0 right.1 in
     let small : c.in-Some.place + c.len_before.result ≤ 256 = omega (arith, joint.short, is.kept_within, c.len_before.ensures right.0 right.1) in
@@ -22,12 +22,12 @@ overflow_add-len_before c =
 
 pub join-requires-clause-behind : goal.join-requires-clause-behind
 join-requires-clause-behind c =
-    let right = one_at c.args.blocks.now c.args.right c.requires.within in
+    let right = some_at c.args.blocks.now c.args.right c.requires.within in
     (c.in-Some.ensures c.take-block.result right.0 c.take-block.ensures.taken right.1).room
 
 pub join-requires-clause-short : goal.join-requires-clause-short
 join-requires-clause-short c =
-    let right = one_at c.args.blocks.now c.args.right c.requires.within in
+    let right = some_at c.args.blocks.now c.args.right c.requires.within in
     let joint = c.in-Some.ensures c.take-block.result right.0 c.take-block.ensures.taken right.1 in
     omega (arith, joint.short, ap length (c.slots.ensures right.0 (taken_other c.args.blocks.now c.take-block.new.self c.args.left c.args.right right.0 c.take-block.ensures.others c.requires.order right.1)))
 

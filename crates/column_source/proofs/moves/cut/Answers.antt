@@ -2,8 +2,7 @@ use Rattle.std.proofs.Common.{◌-◌, ◌<◌, ◌≤◌, subst, drop, arith}
 use Rattle.std.specs.List.{AllByRecursion}
 use Rattle.std.proofs.lemmas.Result.{on_ok_weaker}
 use Rattle.key_lists.proofs.Every.{every_weaker}
-use Rattle.column_source.proofs.Parts.{one_at}
-use Rattle.column_source.proofs.Listings.{last_taken}
+use Rattle.key_lists.proofs.Parts.{some_at, last_taken}
 use Rattle.column_source.proofs.Cutting.{Found, found_none, found_cut, cut_none, beside_above}
 use Rattle.column_source.proofs.moves.cut.Goals as goal
 
@@ -24,7 +23,7 @@ returns-in_default-clause-ok c =
     let blocks = c.args.blocks.now in
     let key = c.args.key in
     let next = c.begun_by-next.result in
-    let here = one_at blocks (next - 1) (omega (arith, c.if-next-eq0.false, c.begun_by-next.ensures.within)) in
+    let here = some_at blocks (next - 1) (omega (arith, c.if-next-eq0.false, c.begun_by-next.ensures.within)) in
     let found : Found key blocks next here.0 = record { some = c.if-next-eq0.false; within = c.begun_by-next.ensures.within; at = here.1; sound = c.requires.sound; ascend = c.requires.ascend; begun = c.begun_by-next.ensures.begun; above = every_weaker (λ other. key < other.first) (λ other. key ≤ other.first) (drop next blocks) (λ other lt. omega (arith, lt)) c.begun_by-next.ensures.others } in
     found_none key blocks next here.0 found (c.place_between.ensures.none c.in_default.is here.0 here.1)
 
@@ -42,7 +41,7 @@ returns-clause-ok c =
     let blocks = c.args.blocks.now in
     let key = c.args.key in
     let next = c.begun_by-next.result in
-    let here = one_at blocks (next - 1) (omega (arith, c.if-next-eq0.false, c.begun_by-next.ensures.within)) in
+    let here = some_at blocks (next - 1) (omega (arith, c.if-next-eq0.false, c.begun_by-next.ensures.within)) in
     let found : Found key blocks next here.0 = record { some = c.if-next-eq0.false; within = c.begun_by-next.ensures.within; at = here.1; sound = c.requires.sound; ascend = c.requires.ascend; begun = c.begun_by-next.ensures.begun; above = every_weaker (λ other. key < other.first) (λ other. key ≤ other.first) (drop next blocks) (λ other lt. omega (arith, lt)) c.begun_by-next.ensures.others } in
     on_ok_weaker c.split.result
     (λ parts. found_cut key blocks next here.0 found c.in-Some.place (c.in-Some.ensures.some here.0 here.1) c.split.new.blocks (parts here.0 here.1))

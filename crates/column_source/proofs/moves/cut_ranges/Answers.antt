@@ -1,9 +1,10 @@
 use Rattle.std.proofs.Common.{◌+◌, get_or, take, pos}
 use Rattle.std.specs.List.{AllByRecursion}
 use Rattle.key_lists.proofs.Every.{every_weaker, every_both}
+use Rattle.key_lists.proofs.Parts.{every_next}
 use Rattle.tick_model.specs.declared.update.ShiftRange.{ShiftRange}
 use Rattle.column_source.specs.Moves.{IsBeside, IsBesideRange}
-use Rattle.column_source.proofs.Cutting.{keeps_then, beside_kept, every_next}
+use Rattle.column_source.proofs.Cutting.{keeps_then, beside_kept}
 use Rattle.column_source.proofs.moves.cut_ranges.Goals as goal
 
 pub loop-range-preserved : goal.loop-range-preserved

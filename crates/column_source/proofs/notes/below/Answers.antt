@@ -1,7 +1,7 @@
 use Rattle.std.proofs.Common.{◌≡◌, ◌<◌, ◌≤◌, true, false, take, drop, ltb, ltb-true, ltb-false, rules}
 use Rattle.std.proofs.lemmas.List.Sorted.{IsPartitionPoint-from_clause, IsPartitionedBy-ltb}
 use Rattle.key_lists.proofs.Every.{every_weaker}
-use Rattle.column_source.proofs.Parts.{front_part, back_part}
+use Rattle.key_lists.proofs.Parts.{front_part, back_part}
 use Rattle.column_source.proofs.notes.below.Goals as goal
 
 pub returns-clause-below : goal.returns-clause-below

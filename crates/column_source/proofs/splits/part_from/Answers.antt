@@ -1,36 +1,36 @@
 use Rattle.std.proofs.Common.{◌≡◌, ◌+◌, ◌-◌, ◌<◌, ◌≤◌, ◌^◌, ap, ◌∙◌, take, drop, min, length, length-drop, take_all, arith, rules}
-use Rattle.column_source.proofs.Parts.{one_at}
+use Rattle.key_lists.proofs.Parts.{some_at}
 use Rattle.column_source.proofs.splits.part_from.Goals as goal
 
 pub overflow_add-result : goal.overflow_add-result
 overflow_add-result c =
-    let here = one_at c.args.blocks.now c.args.index c.requires.within in
+    let here = some_at c.args.blocks.now c.args.index c.requires.within in
     let is = c.requires.sound here.0 here.1 in
     let small : c.first.result + c.args.place < 2 ^ 63 = omega (arith, c.first.ensures here.0 here.1, c.requires.first here.0 here.1, c.requires.place here.0 here.1, is.short) in
     search rules
 
 pub overflow_add-result-2 : goal.overflow_add-result-2
 overflow_add-result-2 c =
-    let here = one_at c.args.blocks.now c.args.index c.requires.within in
+    let here = some_at c.args.blocks.now c.args.index c.requires.within in
     let is = c.requires.sound here.0 here.1 in
     let small : c.before-before.result.first + c.min-had.result ≤ 2 ^ 62 = omega (arith, is.small_before, c.before-before.ensures.first here.0 here.1, c.before-before.ensures.len here.0 here.1, c.min-had.ensures) in
     search rules
 
 pub offset_bounds-slots-place : goal.offset_bounds-slots-place
 offset_bounds-slots-place c =
-    let here = one_at c.args.blocks.now c.args.index c.requires.within in
+    let here = some_at c.args.blocks.now c.args.index c.requires.within in
     let is = c.requires.sound here.0 here.1 in
     let small : c.args.place < 512 = omega (arith, c.requires.place here.0 here.1, is.short) in
     search rules
 
 pub slice_bounds-from_slice-count : goal.slice_bounds-from_slice-count
 slice_bounds-from_slice-count c =
-    let here = one_at c.args.blocks.now c.args.index c.requires.within in
+    let here = some_at c.args.blocks.now c.args.index c.requires.within in
     omega (arith, c.requires.place here.0 here.1, ap length (c.slots.ensures here.0 here.1))
 
 pub slice_bounds-from_slice-start : goal.slice_bounds-from_slice-start
 slice_bounds-from_slice-start c =
-    let here = one_at c.args.blocks.now c.args.index c.requires.within in
+    let here = some_at c.args.blocks.now c.args.index c.requires.within in
     omega (arith, c.requires.place here.0 here.1, ap length (c.slots.ensures here.0 here.1))
 
 pub returns : goal.returns

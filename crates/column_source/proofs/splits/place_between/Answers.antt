@@ -1,13 +1,13 @@
 use Rattle.std.proofs.Common.{◌+◌, ◌-◌, ap, ◌∙◌, drop, length, arith, inl}
+use Rattle.key_lists.proofs.Parts.{some_at}
 use Rattle.column_source.specs.Drops.{leading}
 use Rattle.column_source.proofs.Cutting.{beside_past, beside_whole, leading_rest}
-use Rattle.column_source.proofs.Parts.{one_at}
 use Rattle.column_source.proofs.splits.place_between.Goals as goal
 use Rattle.column_source.proofs.splits.place_between.Goals.{then-from-eq0-via-then-from-eq0, then-from-eq0-via-else-from-eq0+then-from-slots}
 
 pub overflow_sub-from : goal.overflow_sub-from
 overflow_sub-from c =
-    let here = one_at c.args.blocks.now c.args.index c.requires.within in
+    let here = some_at c.args.blocks.now c.args.index c.requires.within in
     omega (arith, c.first.ensures here.0 here.1, c.requires.begun here.0 here.1)
 
 pub returns-then-from-eq0-clause-none : goal.returns-then-from-eq0-clause-none

@@ -1,6 +1,6 @@
 use Rattle.std.proofs.Common.{◌≡◌, ap, ◌∙◌, take, min}
+use Rattle.key_lists.proofs.Parts.{same_at}
 use Rattle.column_source.specs.declared.block.Block.{Block}
-use Rattle.column_source.proofs.Replaced.{same_at}
 use Rattle.column_source.proofs.splits.shorten.Goals as goal
 
 pub returns : goal.returns

@@ -1,9 +1,9 @@
 use Rattle.std.proofs.Common.{◌≡◌, ◌-◌, ◌≤◌, sym, ◌∙◌, subst, refl, suc, drop, arith, OnErr}
 use Rattle.std.specs.List.{AllByRecursion}
 use Rattle.std.proofs.lemmas.Result.{on_ok_weaker}
+use Rattle.key_lists.proofs.Parts.{some_at}
 use Rattle.column_source.specs.Gaps.{around}
 use Rattle.column_source.specs.Moves.{IsCut, IsSplit}
-use Rattle.column_source.proofs.Parts.{one_at}
 use Rattle.column_source.proofs.Replaced.{sound_at}
 use Rattle.column_source.proofs.Cutting.{found_begins, found_none, found_cut, cut_none, beside_above}
 use Rattle.column_source.proofs.GapLists.{around_at, around_length, found_before, above_split}
@@ -38,7 +38,7 @@ returns-in_default-clause-ok c =
     let gap = c.pass_behind.new.gap in
     let blocks = c.pass_behind.new.blocks in
     let is = c.pass_behind.ensures in
-    let here = one_at blocks (gap.start - 1) (omega (arith, c.if-gap-eq0.false, is.gap.order, is.gap.within)) in
+    let here = some_at blocks (gap.start - 1) (omega (arith, c.if-gap-eq0.false, is.gap.order, is.gap.within)) in
     subst (IsCut key list) (sym is.same)
     (found_none key list gap.start here.0 (found_before key gap blocks list here.0 is.gap is.same c.if-gap-eq0.false c.requires.sound c.requires.ascend is.begun (is.above c.requires.above) here.1) (c.place_between.ensures.none c.in_default.is here.0 here.1))
 
@@ -68,7 +68,7 @@ returns-clause-ok c =
     let blocks = c.pass_behind.new.blocks in
     let is = c.pass_behind.ensures in
     let new = around c.split_over.new.gap c.split_over.new.blocks in
-    let here = one_at blocks (gap.start - 1) (omega (arith, c.if-gap-eq0.false, is.gap.order, is.gap.within)) in
+    let here = some_at blocks (gap.start - 1) (omega (arith, c.if-gap-eq0.false, is.gap.order, is.gap.within)) in
     let place = c.in-Some.place in
     let found = found_before key gap blocks list here.0 is.gap is.same c.if-gap-eq0.false c.requires.sound c.requires.ascend is.begun (is.above c.requires.above) here.1 in
     on_ok_weaker c.split_over.result
@@ -84,7 +84,7 @@ returns-clause-above c =
     let i = gap.start - 1 in
     let mid = around gap blocks in
     let new = around c.split_over.new.gap c.split_over.new.blocks in
-    let here = one_at blocks i (omega (arith, c.if-gap-eq0.false, is.gap.order, is.gap.within)) in
+    let here = some_at blocks i (omega (arith, c.if-gap-eq0.false, is.gap.order, is.gap.within)) in
     let cut = c.in-Some.ensures.some here.0 here.1 in
     let next : suc i ≡ gap.start = omega (arith, c.if-gap-eq0.false) in
     let next_is : suc i ≡ c.split_over.new.gap.start = next ∙ sym c.split_over.ensures.start in

@@ -1,10 +1,10 @@
 use Rattle.std.proofs.Common.{◌≡◌, ◌+◌, ◌-◌, ap, sym, ◌∙◌, subst, suc, length, take, drop, ◌++◌, arith, rules}
 use Rattle.std.proofs.lemmas.List.{length-set}
 use Rattle.std.specs.List.{AllByRecursion}
+use Rattle.key_lists.proofs.Parts.{some_at}
 use Rattle.column_source.specs.Blocks.{IsBlock}
 use Rattle.column_source.specs.Gaps.{around}
 use Rattle.column_source.specs.Moves.{KeepsRows}
-use Rattle.column_source.proofs.Parts.{one_at}
 use Rattle.column_source.proofs.Replaced.{sound_at}
 use Rattle.column_source.proofs.Copies.{copies_keep, copies_around, length-copies}
 use Rattle.column_source.proofs.Cutting.{keeps_none}
@@ -30,8 +30,8 @@ pub returns-then-join_to-clause-len : goal.returns-then-join_to-clause-len
 returns-then-join_to-clause-len c =
     let blocks = c.args.blocks.now in
     let i = c.args.gap.now.start - 1 in
-    let left = one_at blocks i (omega (arith, c.requires.gap.order, c.requires.some)) in
-    let right = one_at blocks c.args.gap.now.end c.requires.some in
+    let left = some_at blocks i (omega (arith, c.requires.gap.order, c.requires.some)) in
+    let right = some_at blocks c.args.gap.now.end c.requires.some in
     let is = c.join_to.ensures.joined c.if-join_to.true left.0 right.0 left.1 right.1 in
     ap length is.list ∙ length-set blocks i is.joined
 
@@ -39,8 +39,8 @@ pub returns-then-join_to-clause-gap : goal.returns-then-join_to-clause-gap
 returns-then-join_to-clause-gap c =
     let blocks = c.args.blocks.now in
     let i = c.args.gap.now.start - 1 in
-    let left = one_at blocks i (omega (arith, c.requires.gap.order, c.requires.some)) in
-    let right = one_at blocks c.args.gap.now.end c.requires.some in
+    let left = some_at blocks i (omega (arith, c.requires.gap.order, c.requires.some)) in
+    let right = some_at blocks c.args.gap.now.end c.requires.some in
     let is = c.join_to.ensures.joined c.if-join_to.true left.0 right.0 left.1 right.1 in
     record {
       order = omega (arith, c.requires.gap.order);
@@ -56,8 +56,8 @@ returns-then-join_to-clause-same c =
     let i = start - 1 in
     let start_is : suc i ≡ start = omega (arith, c.if-gap-eq0.false) in
     let end_is : suc end ≡ end + 1 = omega arith in
-    let left = one_at blocks i (omega (arith, c.requires.gap.order, c.requires.some)) in
-    let right = one_at blocks end c.requires.some in
+    let left = some_at blocks i (omega (arith, c.requires.gap.order, c.requires.some)) in
+    let right = some_at blocks end c.requires.some in
     subst (λ n. KeepsRows (take start blocks ++ drop end blocks) (take start new ++ drop n new)) end_is
     (subst (λ n. KeepsRows (take n blocks ++ drop end blocks) (take n new ++ drop (suc end) new)) start_is
     (joined_over blocks i end left.0 right.0 new (omega (arith, start_is, c.requires.gap.order)) c.requires.some left.1 right.1 (subst (λ n. AllByRecursion IsBlock (take n blocks ++ drop end blocks)) (sym start_is) c.requires.sound) (c.join_to.ensures.joined c.if-join_to.true left.0 right.0 left.1 right.1)))

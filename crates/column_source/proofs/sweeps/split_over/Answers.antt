@@ -1,7 +1,7 @@
 use Rattle.std.proofs.Common.{◌≡◌, ◌-◌, ◌<◌, ◌≤◌, ◌++◌, ap, sym, ◌∙◌, subst, suc, length, take, drop, arith}
 use Rattle.std.proofs.lemmas.List.{length-set}
+use Rattle.key_lists.proofs.Parts.{some_at}
 use Rattle.column_source.specs.Moves.{IsSplit}
-use Rattle.column_source.proofs.Parts.{one_at}
 use Rattle.column_source.proofs.GapLists.{front_at, same_front, split_around}
 use Rattle.column_source.proofs.sweeps.split_over.Goals as goal
 
@@ -30,7 +30,7 @@ returns-clause-gap c =
     let mid = c.put_behind.new.blocks in
     let start = c.args.gap.now.start in
     let i = start - 1 in
-    let here = one_at mid i (omega (arith, c.requires.some, c.put_behind.ensures.gap.order, c.put_behind.ensures.gap.within, c.put_behind.ensures.start)) in
+    let here = some_at mid i (omega (arith, c.requires.some, c.put_behind.ensures.gap.order, c.put_behind.ensures.gap.within, c.put_behind.ensures.start)) in
     let short = c.shorten.ensures here.0 here.1 in
     record {
       order = c.put_behind.ensures.gap.order;

@@ -1,6 +1,7 @@
 use Rattle.std.proofs.Common.{◌≡◌, ap, sym, ◌∙◌, subst, ℕ, ◌+◌, ◌<◌, ◌^◌, List, [], ◌∷◌, map, drop, length}
 use Rattle.std.specs.List.{AllByRecursion}
 use Rattle.key_lists.specs.Keys.{without}
+use Rattle.key_lists.proofs.Parts.{every_front}
 use Rattle.shift_data.specs.Moves.{IsLawful, canonical}
 use Rattle.tick_model.specs.Updates.{between}
 use Rattle.tick_table.specs.Exact.{IsExact}
@@ -9,7 +10,7 @@ use Rattle.merge_op.specs.declared.starts.Start.{Start}
 use Rattle.merge_op.specs.Merged.{merged, tables}
 use Rattle.merge_op.specs.Regions.{IsStart, in_regions, room_before, room_now, start_at, starts_of}
 use Rattle.merge_op.proofs.Gathering.{gathered, lawful}
-use Rattle.merge_op.proofs.Going.{IsGathered, added_of, all_agree, all_now_below, front_part, gathered_next, gathered_none, gathered_whole, length-regions, small_plus}
+use Rattle.merge_op.proofs.Going.{IsGathered, added_of, all_agree, all_now_below, gathered_next, gathered_none, gathered_whole, length-regions, small_plus}
 use Rattle.merge_op.proofs.Paired.{modified_now}
 use Rattle.merge_op.proofs.Sharing.{no_tables, table_at, tables_from}
 use Rattle.merge_op.proofs.Ticked.{keys_before, keys_now, removed_are}
@@ -27,7 +28,7 @@ put-requires-clause-small_before c =
     let rest = tables (drop (c.loop-input.input-index + 1) c.args.inputs.now) in
     let from = c.loop-input.start.before in
     small_plus from (keys_before t)
-    (front_part (λ key. key < 2 ^ 62) (map (λ key. key + from) (keys_before t)) (in_regions keys_before room_before (from + room_before t) rest)
+    (every_front (λ key. key < 2 ^ 62) (map (λ key. key + from) (keys_before t)) (in_regions keys_before room_before (from + room_before t) rest)
     (subst (λ (ts : List Ticking). AllByRecursion (λ key. key < 2 ^ 62) (in_regions keys_before room_before from ts)) (tables_from c.args.inputs.now c.loop-input.input-index c.input-item.result t c.loop-input-test.true c.input-item.is c.deref.ensures) c.loop-input.invariant.small_before))
 
 pub put-requires-clause-small_now : goal.put-requires-clause-small_now
@@ -36,7 +37,7 @@ put-requires-clause-small_now c =
     let rest = tables (drop (c.loop-input.input-index + 1) c.args.inputs.now) in
     let from = c.loop-input.start.now in
     small_plus from (keys_now t)
-    (front_part (λ key. key < 2 ^ 62) (map (λ key. key + from) (keys_now t)) (in_regions keys_now room_now (from + room_now t) rest)
+    (every_front (λ key. key < 2 ^ 62) (map (λ key. key + from) (keys_now t)) (in_regions keys_now room_now (from + room_now t) rest)
     (subst (λ (ts : List Ticking). AllByRecursion (λ key. key < 2 ^ 62) (in_regions keys_now room_now from ts)) (tables_from c.args.inputs.now c.loop-input.input-index c.input-item.result t c.loop-input-test.true c.input-item.is c.deref.ensures) c.loop-input.invariant.small_now))
 
 pub put-requires-clause-start : goal.put-requires-clause-start

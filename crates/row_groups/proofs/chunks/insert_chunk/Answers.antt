@@ -1,6 +1,7 @@
 use Rattle.std.proofs.Common.{◌≡◌, ◌+◌, ◌-◌, [], ◌∷◌, ◌++◌, ap, sym, ◌∙◌, suc, take, drop, get_or, slice_set, length, arith}
 use Rattle.std.proofs.lemmas.List.{take_rest}
-use Rattle.row_handles.proofs.Lists.{same_at, held_before}
+use Rattle.key_lists.proofs.Parts.{same_at}
+use Rattle.row_handles.proofs.Lists.{held_before}
 use Rattle.row_groups.specs.Slots.{joined}
 use Rattle.row_groups.proofs.Parts.{chunk_more}
 use Rattle.row_groups.proofs.chunks.insert_chunk.Goals as goal

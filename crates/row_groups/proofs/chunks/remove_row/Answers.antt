@@ -1,5 +1,6 @@
 use Rattle.std.proofs.Common.{◌≡◌, ◌+◌, ◌<◌, ◌++◌, ◌==◌, ap, sym, ◌∙◌, subst, suc, take, drop, get_or, length, vec_len, arith}
-use Rattle.row_handles.proofs.Leaving.{no_items, set_removed}
+use Rattle.key_lists.proofs.Parts.{no_items}
+use Rattle.row_handles.proofs.Leaving.{set_removed}
 use Rattle.row_groups.specs.Slots.{joined}
 use Rattle.row_groups.proofs.Parts.{joined_instead, joined_without, row_taken}
 use Rattle.row_groups.proofs.chunks.remove_row.Goals as goal

@@ -1,16 +1,17 @@
 use Rattle.std.proofs.Common.{ap, sym, ◌∙◌, subst, ◌<◌, ◌^◌, List, [], ◌∷◌, ◌++◌, take, get_or, ℕ}
 use Rattle.std.specs.List.{AllByRecursion}
 use Rattle.key_lists.proofs.Every.{every_unmapped}
+use Rattle.key_lists.proofs.Parts.{every_at}
 use Rattle.tick_model.specs.declared.table.PlainRow.{PlainRow}
 use Rattle.tick_model.specs.Tables.{keys}
-use Rattle.source_changes.proofs.Gathered.{every_at, keys_below, keys_more}
+use Rattle.source_changes.proofs.Gathered.{keys_below, keys_more}
 use Rattle.source_changes.proofs.blocks.keys_of.Goals as goal
 
 pub put_last-requires-clause-small : goal.put_last-requires-clause-small
 put_last-requires-clause-small c =
     let row = c.row-item.result in
     subst (λ (row : PlainRow). row.key < 2 ^ 62) (sym c.row-item.is)
-    (every_at (λ (row : PlainRow). row.key < 2 ^ 62) c.args.rows.now c.loop-row.row-index row (every_unmapped (λ key. key < 2 ^ 62) (λ (row : PlainRow). row.key) c.args.rows.now c.requires.small) c.loop-row-test.true)
+    (every_at (λ (row : PlainRow). row.key < 2 ^ 62) c.args.rows.now c.loop-row.row-index row c.loop-row-test.true (every_unmapped (λ key. key < 2 ^ 62) (λ (row : PlainRow). row.key) c.args.rows.now c.requires.small))
 
 pub put_last-requires-clause-last : goal.put_last-requires-clause-last
 put_last-requires-clause-last c =

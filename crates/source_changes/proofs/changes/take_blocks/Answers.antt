@@ -2,6 +2,7 @@ use Rattle.std.proofs.Common.{◌≡◌, ap, sym, ◌∙◌, subst, arith, ◌+�
 use Rattle.std.specs.Prelude.{sum_by}
 use Rattle.std.proofs.Math.ListN.{drop_of_length-le}
 use Rattle.key_lists.proofs.Every.{every_weaker, every-map, map_map}
+use Rattle.key_lists.proofs.Parts.{every_at}
 use Rattle.tick_laws.specs.Bounded.{AreSourceTables}
 use Rattle.tick_model.specs.declared.plan.Node.{Node}
 use Rattle.tick_model.specs.Evaluation.{source_number}
@@ -12,7 +13,6 @@ use Rattle.source_changes.specs.Faults.{IsFault}
 use Rattle.source_changes.specs.Reads.{block_reads, step_reads}
 use Rattle.source_changes.specs.Stepping.{IsStepping, Stepping, ticked}
 use Rattle.source_changes.specs.Taking.{IsTaking, taking}
-use Rattle.source_changes.proofs.Gathered.{every_at}
 use Rattle.source_changes.proofs.Turns.{below_there, bound, every_set, fault_there, faults_follow, reads_follow, sources_follow, steps_in_turn, ticks_follow, whole_there}
 use Rattle.source_changes.proofs.Walked.{node_at, readable_at, sources_from}
 use Rattle.source_changes.proofs.changes.take_blocks.Goals as goal
@@ -46,7 +46,7 @@ pub take-requires-clause-taking : goal.take-requires-clause-taking
 take-requires-clause-taking c =
     let here : c.place_of-place.result ≡ source_number c.args.plan.now.nodes c.block-item.result.table =
     c.place_of-place.ensures ∙ ap (λ (nodes : List Node). source_number nodes c.block-item.result.table) c.as_slice.ensures in
-    every_at IsTaking c.loop-block.steps c.place_of-place.result c.index-steps-place.result c.loop-block.invariant.all_taking (bound c.args.plan.now c.requires.blocks.0 c.args.blocks.now c.loop-block.block-index c.block-item.result c.loop-block.steps c.index-steps-place.result c.place_of-place.result c.requires.blocks.1 c.block-item.is c.loop-block-test.true c.loop-block.invariant.sources here)
+    every_at IsTaking c.loop-block.steps c.place_of-place.result c.index-steps-place.result (bound c.args.plan.now c.requires.blocks.0 c.args.blocks.now c.loop-block.block-index c.block-item.result c.loop-block.steps c.index-steps-place.result c.place_of-place.result c.requires.blocks.1 c.block-item.is c.loop-block-test.true c.loop-block.invariant.sources here) c.loop-block.invariant.all_taking
 
 pub take-requires-clause-below : goal.take-requires-clause-below
 take-requires-clause-below c =

@@ -2,9 +2,9 @@ use Rattle.std.proofs.Common.{◌≡◌, sym, ap, ap₂, ◌∙◌, subst, true,
 use Rattle.std.specs.List.{AllByRecursion}
 use Rattle.std.proofs.lemmas.Bool.{not-false}
 use Rattle.key_lists.specs.Keys.{is_among}
-use Rattle.key_lists.proofs.Every.{every_weaker}
+use Rattle.key_lists.proofs.Every.{every_weaker, none_pass}
 use Rattle.shift_data.specs.Moves.{IsLawful}
-use Rattle.table_update.proofs.KeysAfter.{none_pass, rules_kept}
+use Rattle.table_update.proofs.KeysAfter.{rules_kept}
 use Rattle.tick_laws.specs.Checked.{IsChecked}
 use Rattle.tick_model.specs.declared.table.PlainRow.{PlainRow}
 use Rattle.tick_model.specs.declared.update.ShiftRange.{ShiftRange}

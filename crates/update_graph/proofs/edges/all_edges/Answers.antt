@@ -1,9 +1,9 @@
 use Rattle.std.proofs.Common.{◌<◌, ◌++◌, ap, ap₂, sym, ◌∙◌, subst, arith, get_or, length}
+use Rattle.std.proofs.lemmas.List.{get_or_default}
 use Rattle.tick_model.specs.declared.plan.Node.{Node}
 use Rattle.tick_model.specs.Evaluation.{inputs_of}
 use Rattle.update_graph.specs.Edges.{input_edges}
 use Rattle.update_graph.specs.Tags.{no_node}
-use Rattle.update_graph.proofs.Claimed.{any_default}
 use Rattle.update_graph.proofs.PlanEdges.{more_from, node_few}
 use Rattle.update_graph.proofs.edges.all_edges.Goals as goal
 
@@ -12,7 +12,7 @@ add_edges-requires c =
     let run = c.args.run.now in
     let k = c.loop-node.node in
     let less = subst (λ l. k < length l) c.as_slice-own-items.ensures c.loop-node-test.true in
-    let own = c.own-item.is ∙ ap (λ l. get_or l k c.own-item.result) c.as_slice-own-items.ensures ∙ any_default run.plan.nodes k c.own-item.result no_node less in
+    let own = c.own-item.is ∙ ap (λ l. get_or l k c.own-item.result) c.as_slice-own-items.ensures ∙ get_or_default run.plan.nodes k c.own-item.result no_node less in
     let handed = ap length (c.as_slice.ensures.value ∙ c.in_ok-inputs.ensures) ∙ ap (λ (x : Node). length (inputs_of x.op)) own in
     let few = node_few run c.requires k less in
     omega arith

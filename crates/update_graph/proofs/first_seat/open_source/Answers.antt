@@ -1,4 +1,5 @@
 use Rattle.std.proofs.Common.{◌<◌, ◌∙◌, sym, ap, subst, length}
+use Rattle.steal_workers.proofs.Holding.{has_mark}
 use lib.ListN.{get_elem?}
 use Rattle.graph_words.specs.declared.table.Mark.TheVariants.{Taken, PutBack}
 use Rattle.graph_words.specs.Marks.{at}
@@ -7,7 +8,6 @@ use Rattle.update_graph.specs.Steps.{IsHanding}
 use Rattle.update_graph.specs.Tags.{Tag}
 use Rattle.update_graph.proofs.Claimed.{ends_claimed, few_claimed, run_is, small_of_step, step_of_claims}
 use Rattle.update_graph.proofs.FirstSeat.{next_unopened, opened_kept, opened_more}
-use Rattle.update_graph.proofs.Holding.{has_mark}
 use Rattle.update_graph.proofs.WorkSent.{sent}
 use Rattle.update_graph.proofs.first_seat.open_source.Goals as goal
 

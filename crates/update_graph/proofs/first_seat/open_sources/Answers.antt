@@ -1,10 +1,11 @@
 use Rattle.std.proofs.Common.{◌+◌, ◌<◌, ap, sym, ◌∙◌, refl, subst, arith, get_or, false}
+use Rattle.std.proofs.lemmas.List.{get_or_default}
 use Rattle.graph_words.specs.Seats.{IsSeatOf}
 use Rattle.graph_words.specs.Views.{first_view}
 use Rattle.tick_model.specs.Evaluation.{is_source}
 use Rattle.update_graph.specs.Holdings.{IsOpened}
 use Rattle.update_graph.specs.Tags.{no_node}
-use Rattle.update_graph.proofs.Claimed.{any_default, node_within, operator_is}
+use Rattle.update_graph.proofs.Claimed.{node_within, operator_is}
 use Rattle.update_graph.proofs.FirstSeat.{opened_back, opened_first, opened_held, opened_skip}
 use Rattle.update_graph.proofs.Numbering.{next_source, no_next_source}
 use Rattle.update_graph.proofs.first_seat.open_sources.Goals.{then-is_source+in_ok-work+in_ok-open_source+in-None-1, then-is_source+in_ok-work+in_ok-open_source+in-Some-1, else-is_source}
@@ -26,7 +27,7 @@ loop-node-preserved c =
     let within : n < plan.nodes = omega (arith, c.loop-node-test.true, c.nodes-node-end.ensures) in
     let inside = node_within run plan c.requires.claimed n within in
     let there = c.index-nodes-node.is ∙ ap (λ l. get_or l n c.index-nodes-node.result) c.as_slice-nodes.ensures in
-    let node = there ∙ any_default run.plan.nodes n c.index-nodes-node.result no_node inside in
+    let node = there ∙ get_or_default run.plan.nodes n c.index-nodes-node.result no_node inside in
     let xs = c.if-is_source.ready.nodes.items in
     elim c.if-is_source.branch [
       | then-is_source+in_ok-work+in_ok-open_source+in-None-1 w ↦ record {

@@ -1,6 +1,7 @@
 use Rattle.std.proofs.Common.{◌≡◌, ◌+◌, ap, sym, ◌∙◌, subst, ◌<◌, false, length, get_or, map, true}
 use Rattle.std.specs.List.{AllByRecursion}
 use Rattle.std.specs.Prelude.{IfOk}
+use Rattle.std.proofs.lemmas.List.{get_or_default}
 use Rattle.tick_model.specs.declared.plan.Node.{Node}
 use Rattle.tick_model.specs.declared.plan.Op.{Op}
 use Rattle.tick_model.specs.Evaluation.{inputs_of}
@@ -8,7 +9,7 @@ use Rattle.update_graph.specs.Tags.{Tag, no_node, tag}
 use Rattle.update_graph.proofs.Advancing.{advanced, old_entered, old_operator, old_run, old_shares, old_within}
 use Rattle.update_graph.proofs.Claimed.{operator_is}
 use Rattle.update_graph.proofs.EnteredTicks.{lesser}
-use Rattle.update_graph.proofs.Sweeping.{any_default, length-tags}
+use Rattle.update_graph.proofs.Sweeping.{length-tags}
 use Rattle.update_graph.proofs.in_order.advance_node.Goals as goal
 
 pub inputs_stay-requires-clause-inputs : goal.inputs_stay-requires-clause-inputs
@@ -17,7 +18,7 @@ inputs_stay-requires-clause-inputs g c =
     let n = length c.args.sweep.now.works.items in
     let count = c.len.ensures ∙ c.args.sweep.now.works.ok.0 in
     let handed = ap length (c.deref.ensures.value ∙ c.requires.swept.shares) ∙ length-tags run c.args.step n in
-    let node = c.index-as_slice-len.is ∙ ap (λ all. get_or all c.len.result c.index-as_slice-len.result) c.as_slice.ensures ∙ ap (λ k. get_or run.plan.nodes k c.index-as_slice-len.result) count ∙ any_default run.plan.nodes n c.index-as_slice-len.result no_node c.requires.node in
+    let node = c.index-as_slice-len.is ∙ ap (λ all. get_or all c.len.result c.index-as_slice-len.result) c.as_slice.ensures ∙ ap (λ k. get_or run.plan.nodes k c.index-as_slice-len.result) count ∙ get_or_default run.plan.nodes n c.index-as_slice-len.result no_node c.requires.node in
     subst (λ (own : Node). AllByRecursion (λ input. input < length c.deref.result.now) (inputs_of own.op)) (sym node)
     (subst (λ m. AllByRecursion (λ input. input < m) (inputs_of (get_or run.plan.nodes n no_node).op)) (sym handed) (lesser run c.requires.entered.lawful n c.requires.node))
 
@@ -27,7 +28,7 @@ shares_for-requires-clause-inputs g c =
     let n = length c.args.sweep.now.works.items in
     let count = c.len.ensures ∙ c.args.sweep.now.works.ok.0 in
     let handed = ap length (c.deref-2.ensures.value ∙ c.requires.swept.shares) ∙ length-tags run c.args.step n in
-    let node = c.index-as_slice-len.is ∙ ap (λ all. get_or all c.len.result c.index-as_slice-len.result) c.as_slice.ensures ∙ ap (λ k. get_or run.plan.nodes k c.index-as_slice-len.result) count ∙ any_default run.plan.nodes n c.index-as_slice-len.result no_node c.requires.node in
+    let node = c.index-as_slice-len.is ∙ ap (λ all. get_or all c.len.result c.index-as_slice-len.result) c.as_slice.ensures ∙ ap (λ k. get_or run.plan.nodes k c.index-as_slice-len.result) count ∙ get_or_default run.plan.nodes n c.index-as_slice-len.result no_node c.requires.node in
     subst (λ (own : Node). AllByRecursion (λ input. input < length c.deref-2.result.now) (inputs_of own.op)) (sym node)
     (subst (λ m. AllByRecursion (λ input. input < m) (inputs_of (get_or run.plan.nodes n no_node).op)) (sym handed) (lesser run c.requires.entered.lawful n c.requires.node))
 
@@ -53,7 +54,7 @@ advance-worked-requires-clause-shares g c =
     let run = c.args.run.now in
     let n = length c.args.sweep.now.works.items in
     let count = c.len.ensures ∙ c.args.sweep.now.works.ok.0 in
-    let node = c.index-as_slice-len.is ∙ ap (λ all. get_or all c.len.result c.index-as_slice-len.result) c.as_slice.ensures ∙ ap (λ k. get_or run.plan.nodes k c.index-as_slice-len.result) count ∙ any_default run.plan.nodes n c.index-as_slice-len.result no_node c.requires.node in
+    let node = c.index-as_slice-len.is ∙ ap (λ all. get_or all c.len.result c.index-as_slice-len.result) c.as_slice.ensures ∙ ap (λ k. get_or run.plan.nodes k c.index-as_slice-len.result) count ∙ get_or_default run.plan.nodes n c.index-as_slice-len.result no_node c.requires.node in
     old_shares run c.args.step n c.requires.later c.args.work c.requires.work c.in_ok-shares.shares (c.in_ok-shares.ensures ∙ ap (λ (own : Node). map (tag run c.args.step) (inputs_of own.op)) node)
 
 pub put-requires-clause-work : goal.put-requires-clause-work

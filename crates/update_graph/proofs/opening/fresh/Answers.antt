@@ -1,6 +1,7 @@
 use Rattle.std.proofs.Common.{◌≡◌, ap, sym, ◌∙◌, subst, ◌<◌, arith, length, map}
 use Rattle.std.specs.List.{AllByRecursion}
 use Rattle.std.proofs.lemmas.List.{length-map}
+use Rattle.std.proofs.lemmas.Bool.{not-true}
 use Rattle.key_lists.proofs.Every.{every_weaker}
 use Rattle.operators.specs.Making.{CanBeMade}
 use Rattle.operators.specs.Operating.{Operating, StandsFor}
@@ -12,7 +13,7 @@ use Rattle.tick_table.specs.Ticking.{Ticking, no_rows}
 use Rattle.update_graph.specs.Tags.{node_at}
 use Rattle.update_graph.proofs.EnteredTicks.{lesser}
 use Rattle.update_graph.proofs.OperatorLaws.{begin_inputs, begin_own, can_be_made}
-use Rattle.update_graph.proofs.StepInputs.{not_true, ok_is}
+use Rattle.update_graph.proofs.StepInputs.{ok_is}
 use Rattle.update_graph.proofs.opening.fresh.Goals as goal
 
 pub widths_of-requires-clause-inputs : goal.widths_of-requires-clause-inputs
@@ -28,7 +29,7 @@ pub new-requires-3-clause-made : goal.new-requires-3-clause-made
 new-requires-3-clause-made c =
     let run = c.args.run.now in
     subst (CanBeMade c.args.op.now) (sym (c.deref.ensures.value ∙ c.in_ok-widths.ensures))
-    (subst (λ (op : Op). CanBeMade op (input_widths run.plan op)) (sym c.requires.op) (can_be_made run c.requires.lawful c.args.node c.requires.node (not_true (is_source (node_at run c.args.node)) c.requires.operator)))
+    (subst (λ (op : Op). CanBeMade op (input_widths run.plan op)) (sym c.requires.op) (can_be_made run c.requires.lawful c.args.node c.requires.node (not-true (is_source (node_at run c.args.node)) c.requires.operator)))
 
 pub returns-in-Ok : goal.returns-in-Ok
 returns-in-Ok c =

@@ -1,10 +1,11 @@
 use Rattle.std.proofs.Common.{ap, sym, ◌∙◌, subst, ◌<◌, length, get_or}
 use Rattle.std.specs.List.{AllByRecursion}
+use Rattle.std.proofs.lemmas.List.{get_or_default}
 use Rattle.tick_model.specs.declared.plan.Node.{Node}
 use Rattle.tick_model.specs.Evaluation.{inputs_of}
 use Rattle.update_graph.specs.Tags.{no_node, op_at}
 use Rattle.update_graph.proofs.EnteredTicks.{lesser}
-use Rattle.update_graph.proofs.Sweeping.{any_default, length-tags}
+use Rattle.update_graph.proofs.Sweeping.{length-tags}
 use Rattle.update_graph.proofs.opening.open_node.Goals as goal
 
 pub shares_for-requires-clause-inputs : goal.shares_for-requires-clause-inputs
@@ -13,7 +14,7 @@ shares_for-requires-clause-inputs g c =
     let n = length c.args.sweep.now.works.items in
     let count = c.len.ensures ∙ c.args.sweep.now.works.ok.0 in
     let handed = ap length (c.deref.ensures.value ∙ c.requires.swept.shares) ∙ length-tags run 0 n in
-    let node = c.index-as_slice-len.is ∙ ap (λ all. get_or all c.len.result c.index-as_slice-len.result) c.as_slice.ensures ∙ ap (λ k. get_or run.plan.nodes k c.index-as_slice-len.result) count ∙ any_default run.plan.nodes n c.index-as_slice-len.result no_node c.requires.node in
+    let node = c.index-as_slice-len.is ∙ ap (λ all. get_or all c.len.result c.index-as_slice-len.result) c.as_slice.ensures ∙ ap (λ k. get_or run.plan.nodes k c.index-as_slice-len.result) count ∙ get_or_default run.plan.nodes n c.index-as_slice-len.result no_node c.requires.node in
     subst (λ (own : Node). AllByRecursion (λ input. input < length c.deref.result.now) (inputs_of own.op)) (sym node)
     (subst (λ m. AllByRecursion (λ input. input < m) (inputs_of (get_or run.plan.nodes n no_node).op)) (sym handed) (lesser run c.requires.entered.lawful n c.requires.node))
 
@@ -23,5 +24,5 @@ fresh-requires-clause-op g c =
     let n = length c.args.sweep.now.works.items in
     let count = c.len.ensures ∙ c.args.sweep.now.works.ok.0 in
     let number = c.len-number.ensures ∙ c.args.sweep.now.works.ok.0 in
-    let node = c.index-as_slice-len.is ∙ ap (λ all. get_or all c.len.result c.index-as_slice-len.result) c.as_slice.ensures ∙ ap (λ k. get_or run.plan.nodes k c.index-as_slice-len.result) count ∙ any_default run.plan.nodes n c.index-as_slice-len.result no_node c.requires.node in
+    let node = c.index-as_slice-len.is ∙ ap (λ all. get_or all c.len.result c.index-as_slice-len.result) c.as_slice.ensures ∙ ap (λ k. get_or run.plan.nodes k c.index-as_slice-len.result) count ∙ get_or_default run.plan.nodes n c.index-as_slice-len.result no_node c.requires.node in
     ap (λ (own : Node). own.op) node ∙ ap (op_at run) (sym number)

@@ -1,11 +1,11 @@
 use Rattle.std.proofs.Common.{ap, sym, ◌∙◌, subst, map}
 use Rattle.operators.specs.Operating.{Operating, StandsFor}
 use Rattle.std.specs.Arc.{arc_value}
+use Rattle.std.proofs.lemmas.Bool.{not-true}
 use Rattle.tick_model.specs.Evaluation.{inputs_of, is_source, table_at}
 use Rattle.tick_model.specs.States.{state}
 use Rattle.tick_table.specs.Ticking.{Ticking}
 use Rattle.update_graph.specs.Tags.{node_at, op_at}
-use Rattle.update_graph.proofs.StepInputs.{not_true}
 use Rattle.update_graph.proofs.Staying.{has_table, own_after, rested_is, same_inputs}
 use Rattle.update_graph.proofs.work.stayed.Goals as goal
 
@@ -13,14 +13,14 @@ pub holding-requires-clause-defined : goal.holding-requires-clause-defined
 holding-requires-clause-defined c =
     let run = c.args.run.now in
     let n = c.args.node in
-    has_table run c.args.step c.requires.entered n c.requires.node (not_true (is_source (node_at run n)) c.requires.operator) c.requires.inputs c.requires.clear
+    has_table run c.args.step c.requires.entered n c.requires.node (not-true (is_source (node_at run n)) c.requires.operator) c.requires.inputs c.requires.clear
 
 pub holding-requires-clause-ready : goal.holding-requires-clause-ready
 holding-requires-clause-ready c =
     let run = c.args.run.now in
     let n = c.args.node in
     let same = c.in_ok-ready.ensures.operator in
-    let is = not_true (is_source (node_at run n)) c.requires.operator in
+    let is = not-true (is_source (node_at run n)) c.requires.operator in
     record {
       op = ap (λ (operator : Operating). operator.op) same ∙ c.requires.ready.op;
       widths = ap (λ (operator : Operating). operator.widths) same ∙ c.requires.ready.widths;
@@ -32,5 +32,5 @@ pub holding-requires-clause-table : goal.holding-requires-clause-table
 holding-requires-clause-table c =
     let run = c.args.run.now in
     let n = c.args.node in
-    let is = not_true (is_source (node_at run n)) c.requires.operator in
+    let is = not-true (is_source (node_at run n)) c.requires.operator in
     c.in_ok-ready.ensures.table ∙ rested_is run c.args.step c.requires.entered n c.requires.node is c.requires.inputs c.requires.clear (arc_value {X = Ticking} c.args.ready.value.table).new c.requires.ready.own

@@ -1,4 +1,6 @@
 use Rattle.std.proofs.Common.{ap, sym, ◌∙◌, subst, true≢false}
+use Rattle.std.proofs.lemmas.Bool.{not-true}
+use Rattle.std.proofs.lemmas.Result.{on_ok_weaker}
 use Rattle.merge_op.specs.Merged.{news, tables}
 use Rattle.operators.specs.Inputs.{HasKeys, IsCause}
 use Rattle.operators.specs.Operating.{StandsFor}
@@ -7,8 +9,8 @@ use Rattle.tick_model.specs.States.{tick}
 use Rattle.tick_table.specs.Ticking.{Ticking}
 use Rattle.update_graph.specs.Tags.{node_at}
 use Rattle.update_graph.proofs.Changing.{change_fits, change_lawful}
-use Rattle.update_graph.proofs.Counting.{always, counted_reads, weaker}
-use Rattle.update_graph.proofs.StepInputs.{exact_are, has, keys_are, news_are, no_fault, not_true, olds_are, own_change, own_fault, own_tick, rows_are, widths_are}
+use Rattle.update_graph.proofs.Counting.{always, counted_reads}
+use Rattle.update_graph.proofs.StepInputs.{exact_are, has, keys_are, news_are, no_fault, olds_are, own_change, own_fault, own_tick, rows_are, widths_are}
 use Rattle.update_graph.proofs.work.stepped.Goals as goal
 
 pub step-requires : goal.step-requires
@@ -16,7 +18,7 @@ step-requires g c =
     let run = c.args.run.now in
     let n = c.args.node in
     let all = tables c.args.inputs.now in
-    let is = not_true (is_source (node_at run n)) c.requires.operator in
+    let is = not-true (is_source (node_at run n)) c.requires.operator in
     record {
       widths = widths_are run c.args.step c.requires.entered n c.requires.node is c.requires.defined all c.requires.inputs ∙ sym c.requires.ready.widths;
       exact = exact_are run c.args.step c.requires.entered n c.requires.node is c.requires.defined all c.requires.inputs;
@@ -30,7 +32,7 @@ applied-requires-clause-lawful g c =
     let run = c.args.run.now in
     let n = c.args.node in
     let all = tables c.args.inputs.now in
-    let is = not_true (is_source (node_at run n)) c.requires.operator in
+    let is = not-true (is_source (node_at run n)) c.requires.operator in
     let f = no_fault run c.args.step c.requires.entered n c.requires.node is c.requires.defined all c.requires.inputs c.args.ready.operator.op c.requires.ready.op c.in-Ok.ensures.sound in
     let t = own_tick run c.args.step c.requires.entered n c.requires.node is c.requires.defined f in
     let own = own_change run c.args.step c.requires.entered n c.requires.node is c.requires.defined all c.requires.inputs c.args.ready.operator.op c.requires.ready.op c.in-Ok.change c.in-Ok.ensures.change f in
@@ -41,7 +43,7 @@ applied-requires-clause-whole g c =
     let run = c.args.run.now in
     let n = c.args.node in
     let all = tables c.args.inputs.now in
-    let is = not_true (is_source (node_at run n)) c.requires.operator in
+    let is = not-true (is_source (node_at run n)) c.requires.operator in
     let f = no_fault run c.args.step c.requires.entered n c.requires.node is c.requires.defined all c.requires.inputs c.args.ready.operator.op c.requires.ready.op c.in-Ok.ensures.sound in
     let t = own_tick run c.args.step c.requires.entered n c.requires.node is c.requires.defined f in
     let own = own_change run c.args.step c.requires.entered n c.requires.node is c.requires.defined all c.requires.inputs c.args.ready.operator.op c.requires.ready.op c.in-Ok.change c.in-Ok.ensures.change f in
@@ -52,7 +54,7 @@ with_table-requires-clause-defined g c =
     let run = c.args.run.now in
     let n = c.args.node in
     let all = tables c.args.inputs.now in
-    let is = not_true (is_source (node_at run n)) c.requires.operator in
+    let is = not-true (is_source (node_at run n)) c.requires.operator in
     has run c.args.step c.requires.entered n c.requires.node is c.requires.defined
     (no_fault run c.args.step c.requires.entered n c.requires.node is c.requires.defined all c.requires.inputs c.args.ready.operator.op c.requires.ready.op c.in-Ok.ensures.sound)
 
@@ -61,7 +63,7 @@ with_table-requires-clause-table g c =
     let run = c.args.run.now in
     let n = c.args.node in
     let all = tables c.args.inputs.now in
-    let is = not_true (is_source (node_at run n)) c.requires.operator in
+    let is = not-true (is_source (node_at run n)) c.requires.operator in
     let f = no_fault run c.args.step c.requires.entered n c.requires.node is c.requires.defined all c.requires.inputs c.args.ready.operator.op c.requires.ready.op c.in-Ok.ensures.sound in
     let t = own_tick run c.args.step c.requires.entered n c.requires.node is c.requires.defined f in
     let own = own_change run c.args.step c.requires.entered n c.requires.node is c.requires.defined all c.requires.inputs c.args.ready.operator.op c.requires.ready.op c.in-Ok.change c.in-Ok.ensures.change f in
@@ -72,7 +74,7 @@ with_table-requires-clause-ready g c =
     let run = c.args.run.now in
     let n = c.args.node in
     let all = tables c.args.inputs.now in
-    let is = not_true (is_source (node_at run n)) c.requires.operator in
+    let is = not-true (is_source (node_at run n)) c.requires.operator in
     let f = no_fault run c.args.step c.requires.entered n c.requires.node is c.requires.defined all c.requires.inputs c.args.ready.operator.op c.requires.ready.op c.in-Ok.ensures.sound in
     let t = own_tick run c.args.step c.requires.entered n c.requires.node is c.requires.defined f in
     let own = own_change run c.args.step c.requires.entered n c.requires.node is c.requires.defined all c.requires.inputs c.args.ready.operator.op c.requires.ready.op c.in-Ok.change c.in-Ok.ensures.change f in
@@ -87,7 +89,7 @@ pub without_step-requires : goal.without_step-requires
 without_step-requires g c = λ kind e.
     let run = c.args.run.now in
     let n = c.args.node in
-    let is = not_true (is_source (node_at run n)) c.requires.operator in
+    let is = not-true (is_source (node_at run n)) c.requires.operator in
     own_fault run c.args.step c.requires.entered n c.requires.node is c.requires.defined (tables c.args.inputs.now) c.requires.inputs c.args.ready.operator.op c.requires.ready.op kind
     (λ table h. subst (λ fault. IsCause fault (fault_of c.args.ready.operator.op table)) e (c.in-Err.ensures.cause table h))
 
@@ -96,10 +98,10 @@ returns-in_ok-table-in-Ok-clause-reads g c =
     let run = c.args.run.now in
     let n = c.args.node in
     let all = tables c.args.inputs.now in
-    let is = not_true (is_source (node_at run n)) c.requires.operator in
+    let is = not-true (is_source (node_at run n)) c.requires.operator in
     let f = no_fault run c.args.step c.requires.entered n c.requires.node is c.requires.defined all c.requires.inputs c.args.ready.operator.op c.requires.ready.op c.in-Ok.ensures.sound in
     let own = own_change run c.args.step c.requires.entered n c.requires.node is c.requires.defined all c.requires.inputs c.args.ready.operator.op c.requires.ready.op c.in-Ok.change c.in-Ok.ensures.change f in
     always c.with_table.result (λ defined. counted_reads run c.args.step n c.args.reads.now c.step.new.reads c.args.ready.operator.op c.args.ready.operator.widths all c.in-Ok.change c.requires.ready.op c.requires.ready.widths c.requires.inputs own c.in-Ok.ensures.reads)
 
 pub returns-in-Err-clause-reads : goal.returns-in-Err-clause-reads
-returns-in-Err-clause-reads g c = weaker c.without_step.result (λ undefined defined. absurd (true≢false (sym defined ∙ undefined))) c.without_step.ensures.undefined
+returns-in-Err-clause-reads g c = on_ok_weaker c.without_step.result (λ undefined defined. absurd (true≢false (sym defined ∙ undefined))) c.without_step.ensures.undefined

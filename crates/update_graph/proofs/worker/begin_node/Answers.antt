@@ -1,4 +1,5 @@
 use Rattle.std.proofs.Common.{map, ◌+◌, ◌<◌, ◌∙◌, sym, ap, subst, length}
+use Rattle.steal_workers.proofs.Holding.{has_mark}
 use lib.ListN.{get_elem?}
 use Rattle.graph_words.specs.declared.table.Mark.TheVariants.{Untaken}
 use Rattle.graph_words.specs.Marks.{at}
@@ -6,7 +7,6 @@ use Rattle.update_graph.specs.Edges.{froms_to}
 use Rattle.update_graph.specs.Tags.{tag}
 use Rattle.update_graph.proofs.Claimed.{few_of_step, shares_taken, work_taken}
 use Rattle.update_graph.proofs.Handing.{begun_is}
-use Rattle.update_graph.proofs.Holding.{has_mark}
 use Rattle.update_graph.proofs.WorkSent.{sent}
 use Rattle.update_graph.proofs.worker.begin_node.Goals as goal
 

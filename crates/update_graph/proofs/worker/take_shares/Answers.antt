@@ -1,6 +1,7 @@
 use Rattle.std.proofs.Common.{◌+◌, ◌<◌, ◌∙◌, sym, ap, subst, arith, length, get_or, map}
 use Rattle.std.proofs.lemmas.Bool.{eqb-true}
 use Rattle.std.proofs.lemmas.List.{take_all}
+use Rattle.steal_workers.proofs.Holding.{has_mark}
 use lib.ListN.{get_elem?}
 use Rattle.graph_words.specs.Marks.{at}
 use Rattle.graph_words.specs.Seats.{Has}
@@ -8,7 +9,6 @@ use Rattle.update_graph.specs.Edges.{froms_to}
 use Rattle.update_graph.specs.Tags.{tag}
 use Rattle.update_graph.proofs.ClaimedWorks.{as_tag}
 use Rattle.update_graph.proofs.Handing.{taken_more, taken_past, taking_none}
-use Rattle.update_graph.proofs.Holding.{has_mark}
 use Rattle.update_graph.proofs.Walking.{along_end, along_first, along_next, along_past, next_passes, next_there, no_edge}
 use Rattle.update_graph.proofs.WorkSent.{sent}
 use Rattle.update_graph.proofs.worker.take_shares.Goals as goal

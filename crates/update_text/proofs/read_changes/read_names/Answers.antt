@@ -1,7 +1,7 @@
 use Rattle.std.proofs.Common.{◌≡◌, ap, sym, ◌∙◌, subst, ◌∷◌, ◌++◌, ◌<◌, [], List, ℕ, true, false, length, map, arith, append_assoc}
-use Rattle.std.specs.Prelude.{Some, None}
 use Rattle.std.specs.List.{AllByRecursion}
 use Rattle.std.proofs.lemmas.List.{append-nil}
+use Rattle.std.proofs.lemmas.Option.{same_Some, none-some}
 use Rattle.key_lists.specs.Keys.{IsRising}
 use Rattle.row_set.specs.Sets.{with_key}
 use Rattle.row_set.proofs.United.{with_key_rises, every-united}
@@ -10,12 +10,6 @@ use Rattle.tick_model.specs.Texts.{column_name}
 use Rattle.update_text.proofs.ReadColumns.{gives_both, names_ahead, names_done}
 use Rattle.update_text.proofs.ReadRows.{gives_memory, united_behind}
 use Rattle.update_text.proofs.read_changes.read_names.Goals as goal
-
-some_same : (a b : ℕ) → Some a ≡ Some b → a ≡ b
-some_same a b e = cc
-
-none_is_some : (b : ℕ) → None ≡ Some b → ⊥
-none_is_some b e = cc
 
 pub returns-in_err-rest-clause-told : goal.returns-in_err-rest-clause-told
 returns-in_err-rest-clause-told c places rest distinct rising below e =
@@ -31,7 +25,7 @@ returns-in-None-clause-told c places rest distinct rising below e =
     let next = names_ahead columns left.0 rest c.loop-field.rest.now left.2 (sym c.begins_with_comma.ensures ∙ c.loop-field-test.true) in
     let read = c.in_ok-rest.ensures.told (column_name columns next.0) (map (column_name columns) next.1) rest next.3 in
     let first = subst (AllByRecursion (λ column. column < length columns)) next.2 left.1 in
-    absurd (none_is_some next.0 (c.in-None.ensures.told next.0 distinct first.0 (c.as_slice.ensures.value ∙ read.1)))
+    absurd (none-some next.0 (c.in-None.ensures.told next.0 distinct first.0 (c.as_slice.ensures.value ∙ read.1)))
 
 pub loop-field-preserved : goal.loop-field-preserved
 loop-field-preserved c =
@@ -47,7 +41,7 @@ loop-field-preserved c =
           let next = names_ahead columns left.0 rest c.loop-field.rest.now left.2 (sym c.begins_with_comma.ensures ∙ c.loop-field-test.true) in
           let read = c.in_ok-rest.ensures.told (column_name columns next.0) (map (column_name columns) next.1) rest next.3 in
           let first = subst (AllByRecursion IsThere) next.2 left.1 in
-          let same = some_same place next.0 (c.in-Some.ensures.told next.0 distinct first.0 (c.as_slice.ensures.value ∙ read.1)) in
+          let same = same_Some place next.0 (c.in-Some.ensures.told next.0 distinct first.0 (c.as_slice.ensures.value ∙ read.1)) in
           let whole : IsRising (chosen ++ next.0 ∷ next.1) = subst IsRising (sym left.3 ∙ ap (λ (some : List ℕ). chosen ++ some) next.2) rising in
           let under = subst (λ (k : ℕ). AllByRecursion (λ key. key < k) chosen) (sym same) (rising_before chosen next.0 next.1 whole) in (
             next.1,

@@ -7,13 +7,14 @@ use Rattle.std.proofs.lemmas.List.{append-nil, map-append}
 use Rattle.key_lists.specs.Keys.{IsRising}
 use Rattle.key_lists.proofs.Every.{every-append}
 use Rattle.row_set.proofs.Windows.{rising_before}
+use Rattle.row_set.proofs.United.{one_key}
 use Rattle.tick_model.specs.declared.table.PlainRow.{PlainRow}
 use Rattle.tick_model.specs.Tables.{keys}
 use Rattle.tick_model.specs.Texts.{cell_texts, records_text, row_record}
 use Rattle.update_text.specs.declared.printed.PrintedFault.TheVariants.{Memory}
 use Rattle.update_text.specs.Reading.{IsToldRow, has_tag, next_fields}
 use Rattle.update_text.proofs.Backwards.{rest_same}
-use Rattle.update_text.proofs.ReadRows.{first_ahead, gives_memory, none_ahead, one_key, tagged_here, tagged_text}
+use Rattle.update_text.proofs.ReadRows.{first_ahead, gives_memory, none_ahead, tagged_here, tagged_text}
 use Rattle.update_text.proofs.read_rows.read_rows.Goals as goal
 
 abbrev cells_of : List PlainRow → List ℤ

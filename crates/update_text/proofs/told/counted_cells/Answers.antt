@@ -1,9 +1,9 @@
 use Rattle.std.proofs.Common.{◌≡◌, sym, ap, ◌∙◌, subst, true, ℕ}
 use Rattle.std.specs.List.{AllByRecursion}
 use Rattle.key_lists.specs.Keys.{is_among}
+use Rattle.key_lists.proofs.Parts.{every_front, every_back}
 use Rattle.tick_model.specs.Tables.{keys}
 use Rattle.tick_model.specs.Updates.{Update}
-use Rattle.update_text.proofs.RowsUnder.{every_front, every_back}
 use Rattle.update_text.proofs.told.counted_cells.Goals as goal
 
 pub push_cells_under-requires : goal.push_cells_under-requires

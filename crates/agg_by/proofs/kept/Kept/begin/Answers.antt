@@ -1,15 +1,12 @@
 use Rattle.std.proofs.Common.{◌≡◌, refl, ap, sym, ◌∙◌, subst, arith, ℕ, List, [], ◌∷◌, map, length, inl, inr}
 use Rattle.std.proofs.lemmas.Bool.{eqb-true}
+use Rattle.std.proofs.lemmas.List.{nil_from_length}
 use Rattle.row_groups.specs.Members.{Names}
 use Rattle.tick_model.specs.declared.plan.Agg.{Agg}
 use Rattle.tick_model.specs.declared.table.PlainRow.{PlainRow}
 use Rattle.agg_by.specs.declared.running.Running.{Running}
 use Rattle.agg_by.specs.Kept.{AnswerAll, Are, agg_of}
 use Rattle.agg_by.proofs.kept.Kept.begin.Goals as goal
-
-none_long : (running : List Running) → length running ≡ 0 → running ≡ []
-none_long [] e = refl
-none_long (x ∷ running) e = absurd (omega (arith, e))
 
 none_of : (running : List Running) → map agg_of running ≡ [] → running ≡ []
 none_of [] e = refl
@@ -27,4 +24,4 @@ returns-in_ok-self-clause-running c = λ rows are.
     let none : old.running.len ≡ 0 = eqb-true old.running.len 0 (sym c.if-is_empty.ensures) in
     let short : length old.running.items ≡ 0 = omega (arith, old.running.ok.0) in
     let fresh : AnswerAll old.by old.rows.names old.aggs [] new = subst (λ (aggs : List Agg). AnswerAll old.by old.rows.names aggs [] new) c.as_slice.ensures (c.in_ok-self.ensures old.by old.rows.names) in
-    begun old.by old.rows.names old.aggs rows old.running.items new (none_long old.running.items short) fresh are
+    begun old.by old.rows.names old.aggs rows old.running.items new (nil_from_length old.running.items short) fresh are

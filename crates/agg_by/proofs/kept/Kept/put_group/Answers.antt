@@ -1,12 +1,12 @@
 use Rattle.std.proofs.Common.{◌≡◌, refl, sym, ◌∙◌, subst, true, List, Option, is_some}
 use Rattle.std.proofs.lemmas.Result.{on_ok_weaker}
+use Rattle.std.proofs.lemmas.Option.{same_Some}
 use Rattle.row_groups.specs.Members.{Member, group_of, groups_of}
 use Rattle.agg_by.specs.declared.running.Running.{Running}
 use Rattle.agg_by.specs.Kept.{AnswerAll}
 use Rattle.agg_by.specs.Moments.{table_at}
 use Rattle.agg_by.specs.Steps.{key_at}
 use Rattle.agg_by.proofs.Answering.{few_rows, known_at, led_at, led_cells, led_row, put_row, rows_there, there_at}
-use Rattle.agg_by.proofs.Ordered.{some_same}
 use Rattle.agg_by.proofs.kept.Kept.put_group.Goals as goal
 
 pub number_of-number-requires : goal.number_of-number-requires
@@ -23,12 +23,12 @@ unwrap-group-requires g c =
 pub put_values-requires-clause-few : goal.put_values-requires-clause-few
 put_values-requires-clause-few g c =
     few_rows c.args.self.now.by (table_at c.args.moment c.args.input.now) c.requires.table (groups_of c.args.self.now.rows) c.requires.keeps.rows (key_at c.args.self.now.by (table_at c.args.moment c.args.input.now).rows c.args.first) c.unwrap-group.result
-    (some_same (sym c.unwrap-group.ensures ∙ led_at c.args.self.now.by (table_at c.args.moment c.args.input.now) c.requires.table (groups_of c.args.self.now.rows) c.requires.keeps.rows c.args.first c.number_of-number.result c.args.self.now.rows.names c.group_at.result c.requires.here c.number_of-number.ensures c.group_at.ensures.group))
+    (same_Some _ _ (sym c.unwrap-group.ensures ∙ led_at c.args.self.now.by (table_at c.args.moment c.args.input.now) c.requires.table (groups_of c.args.self.now.rows) c.requires.keeps.rows c.args.first c.number_of-number.result c.args.self.now.rows.names c.group_at.result c.requires.here c.number_of-number.ensures c.group_at.ensures.group))
 
 pub put_values-requires-clause-here : goal.put_values-requires-clause-here
 put_values-requires-clause-here g c =
     rows_there c.args.self.now.by (table_at c.args.moment c.args.input.now) c.requires.table (groups_of c.args.self.now.rows) c.requires.keeps.rows (key_at c.args.self.now.by (table_at c.args.moment c.args.input.now).rows c.args.first) c.unwrap-group.result
-    (some_same (sym c.unwrap-group.ensures ∙ led_at c.args.self.now.by (table_at c.args.moment c.args.input.now) c.requires.table (groups_of c.args.self.now.rows) c.requires.keeps.rows c.args.first c.number_of-number.result c.args.self.now.rows.names c.group_at.result c.requires.here c.number_of-number.ensures c.group_at.ensures.group))
+    (same_Some _ _ (sym c.unwrap-group.ensures ∙ led_at c.args.self.now.by (table_at c.args.moment c.args.input.now) c.requires.table (groups_of c.args.self.now.rows) c.requires.keeps.rows c.args.first c.number_of-number.result c.args.self.now.rows.names c.group_at.result c.requires.here c.number_of-number.ensures c.group_at.ensures.group))
 
 pub returns-clause-cells : goal.returns-clause-cells
 returns-clause-cells g c =
@@ -40,7 +40,7 @@ returns-clause-cells g c =
     let t = c.requires.table in
     let are = c.requires.keeps.rows in
     let named = (c.number_of-number.ensures (key_at by table.rows c.args.first) (known_at by table t kept are c.args.first (led_row by table t kept are c.args.first c.requires.here))).own in
-    let group : c.unwrap-group.result ≡ group_of (key_at by table.rows c.args.first) kept.members = some_same (sym c.unwrap-group.ensures ∙ led_at by table t kept are c.args.first c.number_of-number.result c.args.self.now.rows.names c.group_at.result c.requires.here c.number_of-number.ensures c.group_at.ensures.group) in
+    let group : c.unwrap-group.result ≡ group_of (key_at by table.rows c.args.first) kept.members = same_Some _ _ (sym c.unwrap-group.ensures ∙ led_at by table t kept are c.args.first c.number_of-number.result c.args.self.now.rows.names c.group_at.result c.requires.here c.number_of-number.ensures c.group_at.ensures.group) in
     let cells : c.cells.result.now ≡ key_at by table.rows c.args.first = led_cells by table t kept are c.args.first c.unwrap-group.result c.cells.result.now c.requires.here group c.cells.ensures in
     let answers : AnswerAll by names aggs table.rows c.deref.result.now = subst (λ (all : List Running). AnswerAll by names aggs table.rows all) (sym c.deref.ensures.value) c.requires.keeps.running in
     on_ok_weaker c.put_values.result

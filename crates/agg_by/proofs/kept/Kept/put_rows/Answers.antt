@@ -3,9 +3,11 @@ use Rattle.std.specs.Prelude.{slice_get}
 use Rattle.std.specs.List.{AllByRecursion}
 use Rattle.std.proofs.lemmas.List.{map-append, with_items_is}
 use Rattle.std.proofs.Math.Seq.{drop-length, take-length}
+use Rattle.row_set.proofs.Windows.{rising-drop}
 use Rattle.key_lists.specs.Keys.{is_among, IsRising}
 use Rattle.key_lists.proofs.Among.{among_below}
 use Rattle.key_lists.proofs.Every.{every_weaker, filter_all}
+use Rattle.key_lists.proofs.Parts.{drop_got}
 use Rattle.row_groups.specs.Members.{Grouped, IsNumberOf, groups_of, member_of, with_member}
 use Rattle.shown_rows.proofs.Walks.{of_place, take_next}
 use Rattle.tick_model.specs.declared.table.PlainRow.{PlainRow}
@@ -17,7 +19,7 @@ use Rattle.agg_by.specs.Answers.{with_row}
 use Rattle.agg_by.specs.Kept.{AnswerAll, Answers, Keeps, indexed}
 use Rattle.agg_by.specs.Steps.{key_at}
 use Rattle.agg_by.specs.Touched.{AreNoted, with_number}
-use Rattle.agg_by.proofs.KeptSteps.{all_changed, drop_next, gains, indexed_gains, indexed_room, rising_drop, same_answers, with_agg}
+use Rattle.agg_by.proofs.KeptSteps.{all_changed, gains, indexed_gains, indexed_room, same_answers, with_agg}
 use Rattle.agg_by.proofs.Made.{same_named}
 use Rattle.agg_by.proofs.Noted.{noted_more, noted_none, part_again}
 use Rattle.agg_by.proofs.kept.Kept.put_rows.Goals as goal
@@ -42,9 +44,9 @@ add-requires-clause-absent g c =
     let rest = drop (suc place) come in
     let rising = c.requires.new_table.rising in
     let here : slice_get come place ≡ Some key = sym c.get.ensures.key ∙ c.unwrap-key.ensures in
-    let next : drop place come ≡ key ∷ rest = drop_next come place key here in
+    let next : drop place come ≡ key ∷ rest = drop_got come place key here in
     let own : is_among key (keys rows) ≡ true = of_place (λ key. is_among key (keys rows) ≡ true) place come key c.requires.come here in
-    let ordered : IsRising (key ∷ rest) = subst IsRising next (rising_drop place come c.get.ensures.keys.rising) in
+    let ordered : IsRising (key ∷ rest) = subst IsRising next (rising-drop place come c.get.ensures.keys.rising) in
     let apart : is_among key rest ≡ false = among_below key rest ordered.0 in
     let kept_rows : groups_of c.loop-position.self.rows ≡ indexed by None (removing (key ∷ rest) rows) = c.loop-position.invariant.keeps.rows ∙ ap (λ (ks : List ℕ). indexed by None (removing ks rows)) next in
     indexed_room by rows rising key rest own apart (groups_of c.loop-position.self.rows) kept_rows
@@ -63,9 +65,9 @@ loop-position-preserved g c =
     let before = removing (key ∷ rest) rows in
     let rising = c.requires.new_table.rising in
     let here : slice_get come place ≡ Some key = sym c.get.ensures.key ∙ c.unwrap-key.ensures in
-    let next : drop place come ≡ key ∷ rest = drop_next come place key here in
+    let next : drop place come ≡ key ∷ rest = drop_got come place key here in
     let own : is_among key (keys rows) ≡ true = of_place (λ key. is_among key (keys rows) ≡ true) place come key c.requires.come here in
-    let ordered : IsRising (key ∷ rest) = subst IsRising next (rising_drop place come c.get.ensures.keys.rising) in
+    let ordered : IsRising (key ∷ rest) = subst IsRising next (rising-drop place come c.get.ensures.keys.rising) in
     let apart : is_among key rest ≡ false = among_below key rest ordered.0 in
     let kept_rows : groups_of kept ≡ indexed by None before = c.loop-position.invariant.keeps.rows ∙ ap (λ (ks : List ℕ). indexed by None (removing ks rows)) next in
     let items = c.loop-position.self.running.items in

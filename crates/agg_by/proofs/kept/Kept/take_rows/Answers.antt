@@ -4,6 +4,7 @@ use Rattle.std.proofs.lemmas.List.{with_items_is}
 use Rattle.std.proofs.Math.Seq.{take-length}
 use Rattle.key_lists.specs.Keys.{is_among}
 use Rattle.key_lists.proofs.Every.{filter_all}
+use Rattle.key_lists.proofs.Among.{among_above}
 use Rattle.row_groups.specs.Members.{IsNumberOf, Member, Numbered, groups_of, member_under}
 use Rattle.shown_rows.proofs.Walks.{below_keys, of_place, take_next}
 use Rattle.tick_model.specs.declared.table.PlainRow.{PlainRow}
@@ -14,7 +15,7 @@ use Rattle.agg_by.specs.Answers.{without_row}
 use Rattle.agg_by.specs.Kept.{AnswerAll, Answers}
 use Rattle.agg_by.specs.Steps.{key_at}
 use Rattle.agg_by.proofs.Answering.{known_at, there_at}
-use Rattle.agg_by.proofs.KeptSteps.{above_all, all_changed, loses, removing-last, without_agg}
+use Rattle.agg_by.proofs.KeptSteps.{all_changed, loses, removing-last, without_agg}
 use Rattle.agg_by.proofs.kept.Kept.take_rows.Goals as goal
 
 pub loop-position-init : goal.loop-position-init
@@ -52,7 +53,7 @@ loop-position-preserved g c =
     let new = c.take_all.new.all in
     let here : slice_get gone place ≡ Some key = sym c.get.ensures.key ∙ c.unwrap-key.ensures in
     let own : is_among key (keys rows) ≡ true = of_place (λ key. is_among key (keys rows) ≡ true) place gone key c.requires.gone here in
-    let apart : is_among key (take place gone) ≡ false = above_all key (take place gone) (below_keys (λ _. true) gone place key (take place gone) c.get.ensures.keys.rising here (sym (filter_all (take place gone)))) in
+    let apart : is_among key (take place gone) ≡ false = among_above key (take place gone) (below_keys (λ _. true) gone place key (take place gone) c.get.ensures.keys.rising here (sym (filter_all (take place gone)))) in
     let known : option_map (λ (member : Member). member.cells) (member_under key c.loop-position.self.rows.members) ≡ Some (key_at by rows key) =
     ap (λ (kept : Numbered). option_map (λ (member : Member). member.cells) (member_under key kept.members)) c.loop-position.invariant.rows
     ∙ known_at by c.args.input.now.old c.requires.old_table (groups_of c.args.self.now.rows) c.requires.keeps.rows key own in

@@ -2,11 +2,11 @@ use Rattle.std.proofs.Common.{◌≡◌, ap, sym, ◌∙◌, subst, ◌<◌, tru
 use Rattle.std.specs.Prelude.{slice_get}
 use Rattle.std.specs.List.{AllByRecursion}
 use Rattle.std.proofs.lemmas.List.{length-set}
+use Rattle.std.proofs.lemmas.Option.{slice_get-get_or}
 use Rattle.key_lists.specs.Keys.{is_among}
 use Rattle.key_lists.proofs.Among.{each_among}
 use Rattle.key_lists.proofs.Every.{every_weaker}
 use Rattle.shown_rows.proofs.Walks.{of_place}
-use Rattle.agg_by.proofs.FirstKeys.{get_index}
 use Rattle.agg_by.proofs.Noted.{marked_within, unmarked}
 use Rattle.agg_by.proofs.touched.TouchedGroups.clear.Goals as goal
 
@@ -25,7 +25,7 @@ loop-number-preserved c =
     let marks = c.loop-number.self-inside.1.1.0.items in
     let place = c.loop-number.number-index in
     let number : ℕ = get_or numbers place 0 in
-    let here : slice_get numbers place ≡ Some number = get_index numbers place 0 c.loop-number-test.true in
+    let here : slice_get numbers place ≡ Some number = slice_get-get_or numbers place 0 c.loop-number-test.true in
     let within = of_place (λ number. number < length marks) place numbers number c.loop-number.invariant.within here in record {
       within = subst (λ (count : ℕ). AllByRecursion (λ number. number < count) numbers) (sym (length-set marks number _)) c.loop-number.invariant.within;
       marks = unmarked numbers marks place number within here c.loop-number.invariant.marks;

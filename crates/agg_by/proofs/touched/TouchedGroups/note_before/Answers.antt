@@ -1,6 +1,7 @@
 use Rattle.std.proofs.Common.{◌≡◌, refl, sym, subst, true, ◌++◌, List, ℤ, map}
 use Rattle.std.specs.List.{AllByRecursion, list_any}
 use Rattle.std.proofs.lemmas.Result.{on_ok_weaker}
+use Rattle.std.proofs.lemmas.List.Folds.{list_any-append}
 use Rattle.key_lists.specs.Keys.{is_among}
 use Rattle.row_groups.specs.Members.{groups_of}
 use Rattle.tick_model.specs.Tables.{keys}
@@ -8,7 +9,7 @@ use Rattle.agg_by.specs.Steps.{kept_cells, key_at, starts, touched_cells}
 use Rattle.agg_by.specs.Touched.{is_named, starts_numbered}
 use Rattle.agg_by.proofs.Answering.{own_there}
 use Rattle.agg_by.proofs.Noted.{named-append, together}
-use Rattle.agg_by.proofs.Touching.{any-append, come_there, gone_there}
+use Rattle.agg_by.proofs.Touching.{come_there, gone_there}
 use Rattle.agg_by.proofs.Whole.{touched_is}
 use Rattle.agg_by.proofs.touched.TouchedGroups.note_before.Goals as goal
 
@@ -40,5 +41,5 @@ returns-clause-firsts g c =
     let all = touched_is by t c.requires.exact (groups_of rows) c.args.gone.now c.args.come.now c.requires.rows c.requires.gone c.requires.come in
     on_ok_weaker c.note_coming.result
     (λ firsts first. together (list_any (starts_numbered rows first)) (list_any (starts rows.members first)) c.clear.new.self c.note_kept.new.self c.note_coming.new.self (map (kept_cells rows.members) c.args.gone.now) (map (key_at by t.new.rows) c.args.come.now) (touched_cells by t)
-    refl (any-append (starts rows.members first)) c.clear.ensures (c.in_ok-note_kept.ensures.firsts first) (firsts first) all)
+    refl (list_any-append (starts rows.members first)) c.clear.ensures (c.in_ok-note_kept.ensures.firsts first) (firsts first) all)
     c.note_coming.ensures.firsts

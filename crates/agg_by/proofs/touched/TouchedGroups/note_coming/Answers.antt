@@ -3,6 +3,7 @@ use Rattle.std.specs.Prelude.{slice_get}
 use Rattle.std.specs.List.{list_any}
 use Rattle.std.proofs.Math.Seq.{take-length}
 use Rattle.key_lists.specs.Keys.{is_among}
+use Rattle.key_lists.proofs.Booleans.{or_false}
 use Rattle.row_groups.specs.Members.{IsNumberOf, group_of, name_at}
 use Rattle.shown_rows.proofs.Walks.{of_place}
 use Rattle.tick_model.specs.Agg.{key_cells}
@@ -10,7 +11,7 @@ use Rattle.tick_model.specs.Tables.{cells_at, keys as keys_of}
 use Rattle.agg_by.specs.Steps.{key_at, starts}
 use Rattle.agg_by.specs.Touched.{is_named, starts_numbered}
 use Rattle.agg_by.proofs.Noted.{any_with, named_next, named_none, named_one, starts_none, starts_own}
-use Rattle.agg_by.proofs.Touching.{any_next, or_none}
+use Rattle.agg_by.proofs.Touching.{any_next}
 use Rattle.agg_by.proofs.touched.TouchedGroups.note_coming.Goals as goal
 use Rattle.agg_by.proofs.touched.TouchedGroups.note_coming.Goals.{in-Some+in_ok-note, in_default}
 
@@ -44,11 +45,11 @@ loop-position-preserved g c =
           let unnamed : (number : ℕ) → name_at number kept.names ≢ Some (key_at by rows key) = subst (λ (cells : List ℤ). (number : ℕ) → name_at number kept.names ≢ Some cells) cells (c.find.ensures.unnamed w.in_default.is) in
           let empty : group_of (key_at by rows key) kept.members ≡ [] = subst (λ (cells : List ℤ). group_of cells kept.members ≡ []) cells (c.find.ensures.empty w.in_default.is) in record {
             named = λ other.
-                ap (is_among other) w.self-is ∙ sym (or_none (is_among other c.loop-position.self))
+                ap (is_among other) w.self-is ∙ sym (or_false (is_among other c.loop-position.self))
                 ∙ ap₂ (λ a b. a || b) (c.loop-position.invariant.named other) (sym (named_none (key_at by rows key) kept.names unnamed other))
                 ∙ named_next (key_at by rows) keys place key other kept.names (is_among other c.args.self.now) here;
             firsts = λ first.
-                ap (list_any (starts_numbered kept first)) w.self-is ∙ sym (or_none (list_any (starts_numbered kept first) c.loop-position.self))
+                ap (list_any (starts_numbered kept first)) w.self-is ∙ sym (or_false (list_any (starts_numbered kept first) c.loop-position.self))
                 ∙ ap₂ (λ a b. a || b) (c.loop-position.invariant.firsts first) (sym (starts_none (key_at by rows key) kept.members first empty))
                 ∙ any_next (starts kept.members first) (key_at by rows) keys place key (list_any (starts_numbered kept first) c.args.self.now) here;
             reads = omega (arith, c.loop-position.invariant.reads, c.in_ok-read.ensures.reads);

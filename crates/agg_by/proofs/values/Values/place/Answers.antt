@@ -1,8 +1,8 @@
 use Rattle.std.proofs.Common.{◌≡◌, rules, subst, List, ℤ, int_lt}
 use Rattle.std.specs.Prelude.{insert, remove}
 use Rattle.std.proofs.lemmas.List.Sorted.{IsPartitionPoint-from_clause}
+use Rattle.key_lists.proofs.Parts.{front_part, back_part}
 use Rattle.chunk_list.specs.Chunked.{joined}
-use Rattle.row_set.proofs.Places.{front_part, back_part}
 use Rattle.agg_by.specs.Values.{placed, unplaced}
 use Rattle.agg_by.proofs.Ordered.{parted, placed_at, unplaced_at}
 use Rattle.agg_by.proofs.values.Values.place.Goals as goal

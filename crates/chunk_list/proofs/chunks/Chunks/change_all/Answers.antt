@@ -2,10 +2,11 @@ use Rattle.std.proofs.Common.{◌≡◌, ◌<◌, ◌++◌, ◌∙◌, [], ap, a
 use Rattle.std.specs.List.{AllByRecursion}
 use Rattle.std.specs.Vec.{with_items}
 use Rattle.std.proofs.lemmas.List.{length-map}
+use Rattle.key_lists.proofs.Parts.{take_front}
 use Rattle.chunk_list.specs.Chunked.{joined, list_at}
 use Rattle.chunk_list.proofs.Changing.{every_chunk, later_has, map_more}
 use Rattle.chunk_list.proofs.Edits.{lists_set}
-use Rattle.chunk_list.proofs.Joined.{contents, length-lists, list_at-items, taken_front}
+use Rattle.chunk_list.proofs.Joined.{contents, length-lists, list_at-items}
 use Rattle.chunk_list.proofs.chunks.Chunks.change_all.Goals as goal
 
 pub loop-items-preserved : goal.loop-items-preserved
@@ -20,7 +21,7 @@ loop-items-preserved g c =
     let len : kept.len ≡ length items = omega (arith, kept.ok.0, ap length c.change_items.ensures, length-map c.deref_mut.result.now f, ap length c.deref_mut.ensures.value) in
     lists_set now i (with_items kept items) (map f (list_at i (contents now)))
     (ap (λ n. take n (items ++ drop (length items) kept.items)) len
-    ∙ taken_front items (drop (length items) kept.items)
+    ∙ take_front items (drop (length items) kept.items)
     ∙ c.change_items.ensures
     ∙ ap (map f) (c.deref_mut.ensures.value ∙ sym (list_at-items now i c.items-item.result within)))
     ∙ map_more (map (g.C.Change.changed c.args.change.now)) (contents first) (contents now) i [] (omega (arith, c.loop-items-test.true, length-lists first)) c.loop-items.invariant

@@ -4,7 +4,7 @@ use Rattle.std.proofs.lemmas.List.{length-take}
 use Rattle.std.proofs.lemmas.List.Edits.{length-insert}
 use Rattle.chunk_list.specs.Chunked.{AreChunks, IsChunk, IsReplaced, joined, list_at, lists}
 use Rattle.chunk_list.proofs.Edits.{lists_same}
-use Rattle.chunk_list.proofs.Halves.{counts_back, both_halves, counts_back, counts_edited, halves_kept, halves_replaced, joined_halves, lists_halved, own_chunk, still_there}
+use Rattle.chunk_list.proofs.Halves.{counts_back, both_halves, counts_edited, halves_kept, halves_replaced, joined_halves, lists_halved, own_chunk, still_there}
 use Rattle.chunk_list.proofs.Joined.{contents, count_at, length-counts, length-joined}
 use Rattle.std.proofs.lemmas.List.Sums.{sum_by-insert}
 use Rattle.chunk_list.proofs.chunks.Chunks.split.Goals as goal

@@ -1,8 +1,7 @@
 use Rattle.std.proofs.Common.{◌≡◌, ◌+◌, ◌-◌, ◌<◌, ◌≤◌, sym, subst, suc, take, drop, length, arith}
 use Rattle.std.specs.List.{AllByRecursion}
 use Rattle.key_lists.proofs.Every.{every_weaker}
-use Rattle.column_source.proofs.Listings.{last_taken}
-use Rattle.column_source.proofs.Parts.{one_at}
+use Rattle.key_lists.proofs.Parts.{some_at, last_taken}
 use Rattle.column_source.proofs.Steps.{ended_front, one_more, one_before}
 use Rattle.column_source.proofs.blocks.Blocks.ended_by.Goals as goal
 
@@ -18,7 +17,7 @@ overflow_sub-behind c =
     let blocks = c.args.self.now in
     let n = c.had_begun_by-begun.result in
     let lt : n - 1 < length blocks = omega (arith, c.if-begun-eq0.false, c.had_begun_by-begun.ensures.within) in
-    let here = one_at blocks (n - 1) lt in
+    let here = some_at blocks (n - 1) lt in
     omega (arith, c.before-before.ensures.first here.0 here.1, last_taken (λ block. block.first_before ≤ c.args.key) blocks n here.0 c.if-begun-eq0.false c.had_begun_by-begun.ensures.within here.1 c.had_begun_by-begun.ensures.begun)
 
 pub returns-then-before-behind-clause-ended : goal.returns-then-before-behind-clause-ended
@@ -27,7 +26,7 @@ returns-then-before-behind-clause-ended c =
     let key = c.args.key in
     let n = c.had_begun_by-begun.result in
     let lt : n - 1 < length blocks = omega (arith, c.if-begun-eq0.false, c.had_begun_by-begun.ensures.within) in
-    let here = one_at blocks (n - 1) lt in
+    let here = some_at blocks (n - 1) lt in
     let next : n ≡ suc (n - 1) = omega (arith, c.if-begun-eq0.false) in
     let begins : here.0.first_before ≤ key = last_taken (λ block. block.first_before ≤ key) blocks n here.0 c.if-begun-eq0.false c.had_begun_by-begun.ensures.within here.1 c.had_begun_by-begun.ensures.begun in
     let begun = subst (λ m. AllByRecursion (λ block. block.first_before ≤ key) (take m blocks)) next c.had_begun_by-begun.ensures.begun in
@@ -57,7 +56,7 @@ returns-else-before-behind-clause-others c =
     let key = c.args.key in
     let n = c.had_begun_by-begun.result in
     let lt : n - 1 < length blocks = omega (arith, c.if-begun-eq0.false, c.had_begun_by-begun.ensures.within) in
-    let here = one_at blocks (n - 1) lt in
+    let here = some_at blocks (n - 1) lt in
     let next : n ≡ suc (n - 1) = omega (arith, c.if-begun-eq0.false) in
     let begins : here.0.first_before ≤ key = last_taken (λ block. block.first_before ≤ key) blocks n here.0 c.if-begun-eq0.false c.had_begun_by-begun.ensures.within here.1 c.had_begun_by-begun.ensures.begun in
     let own : key < here.0.first_before + here.0.len_before = omega (arith, begins, c.if-before-behind.false, c.before-before.ensures.first here.0 here.1, c.before-before.ensures.len here.0 here.1) in

@@ -1,8 +1,8 @@
 use Rattle.std.proofs.Common.{◌≤◌, ap, sym, ◌∙◌, refl, set, length, arith}
 use Rattle.std.proofs.lemmas.List.{length-set}
+use Rattle.key_lists.proofs.Parts.{every_set}
 use Rattle.column_source.specs.declared.blocks.Stamped.{Stamped}
 use Rattle.column_source.specs.Steps.{each_as_of}
-use Rattle.column_source.proofs.Replaced.{every_replaced}
 use Rattle.column_source.proofs.Steps.{many_seen, seen_put, touched}
 use Rattle.column_source.proofs.blocks.Blocks.put.Goals as goal
 
@@ -14,7 +14,7 @@ invariant_of-self c =
     let new : Stamped = record { step = step; len_before = c.args.block.len_before; slots = c.args.block.slots } in
     let le : step ≤ step = omega arith in
     record {
-      stamps = every_replaced (λ stamped. stamped.step ≤ step) items index new le c.self.invariant.stamps;
+      stamps = every_set (λ stamped. stamped.step ≤ step) items index new le c.self.invariant.stamps;
       now = ap length c.put.ensures.now ∙ length-set c.self.inside.firsts.now index c.args.block.first ∙ c.self.invariant.now ∙ sym (length-set items index new);
       before = ap length c.put.ensures.before ∙ length-set c.self.inside.firsts.before index c.args.block.first_before ∙ c.self.invariant.before ∙ sym (length-set items index new);
     }

@@ -1,9 +1,9 @@
 use Rattle.std.proofs.Common.{◌≡◌, ap, sym, ◌∙◌, subst, set, get_or, length, arith}
 use Rattle.std.proofs.lemmas.List.{set-set, length-set}
+use Rattle.key_lists.proofs.Parts.{some_at}
 use Rattle.column_source.specs.declared.block.Block.{Block}
 use Rattle.column_source.specs.declared.blocks.Stamped.{Stamped}
 use Rattle.column_source.specs.Steps.{as_of, each_as_of}
-use Rattle.column_source.proofs.Parts.{one_at}
 use Rattle.column_source.proofs.Steps.{many_seen, block_at, seen_with}
 use Rattle.column_source.proofs.blocks.Blocks.take.Goals as goal
 
@@ -12,7 +12,7 @@ index_mut-requires c = omega (arith, c.requires, many_seen c.self.inside.step c.
 
 pub returns-clause-taken : goal.returns-clause-taken
 returns-clause-taken c =
-    let here = one_at c.args.self.now c.args.index c.requires in
+    let here = some_at c.args.self.now c.args.index c.requires in
     let block = here.0 in
     let own = block_at c.self.inside.step c.self.inside.firsts c.self.inside.items.items c.args.self.now c.args.index c.index_mut.result.now block c.self.invariant c.self.view_is c.requires c.index_mut.ensures.value here.1 in
     let taken : Block = record { first = c.first-first.result; first_before = c.first_before-first_before.result; len_before = c.len_before-len_before.result; slots = c.replace.result } in

@@ -2,11 +2,11 @@ use Rattle.std.proofs.Common.{◌≡◌, ◌≤◌, ◌<◌, ap, sym, ◌∙◌,
 use Rattle.std.specs.List.{AllByRecursion}
 use Rattle.std.specs.List.Sorted.{IsNonDecreasing}
 use Rattle.std.proofs.lemmas.List.{take_at}
+use Rattle.key_lists.proofs.Parts.{no_items}
 use Rattle.tick_model.specs.declared.update.ShiftRange.{ShiftRange}
 use Rattle.tick_model.specs.Rules.{landed}
 use Rattle.column_source.specs.Firsts.{StayBefore}
 use Rattle.column_source.proofs.FirstLists.{landed_nowhere, stay_shift}
-use Rattle.column_source.proofs.Leaving.{no_items}
 use Rattle.column_source.proofs.firsts.Firsts.shift.Goals as goal
 
 pub returns-then-is_empty-clause-now : goal.returns-then-is_empty-clause-now

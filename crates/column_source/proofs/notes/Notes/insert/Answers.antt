@@ -1,8 +1,8 @@
 use Rattle.std.proofs.Common.{◌≡◌, ◌^◌, ◌<◌, refl, ap, sym, ◌∙◌, subst, cond, List, [], ◌∷◌, ◌++◌, ℕ, Option, ℤ, Some, ◌==◌}
 use Rattle.std.specs.List.{AllByRecursion}
 use Rattle.key_lists.proofs.Every.{every-append}
+use Rattle.key_lists.proofs.Parts.{every_front, every_back}
 use Rattle.column_source.specs.Notes.{note_under}
-use Rattle.column_source.proofs.EntryLists.{every_front, every_back}
 use Rattle.column_source.proofs.Noting.{every-insert_entry}
 use Rattle.column_source.proofs.NoteRuns.{early_note, last_note}
 use Rattle.column_source.proofs.notes.Notes.insert.Goals as goal

@@ -1,7 +1,7 @@
 use Rattle.std.proofs.Common.{◌≡◌, ◌+◌, ◌<◌, ◌≤◌, ◌++◌, ap, sym, ◌∙◌, subst, refl, suc, take, drop, length, arith, [], inl, inr}
 use Rattle.std.proofs.lemmas.Bool.{cases_eq}
 use Rattle.std.proofs.lemmas.Option.{none-some}
-use Rattle.row_handles.proofs.Leaving.{no_items}
+use Rattle.key_lists.proofs.Parts.{no_items}
 use Rattle.row_groups.specs.declared.lists.Lists.{Lists}
 use Rattle.row_groups.specs.Slots.{slots_without}
 use Rattle.row_groups.specs.Rows.{Becomes, cells_with}

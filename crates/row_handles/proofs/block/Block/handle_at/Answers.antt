@@ -1,5 +1,5 @@
 use Rattle.std.proofs.Common.{◌-◌, ◌<◌, ◌≤◌, sym, ◌∙◌, length, arith}
-use Rattle.row_handles.proofs.Lists.{first_left}
+use Rattle.key_lists.proofs.Parts.{first_left}
 use Rattle.row_handles.proofs.Listings.{handle_none, handle_here, handle_not_here}
 use Rattle.row_handles.proofs.block.Block.handle_at.Goals as goal
 

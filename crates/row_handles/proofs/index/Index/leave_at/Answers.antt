@@ -3,8 +3,10 @@ use Rattle.std.specs.Prelude.{slice_range}
 use Rattle.std.specs.List.{AllByRecursion}
 use Rattle.std.specs.Vec.{with_item}
 use Rattle.std.proofs.lemmas.Bool.{eqb-false}
+use Rattle.std.proofs.lemmas.List.{take_more_set}
 use Rattle.std.proofs.Math.Seq.{map-set_same}
 use Rattle.key_lists.proofs.Every.{every-append}
+use Rattle.key_lists.proofs.Parts.{every-take, every-drop, set_around, no_items}
 use Rattle.slab.specs.Slab.{get}
 use Rattle.row_handles.specs.declared.block.Block.{Block}
 use Rattle.row_handles.specs.declared.index.Index.{Index}
@@ -12,10 +14,9 @@ use Rattle.row_handles.specs.Entries.{AreDistinct}
 use Rattle.row_handles.specs.Blocks.{IsBlock, entry_at, rows, rows_of, number_of}
 use Rattle.row_handles.specs.Moves.{has_handle}
 use Rattle.row_handles.specs.Drops.{AreOutside}
-use Rattle.row_handles.proofs.Lists.{every_first, every_last, set_around}
 use Rattle.row_handles.proofs.Listings.{own_ascend, own_block}
 use Rattle.row_handles.proofs.Cutting.{begins_first}
-use Rattle.row_handles.proofs.Leaving.{Leaves, left_index, left_rest, left_done, all_held, held_less, distinct_gone, set_removed, take_set_next, no_items}
+use Rattle.row_handles.proofs.Leaving.{Leaves, left_index, left_rest, left_done, all_held, held_less, distinct_gone, set_removed}
 use Rattle.row_handles.proofs.index.Index.leave_at.Goals as goal
 
 pub rows_between-leaving-requires-clause-ascend : goal.rows_between-leaving-requires-clause-ascend
@@ -90,7 +91,7 @@ stays c =
       sound = (
         record {
           begun = begins_first c.key-block.result block.ceiling c.index.result.now rest.items more c.index.ensures c.key-block.ensures;
-          held = subst (AllByRecursion (λ row. row.depth ≤ block.ceiling)) (sym c.take_out.ensures) (every-append (λ row. row.depth ≤ block.ceiling) (take from block.rows.items) (drop to block.rows.items) (every_first (λ row. row.depth ≤ block.ceiling) from block.rows.items is.held) (every_last (λ row. row.depth ≤ block.ceiling) to block.rows.items is.held));
+          held = subst (AllByRecursion (λ row. row.depth ≤ block.ceiling)) (sym c.take_out.ensures) (every-append (λ row. row.depth ≤ block.ceiling) (take from block.rows.items) (drop to block.rows.items) (every-take (λ row. row.depth ≤ block.ceiling) from block.rows.items is.held) (every-drop (λ row. row.depth ≤ block.ceiling) to block.rows.items is.held));
         },
         tt,
       );
@@ -100,9 +101,9 @@ stays c =
       ended = c.rows_between-leaving.ensures.ended;
       above = c.rows_between-leaving.ensures.above;
       numbered = subst AreDistinct (sym (map-set_same number_of old c.args.index (other c) block (ap number_of c.index_mut-block.ensures.value))) c.requires.sound.numbered;
-      front_held = every_first (λ b. get c.args.self.now.ceilings b.number ≡ Some b.ceiling) c.args.index old held;
+      front_held = every-take (λ b. get c.args.self.now.ceilings b.number ≡ Some b.ceiling) c.args.index old held;
       own_held = ((own_block (λ b. get c.args.self.now.ceilings b.number ≡ Some b.ceiling) old c.args.index block c.requires.within c.index_mut-block.ensures.value held, refl, c.take_out.ensures), tt);
-      back_held = every_last (λ b. get c.args.self.now.ceilings b.number ≡ Some b.ceiling) (suc c.args.index) old held;
+      back_held = every-drop (λ b. get c.args.self.now.ceilings b.number ≡ Some b.ceiling) (suc c.args.index) old held;
       places = subst (λ s. (handle : ℕ) → has_handle handle (slice_range s from to) ≡ false → get c.vacate.new.places handle ≡ get c.args.self.now.places handle) c.deref.ensures.value c.vacate.ensures;
     }
 
@@ -116,5 +117,5 @@ returns-clause-rest c =
 
 pub returns-clause-done : goal.returns-clause-done
 returns-clause-done c = λ done.
-    subst (λ bs. AreOutside c.args.first c.args.last (rows bs)) (sym (take_set_next c.args.self.now.blocks.items c.args.index (other c) c.requires.within))
+    subst (λ bs. AreOutside c.args.first c.args.last (rows bs)) (sym (take_more_set c.args.self.now.blocks.items c.args.index (other c) c.requires.within))
     (left_done c.args.first c.args.last c.args.index c.rows_between-leaving.result.from c.rows_between-leaving.result.to c.index_mut-block.result.now (other c ∷ []) c.args.self.now (new c) c.requires.sound (stays c) done)

@@ -1,10 +1,11 @@
 use Rattle.std.proofs.Common.{◌≡◌, ◌+◌, ◌-◌, ◌<◌, ◌≤◌, ap, sym, ◌∙◌, subst, refl, suc, take, drop, set, ◌++◌, ◌∷◌, get_or, length, length-drop, take_all, arith}
 use Rattle.std.specs.Vec.{with_item}
+use Rattle.key_lists.proofs.Parts.{same_at, split_list}
 use Rattle.slab.specs.Slab.{get}
 use Rattle.row_handles.specs.declared.block.Block.{Block}
 use Rattle.row_handles.specs.declared.index.Index.{Index}
 use Rattle.row_handles.specs.Moves.{AreRenamed, IsSplit}
-use Rattle.row_handles.proofs.Lists.{same_at, split_list, held_before}
+use Rattle.row_handles.proofs.Lists.{held_before}
 use Rattle.row_handles.proofs.Places.{keeps_fresh}
 use Rattle.row_handles.proofs.Cutting.{Splits, begins_first, split_made, split_rows, split_index}
 use Rattle.row_handles.proofs.index.Index.split.Goals as goal

@@ -1,11 +1,12 @@
 use Rattle.std.proofs.Common.{◌≤◌, length, ◌≡◌, ◌||◌, ◌∙◌, ◌∷◌, [], false, refl, ap, arith, sym, subst}
 use Rattle.std.specs.List.{AllByRecursion}
 use Rattle.std.proofs.lemmas.List.{nil_from_length}
+use Rattle.key_lists.proofs.Booleans.{or_false}
+use Rattle.key_lists.proofs.Parts.{every_front}
 use Rattle.tick_laws.proofs.ResultCells.{length-filter_most}
 use Rattle.sort_op.specs.Entries.{comes_before, entries, is_in, AreDistinct, Falls, IsWhole, Rises}
 use Rattle.sort_op.proofs.Arrived.{all_arrived, none_arrived, one_arrived, HaveArrived}
-use Rattle.sort_op.proofs.Inserted.{distinct_front, distinct_permuted, every_permuted, in_permuted, in_step, last_has, or_none, out_step, place_out}
-use Rattle.sort_op.proofs.Rises.{every_front}
+use Rattle.sort_op.proofs.Inserted.{distinct_front, distinct_permuted, every_permuted, in_permuted, in_step, last_has, out_step, place_out}
 use Rattle.sort_op.proofs.order.SortOrder.insert_found.Goals as goal
 
 pub loop-entry-init : goal.loop-entry-init
@@ -68,7 +69,7 @@ loop-entry-preserved c =
 pub returns-clause-entries : goal.returns-clause-entries
 returns-clause-entries c = λ x.
     let none = nil_from_length c.loop-entry.coming.items (omega (arith, c.in_default.ensures.cases.0, c.loop-entry.coming.ok.0)) in
-    sym (or_none (is_in x (entries c.loop-entry.self)))
+    sym (or_false (is_in x (entries c.loop-entry.self)))
     ∙ ap (λ items. is_in x (entries c.loop-entry.self) || is_in x items) (sym none)
     ∙ c.loop-entry.invariant.kept x
     ∙ ap (λ b. is_in x (entries c.args.self.now) || b) (in_permuted c.args.coming.items c.sort_backward.new.entries.items c.sort_backward.ensures.permutation x)

@@ -1,5 +1,5 @@
 use Rattle.std.proofs.Common.{◌≡◌, ap, sym, ◌∙◌, subst, ◌++◌, ◌∷◌, [], length, set, List, ℤ, SFits, to_z, of_z, to_z-of_z, w64, rules}
-use Rattle.column_source.proofs.EntryLists.{every_back}
+use Rattle.key_lists.proofs.Parts.{every_back}
 use Rattle.tick_model.specs.Shifts.{as_key}
 use Rattle.tick_table.specs.Slots.{AreSlots, IsFilled, IsSlot, SlotCells, slot_list}
 use Rattle.tick_table.proofs.SlotCells.{filled_over, length-slot_list}

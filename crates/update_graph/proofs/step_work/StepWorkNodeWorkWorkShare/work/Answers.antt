@@ -9,9 +9,9 @@ use Rattle.update_graph.specs.Tags.{Tag}
 use Rattle.update_graph.proofs.Claimed.{few_of_step, operator_of_step, small_of_step, step_of_view, within_of_step, work_operator, work_within}
 use Rattle.steal_workers.specs.Lists.{IsListed}
 use Rattle.steal_workers.proofs.Listing.{true_false}
+use Rattle.steal_workers.proofs.Holding.{has_mark}
 use Rattle.update_graph.proofs.CrewNodes.{handing_all, listed_came, listed_others, listed_settled}
 use Rattle.update_graph.proofs.Handing.{begun_taken, worked_is}
-use Rattle.update_graph.proofs.Holding.{has_mark}
 use Rattle.update_graph.proofs.WorkSent.{sent}
 use Rattle.update_graph.proofs.step_work.StepWorkNodeWorkWorkShare.work.Goals as goal
 

@@ -1,15 +1,15 @@
 use Rattle.std.proofs.Common.{ap₂, sym, ◌∙◌, ◌++◌, ◌∷◌, [], length}
+use Rattle.std.proofs.lemmas.Bool.{not-true}
 use Rattle.tick_model.specs.Evaluation.{is_source}
 use Rattle.update_graph.specs.Tags.{is_operator, node_at}
 use Rattle.update_graph.proofs.Numbering.{filter_more, no_next_source}
-use Rattle.update_graph.proofs.StepInputs.{not_true}
 use Rattle.update_graph.proofs.Sweeping.{tags_more}
 use Rattle.update_graph.proofs.sweep.Sweep.put.Goals as goal
 
 pub returns : goal.returns
 returns c =
     let n = length c.args.self.now.works.items in
-    let is = not_true (is_source (node_at c.args.run.now n)) c.requires.operator in
+    let is = not-true (is_source (node_at c.args.run.now n)) c.requires.operator in
     let count = c.len-node.ensures ∙ c.args.self.now.works.ok.0 in
     record {
       works = tags_more c.args.run.now c.args.step n _ _ c.args.work c.in_ok-push.ensures.items c.requires.swept.works c.requires.work;

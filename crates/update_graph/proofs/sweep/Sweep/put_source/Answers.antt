@@ -1,8 +1,9 @@
 use Rattle.std.proofs.Common.{◌≡◌, ap, sym, ◌∙◌, subst, ◌+◌, ◌<◌, length, false}
+use Rattle.std.proofs.lemmas.Bool.{not-false}
 use Rattle.tick_model.specs.Evaluation.{is_source, source_number}
 use Rattle.update_graph.specs.Tags.{is_operator, node_at, tag}
 use Rattle.update_graph.proofs.Numbering.{filter_same_more, next_source}
-use Rattle.update_graph.proofs.Sweeping.{not_false, tags_more}
+use Rattle.update_graph.proofs.Sweeping.{tags_more}
 use Rattle.update_graph.proofs.sweep.Sweep.put_source.Goals as goal
 
 pub source_at-requires : goal.source_at-requires
@@ -19,7 +20,7 @@ source_at-requires c =
 pub returns : goal.returns
 returns c =
     let n = length c.args.self.now.works.items in
-    let is = not_false (is_source (node_at c.args.run.now n)) c.requires.source in
+    let is = not-false (is_source (node_at c.args.run.now n)) c.requires.source in
     let count = c.len-node.ensures ∙ c.args.self.now.works.ok.0 in
     record {
       works = tags_more c.args.run.now c.args.step n _ _ c.in_ok-work.work c.in_ok-push.ensures.items c.requires.swept.works (c.in_ok-work.ensures.work ∙ ap (tag c.args.run.now c.args.step) count);

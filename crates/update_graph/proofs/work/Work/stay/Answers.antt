@@ -1,4 +1,5 @@
 use Rattle.std.proofs.Common.{ap, sym, ◌∙◌, subst, true≢false, add-one, ◌≡◌, ◌+◌, None}
+use Rattle.std.proofs.lemmas.Bool.{not-true}
 use Rattle.tick_laws.specs.Reached.{table_before}
 use Rattle.tick_model.specs.Evaluation.{fault_of, has_table, is_source, table_at}
 use Rattle.tick_model.specs.States.{state, tick}
@@ -7,7 +8,6 @@ use Rattle.tick_table.proofs.ExactAgain.{exact_again}
 use Rattle.update_graph.specs.Stands.{IsKept, IsReady, is_defined}
 use Rattle.update_graph.specs.Tags.{Tag, node_at, op_at}
 use Rattle.update_graph.proofs.EnteredTicks.{all_before, before_entered, entered_tick, made}
-use Rattle.update_graph.proofs.StepInputs.{not_true}
 use Rattle.update_graph.proofs.work.Work.stay.Goals as goal
 
 pub stayed-requires-clause-ready : goal.stayed-requires-clause-ready
@@ -23,7 +23,7 @@ pub stayed-requires-clause-clear : goal.stayed-requires-clause-clear
 stayed-requires-clause-clear c =
     let s = c.args.self in
     let run = c.args.run.now in
-    let is = not_true (is_source (node_at run s.node)) c.requires.operator in
+    let is = not-true (is_source (node_at run s.node)) c.requires.operator in
     subst (λ (tag : Tag). fault_of (op_at run tag.node) (table_before run (tag.step + 1)) ≡ None) (sym c.self.view_is)
     (subst (λ m. fault_of (op_at run s.node) (table_before run m) ≡ None) (sym (add-one s.step))
     (made run c.requires.entered.lawful s.step s.node c.requires.node is (all_before run s.step c.requires.entered s.node c.requires.node)).fault)
