@@ -14,6 +14,7 @@ use Rattle.tick_model.specs.Updates.{Tick, IsTick, old_keys, new_keys, differs, 
 use Rattle.key_lists.proofs.Among.{among_below, among_own, among_past, among-filter, among-append, of_among}
 use Rattle.tick_model.proofs.Among.{rows_among, row_own, row_past, rest_above, each_found, row_at-filter, row_at-filter_none}
 use Rattle.key_lists.proofs.Every.{every, every_weaker, every_both, every-map, every_unmapped, every-filter, map_same, filter_same, filter_none, filter-map, map_map, map_own, filter_filter}
+use Rattle.key_lists.proofs.Booleans.{and_true}
 use Rattle.tick_laws.proofs.Moves.{each_moved}
 
 -- the keys of the pairs, by f, stand among those of the rows, in order
@@ -184,10 +185,6 @@ or_and_first : (a b : Bool) → ((a || b) && a) ≡ a
 or_and_first true b = refl
 or_and_first false true = refl
 or_and_first false false = refl
-
-and_true : (a : Bool) → (a && true) ≡ a
-and_true true = refl
-and_true false = refl
 
 -- the rows that an update tells as added are those of no pair
 added_rows : (tick : Tick) → rows_at (between tick).added (told tick) ≡ filter (λ row. not (is_among row.key (new_keys tick.kept))) tick.new.rows

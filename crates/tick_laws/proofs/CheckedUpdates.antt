@@ -4,6 +4,7 @@ use Rattle.std.specs.Prelude.{find, option_map, IfSome, int_le}
 use Rattle.std.specs.List.{AllByRecursion}
 use Rattle.std.specs.Option.{option_or}
 use Rattle.std.proofs.lemmas.Bool.{or_parts, or_right, or_from, leb-false, ltb-true, ltb-false, eqb-true, eqb-false}
+use Rattle.std.proofs.lemmas.List.{map-id}
 use Rattle.tick_model.specs.declared.update.ShiftRange.{ShiftRange}
 use Rattle.tick_model.specs.declared.table.PlainRow.{PlainRow}
 use Rattle.tick_model.specs.declared.table.PlainTable.{PlainTable}
@@ -17,9 +18,10 @@ use Rattle.tick_model.specs.Rules.{is_past, landed, shift_fault, shift_fault_aft
 use Rattle.tick_model.specs.Changes.{told_keys}
 use Rattle.key_lists.proofs.Among.{among_below, each_among}
 use Rattle.tick_laws.specs.Checked.{put_key, put_keys, keys_after, IsChecked, carried_tick}
-use Rattle.tick_laws.proofs.ToldRows.{map_id, first_of_two}
+use Rattle.tick_laws.proofs.ToldRows.{first_of_two}
 use Rattle.key_lists.proofs.Rising.{rising-filter}
-use Rattle.key_lists.proofs.Every.{every_weaker, every_both, every-map, every_unmapped, every-filter, filter-map, map_map}
+use Rattle.key_lists.proofs.Every.{every_weaker, every_both, every-map, every_unmapped, every-filter, filter-map, map_map, none_pass}
+use Rattle.key_lists.proofs.Booleans.{or_assoc, or_swap}
 
 pub none_parts : {A : Type 0} (a b : Option A) → option_or a b ≡ None → (a ≡ None) × (b ≡ None)
 none_parts None b h = (refl, h)
@@ -28,15 +30,6 @@ none_parts (Some x) b h = absurd (cc)
 pub map_none : {A B : Type 0} (f : A → B) (o : Option A) → option_map f o ≡ None → o ≡ None
 map_none f None h = refl
 map_none f (Some x) h = absurd (cc)
-
--- where nothing is found, no element passes
-none_pass : {A : Type 0} (p : A → Bool) (xs : List A) → find p xs ≡ None → AllByRecursion (λ x. p x ≡ false) xs
-none_pass p [] h = tt
-none_pass p (x ∷ xs) h =
-    (elim (p x) as (λ b. p x ≡ b → cond b (Some x) (find p xs) ≡ None → AllByRecursion (λ x. p x ≡ false) (x ∷ xs)) [
-      | true ↦ λ e h. absurd (cc)
-      | false ↦ λ e h. (e, none_pass p xs h)
-    ]) refl h
 
 -- a number that is not past a limit is a key below it
 not_past : (limit : ℕ) (z : ℤ) → is_past limit z ≡ false → (z ≡ pos (as_key z)) × (as_key z < limit)
@@ -105,7 +98,7 @@ found_every : (P : PlainRow → Type 0) (key : ℕ) (rows : List PlainRow) → A
 found_every P key [] h = tt
 found_every P key (row ∷ rows) h = elim (row.key == key) as (λ b. IfSome (cond b (Some row) (row_at key rows)) P) [ true ↦ h.0 | false ↦ found_every P key rows h.1 ]
 
-keys-modifying : (modified rows : List PlainRow) → keys (modifying modified rows) ≡ keys rows
+pub keys-modifying : (modified rows : List PlainRow) → keys (modifying modified rows) ≡ keys rows
 keys-modifying modified [] = refl
 keys-modifying modified (row ∷ rows) = ap₂ (λ k ks. k ∷ ks) (go (row_at row.key modified) (key_found row.key modified)) (keys-modifying modified rows)
   where
@@ -159,21 +152,12 @@ among-put_key key other [] = refl
 among-put_key key other (first ∷ ks) =
     elim (ltb other first) as (λ b. is_among key (cond b (other ∷ first ∷ ks) (first ∷ put_key other ks)) ≡ ((other == key) || is_among key (first ∷ ks))) [
       | true ↦ refl
-      | false ↦ ap (λ b. (first == key) || b) (among-put_key key other ks) ∙ swap_or (first == key) (other == key) (is_among key ks)
+      | false ↦ ap (λ b. (first == key) || b) (among-put_key key other ks) ∙ or_swap (first == key) (other == key) (is_among key ks)
     ]
-  where
-    swap_or : (a b c : Bool) → (a || (b || c)) ≡ (b || (a || c))
-    swap_or true true c = refl
-    swap_or true false c = refl
-    swap_or false b c = refl
 
 pub among-put_keys : (key : ℕ) (added ks : List ℕ) → is_among key (put_keys added ks) ≡ (is_among key added || is_among key ks)
 among-put_keys key [] ks = refl
 among-put_keys key (first ∷ added) ks = among-put_key key first (put_keys added ks) ∙ ap (λ b. (first == key) || b) (among-put_keys key added ks) ∙ or_assoc (first == key) (is_among key added) (is_among key ks)
-  where
-    or_assoc : (a b c : Bool) → (a || (b || c)) ≡ ((a || b) || c)
-    or_assoc true b c = refl
-    or_assoc false b c = refl
 
 rising-put_keys : (added ks : List ℕ) → IsRising added → IsRising ks → AllByRecursion (λ k. is_among k ks ≡ false) added → IsRising (put_keys added ks)
 rising-put_keys [] ks r s h = s
@@ -287,7 +271,7 @@ module _ (limit : ℕ) (table : PlainTable) (update : Update) (cells : List Plai
         moves = landed update.shifted (without update.removed (keys table.rows))
 
         olds : map (λ (p : KeyPair). p.old) (pairs table update) ≡ without update.removed (keys table.rows)
-        olds = map_map (λ (p : KeyPair). p.old) (kept_pair update) (without update.removed (keys table.rows)) ∙ map_id (without update.removed (keys table.rows))
+        olds = map_map (λ (p : KeyPair). p.old) (kept_pair update) (without update.removed (keys table.rows)) ∙ map-id (without update.removed (keys table.rows))
 
         news : map (λ (p : KeyPair). p.new) (pairs table update) ≡ moves
         news = map_map (λ (p : KeyPair). p.new) (kept_pair update) (without update.removed (keys table.rows))

@@ -2,6 +2,7 @@
 use Rattle.std.proofs.Common.{◌≡◌, refl, ap, sym, ◌∙◌, ℕ, arith, true, false, true≢false, ◌&&◌, List, [], ◌∷◌, pos, ◌+ℤ◌}
 use Rattle.std.proofs.lemmas.Bool.{and_parts}
 use Rattle.std.proofs.lemmas.Int.{ints}
+use Rattle.std.proofs.lemmas.List.{map-id}
 use Rattle.tick_model.specs.declared.table.PlainRow.{PlainRow}
 use Rattle.tick_model.specs.declared.table.PlainTable.{PlainTable}
 use Rattle.tick_model.specs.declared.update.ShiftRange.{ShiftRange}
@@ -11,11 +12,10 @@ use Rattle.tick_model.specs.Updates.{Tick, IsTick, Update, adding, between, carr
 use Rattle.tick_model.specs.Changes.{is_empty, is_none}
 use Rattle.key_lists.proofs.Every.{every, filter_all, filter_none, map_own}
 use Rattle.tick_laws.proofs.Carried.{carry-between}
-use Rattle.tick_laws.proofs.ToldRows.{map_id}
 
-pub nothing : {X : Type 0} (xs : List X) → is_none xs ≡ true → xs ≡ []
-nothing [] h = refl
-nothing (x ∷ xs) h = absurd (true≢false (sym h))
+pub none_is : {X : Type 0} (xs : List X) → is_none xs ≡ true → xs ≡ []
+none_is [] h = refl
+none_is (x ∷ xs) h = absurd (true≢false (sym h))
 
 abbrev carried : PlainTable → List ℕ → List ℕ → List ℕ → List ShiftRange → List PlainRow → PlainTable
 carried old removed added modified shifted cells = record old { rows = modifying (rows_at modified cells) (adding (rows_at added cells) (shifting shifted (removing removed old.rows))) }
@@ -33,7 +33,7 @@ carried_nothing : (old : PlainTable) (cells : List PlainRow) → carried old [] 
 carried_nothing old cells =
     ap (λ (rows : List PlainRow). let table : PlainTable = record old { rows = rows } in table)
     (ap (λ rows. modifying rows (adding (rows_at [] cells) (shifting [] (removing [] old.rows)))) (no_rows_at cells)
-    ∙ map_id (adding (rows_at [] cells) (shifting [] (removing [] old.rows)))
+    ∙ map-id (adding (rows_at [] cells) (shifting [] (removing [] old.rows)))
     ∙ ap (λ rows. adding rows (shifting [] (removing [] old.rows))) (no_rows_at cells)
     ∙ unmoved (removing [] old.rows)
     ∙ filter_all old.rows)
@@ -43,10 +43,10 @@ carry_nothing old update cells h =
     let three = and_parts (is_none update.removed && is_none update.added && is_none update.modified) (is_none update.shifted) h in
     let two = and_parts (is_none update.removed && is_none update.added) (is_none update.modified) three.0 in
     let one = and_parts (is_none update.removed) (is_none update.added) two.0 in
-    ap (λ removed. carried old removed update.added update.modified update.shifted cells) (nothing update.removed one.0)
-    ∙ ap (λ added. carried old [] added update.modified update.shifted cells) (nothing update.added one.1)
-    ∙ ap (λ modified. carried old [] [] modified update.shifted cells) (nothing update.modified two.1)
-    ∙ ap (λ shifted. carried old [] [] [] shifted cells) (nothing update.shifted three.1)
+    ap (λ removed. carried old removed update.added update.modified update.shifted cells) (none_is update.removed one.0)
+    ∙ ap (λ added. carried old [] added update.modified update.shifted cells) (none_is update.added one.1)
+    ∙ ap (λ modified. carried old [] [] modified update.shifted cells) (none_is update.modified two.1)
+    ∙ ap (λ shifted. carried old [] [] [] shifted cells) (none_is update.shifted three.1)
     ∙ carried_nothing old cells
 
 -- a tick whose update is empty ends where it began

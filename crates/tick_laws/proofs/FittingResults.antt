@@ -4,6 +4,7 @@ use Rattle.std.specs.Prelude.{IfSome, int_le, nat_le, FitsSigned}
 use Rattle.std.specs.Int.{w64}
 use Rattle.std.specs.List.{AllByRecursion, list_all}
 use Rattle.std.proofs.lemmas.Bool.{and_parts, and_from, or_right}
+use Rattle.std.proofs.lemmas.Option.{same_Some}
 use Rattle.tick_model.specs.declared.plan.Agg.{Agg}
 use Rattle.tick_model.specs.declared.plan.Agg.TheVariants.{Count, Sum, Min, Max, First, Last}
 use Rattle.tick_model.specs.declared.plan.ColumnSpec.{ColumnSpec}
@@ -26,12 +27,13 @@ use Rattle.tick_model.specs.Names.{same_name}
 use Rattle.tick_model.specs.Plans.{same_kind, long_alone, both_long, kind_of, is_bound, kinds_of, has_kind, same_columns, have_kinds, keep_names, follow, kind_at, same_kind_at, agg_kind, some_of, columns_fit, is_test_bound, test_fits}
 use Rattle.tick_model.specs.Printable.{names_text, fits_kind, fit_columns}
 use Rattle.key_lists.proofs.Every.{every, every_weaker, every_both, every-map, every-filter}
+use Rattle.key_lists.proofs.Parts.{every-take, every-drop}
 use Rattle.tick_laws.specs.Fitting.{FitsColumns, HasColumns}
 use Rattle.tick_model.specs.Numbers.{HasOpNumbers}
 use Rattle.tick_laws.proofs.EvalNodes.{all_pass, is_source_op}
 use Rattle.tick_laws.proofs.Placed.{every-in_order}
 use Rattle.tick_laws.proofs.ResultCells.{result_cells, chosen_every, latest_every, picked_every}
-use Rattle.tick_laws.proofs.ResultTables.{every-take, every-drop, cells-numbered, cells-merged}
+use Rattle.tick_laws.proofs.ResultTables.{cells-numbered, cells-merged}
 
 -- kinds that are the same
 same_kind_is : (a b : Kind) → same_kind a b ≡ true → a ≡ b
@@ -39,9 +41,6 @@ same_kind_is Long Long h = refl
 same_kind_is Long Text h = absurd (true≢false (sym h))
 same_kind_is Text Long h = absurd (true≢false (sym h))
 same_kind_is Text Text h = refl
-
-one_kind : (a b : Kind) → Some a ≡ Some b → a ≡ b
-one_kind a b e = cc
 
 has_kind_is : (kind : Kind) (o : Option Kind) → has_kind kind o ≡ true → o ≡ Some kind
 has_kind_is kind None h = absurd (true≢false (sym h))
@@ -125,7 +124,7 @@ module _ (texts : ℕ) where
   cell_kind : (columns : List ColumnSpec) (cells : List ℤ) → Fits columns cells → (column : ℕ) → OfKind (kind_at columns column) (cell cells column)
   cell_kind [] cells h column kind e = absurd (cc)
   cell_kind (column ∷ columns) [] h place kind e = absurd (true≢false (sym h))
-  cell_kind (column ∷ columns) (c ∷ cells) h zero kind e = ap (λ k. fits_kind texts k c) (sym (one_kind column.kind kind e)) ∙ (and_parts (fits_kind texts column.kind c) (fit_columns texts columns cells) h).0
+  cell_kind (column ∷ columns) (c ∷ cells) h zero kind e = ap (λ k. fits_kind texts k c) (sym (same_Some column.kind kind e)) ∙ (and_parts (fits_kind texts column.kind c) (fit_columns texts columns cells) h).0
   cell_kind (column ∷ columns) (c ∷ cells) h (suc place) kind e = cell_kind columns cells (and_parts (fits_kind texts column.kind c) (fit_columns texts columns cells) h).1 place kind e
 
   -- a formula's value is of its kind

@@ -33,7 +33,7 @@ earlier_fail p a (suc n) m k h low high =
       ]
     ]) refl h
 
-first_within : (p : ℕ → Bool) (a n m : ℕ) → find p (range_with_len a n) ≡ Some m → m < a + n
+pub first_within : (p : ℕ → Bool) (a n m : ℕ) → find p (range_with_len a n) ≡ Some m → m < a + n
 first_within p a zero m h = absurd (cc)
 first_within p a (suc n) m h =
     (elim (p a) as (λ b. cond b (Some a) (find p (range_with_len (a + 1) n)) ≡ Some m → m < a + suc n) [

@@ -1,19 +1,17 @@
 -- What the test of a lawful plan says of its nodes.
-use Rattle.std.proofs.Common.{◌≡◌, refl, ap, ap₂, sym, ◌∙◌, subst, ℕ, zero, suc, ◌+◌, ◌*◌, ◌<◌, ◌^◌, ◌&&◌, arith, Bool, true, true≢false, List, [], ◌∷◌, map, take, length, get_or, Option, inl, inr}
+use Rattle.std.proofs.Common.{◌≡◌, refl, ap, ap₂, sym, ◌∙◌, subst, ℕ, zero, suc, ◌+◌, ◌*◌, ◌<◌, ◌^◌, ◌&&◌, arith, Bool, true, true≢false, List, [], ◌∷◌, map, take, length, get_or, inl, inr}
 use Rattle.std.specs.Prelude.{sum, sum_by, slice_index, nat_lt, nat_le}
 use Rattle.std.specs.List.{list_all, AllByRecursion, enumerate_from}
 use Rattle.std.proofs.lemmas.Bool.{and_parts, cases_lt, ltb-true}
 use Rattle.std.proofs.lemmas.List.{get_or-take}
 use Rattle.std.proofs.lemmas.List.Sums.{sum-map, sum_by-cons}
 use Rattle.tick_model.specs.declared.plan.ColumnSpec.{ColumnSpec}
-use Rattle.tick_model.specs.declared.plan.Kind.{Kind}
 use Rattle.tick_model.specs.declared.plan.Node.{Node}
 use Rattle.tick_model.specs.declared.plan.Op.{Op}
 use Rattle.tick_model.specs.declared.plan.Op.TheVariants.{Source, Keep, View, Join, Agg, Merge, Sort, Head, Tail, AsOf}
 use Rattle.tick_model.specs.declared.plan.Plan.{Plan}
 use Rattle.tick_model.specs.Evaluation.{inputs_of}
-use Rattle.tick_model.specs.Plans.{is_lawful, node_lawful, columns_fit, columns_at, bound_of, key_bounds, same_columns, have_kinds, follow, same_kind, has_kind}
-use Rattle.tick_model.specs.Names.{same_name}
+use Rattle.tick_model.specs.Plans.{is_lawful, node_lawful, columns_fit, columns_at, bound_of, key_bounds}
 use Rattle.key_lists.proofs.Every.{every_weaker}
 use Rattle.tick_laws.proofs.Grown.{made_at, length-grown}
 use Rattle.tick_laws.proofs.EvalNodes.{all_pass}
@@ -27,26 +25,6 @@ enumerated p start (x ∷ xs) d h zero less =
 enumerated p start (x ∷ xs) d h (suc i) less =
     let k : start + 1 + i ≡ start + suc i = omega arith in
     subst (λ n. p (n, get_or xs i d) ≡ true) k (enumerated p (start + 1) xs d (and_parts (p (start, x)) (list_all p (enumerate_from (start + 1) xs)) h).1 i (omega (arith, less)))
-
--- columns that are alike are as many
-pub length-same_columns : (xs ys : List ColumnSpec) → same_columns xs ys ≡ true → length xs ≡ length ys
-length-same_columns [] [] h = refl
-length-same_columns [] (y ∷ ys) h = absurd (true≢false (sym h))
-length-same_columns (x ∷ xs) [] h = absurd (true≢false (sym h))
-length-same_columns (x ∷ xs) (y ∷ ys) h = ap suc (length-same_columns xs ys (and_parts (same_name x.name y.name && same_kind x.kind y.kind) (same_columns xs ys) h).1)
-
-pub length-have_kinds : (columns : List ColumnSpec) (kinds : List (Option Kind)) → have_kinds columns kinds ≡ true → length columns ≡ length kinds
-length-have_kinds [] [] h = refl
-length-have_kinds [] (k ∷ kinds) h = absurd (true≢false (sym h))
-length-have_kinds (c ∷ columns) [] h = absurd (true≢false (sym h))
-length-have_kinds (c ∷ columns) (k ∷ kinds) h = ap suc (length-have_kinds columns kinds (and_parts (has_kind c.kind k) (have_kinds columns kinds) h).1)
-
-pub length-follow : (columns from : List ColumnSpec) (kinds : List (Option Kind)) → follow columns from kinds ≡ true → length columns ≡ length from + length kinds
-length-follow columns [] kinds h = length-have_kinds columns kinds h ∙ omega arith
-length-follow [] (y ∷ ys) kinds h = absurd (true≢false (sym h))
-length-follow (x ∷ xs) (y ∷ ys) kinds h =
-    let rest = length-follow xs ys kinds (and_parts (same_name x.name y.name && same_kind x.kind y.kind) (follow xs ys kinds) h).1 in
-    omega (arith, rest)
 
 -- a bound of keys: so many regions of 65536 keys, and one at least
 pub record IsBound (bound : ℕ) : Type 0 where

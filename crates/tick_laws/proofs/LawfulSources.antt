@@ -3,6 +3,7 @@ use Rattle.std.proofs.Common.{◌≡◌, refl, ap, sym, ◌∙◌, subst, ℕ, z
 use Rattle.std.specs.Prelude.{option_map}
 use Rattle.std.specs.List.{AllByRecursion, range_with_len}
 use Rattle.std.proofs.lemmas.Bool.{and_parts, ltb-false}
+use Rattle.std.proofs.lemmas.List.{map-id}
 use Rattle.tick_model.specs.declared.feed.Batch.{Batch}
 use Rattle.tick_model.specs.declared.feed.Block.{Block}
 use Rattle.tick_model.specs.declared.feed.Run.{Run}
@@ -29,7 +30,6 @@ use Rattle.tick_laws.proofs.CheckedUpdates.{none_parts, map_none, keys-carry, ke
 use Rattle.tick_laws.proofs.LawfulPlans.{columns_at-node}
 use Rattle.tick_laws.proofs.Paired.{no_node, Paired, paired_at, paired_each, paired_set, source_there}
 use Rattle.tick_laws.proofs.SourceTicks.{get_every, source_new}
-use Rattle.tick_laws.proofs.ToldRows.{map_id}
 
 -- the number of a source is that of a node
 pub source_number_is : (nodes : List Node) (n : ℕ) → is_source_number nodes n ≡ true → (n < length nodes) × (is_source (get_or nodes n no_node) ≡ true)
@@ -176,7 +176,7 @@ module _ (run : Run) (h : IsLawfulRun run) where
       l.1 parts.1
 
   source_states : (step : ℕ) → ((s : ℕ) → s ≤ step → batch_fault run s ≡ None) → Paired State (sources_of nodes) (sources run step)
-  source_states zero fine = subst (Paired State (sources_of nodes)) (sym (map_map new_table opened run.opening ∙ map_id run.opening)) opening_states
+  source_states zero fine = subst (Paired State (sources_of nodes)) (sym (map_map new_table opened run.opening ∙ map-id run.opening)) opening_states
   source_states (suc step) fine =
       blocks_states (map (λ (tick : Tick). unchanged tick.new) (source_ticks run step)) (blocks_of run (suc step))
       (subst (Paired State (sources_of nodes)) (sym (map_map new_table (λ (tick : Tick). unchanged tick.new) (source_ticks run step))) (source_states step (λ s below. fine s (omega (arith, below)))))

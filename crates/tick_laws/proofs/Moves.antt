@@ -26,15 +26,15 @@ apart_lower low lower [] h a = tt
 apart_lower low lower (range ∷ ranges) h a = (omega arith, a.1, a.2)
 
 -- a range holds no key before it, and none after it
-not_before : (range : ShiftRange) (key : ℕ) → key < range.begin → holds range key ≡ false
+pub not_before : (range : ShiftRange) (key : ℕ) → key < range.begin → holds range key ≡ false
 not_before range key h = and_left _ _ (lt-leb range.begin key h)
 
-not_after : (range : ShiftRange) (key : ℕ) → range.end < key → holds range key ≡ false
+pub not_after : (range : ShiftRange) (key : ℕ) → range.end < key → holds range key ≡ false
 not_after range key h = and_right _ _ (lt-leb key range.end h)
 
 -- what a key's range says, behind a range that does not hold it
-past : (range : ShiftRange) (ranges : List ShiftRange) (key : ℕ) → holds range key ≡ false → delta_at (range ∷ ranges) key ≡ delta_at ranges key
-past range ranges key h = ap (λ b. unwrap_or (option_map (λ range. range.delta) (cond b (Some range) (find (λ range. holds range key) ranges))) (pos 0)) h
+pub delta_other : (range : ShiftRange) (ranges : List ShiftRange) (key : ℕ) → holds range key ≡ false → delta_at (range ∷ ranges) key ≡ delta_at ranges key
+delta_other range ranges key h = ap (λ b. unwrap_or (option_map (λ range. range.delta) (cond b (Some range) (find (λ range. holds range key) ranges))) (pos 0)) h
 
 in_first : (range : ShiftRange) (ranges : List ShiftRange) (key : ℕ) → holds range key ≡ true → delta_at (range ∷ ranges) key ≡ range.delta
 in_first range ranges key h = ap (λ b. unwrap_or (option_map (λ range. range.delta) (cond b (Some range) (find (λ range. holds range key) ranges))) (pos 0)) h
@@ -44,7 +44,7 @@ before_all : (low key : ℕ) (ranges : List ShiftRange) → IsApart low ranges �
 before_all low key [] a h = refl
 before_all low key (range ∷ ranges) a h =
     elim (is_moving range) as (λ b. delta_at (cond b (range ∷ filter is_moving ranges) (filter is_moving ranges)) key ≡ pos 0) [
-      | true ↦ past range (filter is_moving ranges) key (not_before range key (omega (arith, a.0))) ∙ before_all (suc range.end) key ranges a.2 (omega (arith, a.0, a.1))
+      | true ↦ delta_other range (filter is_moving ranges) key (not_before range key (omega (arith, a.0))) ∙ before_all (suc range.end) key ranges a.2 (omega (arith, a.0, a.1))
       | false ↦ before_all (suc range.end) key ranges a.2 (omega (arith, a.0, a.1))
     ]
 
@@ -54,7 +54,7 @@ delta_at-moving low key [] a = refl
 delta_at-moving low key (range ∷ ranges) a =
     (elim (holds range key) as (λ held. holds range key ≡ held → delta_at (filter is_moving (range ∷ ranges)) key ≡ delta_at (range ∷ ranges) key) [
       | true ↦ λ held. inside held ∙ sym (in_first range ranges key held)
-      | false ↦ λ held. outside held ∙ delta_at-moving (suc range.end) key ranges a.2 ∙ sym (past range ranges key held)
+      | false ↦ λ held. outside held ∙ delta_at-moving (suc range.end) key ranges a.2 ∙ sym (delta_other range ranges key held)
     ]) refl
   where
     inside : holds range key ≡ true → delta_at (filter is_moving (range ∷ ranges)) key ≡ range.delta
@@ -67,7 +67,7 @@ delta_at-moving low key (range ∷ ranges) a =
     outside : holds range key ≡ false → delta_at (filter is_moving (range ∷ ranges)) key ≡ delta_at (filter is_moving ranges) key
     outside held =
         elim (is_moving range) as (λ b. delta_at (cond b (range ∷ filter is_moving ranges) (filter is_moving ranges)) key ≡ delta_at (filter is_moving ranges) key) [
-          | true ↦ past range (filter is_moving ranges) key held
+          | true ↦ delta_other range (filter is_moving ranges) key held
           | false ↦ refl
         ]
 
@@ -119,11 +119,11 @@ at_extend pair (range ∷ ranges) a =
 
 -- and leaves what the others say of greater keys
 past_extend : (pair : KeyPair) (ranges : List ShiftRange) (key : ℕ) → pair.old < key → Starts key ranges → delta_at (extend pair ranges) key ≡ delta_at ranges key
-past_extend pair [] key h k = past (one pair) [] key (not_after (one pair) key h)
+past_extend pair [] key h k = delta_other (one pair) [] key (not_after (one pair) key h)
 past_extend pair (range ∷ ranges) key h k =
     elim (int_eq (delta pair) range.delta) as (λ b. delta_at (cond b ((record range { begin = pair.old }) ∷ ranges) (one pair ∷ range ∷ ranges)) key ≡ delta_at (range ∷ ranges) key) [
       | true ↦ ap (λ b. unwrap_or (option_map (λ (range : ShiftRange). range.delta) (cond (b && leb key range.end) (Some (record range { begin = pair.old })) (find (λ range. holds range key) ranges))) (pos 0)) (le-leb pair.old key (omega (arith, h)) ∙ sym (le-leb range.begin key k)) ∙ same_delta
-      | false ↦ past (one pair) (range ∷ ranges) key (not_after (one pair) key h)
+      | false ↦ delta_other (one pair) (range ∷ ranges) key (not_after (one pair) key h)
     ]
   where
     same_delta : unwrap_or (option_map (λ (range : ShiftRange). range.delta) (cond (holds range key) (Some (record range { begin = pair.old })) (find (λ range. holds range key) ranges))) (pos 0) ≡ delta_at (range ∷ ranges) key
@@ -143,9 +143,13 @@ each_delta (pair ∷ pairs) rising =
 there_and_back : (old new : ℕ) → pos old +ℤ (pos new -ℤ pos old) ≡ pos new
 there_and_back old new = omega (arith, ints)
 
--- each old key of rising pairs moves to the new key
+-- each old key of rising pairs moves to the new key, and not to a number below all keys
+pub each_lands : (pairs : List KeyPair) → IsRising (old_keys pairs) → AllByRecursion (λ pair. moved (shifted pairs) pair.old ≡ pos pair.new) pairs
+each_lands pairs rising =
+    every_weaker (λ pair. delta_at (stretches pairs) pair.old ≡ delta pair) (λ pair. moved (shifted pairs) pair.old ≡ pos pair.new) pairs
+    (λ pair e. ap (λ d. pos pair.old +ℤ d) (delta_at-moving 0 pair.old (stretches pairs) (stretches_apart 0 pairs (every (λ key. 0 ≤ key) (old_keys pairs) (λ key. omega arith)) rising) ∙ e) ∙ there_and_back pair.old pair.new)
+    (each_delta pairs rising)
+
 pub each_moved : (pairs : List KeyPair) → IsRising (old_keys pairs) → AllByRecursion (λ pair. as_key (moved (shifted pairs) pair.old) ≡ pair.new) pairs
 each_moved pairs rising =
-    every_weaker (λ pair. delta_at (stretches pairs) pair.old ≡ delta pair) (λ pair. as_key (moved (shifted pairs) pair.old) ≡ pair.new) pairs
-    (λ pair e. ap (λ d. as_key (pos pair.old +ℤ d)) (delta_at-moving 0 pair.old (stretches pairs) (stretches_apart 0 pairs (every (λ key. 0 ≤ key) (old_keys pairs) (λ key. omega arith)) rising) ∙ e) ∙ ap as_key (there_and_back pair.old pair.new))
-    (each_delta pairs rising)
+    every_weaker (λ pair. moved (shifted pairs) pair.old ≡ pos pair.new) (λ pair. as_key (moved (shifted pairs) pair.old) ≡ pair.new) pairs (λ pair e. ap as_key e) (each_lands pairs rising)

@@ -18,14 +18,16 @@ use Rattle.tick_model.specs.Merge.{last_key, region, row_from, merged_rows, merg
 use Rattle.tick_model.specs.Sort.{in_order, numbered}
 use Rattle.tick_model.specs.Evaluation.{inputs_of, result, fault_of}
 use Rattle.tick_model.specs.Plans.{columns_fit, bound_of, same_columns, follow, have_kinds, keep_names, kind_of, kinds_of, kind_at, agg_kind, is_bound, is_test_bound, test_fits, some_of, same_kind_at}
+use Rattle.tick_model.proofs.Widths.{same_width, kinds_width, follow_width}
 use Rattle.key_lists.proofs.Every.{every_weaker, every_both, every-map, every_unmapped, every-filter}
+use Rattle.key_lists.proofs.Parts.{every-take, every-drop}
 use Rattle.tick_laws.specs.Bounded.{IsNodeTable}
 use Rattle.tick_laws.proofs.EvalNodes.{all_pass, is_source_op}
-use Rattle.tick_laws.proofs.LawfulPlans.{IsBound, length-same_columns, length-have_kinds, length-follow}
+use Rattle.tick_laws.proofs.LawfulPlans.{IsBound}
 use Rattle.tick_laws.proofs.Merged.{apart, apart_below, keys-merged_rows, whole_part, IsPart}
 use Rattle.tick_laws.proofs.OperatorTicks.{keys_mapped}
 use Rattle.tick_laws.proofs.ResultCells.{length-filter_most}
-use Rattle.tick_laws.proofs.ResultTables.{result_table, every-take, every-drop, length-in_order, keys-numbered}
+use Rattle.tick_laws.proofs.ResultTables.{result_table, length-in_order, keys-numbered}
 
 -- the last key is below a bound of all keys, and the region ends within whole regions
 last_below : (bound : ℕ) (rows : List PlainRow) → 0 < bound → AllByRecursion (λ key. key < bound) (keys rows) → last_key rows < bound
@@ -101,14 +103,14 @@ module _ (input : ℕ → List ColumnSpec) (columns : List ColumnSpec) (bound : 
       let same = and_parts (same_columns columns (input from)) (test_fits test (kinds_of (input from))) fits.0 in
       record {
         is_table = result_table (Keep from test) table (h.0.is_table, tt) tt;
-        width_is = h.0.width_is ∙ sym (length-same_columns columns (input from) same.0);
+        width_is = h.0.width_is ∙ sym (same_width columns (input from) same.0);
         below = below_keys (bound from) (result (Keep from test) table).rows (every-filter (λ row. row.key < bound from) (λ row. truth test row.cells) (table from).rows (below_rows (bound from) (table from).rows h.0.below));
         count = omega (arith, length-filter_most (λ (row : PlainRow). truth test row.cells) (table from).rows, h.0.count);
       }
   node_table (View from exprs) s f room bounds h fault =
       let kinds = map (λ expr. kind_of expr (kinds_of (input from))) exprs in
       let follows = and_parts (some_of exprs && list_all is_bound exprs) (follow columns (input from) kinds) f in
-      let width = length-follow columns (input from) kinds follows.1 in
+      let width = follow_width columns (input from) kinds follows.1 in
       let w = h.0.width_is in
       record {
         is_table = result_table (View from exprs) table (h.0.is_table, tt) tt;
@@ -119,7 +121,7 @@ module _ (input : ℕ → List ColumnSpec) (columns : List ColumnSpec) (bound : 
   node_table (Join left right on taken choice) s f room bounds h fault =
       let kinds = map (kind_at (input right)) taken in
       let follows = and_parts (some_of on && some_of taken && list_all (same_kind_at (input left) (input right)) on) (follow columns (input left) kinds) f in
-      let width = length-follow columns (input left) kinds follows.1 in
+      let width = follow_width columns (input left) kinds follows.1 in
       let w = h.0.width_is in
       record {
         is_table = result_table (Join left right on taken choice) table (h.0.is_table, (h.1.0.is_table, tt)) tt;
@@ -130,7 +132,7 @@ module _ (input : ℕ → List ColumnSpec) (columns : List ColumnSpec) (bound : 
   node_table (Agg from by aggs) s f room bounds h fault =
       let kinds = map (kind_at (input from)) by ++ map (agg_kind (input from)) aggs in
       let have = and_parts (some_of aggs) (have_kinds columns kinds) (and_parts (some_of aggs && have_kinds columns kinds) (keep_names columns (input from) by) f).0 in
-      let width = length-have_kinds columns kinds have.1 in
+      let width = kinds_width columns kinds have.1 in
       let firsts = filter (is_first by (table from).rows) (table from).rows in
       record {
         is_table = result_table (Agg from by aggs) table (h.0.is_table, tt) tt;
@@ -141,7 +143,7 @@ module _ (input : ℕ → List ColumnSpec) (columns : List ColumnSpec) (bound : 
   node_table (Merge []) s f room bounds h fault = absurd (true≢false (sym (and_parts (nat_le 2 0 && nat_le 0 16) true f).0))
   node_table (Merge (from ∷ inputs)) s f room bounds h fault =
       let alike = all_pass (λ i. same_columns columns (input i)) (from ∷ inputs) (and_parts (nat_le 2 (length (from ∷ inputs)) && nat_le (length (from ∷ inputs)) 16) (list_all (λ i. same_columns columns (input i)) (from ∷ inputs)) f).1 in
-      let widths = every_both IsInput (λ i. same_columns columns (input i) ≡ true) (λ i. (table i).width ≡ length columns) (from ∷ inputs) (λ i k e. k.width_is ∙ sym (length-same_columns columns (input i) e)) h alike in
+      let widths = every_both IsInput (λ i. same_columns columns (input i) ≡ true) (λ i. (table i).width ≡ length columns) (from ∷ inputs) (λ i k e. k.width_is ∙ sym (same_width columns (input i) e)) h alike in
       let regions = sum_within (λ i. region (table i)) bound (from ∷ inputs) (every_both (λ i. IsBound (bound i)) IsInput (λ i. region (table i) ≤ bound i) (from ∷ inputs) (λ i b k. region_within (table i) (bound i) b k.below) bounds h) in
       let all = sum-map bound (from ∷ inputs) in
       let tables = map table (from ∷ inputs) in
@@ -160,7 +162,7 @@ module _ (input : ℕ → List ColumnSpec) (columns : List ColumnSpec) (bound : 
       let same = and_parts (some_of by) (same_columns columns (input from)) fits.0 in
       record {
         is_table = result_table (Sort from by) table (h.0.is_table, tt) tt;
-        width_is = h.0.width_is ∙ sym (length-same_columns columns (input from) same.1);
+        width_is = h.0.width_is ∙ sym (same_width columns (input from) same.1);
         below = every_weaker (λ key. (0 ≤ key) × (key < 0 + length (in_order by (table from).rows))) (λ key. key < 4194304) (keys (numbered 0 (in_order by (table from).rows)))
             (λ key k. omega (arith, k.1, length-in_order by (table from).rows, h.0.count)) (keys-numbered 0 (in_order by (table from).rows));
         count = omega (arith, length-numbered 0 (in_order by (table from).rows), length-in_order by (table from).rows, h.0.count);
@@ -173,7 +175,7 @@ module _ (input : ℕ → List ColumnSpec) (columns : List ColumnSpec) (bound : 
       let same = and_parts (same_columns columns (input from)) (nat_le count 4194304) f in
       record {
         is_table = result_table (Head from count) table (h.0.is_table, tt) tt;
-        width_is = h.0.width_is ∙ sym (length-same_columns columns (input from) same.0);
+        width_is = h.0.width_is ∙ sym (same_width columns (input from) same.0);
         below = below_keys (bound from) (take count (table from).rows) (every-take (λ row. row.key < bound from) count (table from).rows (below_rows (bound from) (table from).rows h.0.below));
         count = omega (arith, length-take count (table from).rows, h.0.count);
       }
@@ -181,14 +183,14 @@ module _ (input : ℕ → List ColumnSpec) (columns : List ColumnSpec) (bound : 
       let same = and_parts (same_columns columns (input from)) (nat_le count 4194304) f in
       record {
         is_table = result_table (Tail from count) table (h.0.is_table, tt) tt;
-        width_is = h.0.width_is ∙ sym (length-same_columns columns (input from) same.0);
+        width_is = h.0.width_is ∙ sym (same_width columns (input from) same.0);
         below = below_keys (bound from) (drop (length (table from).rows - count) (table from).rows) (every-drop (λ row. row.key < bound from) (length (table from).rows - count) (table from).rows (below_rows (bound from) (table from).rows h.0.below));
         count = omega (arith, length-drop (length (table from).rows - count) (table from).rows, h.0.count);
       }
   node_table (AsOf left right on at taken) s f room bounds h fault =
       let kinds = map (kind_at (input right)) taken in
       let follows = and_parts _ (follow columns (input left) kinds) f in
-      let width = length-follow columns (input left) kinds follows.1 in
+      let width = follow_width columns (input left) kinds follows.1 in
       let w = h.0.width_is in
       record {
         is_table = result_table (AsOf left right on at taken) table (h.0.is_table, (h.1.0.is_table, tt)) tt;

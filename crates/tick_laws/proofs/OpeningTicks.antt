@@ -67,13 +67,13 @@ opened_opening [] place = record { no_rows = refl; no_pairs = refl }
 opened_opening (table ∷ opening) zero = record { no_rows = refl; no_pairs = refl }
 opened_opening (table ∷ opening) (suc place) = opened_opening opening place
 
-opened_width : (opening : List PlainTable) (place : ℕ) → (get_or (map opened opening) place no_tick).old.width ≡ (get_or (map opened opening) place no_tick).new.width
+pub opened_width : (opening : List PlainTable) (place : ℕ) → (get_or (map opened opening) place no_tick).old.width ≡ (get_or (map opened opening) place no_tick).new.width
 opened_width [] place = refl
 opened_width (table ∷ opening) zero = refl
 opened_width (table ∷ opening) (suc place) = opened_width opening place
 
 -- a table without rows
-empty_is : (table : PlainTable) (width : ℕ) → table.width ≡ width → table.rows ≡ [] → let empty : PlainTable = record { width = width; rows = [] } in table ≡ empty
+pub empty_is : (table : PlainTable) (width : ℕ) → table.width ≡ width → table.rows ≡ [] → let empty : PlainTable = record { width = width; rows = [] } in table ≡ empty
 empty_is table width w r =
     ap (λ w. let t : PlainTable = record { width = w; rows = table.rows } in t) w
     ∙ ap (λ rows. let t : PlainTable = record { width = width; rows = rows } in t) r

@@ -19,6 +19,7 @@ use Rattle.tick_model.specs.Printable.{IsShift, IsShiftRange, fit_columns, IsPri
 use Rattle.key_lists.proofs.Among.{of_among}
 use Rattle.key_lists.proofs.Every.{every, every_weaker, every_both, every-map, every_unmapped, every-filter, every-append}
 use Rattle.key_lists.proofs.Rising.{rising_some}
+use Rattle.key_lists.proofs.Ranges.{range_below}
 use Rattle.tick_laws.specs.Fitting.{FitsColumns, HasColumns}
 use Rattle.tick_laws.proofs.LawfulSources.{rising_range}
 use Rattle.tick_laws.proofs.Moves.{IsApart, stretches_apart}
@@ -113,10 +114,6 @@ columns_differ (x ∷ xs) (y ∷ ys) (suc width) h k =
     either true b = refl
     either false b = refl
 
-range_below : (a n : ℕ) → AllByRecursion (λ k. k < a + n) (range_with_len a n)
-range_below a zero = tt
-range_below a (suc n) = (omega arith, every_weaker (λ k. k < a + 1 + n) (λ k. k < a + suc n) (range_with_len (a + 1) n) (λ k h. omega (arith, h)) (range_below (a + 1) n))
-
 length-whole : (width : ℕ) (f : ℕ → List ℤ) (ks : List ℕ) → AllByRecursion (λ k. length (f k) ≡ width) ks → length (flat_map f ks) ≡ width * length ks
 length-whole width f [] h = omega arith
 length-whole width f (k ∷ ks) h = let rest = length-whole width f ks h.1 in omega (arith, length-append (f k) (flat_map f ks), h.0, rest)
@@ -125,7 +122,7 @@ every-flat_map : (P : ℤ → Type 0) (f : ℕ → List ℤ) (ks : List ℕ) →
 every-flat_map P f [] h = tt
 every-flat_map P f (k ∷ ks) h = every-append P (f k) (flat_map f ks) h.0 (every-flat_map P f ks h.1)
 
-table_keys : (table : PlainTable) → IsTable table → AllByRecursion (λ k. k < 2 ^ 62) (keys table.rows)
+pub table_keys : (table : PlainTable) → IsTable table → AllByRecursion (λ k. k < 2 ^ 62) (keys table.rows)
 table_keys table t = every-map (λ k. k < 2 ^ 62) (λ (row : PlainRow). row.key) table.rows (every_weaker (IsRow table.width) (λ row. row.key < 2 ^ 62) table.rows (λ row r. r.key) t.rows)
 
 module _ (columns : List ColumnSpec) (texts : List (List ℕ)) (tick : Tick) (h : IsTick tick) (width : tick.new.width ≡ length columns) (fits : HasColumns columns (length texts) tick.new) where

@@ -2,7 +2,7 @@
 use Rattle.std.proofs.Common.{◌≡◌, refl, ap, sym, ◌∙◌, subst, ℕ, zero, suc, ◌+◌, ◌<◌, ◌≤◌, inl, inr, arith, Bool, true, false, true≢false, List, [], ◌∷◌, length, get_or, Option, Some, None}
 use Rattle.std.specs.Prelude.{slice_index}
 use Rattle.std.specs.List.{list_all, AllByRecursion}
-use Rattle.std.proofs.lemmas.Bool.{and_from, cases_lt}
+use Rattle.std.proofs.lemmas.Bool.{cases_lt}
 use Rattle.std.proofs.lemmas.List.{get_or_past}
 use Rattle.tick_model.specs.declared.feed.Run.{Run}
 use Rattle.tick_model.specs.declared.plan.Node.{Node}
@@ -17,7 +17,7 @@ use Rattle.tick_model.specs.Plans.{columns_at, is_lawful, key_bounds}
 use Rattle.tick_model.specs.Sources.{sources}
 use Rattle.tick_model.specs.Spoiled.{node_fault}
 use Rattle.tick_model.specs.States.{state, HaveTables, HasLesserInputs}
-use Rattle.key_lists.proofs.Every.{every_weaker}
+use Rattle.key_lists.proofs.Every.{every_weaker, pass_all}
 use Rattle.tick_laws.specs.Bounded.{IsNodeTable}
 use Rattle.tick_laws.specs.Reached.{KeepsRules, IsReached}
 use Rattle.tick_laws.proofs.EvalNodes.{outcome_cases, length_outcomes, outcome_is}
@@ -42,10 +42,6 @@ no_fault_at k (Table table ∷ outcomes) (suc n) h = no_fault_at (k + 1) outcome
 no_fault_at k (Fault fault ∷ outcomes) n h = absurd (cc)
 no_fault_at k (NoInput ∷ outcomes) zero h = refl
 no_fault_at k (NoInput ∷ outcomes) (suc n) h = no_fault_at (k + 1) outcomes n h
-
-pass_all : {X : Type 0} (p : X → Bool) (xs : List X) → AllByRecursion (λ x. p x ≡ true) xs → list_all p xs ≡ true
-pass_all p [] h = refl
-pass_all p (x ∷ xs) h = and_from (p x) (list_all p xs) h.0 (pass_all p xs h.1)
 
 -- an operator whose inputs have tables has one, or a fault
 applied_to_tables : (op : Op) (done : List Outcome) → AllByRecursion (λ input. has_table (outcome_at done input) ≡ true) (inputs_of op) → is_fault (applied op done) ≡ false → has_table (applied op done) ≡ true

@@ -21,9 +21,10 @@ use Rattle.tick_model.specs.Agg.{is_first, key_cells, aggregate, group_of, same_
 use Rattle.tick_model.specs.Sort.{in_order}
 use Rattle.tick_model.specs.Evaluation.{inputs_of, result}
 use Rattle.key_lists.proofs.Every.{every, every_weaker, every-map, every-filter, every-append}
+use Rattle.key_lists.proofs.Parts.{every-take, every-drop}
 use Rattle.tick_model.specs.Numbers.{HasNumbers, HasOpNumbers}
 use Rattle.tick_laws.proofs.Placed.{every-in_order}
-use Rattle.tick_laws.proofs.ResultTables.{every-take, every-drop, cells-numbered, cells-merged, table_count}
+use Rattle.tick_laws.proofs.ResultTables.{cells-numbered, cells-merged, table_count}
 
 -- what holds of null and of each cell of a row holds of the cell of a column
 pub cell_every : (Q : ℤ → Type 0) → Q null → (cells : List ℤ) → AllByRecursion Q cells → (column : ℕ) → Q (cell cells column)

@@ -1,8 +1,8 @@
 -- Each operator makes a table of tables.
-use Rattle.std.proofs.Common.{◌≡◌, refl, ap, ap₂, sym, ◌∙◌, subst, ℕ, zero, suc, ◌+◌, ◌<◌, ◌≤◌, ◌-◌, ◌^◌, arith, Bool, true, false, cond, List, [], ◌∷◌, map, take, drop, length, filter, length-append, Option, Some, None, ℤ}
+use Rattle.std.proofs.Common.{◌≡◌, refl, ap, ap₂, sym, ◌∙◌, subst, ℕ, zero, suc, ◌+◌, ◌<◌, ◌≤◌, ◌-◌, ◌^◌, arith, Bool, true, false, cond, List, [], ◌∷◌, map, take, drop, length, filter, length-append, ℤ}
 use Rattle.std.specs.Prelude.{sum_by}
 use Rattle.std.specs.List.{AllByRecursion}
-use Rattle.std.proofs.lemmas.List.{length-map}
+use Rattle.std.proofs.lemmas.List.{length-map, map-id}
 use Rattle.tick_model.specs.declared.plan.Op.{Op}
 use Rattle.tick_model.specs.declared.plan.Op.TheVariants.{Source, Keep, View, Join, Agg, Merge, Sort, Head, Tail, AsOf}
 use Rattle.tick_model.specs.declared.plan.SortBy.{SortBy}
@@ -11,32 +11,21 @@ use Rattle.tick_model.specs.declared.table.PlainTable.{PlainTable}
 use Rattle.key_lists.specs.Keys.{IsRising}
 use Rattle.tick_model.specs.Tables.{keys, IsRow, IsTable}
 use Rattle.tick_model.specs.Formulas.{truth, value}
-use Rattle.tick_model.specs.Join.{taken, chosen, matches}
+use Rattle.tick_model.specs.Join.{chosen, matches}
 use Rattle.tick_model.specs.AsOf.{latest, not_later}
 use Rattle.tick_model.specs.Agg.{is_first, key_cells, aggregate, group_of}
 use Rattle.tick_model.specs.Merge.{merged_rows, merge_table, region, row_from, width_of}
 use Rattle.tick_model.specs.Sort.{place, in_order, numbered}
 use Rattle.tick_model.specs.Evaluation.{inputs_of, result}
 use Rattle.key_lists.proofs.Every.{every_weaker, every_both, every-map, every_unmapped, every-filter, every-append}
-use Rattle.key_lists.proofs.Rising.{rising-filter}
+use Rattle.key_lists.proofs.Rising.{rising-filter, rising_count}
+use Rattle.key_lists.proofs.Parts.{every-take, every-drop}
 use Rattle.tick_model.proofs.SortOrders.{comes_before}
+use Rattle.tick_model.proofs.Results.{taken_width}
 use Rattle.tick_laws.specs.Room.{AreMergeable, HasRoom}
 use Rattle.tick_laws.proofs.Merged.{IsPart, apart, apart_rising, apart_below, keys-merged_rows, whole_part}
 use Rattle.tick_laws.proofs.OperatorTicks.{keys_mapped}
 use Rattle.tick_laws.proofs.Placed.{every-in_order}
-use Rattle.tick_laws.proofs.ToldRows.{map_id}
-
-pub every-take : {X : Type 0} (P : X → Type 0) (n : ℕ) (xs : List X) → AllByRecursion P xs → AllByRecursion P (take n xs)
-every-take P zero [] h = tt
-every-take P zero (x ∷ xs) h = tt
-every-take P (suc n) [] h = tt
-every-take P (suc n) (x ∷ xs) h = (h.0, every-take P n xs h.1)
-
-pub every-drop : {X : Type 0} (P : X → Type 0) (n : ℕ) (xs : List X) → AllByRecursion P xs → AllByRecursion P (drop n xs)
-every-drop P zero [] h = tt
-every-drop P zero (x ∷ xs) h = h
-every-drop P (suc n) [] h = tt
-every-drop P (suc n) (x ∷ xs) h = every-drop P n xs h.1
 
 pub rising-take : {X : Type 0} (f : X → ℕ) (n : ℕ) (xs : List X) → IsRising (map f xs) → IsRising (map f (take n xs))
 rising-take f zero [] h = tt
@@ -62,10 +51,6 @@ mapped_table width f table h same whole = record {
   rising = subst IsRising (sym (keys_mapped f table.rows same)) h.rising;
 }
 
-pub length-taken : (take : List ℕ) (o : Option PlainRow) → length (taken take o) ≡ length take
-length-taken take None = length-map take _
-length-taken take (Some right) = length-map take _
-
 -- the rows of a sort are as many, under their places
 length-place : (less : PlainRow → PlainRow → Bool) (x : PlainRow) (xs : List PlainRow) → length (place less x xs) ≡ length xs + 1
 length-place less x [] = refl
@@ -89,13 +74,6 @@ pub cells-numbered : (P : List ℤ → Type 0) (n : ℕ) (rows : List PlainRow) 
 cells-numbered P n [] h = tt
 cells-numbered P n (row ∷ rows) h = (h.0, cells-numbered P (n + 1) rows h.1)
 
--- so many rising keys below a bound are not more than it
-rising_count : (low bound : ℕ) (ks : List ℕ) → low ≤ bound → AllByRecursion (λ k. low ≤ k) ks → AllByRecursion (λ k. k < bound) ks → IsRising ks → low + length ks ≤ bound
-rising_count low bound [] room above below r = omega (arith, room)
-rising_count low bound (k ∷ ks) room above below r =
-    let rest = rising_count (k + 1) bound ks (omega (arith, below.0)) (every_weaker (λ j. k < j) (λ j. k + 1 ≤ j) ks (λ j h. omega (arith, h)) r.0) below.1 r.1 in
-    omega (arith, rest, above.0)
-
 every_above : (ks : List ℕ) → AllByRecursion (λ k. 0 ≤ k) ks
 every_above [] = tt
 every_above (k ∷ ks) = (omega arith, every_above ks)
@@ -106,7 +84,7 @@ table_count table h =
     omega (arith, count, length-map table.rows (λ (row : PlainRow). row.key))
 
 -- rows under keys below 2 ^ 62, each of the width
-rows_of : (width : ℕ) (rows : List PlainRow) → AllByRecursion (λ k. k < 2 ^ 62) (keys rows) → AllByRecursion (λ row. length row.cells ≡ width) rows → AllByRecursion (IsRow width) rows
+pub rows_of : (width : ℕ) (rows : List PlainRow) → AllByRecursion (λ k. k < 2 ^ 62) (keys rows) → AllByRecursion (λ row. length row.cells ≡ width) rows → AllByRecursion (IsRow width) rows
 rows_of width rows below whole =
     every_both (λ (row : PlainRow). row.key < 2 ^ 62) (λ row. length row.cells ≡ width) (IsRow width) rows (λ row k w. record { key = k; whole = w })
     (every_unmapped (λ k. k < 2 ^ 62) (λ (row : PlainRow). row.key) rows below) whole
@@ -133,7 +111,7 @@ merged_table tables h room = record {
     own table = keys table.rows
 
     same : keys (merged_rows 0 tables) ≡ apart own region 0 tables
-    same = ap (λ ts. keys (merged_rows 0 ts)) (sym (map_id tables)) ∙ keys-merged_rows (λ (t : PlainTable). t) 0 tables
+    same = ap (λ ts. keys (merged_rows 0 ts)) (sym (map-id tables)) ∙ keys-merged_rows (λ (t : PlainTable). t) 0 tables
 
     parts : AllByRecursion (IsPart own own region) tables
     parts = every_weaker IsTable (IsPart own own region) tables (λ table t. whole_part (λ (t : PlainTable). t) table t.rising) h
@@ -147,7 +125,7 @@ result_table (Keep input test) table h room = kept_table (λ row. truth test row
 result_table (View input exprs) table h room =
     mapped_table ((table input).width + length exprs) _ (table input) h.0 (λ row. refl) (λ row w. length-append row.cells (map (λ expr. value expr row.cells) exprs) ∙ ap₂ ◌+◌ w (length-map exprs _))
 result_table (Join left right on take choice) table h room =
-    mapped_table ((table left).width + length take) _ (table left) h.0 (λ row. refl) (λ row w. length-append row.cells _ ∙ ap₂ ◌+◌ w (length-taken take (chosen choice (matches on (table right).rows row))))
+    mapped_table ((table left).width + length take) _ (table left) h.0 (λ row. refl) (λ row w. length-append row.cells _ ∙ ap₂ ◌+◌ w (taken_width take (chosen choice (matches on (table right).rows row))))
 result_table (Agg input by aggs) table h room =
     mapped_table (length by + length aggs) _ (record { width = (table input).width; rows = filter (is_first by (table input).rows) (table input).rows }) (kept_table (is_first by (table input).rows) (table input) h.0) (λ row. refl)
     (λ row w. length-append (key_cells by row.cells) (map (aggregate (group_of by (table input).rows row)) aggs) ∙ ap₂ ◌+◌ (length-map by _) (length-map aggs _))
@@ -166,4 +144,4 @@ result_table (Tail input count) table h room = record {
   rising = rising-drop (λ (row : PlainRow). row.key) (length (table input).rows - count) (table input).rows h.0.rising;
 }
 result_table (AsOf left right on at take) table h room =
-    mapped_table ((table left).width + length take) _ (table left) h.0 (λ row. refl) (λ row w. length-append row.cells _ ∙ ap₂ ◌+◌ w (length-taken take (latest at.right (not_later on at (table right).rows row))))
+    mapped_table ((table left).width + length take) _ (table left) h.0 (λ row. refl) (λ row w. length-append row.cells _ ∙ ap₂ ◌+◌ w (taken_width take (latest at.right (not_later on at (table right).rows row))))

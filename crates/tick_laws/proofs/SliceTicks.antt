@@ -1,6 +1,7 @@
 -- The change of a slice over several steps is a tick.
 use Rattle.std.proofs.Common.{◌≡◌, refl, sym, ◌∙◌, subst, ℕ, zero, suc, ◌+◌, ◌<◌, arith, List, take, drop, length}
 use Rattle.std.proofs.lemmas.List.{length-map}
+use Rattle.key_lists.proofs.Parts.{every-take, every-drop}
 use Rattle.tick_model.specs.declared.feed.Run.{Run}
 use Rattle.tick_model.specs.declared.table.PlainRow.{PlainRow}
 use Rattle.tick_model.specs.declared.table.PlainTable.{PlainTable}
@@ -16,7 +17,7 @@ use Rattle.tick_laws.specs.Reached.{IsReached}
 use Rattle.tick_laws.proofs.Composed.{composed_tick}
 use Rattle.tick_laws.proofs.OperatorTicks.{all_both_in}
 use Rattle.tick_laws.proofs.ReachedTables.{reached_tables}
-use Rattle.tick_laws.proofs.ResultTables.{every-take, every-drop, mapped_table, rising-take, rising-drop}
+use Rattle.tick_laws.proofs.ResultTables.{mapped_table, rising-take, rising-drop}
 use Rattle.tick_laws.proofs.RunTicks.{lawful_ticks, reached_before}
 use Rattle.tick_laws.proofs.SourceTicks.{opened_tick, unchanged_tick}
 use Rattle.tick_laws.proofs.TickNodes.{tick_from}

@@ -2,6 +2,7 @@
 use Rattle.std.proofs.Common.{◌≡◌, refl, ap, sym, ◌∙◌, subst, ℕ, zero, suc, ◌≤◌, arith, List, [], ◌∷◌, map, get_or, set, None, true}
 use Rattle.std.specs.Prelude.{option_map}
 use Rattle.std.specs.List.{AllByRecursion}
+use Rattle.std.proofs.lemmas.List.{map-id}
 use Rattle.tick_model.specs.declared.feed.Batch.{Batch}
 use Rattle.tick_model.specs.declared.feed.Block.{Block}
 use Rattle.tick_model.specs.declared.feed.Run.{Run}
@@ -17,7 +18,6 @@ use Rattle.key_lists.proofs.Among.{each_among}
 use Rattle.tick_laws.proofs.Blocks.{block_tick}
 use Rattle.tick_laws.proofs.CheckedUpdates.{none_parts, map_none}
 use Rattle.tick_laws.proofs.Composed.{composed_tick}
-use Rattle.tick_laws.proofs.ToldRows.{map_id}
 use Rattle.key_lists.proofs.Every.{every-map, map_map}
 
 -- a table that stays keeps all its rows
@@ -33,10 +33,10 @@ unchanged_tick table h = record {
 }
   where
     olds : map (λ (p : KeyPair). p.old) (map same_key (keys table.rows)) ≡ keys table.rows
-    olds = map_map (λ (p : KeyPair). p.old) same_key (keys table.rows) ∙ map_id (keys table.rows)
+    olds = map_map (λ (p : KeyPair). p.old) same_key (keys table.rows) ∙ map-id (keys table.rows)
 
     news : map (λ (p : KeyPair). p.new) (map same_key (keys table.rows)) ≡ keys table.rows
-    news = map_map (λ (p : KeyPair). p.new) same_key (keys table.rows) ∙ map_id (keys table.rows)
+    news = map_map (λ (p : KeyPair). p.new) same_key (keys table.rows) ∙ map-id (keys table.rows)
 
 empty_table : (width : ℕ) → let table : PlainTable = record { width = width; rows = [] } in IsTable table
 empty_table width = record { rows = tt; rising = tt }

@@ -1,5 +1,5 @@
 -- Where no input of an operator changes its table stays, too, and the update is empty.
-use Rattle.std.proofs.Common.{◌≡◌, refl, ap, ap₂, sym, ◌∙◌, subst, ℕ, zero, suc, ◌+◌, ◌==◌, ◌<◌, Bool, true, false, cond, not, ◌&&◌, ◌||◌, List, [], ◌∷◌, ◌++◌, map, take, drop, length, true≢false, ℤ, pos, ◌+ℤ◌, arith}
+use Rattle.std.proofs.Common.{◌≡◌, refl, ap, ap₂, sym, ◌∙◌, subst, ℕ, ◌+◌, ◌==◌, ◌<◌, Bool, true, false, cond, not, ◌&&◌, ◌||◌, List, [], ◌∷◌, ◌++◌, map, length, true≢false, ℤ, pos, ◌+ℤ◌, arith}
 use Rattle.std.specs.Prelude.{Option, Some, None, filter, filter_map, find, option_map}
 use Rattle.std.specs.List.{AllByRecursion, cons_option, enumerate_from, list_all}
 use Rattle.std.specs.Cmp.{signed_Decides}
@@ -7,7 +7,7 @@ use Rattle.std.specs.Ordering.{int_eq}
 use Rattle.std.specs.Cmp.Rules.{signed_items}
 use Rattle.std.proofs.lemmas.Bool.{and_parts, eq-eqb, eqb-true, ne_eqb}
 use Rattle.std.proofs.lemmas.Int.{ints}
-use Rattle.std.proofs.lemmas.List.{append_assoc, map-append}
+use Rattle.std.proofs.lemmas.List.{append_assoc, map-append, length_push}
 use Rattle.tick_model.specs.declared.plan.Agg.{Agg as Aggregate}
 use Rattle.tick_model.specs.declared.plan.SortBy.{SortBy}
 use Rattle.tick_model.specs.declared.plan.Op.{Op}
@@ -34,10 +34,12 @@ use Rattle.tick_model.specs.Merge.{merge_table, merged_pairs, merged_rows, pair_
 use Rattle.key_lists.proofs.Among.{each_among}
 use Rattle.key_lists.proofs.Every.{every, every_unmapped, every-append, every-filter, every-map, filter-map, filter_all, filter_same, map_map}
 use Rattle.key_lists.proofs.Rising.{as_filter}
+use Rattle.key_lists.proofs.Parts.{every-take, every-drop}
 use Rattle.tick_laws.proofs.Carried.{pairs-between}
-use Rattle.tick_laws.proofs.EmptyUpdates.{nothing, unchanged_by_empty}
+use Rattle.tick_laws.proofs.EmptyUpdates.{none_is, unchanged_by_empty}
 use Rattle.tick_laws.proofs.OperatorTicks.{keys_mapped}
 use Rattle.tick_laws.proofs.Placed.{IsPlaced, Stands, every-in_order, in_order_placed}
+use Rattle.tick_laws.proofs.ResultTables.{result_table}
 use Rattle.tick_laws.specs.Operated.{operated}
 
 abbrev pub IsStill : Tick → Type 0
@@ -65,7 +67,7 @@ still_by_empty tick h empty =
     let three = and_parts (is_none update.removed && is_none update.added && is_none update.modified) (is_none update.shifted) empty in
     let two = and_parts (is_none update.removed && is_none update.added) (is_none update.modified) three.0 in
     let one = and_parts (is_none update.removed) (is_none update.added) two.0 in
-    let kept : tick.kept ≡ map same_key (keys tick.old.rows) = sym (pairs-between tick h) ∙ pairs_of_none tick.old update (nothing update.removed one.0) (nothing update.shifted three.1) in
+    let kept : tick.kept ≡ map same_key (keys tick.old.rows) = sym (pairs-between tick h) ∙ pairs_of_none tick.old update (none_is update.removed one.0) (none_is update.shifted three.1) in
     ap₂ (λ (new : PlainTable) (kept : List KeyPair). let same : Tick = record { old = tick.old; new = new; kept = kept } in same) (unchanged_by_empty tick h empty) kept
 
 -- rows of a table that are among those of another
@@ -85,18 +87,6 @@ own_keys rows = every_unmapped (λ key. is_among key (keys rows) ≡ true) (λ (
 
 as_keys : (rows some : List PlainRow) → AllByRecursion (λ (row : PlainRow). is_among row.key (keys rows) ≡ true) some → AllByRecursion (λ key. is_among key (keys rows) ≡ true) (keys some)
 as_keys rows some h = every-map (λ key. is_among key (keys rows) ≡ true) (λ (row : PlainRow). row.key) some h
-
-every-take : {X : Type 0} (P : X → Type 0) (n : ℕ) (xs : List X) → AllByRecursion P xs → AllByRecursion P (take n xs)
-every-take P zero [] h = tt
-every-take P zero (x ∷ xs) h = tt
-every-take P (suc n) [] h = tt
-every-take P (suc n) (x ∷ xs) h = (h.0, every-take P n xs h.1)
-
-every-drop : {X : Type 0} (P : X → Type 0) (n : ℕ) (xs : List X) → AllByRecursion P xs → AllByRecursion P (drop n xs)
-every-drop P zero [] h = tt
-every-drop P zero (x ∷ xs) h = h
-every-drop P (suc n) [] h = tt
-every-drop P (suc n) (x ∷ xs) h = every-drop P n xs h.1
 
 -- a tick of a table that stays with the pairs of all its keys
 abbrev with_kept : PlainTable → List KeyPair → Tick
@@ -208,12 +198,8 @@ module _ (by : List SortBy) (input : PlainTable) (h : IsTable input) where
       let place : place_of row.key sorted ≡ n = ap (place_of row.key) e ∙ place_after row.key done row rows others.0 refl ∙ l in
       ap (λ o. cons_option (option_map (λ (pair : KeyPair). let placed : KeyPair = record { old = n; new = place_of pair.new sorted } in placed) o) (filter_map (place_pair sorted (map same_key (keys input.rows))) (enumerate_from (n + 1) rows))) (find_same row.key (keys input.rows) own.0)
       ∙ ap₂ (λ (new : ℕ) (rest : List KeyPair). (let pair : KeyPair = record { old = n; new = new } in pair) ∷ rest) place
-      (places (n + 1) (done ++ row ∷ []) rows (e ∙ sym (append_assoc done (row ∷ []) rows)) (longer done ∙ ap (λ m. m + 1) l) own.1 found.1 placed.1 (next rows found.1 placed.0 others.1))
+      (places (n + 1) (done ++ row ∷ []) rows (e ∙ sym (append_assoc done (row ∷ []) rows)) (length_push done row ∙ ap (λ m. m + 1) l) own.1 found.1 placed.1 (next rows found.1 placed.0 others.1))
     where
-      longer : (xs : List PlainRow) → length (xs ++ row ∷ []) ≡ length xs + 1
-      longer [] = refl
-      longer (x ∷ xs) = let rest = longer xs in omega (arith, rest)
-
       next : (those : List PlainRow) → AllByRecursion Found those → AllByRecursion (Stands by row) those → AllByRecursion (λ (other : PlainRow). AllByRecursion (IsOther other) done) those → AllByRecursion (λ (other : PlainRow). AllByRecursion (IsOther other) (done ++ row ∷ [])) those
       next [] f st o = tt
       next (other ∷ those) f st o = (every-append (IsOther other) done (row ∷ []) o.0 (other_keys row other found.0 f.0 st.0, tt), next those f.1 st.1 o.1)
@@ -225,26 +211,26 @@ module _ (by : List SortBy) (input : PlainTable) (h : IsTable input) where
       (every-in_order by Found input.rows (each_found input.rows h.rising)) (in_order_placed by input.rows h.rising) (every (λ (row : PlainRow). AllByRecursion (IsOther row) []) sorted (λ row. tt))
 
 -- an operator none of whose inputs changes keeps its table, and every row in its place
-pub operator_stays : (op : Op) (tick : ℕ → Tick) → AllByRecursion (λ n. IsStill (tick n)) (inputs_of op) → AllByRecursion (λ n. IsTable (tick n).old) (inputs_of op) → IsTable (result op (λ n. (tick n).old)) → operated op tick ≡ unchanged (result op (λ n. (tick n).old))
-operator_stays Source tick h t o = refl
-operator_stays (Keep input test) tick h t o =
+pub operator_stays : (op : Op) (tick : ℕ → Tick) → AllByRecursion (λ n. IsStill (tick n)) (inputs_of op) → AllByRecursion (λ n. IsTable (tick n).old) (inputs_of op) → operated op tick ≡ unchanged (result op (λ n. (tick n).old))
+operator_stays Source tick h t = refl
+operator_stays (Keep input test) tick h t =
     ap (tick_by (where_table test) (both_by (where_table test))) h.0
-    ∙ some_rows (where_table test (tick input).old) (tick input).old o t.0 (every-filter (λ (row : PlainRow). is_among row.key (keys (tick input).old.rows) ≡ true) _ (tick input).old.rows (own_keys (tick input).old.rows))
-operator_stays (View input exprs) tick h t o =
+    ∙ some_rows (where_table test (tick input).old) (tick input).old (result_table (Keep input test) (λ n. (tick n).old) t tt) t.0 (every-filter (λ (row : PlainRow). is_among row.key (keys (tick input).old.rows) ≡ true) _ (tick input).old.rows (own_keys (tick input).old.rows))
+operator_stays (View input exprs) tick h t =
     ap (tick_by (view_table exprs) (λ (tick : Tick). tick.kept)) h.0 ∙ same_keys (view_table exprs) (tick input).old (keys_mapped _ (tick input).old.rows (λ row. refl))
-operator_stays (Join left right on taken choice) tick h t o =
+operator_stays (Join left right on taken choice) tick h t =
     ap₂ (λ (l r : Tick). let joined : Tick = record { old = join_table on taken choice l.old r.old; new = join_table on taken choice l.new r.new; kept = l.kept } in joined) h.0 h.1.0
     ∙ same_keys (λ table. join_table on taken choice table (tick right).old) (tick left).old (keys_mapped _ (tick left).old.rows (λ row. refl))
-operator_stays (Agg input by aggs) tick h t o =
-    ap (λ (t : Tick). tick_by (agg_table by aggs) (λ (tick : Tick). agg_pairs by tick (agg_table by aggs tick.old) (agg_table by aggs tick.new)) t) h.0 ∙ agg_stays by aggs (tick input).old t.0 o
-operator_stays (Merge inputs) tick h t o = merge_stays tick inputs h
-operator_stays (Sort input by) tick h t o = ap (tick_by (sort_table by) (sort_pairs by)) h.0 ∙ ap (with_kept (sort_table by (tick input).old)) (sort_stays by (tick input).old t.0)
-operator_stays (Head input count) tick h t o =
+operator_stays (Agg input by aggs) tick h t =
+    ap (λ (t : Tick). tick_by (agg_table by aggs) (λ (tick : Tick). agg_pairs by tick (agg_table by aggs tick.old) (agg_table by aggs tick.new)) t) h.0 ∙ agg_stays by aggs (tick input).old t.0 (result_table (Agg input by aggs) (λ n. (tick n).old) t tt)
+operator_stays (Merge inputs) tick h t = merge_stays tick inputs h
+operator_stays (Sort input by) tick h t = ap (tick_by (sort_table by) (sort_pairs by)) h.0 ∙ ap (with_kept (sort_table by (tick input).old)) (sort_stays by (tick input).old t.0)
+operator_stays (Head input count) tick h t =
     ap (tick_by (head_table count) (both_by (head_table count))) h.0
-    ∙ some_rows (head_table count (tick input).old) (tick input).old o t.0 (every-take (λ (row : PlainRow). is_among row.key (keys (tick input).old.rows) ≡ true) count (tick input).old.rows (own_keys (tick input).old.rows))
-operator_stays (Tail input count) tick h t o =
+    ∙ some_rows (head_table count (tick input).old) (tick input).old (result_table (Head input count) (λ n. (tick n).old) t tt) t.0 (every-take (λ (row : PlainRow). is_among row.key (keys (tick input).old.rows) ≡ true) count (tick input).old.rows (own_keys (tick input).old.rows))
+operator_stays (Tail input count) tick h t =
     ap (tick_by (tail_table count) (both_by (tail_table count))) h.0
-    ∙ some_rows (tail_table count (tick input).old) (tick input).old o t.0 (every-drop (λ (row : PlainRow). is_among row.key (keys (tick input).old.rows) ≡ true) _ (tick input).old.rows (own_keys (tick input).old.rows))
-operator_stays (AsOf left right on at taken) tick h t o =
+    ∙ some_rows (tail_table count (tick input).old) (tick input).old (result_table (Tail input count) (λ n. (tick n).old) t tt) t.0 (every-drop (λ (row : PlainRow). is_among row.key (keys (tick input).old.rows) ≡ true) _ (tick input).old.rows (own_keys (tick input).old.rows))
+operator_stays (AsOf left right on at taken) tick h t =
     ap₂ (λ (l r : Tick). let joined : Tick = record { old = asof_table on at taken l.old r.old; new = asof_table on at taken l.new r.new; kept = l.kept } in joined) h.0 h.1.0
     ∙ same_keys (λ table. asof_table on at taken table (tick right).old) (tick left).old (keys_mapped _ (tick left).old.rows (λ row. refl))

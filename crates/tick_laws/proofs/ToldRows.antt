@@ -4,6 +4,8 @@ use Rattle.std.specs.Prelude.{filter, option_map, flat_map}
 use Rattle.std.specs.List.{AllByRecursion}
 use Rattle.std.proofs.Math.Seq.{take-append_seam, drop-append_seam}
 use Rattle.std.proofs.lemmas.List.Elements.{filter-append}
+use Rattle.std.proofs.lemmas.Bool.{not-true}
+use Rattle.std.proofs.lemmas.List.{map-id}
 use Rattle.tick_model.specs.declared.table.PlainRow.{PlainRow}
 use Rattle.tick_model.specs.declared.table.PlainTable.{PlainTable}
 use Rattle.key_lists.specs.Keys.{is_among, IsRising, without}
@@ -20,10 +22,6 @@ use Rattle.tick_laws.proofs.Carried.{within_from, named_rows, carry-between}
 -- the row of a table under a key
 abbrev pub row_under : List PlainRow → ℕ → PlainRow
 row_under rows key = record { key = key; cells = cells_at key rows }
-
-pub map_id : {X : Type 0} (xs : List X) → map (λ x. x) xs ≡ xs
-map_id [] = refl
-map_id (x ∷ xs) = ap (λ rest. x ∷ rest) (map_id xs)
 
 -- rows of one width, laid one after the other, are found again
 pub rows_under-told : (width : ℕ) (cells : ℕ → List ℤ) (ks : List ℕ) → AllByRecursion (λ key. length (cells key) ≡ width) ks
@@ -53,7 +51,7 @@ rows_of_keys ks rows r s h =
     ∙ map_map (λ (pair : KeyPair). row_under rows pair.old) same_key ks
   where
     same : map (λ (pair : KeyPair). pair.old) (map same_key ks) ≡ ks
-    same = map_map (λ (pair : KeyPair). pair.old) same_key ks ∙ map_id ks
+    same = map_map (λ (pair : KeyPair). pair.old) same_key ks ∙ map-id ks
 
 -- of two lists of which the second has none of the first, those of the first, and of the second
 pub first_of_two : (xs ys : List ℕ) → AllByRecursion (λ y. is_among y xs ≡ false) ys → filter (λ z. is_among z xs) (xs ++ ys) ≡ xs
@@ -75,11 +73,7 @@ none_without others all =
 
 pub without_apart : (others all : List ℕ) → AllByRecursion (λ key. is_among key others ≡ false) (without others all)
 without_apart others all =
-    every_weaker (λ key. not (is_among key others) ≡ true) (λ key. is_among key others ≡ false) (without others all) (λ key h. opposite (is_among key others) h) (filter_passes (λ key. not (is_among key others)) all)
-  where
-    opposite : (b : Bool) → not b ≡ true → b ≡ false
-    opposite true h = sym h
-    opposite false h = refl
+    every_weaker (λ key. not (is_among key others) ≡ true) (λ key. is_among key others ≡ false) (without others all) (λ key h. not-true (is_among key others) h) (filter_passes (λ key. not (is_among key others)) all)
 
 module _ (tick : Tick) (h : IsTick tick) where
   abbrev added : List ℕ

@@ -6,6 +6,7 @@ use Rattle.std.specs.Ordering.{int_eq}
 use Rattle.std.specs.Cmp.{signed_Decides}
 use Rattle.std.specs.Cmp.Rules.{signed_items}
 use Rattle.std.proofs.lemmas.Int.{ints}
+use Rattle.std.proofs.lemmas.List.{map-id}
 use Rattle.tick_model.specs.declared.table.PlainTable.{PlainTable}
 use Rattle.tick_model.specs.declared.update.KeyPair.{KeyPair}
 use Rattle.tick_model.specs.declared.update.ShiftRange.{ShiftRange}
@@ -17,7 +18,6 @@ use Rattle.tick_model.specs.Updates.{Update, new_keys, differs, differs_in, betw
 use Rattle.key_lists.proofs.Among.{each_among}
 use Rattle.key_lists.proofs.Every.{every, every_weaker, every-map, filter_all, filter_none, map_map}
 use Rattle.tick_laws.specs.Replaced.{replaced, whole_update, no_update}
-use Rattle.tick_laws.proofs.ToldRows.{map_id}
 
 -- the parts of an update
 abbrev with_parts : List ℕ → List ℕ → List ℕ → List ShiftRange → List ℕ → Update
@@ -48,7 +48,7 @@ still (key ∷ ks) = go (stretches (map same_key ks)) (still ks)
           | false ↦ (zero_delta, h)
         ]
 
-nothing_moves : (ks : List ℕ) → shifted (map same_key ks) ≡ []
+pub nothing_moves : (ks : List ℕ) → shifted (map same_key ks) ≡ []
 nothing_moves ks =
     filter_none (λ (range : ShiftRange). not (int_eq range.delta (pos 0))) (stretches (map same_key ks))
     (every_weaker (λ (range : ShiftRange). range.delta ≡ pos 0) (λ (range : ShiftRange). not (int_eq range.delta (pos 0)) ≡ false) (stretches (map same_key ks)) (λ range e. ap not ((signed_Decides range.delta (pos 0)).1 e)) (still ks))
@@ -79,10 +79,10 @@ between-unchanged table =
     columns = filter (λ column. list_any (differs_in table table column) kept) (range_with_len 0 table.width)
 
     own : map (λ (pair : KeyPair). pair.old) kept ≡ ks
-    own = map_map (λ (pair : KeyPair). pair.old) same_key ks ∙ map_id ks
+    own = map_map (λ (pair : KeyPair). pair.old) same_key ks ∙ map-id ks
 
     own_new : map (λ (pair : KeyPair). pair.new) kept ≡ ks
-    own_new = map_map (λ (pair : KeyPair). pair.new) same_key ks ∙ map_id ks
+    own_new = map_map (λ (pair : KeyPair). pair.new) same_key ks ∙ map-id ks
 
     no_column : (column : ℕ) (these : List ℕ) → list_any (differs_in table table column) (map same_key these) ≡ false
     no_column column [] = refl

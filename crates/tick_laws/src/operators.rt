@@ -28,17 +28,16 @@ pub fn operators_keep_cells()
         → HasOpNumbers op → HasCells (result_of op table) }
 {}
 
-/// The pairs that an operator keeps are those of a tick, where its inputs' are.
+/// The pairs that an operator keeps are those of a tick, where its inputs' are and its results are tables.
 pub fn operators_keep()
     ensures { (op : Op) (tick : ℕ → Tick) → EachInput op (λ input. IsTick (tick input))
-        → HasRoom op (λ n. (tick n).old) → HasRoom op (λ n. (tick n).new)
+        → IsTable (result_of op (λ n. (tick n).old)) → IsTable (result_of op (λ n. (tick n).new))
         → IsTick (operated op tick) }
 {}
 
 /// Where no input of an operator changes, neither does its table, and each of its rows stays where it is.
 pub fn still_inputs_change_nothing()
     ensures { (op : Op) (tick : ℕ → Tick) → EachInput op (λ input. IsTick (tick input))
-        → HasRoom op (λ n. (tick n).old)
         → EachInput op (λ input. is_empty (between (tick input)) ≡ true)
         → operated op tick ≡ unchanged (result_of op (λ n. (tick n).old)) }
 {}

@@ -1,5 +1,5 @@
 -- A node none of whose inputs changes in a step.
-use Rattle.std.proofs.Common.{◌≡◌, ap, sym, ◌∙◌, subst, ℕ, ◌<◌, true, false, List, [], map, length, None}
+use Rattle.std.proofs.Common.{◌≡◌, ap, sym, ◌∙◌, ℕ, ◌<◌, true, false, List, [], map, length, None}
 use Rattle.std.specs.Prelude.{flat_map}
 use Rattle.std.specs.List.{AllByRecursion}
 use Rattle.key_lists.proofs.Every.{every_both, every_weaker, map_same}
@@ -76,7 +76,7 @@ module _ (run : Run) (step : ℕ) (e : IsEntered run step) (n : ℕ) (within : n
     still =
         let same : operated op (tick run step) ≡ tick run step n = operated_own run step e n within is defined no_fault in
         sym same
-        ∙ operator_stays op (tick run step) stills (every_weaker IsNodeTick (λ input. IsTable (tick run step input).old) inputs (λ input t. t.is_tick.old_table) ticks) (subst IsTable (sym (ap (λ (t : Tick). t.old) same)) own.is_tick.old_table)
+        ∙ operator_stays op (tick run step) stills (every_weaker IsNodeTick (λ input. IsTable (tick run step input).old) inputs (λ input t. t.is_tick.old_table) ticks)
         ∙ ap (λ (t : Tick). unchanged t.old) same
 
     -- its table after the step
