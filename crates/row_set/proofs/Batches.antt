@@ -1,10 +1,11 @@
 -- The keys of several ranges, added and removed one range after another.
-use Rattle.std.proofs.Common.{◌≡◌, refl, ap, sym, ◌∙◌, Bool, true, false, not, ◌&&◌, ◌||◌, ◌==◌, ℕ, ◌+◌, ◌<◌, min, arith, List, [], ◌∷◌, ◌++◌, length, take, drop, get_or, take-take, take-append-drop, append-nil, eqb-true}
+use Rattle.std.proofs.Common.{◌≡◌, refl, ap, sym, ◌∙◌, Bool, true, false, not, ◌&&◌, ◌||◌, ◌==◌, ℕ, ◌+◌, ◌<◌, arith, List, [], ◌∷◌, ◌++◌, length, take, drop, get_or, take-append-drop, append-nil, eqb-true}
 use Rattle.std.proofs.lemmas.List.{take_more}
 use Rattle.key_lists.specs.Keys.{is_among, IsRising, without}
 use Rattle.key_lists.proofs.Every.{filter_filter, filter_same, every, filter_all}
 use Rattle.key_lists.proofs.Among.{among-append}
 use Rattle.key_lists.proofs.Rising.{rising_same}
+use Rattle.key_lists.proofs.Booleans.{neither}
 use Rattle.row_set.specs.declared.ranges.Range.{Range}
 use Rattle.row_set.specs.Ranges.{keys_from, keys_in, keys_of}
 use Rattle.row_set.specs.Sets.{united}
@@ -28,15 +29,11 @@ united_append first second keys h =
     ∙ ap (λ b. b || is_among key keys) (sym (among-append key first second))
     ∙ sym (among-united key (first ++ second) keys))
 
-not_or : (a b : Bool) → (not a && not b) ≡ not (a || b)
-not_or true b = refl
-not_or false b = refl
-
 without_append : (first second keys : List ℕ) → without second (without first keys) ≡ without (first ++ second) keys
 without_append first second keys =
     filter_filter (λ key. not (is_among key second)) (λ key. not (is_among key first)) keys
     ∙ filter_same (λ key. not (is_among key first) && not (is_among key second)) (λ key. not (is_among key (first ++ second))) keys
-    (every (λ key. (not (is_among key first) && not (is_among key second)) ≡ not (is_among key (first ++ second))) keys (λ key. not_or (is_among key first) (is_among key second) ∙ ap not (sym (among-append key first second))))
+    (every (λ key. (not (is_among key first) && not (is_among key second)) ≡ not (is_among key (first ++ second))) keys (λ key. neither (is_among key first) (is_among key second) ∙ ap not (sym (among-append key first second))))
 
 keys_more : (others : List Range) (i : ℕ) → i < length others → keys_of (take i others) ++ keys_in (get_or others i blank) ≡ keys_of (take (i + 1) others)
 keys_more others i lt =
@@ -60,16 +57,6 @@ without_rest others i keys new none is =
 
 pub without_none : (keys : List ℕ) → keys ≡ without [] keys
 without_none keys = sym (filter_all keys)
-
--- what stays before both of two places
-pub same_before : {X : Type 0} (n m : ℕ) (xs ys zs : List X) → take n xs ≡ take n ys → take m ys ≡ take m zs → take (min m n) xs ≡ take (min m n) zs
-same_before n m xs ys zs e f =
-    sym (take-take (min m n) n xs (omega arith))
-    ∙ ap (take (min m n)) e
-    ∙ take-take (min m n) n ys (omega arith)
-    ∙ sym (take-take (min m n) m ys (omega arith))
-    ∙ ap (take (min m n)) f
-    ∙ take-take (min m n) m zs (omega arith)
 
 -- no other keys
 pub empty_united : (others keys : List ℕ) → (length others == 0) ≡ true → keys ≡ united others keys

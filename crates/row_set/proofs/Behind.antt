@@ -1,29 +1,24 @@
 -- Keys put behind all others.
-use Rattle.std.proofs.Common.{◌≡◌, refl, ap, sym, ◌∙◌, subst, Bool, true, false, ◌||◌, ℕ, suc, ◌+◌, ◌-◌, ◌^◌, ◌<◌, ◌≤◌, arith, List, [], ◌∷◌, ◌++◌, length, take, get_or, set, take_all, append_assoc, append-nil, ltb, ltb-true}
+use Rattle.std.proofs.Common.{◌≡◌, refl, ap, sym, ◌∙◌, subst, true, false, ℕ, suc, ◌+◌, ◌-◌, ◌^◌, ◌<◌, ◌≤◌, arith, List, [], ◌∷◌, ◌++◌, length, length-append, length-take-le, take, take_at, get_or, set, take_all, append_assoc, append-nil, ltb, ltb-true}
 use Rattle.std.specs.Bool.{OnTrue}
 use Rattle.std.specs.List.{AllByRecursion}
-use Rattle.std.proofs.lemmas.List.{drop_all, get_or_default, set_split}
+use Rattle.std.proofs.lemmas.List.{drop_all, get_or_default, set_split, take-append-le}
 use Rattle.key_lists.specs.Keys.{is_among}
 use Rattle.key_lists.proofs.Among.{among-append}
 use Rattle.key_lists.proofs.Every.{all_from, every_weaker}
 use Rattle.key_lists.proofs.Rising.{rising-append, rising_same}
+use Rattle.key_lists.proofs.Booleans.{or_turned}
 use Rattle.row_set.specs.declared.ranges.Range.{Range}
-use Rattle.row_set.specs.Ranges.{keys_from, keys_in, keys_of, starts_of, AreApart, IsStored}
+use Rattle.row_set.specs.Ranges.{keys_from, keys_in, keys_of, AreApart, AreStarts, IsStored}
 use Rattle.row_set.specs.Sets.{united}
 use Rattle.row_set.proofs.Apart.{apart-append, keys_rise}
-use Rattle.row_set.proofs.Counts.{blank}
+use Rattle.row_set.proofs.Counts.{blank, starts_stay_before}
 use Rattle.row_set.proofs.Held.{each_between, each_key, keys_of-append, range_rises}
 use Rattle.row_set.proofs.Joined.{touching_keys}
 use Rattle.row_set.proofs.Lookups.{split_at}
 use Rattle.row_set.proofs.Middles.{span}
 use Rattle.row_set.proofs.Places.{all_ended, range_at}
 use Rattle.row_set.proofs.United.{among-united, united_rises}
-
-or_turned : (a b : Bool) → (a || b) ≡ (b || a)
-or_turned true true = refl
-or_turned true false = refl
-or_turned false true = refl
-or_turned false false = refl
 
 -- all ranges end before a key, where the last one does
 pub all_before : (key : ℕ) (ranges : List Range) → AreApart 0 ranges → 0 < length ranges → (get_or ranges (length ranges - 1) blank).last < key → AllByRecursion (λ range. range.last < key) ranges
@@ -91,10 +86,6 @@ stretched_apart : (low last : ℕ) (front : List Range) (head : Range) → AreAp
 stretched_apart low last [] head h le small = (record { above = h.0.above; ascends = omega (arith, h.0.ascends); small = small }, tt)
 stretched_apart low last (range ∷ front) head h le small = (h.0, stretched_apart (range.last + 2) last front head h.1 le small)
 
-stretched_starts : (start last : ℕ) (front : List Range) (head : Range) → starts_of start (front ++ span head.first last ∷ []) ≡ starts_of start (front ++ head ∷ [])
-stretched_starts start last [] head = refl
-stretched_starts start last (range ∷ front) head = ap (λ rest. start ∷ rest) (stretched_starts (start + length (keys_in range)) last front head)
-
 stretched_keys : (first last : ℕ) (front : List Range) (head : Range) → head.first ≤ head.last → head.last + 1 ≡ first → first ≤ last → keys_of (front ++ span head.first last ∷ []) ≡ keys_of (front ++ head ∷ []) ++ keys_from first last
 stretched_keys first last [] head order touch le =
     sym (touching_keys head (span first last) [] order le touch)
@@ -119,10 +110,12 @@ stretched_last first last ranges starts h some touch le small behind =
     let order : head.first ≤ head.last = (range_at 0 ranges h.apart i blank (omega arith)).ascends in
     let parts : AreApart 0 (front ++ head ∷ []) = subst (λ those. AreApart 0 those) (sym whole) h.apart in
     let apart : AreApart 0 new = stretched_apart 0 last front head parts (omega arith) small in
-    let placed : starts ≡ starts_of 0 new = h.placed ∙ ap (starts_of 0) (sym whole) ∙ sym (stretched_starts 0 last front head) in
+    let size : length front ≡ i = length-take-le i ranges (omega arith) in
+    let kept : take i new ≡ take i ranges = take_at front (span head.first last ∷ []) i size in
+    let long : length new ≡ length ranges = omega (arith, length-append front (span head.first last ∷ []), size, some) in
     let keys : keys_of new ≡ united (keys_from first last) (keys_of ranges) =
     stretched_keys first last front head order touch le ∙ ap (λ those. keys_of those ++ keys_from first last) whole ∙ united_behind first last ranges h.apart behind in
-    subst (λ those. IsStretched first last ranges those starts) (sym (last_set ranges (span head.first last) some)) (record { stored = record { apart = apart; placed = placed }; keys = keys })
+    subst (λ those. IsStretched first last ranges those starts) (sym (last_set ranges (span head.first last) some)) (record { stored = record { apart = apart; counts = starts_stay_before i ranges new starts h.counts refl kept (omega (arith, long)); full = omega (arith, long, h.full) }; keys = keys })
 
 last_read : (count : ℕ) (ranges : List Range) (read : Range) → count ≡ length ranges → 0 < count → read ≡ get_or ranges (count - 1) read → read ≡ get_or ranges (length ranges - 1) blank
 last_read count ranges read is some reads =
@@ -141,3 +134,8 @@ stretched_at first last count ranges starts read written h is some reads writes 
 
 pub touch_read : (first count : ℕ) (ranges : List Range) (read : Range) → count ≡ length ranges → 0 < count → read ≡ get_or ranges (count - 1) read → (get_or ranges (length ranges - 1) blank).last + 1 ≡ first → read.last + 1 ≡ first
 touch_read first count ranges read is some reads touch = ap (λ (range : Range). range.last + 1) (last_read count ranges read is some reads) ∙ touch
+
+-- the starts, where a range is put behind the others
+pub pushed_starts : (range : Range) (ranges : List Range) (starts : List ℕ) → AreStarts ranges starts → AreStarts (ranges ++ range ∷ []) starts
+pushed_starts range ranges starts h =
+    starts_stay_before (length ranges - 1) ranges (ranges ++ range ∷ []) starts h refl (take-append-le (length ranges - 1) ranges (range ∷ []) (omega arith)) (omega (arith, length-append ranges (range ∷ [])))

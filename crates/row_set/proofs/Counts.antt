@@ -1,27 +1,14 @@
--- The positions at which ranges begin, and how many keys there are.
-use Rattle.std.proofs.Common.{◌≡◌, refl, ap, Bool, false, true≢false, ◌==◌, sym, ◌∙◌, ℕ, zero, suc, ◌+◌, ◌-◌, ◌^◌, ◌<◌, ◌≤◌, arith, List, [], ◌∷◌, ◌++◌, length, take, drop, get_or, length-append, length-drop, get_or-drop, take_all, ne_eqb}
-use Rattle.std.proofs.lemmas.List.{take_more, take_rest}
+-- How many keys come before a range, and how many there are.
+use Rattle.std.proofs.Common.{◌≡◌, refl, ap, inl, inr, Bool, false, true≢false, ◌==◌, sym, ◌∙◌, ℕ, zero, suc, ◌+◌, ◌-◌, ◌*◌, ◌^◌, ◌<◌, ◌≤◌, arith, List, [], ◌∷◌, ◌++◌, length, take, drop, slice_range, get_or, take-take, length-append, length-drop, get_or-drop, take_all, ne_eqb}
+use Rattle.std.proofs.lemmas.Bool.{cases_lt}
+use Rattle.std.proofs.lemmas.List.{get_or-take, get_or_append_left, length-take, take_more, take_rest}
+use Rattle.std.proofs.Math.Seq.{get_or-append_seam}
+use Rattle.key_lists.proofs.Parts.{take_nil}
 use Rattle.row_set.specs.declared.ranges.Range.{Range}
-use Rattle.row_set.specs.Ranges.{keys_in, keys_of, starts_of, AreApart, IsStored}
+use Rattle.row_set.specs.Ranges.{keys_before, keys_in, keys_of, start_of, AreApart, AreStarts, IsStored}
 use Rattle.row_set.proofs.Held.{keys_of-append, length-keys_in}
-use Rattle.row_set.proofs.Apart.{length_below}
+use Rattle.row_set.proofs.Apart.{apart-take, length_below}
 use Rattle.row_set.proofs.Places.{range_at}
-
-pub length-starts : (start : ℕ) (ranges : List Range) → length (starts_of start ranges) ≡ length ranges
-length-starts start [] = refl
-length-starts start (range ∷ ranges) = ap suc (length-starts (start + length (keys_in range)) ranges)
-
-pub start_at : (start i d : ℕ) (ranges : List Range) → i < length ranges → get_or (starts_of start ranges) i d ≡ start + length (keys_of (take i ranges))
-start_at start i d [] lt = absurd (omega arith)
-start_at start zero d (range ∷ ranges) lt = omega arith
-start_at start (suc i) d (range ∷ ranges) lt =
-    omega (arith, start_at (start + length (keys_in range)) i d ranges (omega arith), length-append (keys_in range) (keys_of (take i ranges)))
-
-pub stored_length : (ranges : List Range) (starts : List ℕ) → IsStored ranges starts → length starts ≡ length ranges
-stored_length ranges starts h = ap length h.placed ∙ length-starts 0 ranges
-
-pub stored_at : (i d : ℕ) (ranges : List Range) (starts : List ℕ) → IsStored ranges starts → i < length ranges → get_or starts i d ≡ length (keys_of (take i ranges))
-stored_at i d ranges starts h lt = ap (λ those. get_or those i d) h.placed ∙ omega (arith, start_at 0 i d ranges lt)
 
 -- one range more
 pub length-keys_more : (i : ℕ) (d : Range) (ranges : List Range) → AreApart 0 ranges → i < length ranges → length (keys_of (take (i + 1) ranges)) ≡ length (keys_of (take i ranges)) + ((get_or ranges i d).last - (get_or ranges i d).first + 1)
@@ -44,51 +31,91 @@ some_from_test (suc n) b e f = omega arith
 abbrev pub blank : Range
 blank = record { first = 0; last = 0 }
 
-pub count_from_end : (ranges : List Range) (starts : List ℕ) → IsStored ranges starts → 0 < length ranges → get_or starts (length ranges - 1) 0 + ((get_or ranges (length ranges - 1) blank).last - (get_or ranges (length ranges - 1) blank).first + 1) ≡ length (keys_of ranges)
-count_from_end ranges starts h some =
-    omega (arith, stored_at (length ranges - 1) 0 ranges starts h (omega arith), length-keys_all (length ranges - 1) blank ranges h.apart (omega arith))
-
 pub empty_alike : (ranges : List Range) → AreApart 0 ranges → (length ranges == 0) ≡ (length (keys_of ranges) == 0)
 empty_alike [] h = refl
 empty_alike (range ∷ ranges) h =
     ne_eqb (length (range ∷ ranges)) 0 (λ e. omega (arith, e))
     ∙ sym (ne_eqb (length (keys_of (range ∷ ranges))) 0 (λ e. omega (arith, e, length-append (keys_in range) (keys_of ranges), length-keys_in range, h.0.ascends)))
 
+-- the keys before an index, counted in two parts
+keys_before_more : (i k : ℕ) (ranges : List Range) → keys_before (i + k) ranges ≡ keys_before i ranges + length (keys_of (take k (drop i ranges)))
+keys_before_more zero k ranges = let same : 0 + k ≡ k = omega arith in omega (arith, ap (λ n. keys_before n ranges) same)
+keys_before_more (suc i) k [] = omega (arith, ap (λ (those : List Range). length (keys_of those)) (take_nil (suc i + k)), ap (λ (those : List Range). length (keys_of those)) (take_nil k))
+keys_before_more (suc i) k (range ∷ ranges) =
+    let same : suc i + k ≡ suc (i + k) = omega arith in
+    omega (
+      arith,
+      ap (λ n. keys_before n (range ∷ ranges)) same,
+      keys_before_more i k ranges,
+      length-append (keys_in range) (keys_of (take (i + k) ranges)),
+      length-append (keys_in range) (keys_of (take i ranges)),
+    )
+
+pub keys_before_to : (from to : ℕ) (ranges : List Range) → from ≤ to → keys_before to ranges ≡ keys_before from ranges + length (keys_of (slice_range ranges from to))
+keys_before_to from to ranges le =
+    let same : to ≡ from + (to - from) = omega arith in
+    ap (λ n. keys_before n ranges) same ∙ keys_before_more from (to - from) ranges
+
+pub keys_before_rise : (from to : ℕ) (ranges : List Range) → from ≤ to → keys_before from ranges ≤ keys_before to ranges
+keys_before_rise from to ranges le = omega (arith, keys_before_to from to ranges le)
+
+pub keys_before_all : (n : ℕ) (ranges : List Range) → length ranges ≤ n → keys_before n ranges ≡ length (keys_of ranges)
+keys_before_all n ranges le = ap (λ those. length (keys_of those)) (take_all n ranges le)
+
+pub few_before : (n : ℕ) (ranges : List Range) → AreApart 0 ranges → keys_before n ranges ≤ 2 ^ 62 + 1
+few_before n ranges h = few_keys (take n ranges) (apart-take 0 n ranges h)
+
+pub same_shorter : {X : Type 0} (n m : ℕ) (xs ys : List X) → n ≤ m → take m xs ≡ take m ys → take n xs ≡ take n ys
+same_shorter n m xs ys le same = sym (take-take n m xs le) ∙ ap (take n) same ∙ take-take n m ys le
+
+pub keys_before_kept : (n i : ℕ) (new old : List Range) → i ≤ n → take n new ≡ take n old → keys_before i new ≡ keys_before i old
+keys_before_kept n i new old le same = ap (λ those. length (keys_of those)) (same_shorter i n new old le same)
+
+-- the keys before an index, of which those of its block are counted
+pub counted_to : (block index : ℕ) (ranges : List Range) (starts : List ℕ) → IsStored ranges starts → block ≤ length starts → 32 * block ≤ index → start_of starts block + length (keys_of (slice_range ranges (block * 32) index)) ≡ keys_before index ranges
+counted_to block index ranges starts h few le =
+    let place : 32 * block ≡ block * 32 = omega arith in
+    omega (arith, h.counts.counted block few, keys_before_to (32 * block) index ranges le, ap (λ n. length (keys_of (slice_range ranges n index))) place)
+
+-- the starts of ranges of which the first ones are as before
+pub kept_starts : (from : ℕ) (old new : List Range) (starts those : List ℕ) → IsStored old starts → those ≡ starts → take from new ≡ take from old → (block : ℕ) → block ≤ length those → 32 * block < from → start_of those block ≡ keys_before (32 * block) new
+kept_starts from old new starts those h same kept block le lt =
+    ap (λ list. start_of list block) same
+    ∙ h.counts.counted block (omega (arith, le, ap length same))
+    ∙ sym (keys_before_kept from (32 * block) new old (omega (arith, lt)) kept)
+
+-- the starts of ranges behind which others are put
+pub starts_stay_before : (n : ℕ) (old new : List Range) (starts : List ℕ) → AreStarts old starts → n ≡ length old - 1 → take n new ≡ take n old → length old ≤ length new → AreStarts new starts
+starts_stay_before n old new starts h is kept le = record {
+  counted = λ block few. h.counted block few ∙ sym (keys_before_kept n (32 * block) new old (omega (arith, few, h.within, is)) kept);
+  within = omega (arith, h.within, le);
+}
+
 -- one start more
-pub starts_of-append : (start : ℕ) (xs ys : List Range) → starts_of start (xs ++ ys) ≡ starts_of start xs ++ starts_of (start + length (keys_of xs)) ys
-starts_of-append start [] ys = let same : start ≡ start + 0 = omega arith in ap (λ n. starts_of n ys) same
-starts_of-append start (range ∷ xs) ys =
-    let same : start + length (keys_in range) + length (keys_of xs) ≡ start + length (keys_of (range ∷ xs)) = omega (arith, length-append (keys_in range) (keys_of xs)) in
-    ap (λ rest. start ∷ rest) (starts_of-append (start + length (keys_in range)) xs ys ∙ ap (λ n. starts_of (start + length (keys_in range)) xs ++ starts_of n ys) same)
+pub start_more : (next : ℕ) (ranges : List Range) (starts : List ℕ) → AreStarts ranges starts → next ≡ keys_before (32 * length starts + 32) ranges → 32 * length starts + 32 < length ranges → AreStarts ranges (starts ++ next ∷ [])
+start_more next ranges starts h is lt = record {
+  counted = λ block few. elim (cases_lt block (length starts + 1)) [
+    | inl before ↦ get_or_append_left (0 ∷ starts) (next ∷ []) 0 block (omega (arith, before)) ∙ h.counted block (omega (arith, before))
+    | inr at_end ↦
+        let here : block ≡ length starts + 1 = omega (arith, at_end, few, length-append starts (next ∷ [])) in
+        let place : 32 * length starts + 32 ≡ 32 * block = omega (arith, here) in
+        let index : block ≡ length (0 ∷ starts) = omega (arith, here) in
+        ap (λ n. get_or ((0 ∷ starts) ++ next ∷ []) n 0) index
+        ∙ get_or-append_seam (0 ∷ starts) next [] 0
+        ∙ is
+        ∙ ap (λ n. keys_before n ranges) place
+  ];
+  within = omega (arith, lt, length-append starts (next ∷ []));
+}
 
--- the starts of the first k ranges are known, and next is the number of their keys
-pub record AreCounted (ranges : List Range) (k next : ℕ) (starts : List ℕ) : Type 0 where
-  pub placed : starts ≡ starts_of 0 (take k ranges)
-  pub count : next ≡ length (keys_of (take k ranges))
-
-pub counted_more : (ranges : List Range) (k next : ℕ) (starts : List ℕ) → AreApart 0 ranges → k < length ranges → AreCounted ranges k next starts → AreCounted ranges (k + 1) (next + ((get_or ranges k blank).last - (get_or ranges k blank).first + 1)) (starts ++ next ∷ [])
-counted_more ranges k next starts h lt is =
-    let same : next ≡ 0 + length (keys_of (take k ranges)) = omega (arith, is.count) in
-    record {
-      placed =
-          ap (λ those. those ++ next ∷ []) is.placed
-          ∙ ap (λ n. starts_of 0 (take k ranges) ++ n ∷ []) same
-          ∙ sym (starts_of-append 0 (take k ranges) (get_or ranges k blank ∷ []))
-          ∙ ap (starts_of 0) (sym (take_more ranges k blank lt));
-      count = omega (arith, is.count, length-keys_more k blank ranges h lt);
-    }
-
-pub rest_at : (from i : ℕ) (ranges : List Range) → get_or (take (length ranges - from) (drop from ranges)) i blank ≡ get_or ranges (from + i) blank
-rest_at from i ranges = ap (λ rest. get_or rest i blank) (take_rest ranges from) ∙ get_or-drop from ranges i blank
-
-pub length-rest : (from : ℕ) (ranges : List Range) → length (take (length ranges - from) (drop from ranges)) ≡ length ranges - from
-length-rest from ranges = ap length (take_rest ranges from) ∙ length-drop from ranges
-
--- the starts of ranges of which the first n are as before
-pub take-starts : (n start : ℕ) (ranges : List Range) → take n (starts_of start ranges) ≡ starts_of start (take n ranges)
-take-starts zero start ranges = refl
-take-starts (suc n) start [] = refl
-take-starts (suc n) start (range ∷ ranges) = ap (λ rest. start ∷ rest) (take-starts n (start + length (keys_in range)) ranges)
-
-pub kept_starts : (n : ℕ) (old new : List Range) (starts : List ℕ) → IsStored old starts → take n new ≡ take n old → take n starts ≡ starts_of 0 (take n new)
-kept_starts n old new starts h same = ap (take n) h.placed ∙ take-starts n 0 old ∙ ap (starts_of 0) (sym same)
+-- fewer starts
+pub starts_cut : (k from : ℕ) (ranges : List Range) (starts : List ℕ) → ((block : ℕ) → block ≤ length starts → 32 * block < from → start_of starts block ≡ keys_before (32 * block) ranges) → 32 * k ≤ from - 1 → from ≤ length ranges → AreStarts ranges (take k starts)
+starts_cut k from ranges starts h le within = record {
+  counted = λ block few. elim block as (λ b. b ≤ length (take k starts) → start_of (take k starts) b ≡ keys_before (32 * b) ranges) [
+    | zero ↦ λ none. refl
+    | suc b ↦ λ some.
+        get_or-take (suc k) (0 ∷ starts) (suc b) 0 (omega (arith, some, length-take k starts))
+        ∙ h (suc b) (omega (arith, some, length-take k starts)) (omega (arith, some, length-take k starts, le))
+  ] few;
+  within = omega (arith, length-take k starts, le, within);
+}

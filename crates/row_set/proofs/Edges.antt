@@ -1,19 +1,20 @@
 -- What is left of ranges when the keys of one range are removed.
 use Rattle.std.proofs.Common.{◌≡◌, refl, ap, ap₂, sym, ◌∙◌, subst, Bool, true, false, cond, not, ◌&&◌, ◌||◌, ℕ, ◌+◌, ◌-◌, ◌^◌, ◌<◌, ◌≤◌, arith, List, [], ◌∷◌, ◌++◌, length, take, drop, slice_range, get_or, leb, leb-true, le-leb, lt-ltb, le-ltb, append_assoc, take-append-drop, inl, inr}
 use Rattle.std.specs.List.{AllByRecursion, list_any}
-use Rattle.std.proofs.lemmas.Bool.{cases_lt, and_parts, lt-leb, true≢false}
+use Rattle.std.proofs.lemmas.Bool.{cases_lt, and_parts, lt-leb, true≢false, not-false}
 use Rattle.std.proofs.lemmas.List.{get_or_default}
+use Rattle.std.proofs.lemmas.List.Folds.{list_any-append}
 use Rattle.key_lists.specs.Keys.{is_among, without}
 use Rattle.key_lists.proofs.Among.{among-filter}
 use Rattle.key_lists.proofs.Every.{every_weaker}
 use Rattle.key_lists.proofs.Rising.{rising_same, rising_some}
+use Rattle.key_lists.proofs.Booleans.{or_false, and_false}
 use Rattle.row_set.specs.declared.ranges.Range.{Range}
 use Rattle.row_set.specs.Ranges.{keys_from, keys_of, holds, AreApart, Meets}
 pub use Rattle.row_set.specs.Ranges.{left_edge, right_edge}
 use Rattle.row_set.proofs.Held.{among-in, among-keys, holds-true, holds_before, holds_after, none_before, none_after}
 use Rattle.row_set.proofs.Apart.{apart-take, apart_raised, apart-append, keys_rise}
 use Rattle.row_set.proofs.Counts.{blank}
-use Rattle.row_set.proofs.Lookups.{any-append}
 use Rattle.row_set.proofs.Middles.{span, IsMet, met, any_parts, before_head, after_tail}
 
 abbrev outside : ℕ → ℕ → ℕ → Bool
@@ -21,10 +22,6 @@ outside first last key = not (holds key (span first last))
 
 inside_is : (key first last : ℕ) → holds key (span first last) ≡ true → (first ≤ key) × (key ≤ last)
 inside_is key first last e = let parts = and_parts (leb first key) (leb key last) e in (leb-true first key parts.0, leb-true key last parts.1)
-
-or_false : (b : Bool) → (b || false) ≡ b
-or_false true = refl
-or_false false = refl
 
 left_holds : (key first : ℕ) (head : Range) → key < first → list_any (holds key) (left_edge first head) ≡ leb head.first key
 left_holds key first head below =
@@ -69,7 +66,7 @@ right_none key last tail below =
 -- the edges hold the keys that the ranges hold, but for those that are removed
 pub edges_hold : (key first last : ℕ) (ranges : List Range) (head tail : Range) → first ≤ last → IsMet first last ranges head tail → list_any (holds key) (left_edge first head ++ right_edge last tail) ≡ (outside first last key && list_any (holds key) ranges)
 edges_hold key first last ranges head tail le is =
-    any-append (holds key) (left_edge first head) (right_edge last tail)
+    list_any-append (holds key) (left_edge first head) (right_edge last tail)
     ∙ elim (cases_lt key first) [
       | inl before ↦
           ap (λ b. list_any (holds key) (left_edge first head) || b) (right_none key last tail (omega arith))
@@ -132,22 +129,18 @@ or_kept a true m p h i = refl
 or_kept true false m p h i = absurd (true≢false (h refl))
 or_kept false false m p h i = i refl
 
-not_out : (b : Bool) → not b ≡ false → b ≡ true
-not_out true e = refl
-not_out false e = absurd (true≢false e)
-
 without_by : (first last from to : ℕ) (others ranges new : List Range) → AreApart 0 ranges → AreApart 0 new → Meets first last ranges from to → new ≡ take from ranges ++ (others ++ drop to ranges) → ((key : ℕ) → list_any (holds key) others ≡ (outside first last key && list_any (holds key) (slice_range ranges from to))) → keys_of new ≡ without (keys_from first last) (keys_of ranges)
 without_by first last from to others ranges new h k is same hold =
     rising_same (keys_of new) (without (keys_from first last) (keys_of ranges)) (keys_rise 0 new k) (rising_some (λ key. not (is_among key (keys_from first last))) (keys_of ranges) (keys_rise 0 ranges h))
     (λ key.
     among-keys key new
     ∙ ap (list_any (holds key)) same
-    ∙ any-append (holds key) (take from ranges) (others ++ drop to ranges)
-    ∙ ap (λ b. list_any (holds key) (take from ranges) || b) (any-append (holds key) others (drop to ranges))
+    ∙ list_any-append (holds key) (take from ranges) (others ++ drop to ranges)
+    ∙ ap (λ b. list_any (holds key) (take from ranges) || b) (list_any-append (holds key) others (drop to ranges))
     ∙ ap (λ b. list_any (holds key) (take from ranges) || (b || list_any (holds key) (drop to ranges))) (hold key)
     ∙ or_kept (list_any (holds key) (take from ranges)) (outside first last key) (list_any (holds key) (slice_range ranges from to)) (list_any (holds key) (drop to ranges))
-    (λ e. let in_it = inside_is key first last (not_out (holds key (span first last)) e) in none_before key (take from ranges) (every_weaker (λ range. range.last < first) (λ range. range.last < key) (take from ranges) (λ range below. omega (arith, below, in_it.0)) is.before))
-    (λ e. let in_it = inside_is key first last (not_out (holds key (span first last)) e) in none_after key (drop to ranges) (every_weaker (λ range. last < range.first) (λ range. key < range.first) (drop to ranges) (λ range above. omega (arith, above, in_it.1)) is.after))
+    (λ e. let in_it = inside_is key first last (not-false (holds key (span first last)) e) in none_before key (take from ranges) (every_weaker (λ range. range.last < first) (λ range. range.last < key) (take from ranges) (λ range below. omega (arith, below, in_it.0)) is.before))
+    (λ e. let in_it = inside_is key first last (not-false (holds key (span first last)) e) in none_after key (drop to ranges) (every_weaker (λ range. last < range.first) (λ range. key < range.first) (drop to ranges) (λ range above. omega (arith, above, in_it.1)) is.after))
     ∙ ap (λ b. outside first last key && b) (sym (among-keys key ranges ∙ any_parts key from to ranges is.order))
     ∙ ap (λ b. not b && is_among key (keys_of ranges)) (sym (among-in key (span first last)))
     ∙ sym (among-filter (λ key. not (is_among key (keys_from first last))) key (keys_of ranges)))
@@ -159,14 +152,8 @@ edges_keys first last from to ranges new h le small is lt same =
     without_by first last from to (left_edge first head ++ right_edge last tail) ranges new h (subst (λ those. AreApart 0 those) (sym same) (edges_apart first last from to ranges h le small is lt)) is same
     (λ key. edges_hold key first last (slice_range ranges from to) head tail le (met first last from to ranges lt h is))
 
-pub left_is : (first low : ℕ) (head : Range) → head.first < first → low ≡ first - 1 → left_edge first head ≡ span head.first low ∷ []
-left_is first low head lt same = ap (λ b. cond b (span head.first (first - 1) ∷ []) []) (lt-ltb head.first first lt) ∙ ap (λ n. span head.first n ∷ []) (sym same)
-
 pub left_is_not : (first : ℕ) (head : Range) → first ≤ head.first → left_edge first head ≡ []
 left_is_not first head le = ap (λ b. cond b (span head.first (first - 1) ∷ []) []) (le-ltb head.first first le)
-
-pub right_is : (last : ℕ) (tail : Range) → last < tail.last → right_edge last tail ≡ span (last + 1) tail.last ∷ []
-right_is last tail lt = ap (λ b. cond b (span (last + 1) tail.last ∷ []) []) (lt-ltb last tail.last lt)
 
 pub right_is_not : (last : ℕ) (tail : Range) → tail.last ≤ last → right_edge last tail ≡ []
 right_is_not last tail le = ap (λ b. cond b (span (last + 1) tail.last ∷ []) []) (le-ltb last tail.last le)
@@ -188,7 +175,3 @@ none_removed first last from to ranges h is same =
     let nothing : to - from ≡ 0 = omega arith in
     without_by first last from to [] ranges ranges h h is (sym (take-append-drop from ranges) ∙ ap (λ n. take from ranges ++ drop n ranges) same)
     (λ key. sym (ap (λ n. outside first last key && list_any (holds key) (take n (drop from ranges))) nothing ∙ and_false (outside first last key)))
-  where
-    and_false : (b : Bool) → (b && false) ≡ false
-    and_false true = refl
-    and_false false = refl

@@ -1,20 +1,17 @@
 -- The keys that ranges hold.
-use Rattle.std.proofs.Common.{◌≡◌, refl, ap, sym, ◌∙◌, true, false, ◌||◌, ◌==◌, ℕ, zero, suc, ◌+◌, ◌-◌, ◌<◌, ◌≤◌, arith, List, [], ◌∷◌, ◌++◌, length, leb, eq-eqb, ne_eqb, le-leb, inl, inr}
+use Rattle.std.proofs.Common.{◌≡◌, refl, ap, sym, ◌∙◌, true, false, ◌||◌, ◌==◌, ℕ, zero, suc, ◌+◌, ◌-◌, ◌<◌, ◌≤◌, arith, List, [], ◌∷◌, ◌++◌, length, leb, ne_eqb, le-leb, inl, inr}
 use Rattle.std.specs.List.{AllByRecursion, list_any, range_with_len}
-use Rattle.std.proofs.lemmas.Bool.{cases_eq, cases_lt, or_left, or_right, or_from, and_from, and_left, and_right, lt-leb}
+use Rattle.std.proofs.lemmas.Bool.{cases_lt, or_from, and_from, and_left, and_right, lt-leb}
 use Rattle.std.proofs.lemmas.Grind.{flat_map-append}
 use Rattle.std.proofs.lemmas.List.FromFn.{length-range_with_len}
 use Rattle.key_lists.specs.Keys.{is_among, IsRising}
 use Rattle.key_lists.proofs.Every.{every-append}
 use Rattle.key_lists.proofs.Among.{among-append}
+use Rattle.key_lists.proofs.Ranges.{among_range, each_from}
 use Rattle.row_set.specs.declared.ranges.Range.{Range}
 use Rattle.row_set.specs.Ranges.{keys_from, keys_in, keys_of, holds}
 
 -- what holds of the numbers from first on
-pub each_from : (P : ℕ → Type 0) (first count : ℕ) → ((key : ℕ) → first ≤ key → key < first + count → P key) → AllByRecursion P (range_with_len first count)
-each_from P first zero h = tt
-each_from P first (suc count) h = (h first (omega arith) (omega arith), each_from P (first + 1) count (λ key above below. h key (omega arith) (omega arith)))
-
 pub each_between : (P : ℕ → Type 0) (first last : ℕ) → ((key : ℕ) → first ≤ key → key ≤ last → P key) → AllByRecursion P (keys_from first last)
 each_between P first last h = each_from P first (last + 1 - first) (λ key above below. h key above (omega arith))
 
@@ -23,14 +20,6 @@ range_rises first zero = tt
 range_rises first (suc count) = (each_from (λ key. first < key) (first + 1) count (λ key above below. omega arith), range_rises (first + 1) count)
 
 -- which keys are among them
-among_within : (key first count : ℕ) → first ≤ key → key < first + count → is_among key (range_with_len first count) ≡ true
-among_within key first zero above below = absurd (omega arith)
-among_within key first (suc count) above below =
-    elim (cases_eq first key) [
-      | inl same ↦ or_left (first == key) (is_among key (range_with_len (first + 1) count)) (eq-eqb first key same)
-      | inr other ↦ or_right (first == key) (is_among key (range_with_len (first + 1) count)) (among_within key (first + 1) count (omega arith) (omega arith))
-    ]
-
 among_outside : (key first count : ℕ) → ((first ≤ key → key < first + count → ⊥)) → is_among key (range_with_len first count) ≡ false
 among_outside key first zero h = refl
 among_outside key first (suc count) h =
@@ -54,7 +43,7 @@ among-in key range =
       | inr above ↦
           elim (cases_lt range.last key) [
             | inl after ↦ among_outside key range.first (range.last + 1 - range.first) (λ above below. omega arith) ∙ sym (holds_after key range after)
-            | inr below ↦ among_within key range.first (range.last + 1 - range.first) above (omega arith) ∙ sym (holds-true key range above below)
+            | inr below ↦ among_range key range.first (range.last + 1 - range.first) above (omega arith) ∙ sym (holds-true key range above below)
           ]
     ]
 

@@ -1,48 +1,32 @@
 -- What a search finds in ranges that are apart.
-use Rattle.std.proofs.Common.{◌≡◌, refl, ap, sym, ◌∙◌, subst, Bool, true, false, cond, ◌||◌, ℕ, zero, suc, ◌+◌, ◌-◌, ◌<◌, ◌≤◌, max, arith, List, [], ◌∷◌, ◌++◌, length, take, drop, get_or, take_all, take-append-drop, leb, ltb, le-leb, lt-ltb, le-ltb, Some, None, Ok, Err, is_some, find, filter, slice_get, inl, inr}
+use Rattle.std.proofs.Common.{◌≡◌, refl, ap, sym, ◌∙◌, subst, Bool, true, false, cond, ◌||◌, ℕ, zero, suc, ◌+◌, ◌-◌, ◌*◌, ◌<◌, ◌≤◌, max, arith, List, [], ◌∷◌, ◌++◌, length, take, drop, get_or, take_all, take-append-drop, leb, ltb, le-leb, lt-ltb, le-ltb, Some, None, Ok, Err, is_some, find, filter, slice_get, inl, inr, true≢false}
 use Rattle.std.specs.List.{AllByRecursion, list_any, range_with_len}
-use Rattle.std.proofs.lemmas.Bool.{cases_lt, lt-leb}
-use Rattle.std.proofs.lemmas.List.{drop_more}
+use Rattle.std.proofs.lemmas.Bool.{cases_lt, lt-leb, cases_eq, ne_eqb}
+use Rattle.std.proofs.lemmas.List.{drop_more, get_or_default}
+use Rattle.std.proofs.lemmas.Option.{slice_get_past}
+use Rattle.std.specs.Prelude.{nat_lt}
 use Rattle.std.specs.List.Sorted.{IsPartitionPoint, IsNonDecreasing}
-use Rattle.key_lists.specs.Keys.{is_among}
-use Rattle.key_lists.proofs.Every.{every_weaker}
+use Rattle.key_lists.specs.Keys.{is_among, IsRising}
+use Rattle.key_lists.proofs.Every.{every_weaker, find_none}
+use Rattle.key_lists.proofs.Parts.{get-append}
+use Rattle.key_lists.proofs.Ranges.{each_from}
+use Rattle.key_lists.proofs.Among.{of_among}
 use Rattle.row_set.specs.declared.ranges.Range.{Range}
-use Rattle.row_set.specs.Ranges.{keys_in, keys_of, starts_of, holds, AreApart, IsStored}
+use Rattle.row_set.specs.Ranges.{keys_before, keys_in, keys_of, start_of, holds, AreApart, IsStored}
 use Rattle.row_set.specs.Sets.{count_below, found, last_key}
-use Rattle.row_set.proofs.Held.{each_from, each_key, holds-true, holds_before, holds_after, among-keys, keys_of-append}
+use Rattle.row_set.proofs.Held.{each_key, holds-true, holds_before, holds_after, among-keys, keys_of-append}
 use Rattle.row_set.proofs.Apart.{apart-drop, each_above, keys_above}
-use Rattle.row_set.proofs.Counts.{blank, length-keys_all, length-keys_more, stored_at, stored_length}
+use Rattle.row_set.proofs.Counts.{blank, keys_before_rise, length-keys_all}
 use Rattle.row_set.proofs.Places.{range_at}
 
 -- searches in two lists, one after the other
-pub any-append : {X : Type 0} (p : X → Bool) (xs ys : List X) → list_any p (xs ++ ys) ≡ (list_any p xs || list_any p ys)
-any-append p [] ys = refl
-any-append p (x ∷ xs) ys = ap (λ b. p x || b) (any-append p xs ys) ∙ or_assoc (p x) (list_any p xs) (list_any p ys)
-  where
-    or_assoc : (a b c : Bool) → (a || (b || c)) ≡ ((a || b) || c)
-    or_assoc true b c = refl
-    or_assoc false b c = refl
-
 pub find-append_none : {X : Type 0} (p : X → Bool) (xs ys : List X) → AllByRecursion (λ x. p x ≡ false) xs → find p (xs ++ ys) ≡ find p ys
 find-append_none p [] ys h = refl
 find-append_none p (x ∷ xs) ys h = ap (λ b. cond b (Some x) (find p (xs ++ ys))) h.0 ∙ find-append_none p xs ys h.1
 
-pub find_none : {X : Type 0} (p : X → Bool) (xs : List X) → AllByRecursion (λ x. p x ≡ false) xs → find p xs ≡ None
-find_none p [] h = refl
-find_none p (x ∷ xs) h = ap (λ b. cond b (Some x) (find p xs)) h.0 ∙ find_none p xs h.1
-
 pub is_some-find : {X : Type 0} (p : X → Bool) (xs : List X) → is_some (find p xs) ≡ list_any p xs
 is_some-find p [] = refl
 is_some-find p (x ∷ xs) = elim (p x) as (λ b. is_some (cond b (Some x) (find p xs)) ≡ (b || list_any p xs)) [ true ↦ refl | false ↦ is_some-find p xs ]
-
-pub get-append : {X : Type 0} (xs ys : List X) (n : ℕ) → slice_get (xs ++ ys) (length xs + n) ≡ slice_get ys n
-get-append [] ys n = let same : 0 + n ≡ n = omega arith in ap (slice_get ys) same
-get-append (x ∷ xs) ys n = let same : suc (length xs) + n ≡ suc (length xs + n) = omega arith in ap (slice_get (x ∷ (xs ++ ys))) same ∙ get-append xs ys n
-
-pub get_past : {X : Type 0} (xs : List X) (n : ℕ) → length xs ≤ n → slice_get xs n ≡ None
-get_past [] n h = refl
-get_past (x ∷ xs) zero h = absurd (omega arith)
-get_past (x ∷ xs) (suc n) h = get_past xs n (omega arith)
 
 pub get-range : (first count n : ℕ) (rest : List ℕ) → n < count → slice_get (range_with_len first count ++ rest) n ≡ Some (first + n)
 get-range first zero n rest lt = absurd (omega arith)
@@ -110,6 +94,23 @@ count_all key (x ∷ xs) h = ap (λ b. length (cond b (x ∷ filter (is_below ke
 pub count_none : (key : ℕ) (xs : List ℕ) → AllByRecursion (λ x. key ≤ x) xs → count_below key xs ≡ 0
 count_none key [] h = refl
 count_none key (x ∷ xs) h = ap (λ b. length (cond b (x ∷ filter (is_below key) xs) (filter (is_below key) xs))) (le-ltb x key h.0) ∙ count_none key xs h.1
+
+-- of rising keys, so many are below one of them as stand before it
+pub count_at : (key : ℕ) (keys : List ℕ) → IsRising keys → is_among key keys ≡ true → slice_get keys (count_below key keys) ≡ Some key
+count_at key [] r h = absurd (true≢false (sym h))
+count_at key (first ∷ keys) r h =
+    elim (cases_eq first key) [
+      | inl e ↦
+          ap (slice_get (first ∷ keys)) (count_none key (first ∷ keys) (omega (arith, e), every_weaker (λ other. first < other) (λ other. key ≤ other) keys (λ other less. omega (arith, less, e)) r.0))
+          ∙ ap Some e
+      | inr e ↦
+          let later : is_among key keys ≡ true = sym (ap (λ b. b || is_among key keys) (ne_eqb first key e)) ∙ h in
+          let less : first < key = of_among (λ other. first < other) key keys r.0 later in
+          let more : length (first ∷ filter (λ other. nat_lt other key) keys) ≡ suc (count_below key keys) = omega arith in
+          ap (λ b. slice_get (first ∷ keys) (length (cond b (first ∷ filter (λ other. nat_lt other key) keys) (filter (λ other. nat_lt other key) keys)))) (lt-ltb first key less)
+          ∙ ap (slice_get (first ∷ keys)) more
+          ∙ count_at key keys r.1 later
+    ]
 
 count_range : (key first count : ℕ) → first ≤ key → key ≤ first + count → count_below key (range_with_len first count) ≡ key - first
 count_range key first zero above below = omega arith
@@ -228,41 +229,24 @@ last_found i ranges h is =
     let same : range.first + (range.last - range.first) ≡ range.last = omega (arith, order) in
     ap (slice_get (keys_of ranges)) place ∙ key_in i (range.last - range.first) ranges (omega arith) (omega (arith, order)) ∙ ap Some same
 
-starts_above : (start : ℕ) (ranges : List Range) → (k d : ℕ) → k < length (starts_of start ranges) → start ≤ get_or (starts_of start ranges) k d
-starts_above start [] k d lt = absurd (omega arith)
-starts_above start (range ∷ ranges) zero d lt = omega arith
-starts_above start (range ∷ ranges) (suc k) d lt = omega (arith, starts_above (start + length (keys_in range)) ranges k d (omega arith))
-
-starts_rise : (start : ℕ) (ranges : List Range) → IsNonDecreasing (starts_of start ranges)
-starts_rise start [] i j d le lt = absurd (omega arith)
-starts_rise start (range ∷ ranges) zero zero d le lt = omega arith
-starts_rise start (range ∷ ranges) zero (suc j) d le lt = omega (arith, starts_above (start + length (keys_in range)) ranges j d (omega arith))
-starts_rise start (range ∷ ranges) (suc i) zero d le lt = absurd (omega arith)
-starts_rise start (range ∷ ranges) (suc i) (suc j) d le lt = starts_rise (start + length (keys_in range)) ranges i j d (omega arith) (omega arith)
+-- the key at a position, looked for from a block on
+pub key_behind : (i position : ℕ) (ranges : List Range) → keys_before i ranges ≤ position → slice_get (keys_of (drop i ranges)) (position - keys_before i ranges) ≡ slice_get (keys_of ranges) position
+key_behind i position ranges le =
+    let place : length (keys_of (take i ranges)) + (position - keys_before i ranges) ≡ position = omega (arith, le) in
+    sym (get-append (keys_of (take i ranges)) (keys_of (drop i ranges)) (position - keys_before i ranges))
+    ∙ ap (λ keys. slice_get keys (length (keys_of (take i ranges)) + (position - keys_before i ranges))) (sym (keys_of-append (take i ranges) (drop i ranges)) ∙ ap keys_of (take-append-drop i ranges))
+    ∙ ap (slice_get (keys_of ranges)) place
 
 pub stored_rise : (ranges : List Range) (starts : List ℕ) → IsStored ranges starts → IsNonDecreasing starts
-stored_rise ranges starts h = subst (λ those. IsNonDecreasing those) (sym h.placed) (starts_rise 0 ranges)
+stored_rise ranges starts h i j d le lt =
+    let at : (k : ℕ) → k < length starts → get_or starts k d ≡ keys_before (32 * (k + 1)) ranges = λ k few.
+    let next : k + 1 ≡ suc k = omega arith in
+    get_or_default starts k d 0 few ∙ h.counts.counted (suc k) (omega (arith, few)) ∙ ap (λ n. keys_before (32 * n) ranges) (sym next) in
+    omega (arith, at i (omega (arith, le, lt)), at j lt, keys_before_rise (32 * (i + 1)) (32 * (j + 1)) ranges (omega (arith, le)))
 
 abbrev pub IsStartCut : ℕ → List ℕ → ℕ → Type 0
 IsStartCut position starts i = IsPartitionPoint (λ start. start ≤ position) (λ start. position < start) starts i
 
-pub started_at : (position i : ℕ) (starts : List ℕ) → IsStartCut position starts i → (i ≡ 0 → ⊥) → get_or starts (i - 1) 0 ≤ position
-started_at position i starts cut some = cut.0 (i - 1) 0 (omega arith) (omega arith)
-
-pub none_started : (position i : ℕ) (ranges : List Range) (starts : List ℕ) → IsStored ranges starts → IsStartCut position starts i → i ≡ 0 → slice_get (keys_of ranges) position ≡ None
-none_started position i [] starts h cut is = refl
-none_started position i (range ∷ ranges) starts h cut is =
-    let first : get_or starts 0 0 ≡ 0 = ap (λ those. get_or those 0 0) h.placed in
-    absurd (omega (arith, first, cut.1 0 0 (omega arith) (omega (arith, stored_length (range ∷ ranges) starts h))))
-
-pub past_started : (position i : ℕ) (ranges : List Range) (starts : List ℕ) → IsStored ranges starts → IsStartCut position starts i → (i ≡ 0 → ⊥) → i ≤ length ranges → (get_or ranges (i - 1) blank).last - (get_or ranges (i - 1) blank).first < position - get_or starts (i - 1) 0 → slice_get (keys_of ranges) position ≡ None
-past_started position i ranges starts h cut some within past =
-    let here : get_or starts (i - 1) 0 ≡ length (keys_of (take (i - 1) ranges)) = stored_at (i - 1) 0 ranges starts h (omega arith) in
-    let same : i - 1 + 1 ≡ i = omega arith in
-    let more : length (keys_of (take i ranges)) ≡ length (keys_of (take (i - 1) ranges)) + ((get_or ranges (i - 1) blank).last - (get_or ranges (i - 1) blank).first + 1) = sym (ap (λ n. length (keys_of (take n ranges))) same) ∙ length-keys_more (i - 1) blank ranges h.apart (omega arith) in
-    elim (cases_lt i (length ranges)) [
-      | inl further ↦
-          absurd (omega (arith, here, more, past, stored_at i 0 ranges starts h further, cut.1 i 0 (omega arith) (omega (arith, stored_length ranges starts h, further))))
-      | inr at_end ↦
-          get_past (keys_of ranges) position (omega (arith, here, more, past, ap (λ those. length (keys_of those)) (take_all i ranges at_end)))
-    ]
+pub started_at : (position i : ℕ) (starts : List ℕ) → IsStartCut position starts i → i ≤ length starts → start_of starts i ≤ position
+started_at position zero starts cut le = omega arith
+started_at position (suc i) starts cut le = cut.0 i 0 (omega arith) (omega (arith, le))

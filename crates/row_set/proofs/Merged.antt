@@ -3,6 +3,8 @@ use Rattle.std.proofs.Common.{◌≡◌, refl, ap, ap₂, sym, ◌∙◌, subst,
 use Rattle.std.specs.List.{AllByRecursion, list_any}
 use Rattle.std.proofs.lemmas.Bool.{cases_Bool, cases_lt, or_left, or_from}
 use Rattle.std.proofs.lemmas.List.{take_rest}
+use Rattle.std.proofs.lemmas.List.Folds.{list_any-append}
+use Rattle.std.proofs.lemmas.Option.{same_Some}
 use Rattle.key_lists.specs.Keys.{is_among, IsRising}
 use Rattle.key_lists.proofs.Every.{every_weaker, and_swap}
 use Rattle.key_lists.proofs.Among.{among-filter, of_among}
@@ -16,25 +18,21 @@ use Rattle.row_set.specs.Choice.{takes, chosen, AreAhead}
 use Rattle.row_set.proofs.Held.{among-in, among-keys, holds-true, holds_before, holds_after, none_before, none_after}
 use Rattle.row_set.proofs.Apart.{apart-drop, each_above}
 use Rattle.row_set.proofs.Counts.{blank}
-use Rattle.row_set.proofs.Lookups.{any-append}
 use Rattle.row_set.proofs.Middles.{span}
 use Rattle.row_set.proofs.United.{among-united, united_rises}
-
-some_same : {X : Type 0} (x y : X) → Some x ≡ Some y → x ≡ y
-some_same x y e = cc
 
 -- the first range holds the keys up to its end, and none holds one before it
 pub stretch_held : (at key : ℕ) (ranges : List Range) (range : Range) → Some range ≡ slice_get ranges 0 → range.first ≤ at → at ≤ key → key < range.last + 1 → is_among key (keys_of ranges) ≡ true
 stretch_held at key [] range is begun above below = cc
 stretch_held at key (first ∷ rest) range is begun above below =
-    let same : range ≡ first = some_same range first is in
+    let same : range ≡ first = same_Some range first is in
     among-keys key (first ∷ rest)
     ∙ or_left (holds key first) (list_any (holds key) rest) (subst (λ (r : Range). holds key r ≡ true) same (holds-true key range (omega arith) (omega arith)))
 
 pub stretch_free : (at key : ℕ) (ranges : List Range) (range : Range) → Some range ≡ slice_get ranges 0 → AreAhead at ranges → key < range.first → is_among key (keys_of ranges) ≡ false
 stretch_free at key [] range is h below = cc
 stretch_free at key (first ∷ rest) range is h below =
-    let same : range ≡ first = some_same range first is in
+    let same : range ≡ first = same_Some range first is in
     let before : key < first.first = subst (λ (r : Range). key < r.first) same below in
     among-keys key (first ∷ rest)
     ∙ none_after key (first ∷ rest) (before, every_weaker (λ other. first.last + 2 ≤ other.first) (λ other. key < other.first) rest (λ other above. omega (arith, above, before, h.1.0.ascends)) (each_above (first.last + 2) rest h.1.1))
@@ -54,7 +52,7 @@ rest_same key end i ranges ended le =
     ∙ sym (
     among-keys key ranges
     ∙ ap (list_any (holds key)) (sym (take-append-drop i ranges))
-    ∙ any-append (holds key) (take i ranges) (drop i ranges)
+    ∙ list_any-append (holds key) (take i ranges) (drop i ranges)
     ∙ ap (λ b. b || list_any (holds key) (drop i ranges)) (none_before key (take i ranges) (every_weaker (λ range. range.last < end) (λ range. range.last < key) (take i ranges) (λ range below. omega (arith, below, le)) ended))
     )
 
@@ -88,22 +86,6 @@ pub record IsMerged (choice : Choice) (keys others : List ℕ) (at : ℕ) (first
   pub below : (key : ℕ) → key < at → is_among key kept ≡ takes choice (is_among key keys) (is_among key others)
   pub above : (key : ℕ) → at ≤ key → is_among key kept ≡ false
   pub small : at ≤ 2 ^ 62
-
-pub merging : (choice : Choice) (keys others : List ℕ) (first second : List Range) → AreApart 0 first → AreApart 0 second → keys_of first ≡ keys → keys_of second ≡ others → IsMerged choice keys others 0 first second []
-merging choice keys others first second h k is this = record {
-  first_ahead = ahead 0 first h (any_end first);
-  second_ahead = ahead 0 second k (any_end second);
-  first_same = λ key le. ap (is_among key) is;
-  second_same = λ key le. ap (is_among key) this;
-  rising = tt;
-  below = λ key lt. absurd (omega arith);
-  above = λ key le. refl;
-  small = omega arith;
-}
-  where
-    any_end : (ranges : List Range) → AllByRecursion (λ range. 0 ≤ range.last) ranges
-    any_end [] = tt
-    any_end (range ∷ ranges) = (omega arith, any_end ranges)
 
 among_from : (key first last : ℕ) → first ≤ key → key ≤ last → is_among key (keys_from first last) ≡ true
 among_from key first last above below = among-in key (span first last) ∙ holds-true key (span first last) above below

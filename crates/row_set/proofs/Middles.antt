@@ -3,8 +3,10 @@ use Rattle.std.proofs.Common.{◌≡◌, refl, ap, sym, ◌∙◌, subst, Bool, 
 use Rattle.std.specs.List.{AllByRecursion, list_any}
 use Rattle.std.proofs.lemmas.Bool.{cases_lt, or_from, or_left, or_right, lt-leb}
 use Rattle.std.proofs.lemmas.List.{take_more, drop_more, drop-drop}
+use Rattle.std.proofs.lemmas.List.Folds.{list_any-append}
 use Rattle.key_lists.proofs.Every.{every_both, every_weaker}
 use Rattle.key_lists.proofs.Rising.{rising_same}
+use Rattle.key_lists.proofs.Booleans.{or_false, and_true}
 use Rattle.key_lists.specs.Keys.{is_among}
 use Rattle.row_set.specs.declared.ranges.Range.{Range}
 use Rattle.row_set.specs.Ranges.{keys_from, keys_of, holds, IsRangeFrom, AreApart, Meets}
@@ -12,7 +14,7 @@ use Rattle.row_set.specs.Sets.{united}
 use Rattle.row_set.proofs.Held.{among-in, among-keys, holds-true, holds_before, holds_after, none_before, none_after}
 use Rattle.row_set.proofs.Apart.{apart-take, apart-drop, keys_rise, apart_raised, apart_front, apart_back, apart_seam, apart-append, each_above}
 use Rattle.row_set.proofs.Counts.{blank}
-use Rattle.row_set.proofs.Lookups.{any-append, apart_at, split_at}
+use Rattle.row_set.proofs.Lookups.{apart_at, split_at}
 use Rattle.row_set.proofs.United.{among-united, united_rises}
 
 abbrev middle : ℕ → ℕ → List Range → List Range
@@ -47,26 +49,14 @@ held_in_first key low first rest h le =
     ∙ or_false (holds key first)
     ∙ ap (λ b. leb first.first key && b) (le-leb key first.last le)
     ∙ and_true (leb first.first key)
-  where
-    or_false : (b : Bool) → (b || false) ≡ b
-    or_false true = refl
-    or_false false = refl
-
-    and_true : (b : Bool) → (b && true) ≡ b
-    and_true true = refl
-    and_true false = refl
 
 pub held_in_last : (key low : ℕ) (init : List Range) (last : Range) → AreApart low (init ++ last ∷ []) → last.first ≤ key → list_any (holds key) (init ++ last ∷ []) ≡ leb key last.last
 held_in_last key low init last h le =
     let none : list_any (holds key) init ≡ false = none_before key init (every_weaker (λ range. range.last + 2 ≤ last.first) (λ range. range.last < key) init (λ range below. omega (arith, below, le)) (apart_seam low init last [] h)) in
-    any-append (holds key) init (last ∷ [])
+    list_any-append (holds key) init (last ∷ [])
     ∙ ap (λ b. b || (holds key last || false)) none
     ∙ or_false (holds key last)
     ∙ ap (λ b. b && leb key last.last) (le-leb last.first key le)
-  where
-    or_false : (b : Bool) → (b || false) ≡ b
-    or_false true = refl
-    or_false false = refl
 
 abbrev pub span : ℕ → ℕ → Range
 span first last = record { first = first; last = last }
@@ -157,8 +147,8 @@ joined_holds key first last ranges head tail le is =
 pub any_parts : (key from to : ℕ) (ranges : List Range) → from ≤ to → list_any (holds key) ranges ≡ (list_any (holds key) (take from ranges) || (list_any (holds key) (middle from to ranges) || list_any (holds key) (drop to ranges)))
 any_parts key from to ranges le =
     ap (list_any (holds key)) (sym (three_parts from to ranges le))
-    ∙ any-append (holds key) (take from ranges) (middle from to ranges ++ drop to ranges)
-    ∙ ap (λ b. list_any (holds key) (take from ranges) || b) (any-append (holds key) (middle from to ranges) (drop to ranges))
+    ∙ list_any-append (holds key) (take from ranges) (middle from to ranges ++ drop to ranges)
+    ∙ ap (λ b. list_any (holds key) (take from ranges) || b) (list_any-append (holds key) (middle from to ranges) (drop to ranges))
 
 -- the seams before the first range that is met and after the last one
 pub before_head : (from : ℕ) (ranges : List Range) → from < length ranges → AreApart 0 ranges → AllByRecursion (λ range. range.last + 2 ≤ (get_or ranges from blank).first) (take from ranges)
@@ -176,7 +166,7 @@ united_by first last from to one ranges new le h k is same =
     (λ key.
     among-keys key new
     ∙ ap (list_any (holds key)) is
-    ∙ any-append (holds key) (take from ranges) (one ∷ drop to ranges)
+    ∙ list_any-append (holds key) (take from ranges) (one ∷ drop to ranges)
     ∙ ap (λ b. list_any (holds key) (take from ranges) || (b || list_any (holds key) (drop to ranges))) (same key)
     ∙ or_moved (list_any (holds key) (take from ranges)) (holds key (span first last)) (list_any (holds key) (middle from to ranges)) (list_any (holds key) (drop to ranges))
     ∙ ap (λ b. holds key (span first last) || b) (sym (among-keys key ranges ∙ any_parts key from to ranges le))
@@ -215,7 +205,3 @@ alone_keys first last from to ranges new h le small is none same =
     let nothing : to - from ≡ 0 = omega arith in
     united_by first last from to (span first last) ranges new is.order h (subst (λ those. AreApart 0 those) (sym same) (alone_apart first last from to ranges h le small is)) same
     (λ key. sym (ap (λ n. holds key (span first last) || list_any (holds key) (take n (drop from ranges))) nothing ∙ or_false (holds key (span first last))))
-  where
-    or_false : (b : Bool) → (b || false) ≡ b
-    or_false true = refl
-    or_false false = refl

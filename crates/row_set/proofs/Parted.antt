@@ -1,23 +1,23 @@
 -- Ranges of which the keys from one to another have moved, with the edges that stay behind.
-use Rattle.std.proofs.Common.{◌≡◌, refl, ap, ap₂, sym, ◌∙◌, subst, Bool, true, false, cond, ◌||◌, ℕ, ◌+◌, ◌-◌, ◌^◌, ◌<◌, ◌≤◌, min, max, arith, List, [], ◌∷◌, ◌++◌, length, map, take, drop, slice_range, get_or, leb, ltb, le-leb, lt-ltb, le-ltb, length-append, length-take-le, length-drop, append_assoc, take-take, take_at, drop_at, ℤ, pos, ◌+ℤ◌, inl, inr}
+use Rattle.std.proofs.Common.{◌≡◌, refl, ap, ap₂, sym, ◌∙◌, subst, Bool, true, false, cond, ◌||◌, ℕ, zero, suc, ◌+◌, ◌-◌, ◌^◌, ◌<◌, ◌≤◌, min, max, arith, List, [], ◌∷◌, ◌++◌, length, map, take, drop, slice_range, get_or, leb, ltb, le-leb, lt-ltb, le-ltb, length-append, length-take-le, length-drop, append_assoc, take-take, take_at, drop_at, ℤ, pos, ◌+ℤ◌, inl, inr}
 use Rattle.std.specs.List.{AllByRecursion, list_any}
 use Rattle.std.proofs.lemmas.Bool.{cases_lt, and_from}
 use Rattle.std.proofs.lemmas.Int.{ints}
 use Rattle.std.proofs.lemmas.List.{length-map, map-append}
+use Rattle.std.proofs.lemmas.List.Folds.{list_any-append}
 use Rattle.key_lists.specs.Keys.{IsRising}
 use Rattle.key_lists.proofs.Every.{every_weaker, every-append, map_own, map_map}
 use Rattle.key_lists.proofs.Among.{among-append, of_among}
 use Rattle.key_lists.proofs.Rising.{rising_same, rising-append}
+use Rattle.key_lists.proofs.Parts.{every-take, every-drop}
 use Rattle.row_set.specs.declared.ranges.Range.{Range}
-use Rattle.row_set.specs.Ranges.{keys_in, keys_of, starts_of, holds, IsRangeFrom, AreApart, Meets}
+use Rattle.row_set.specs.Ranges.{keys_before, keys_in, keys_of, holds, IsRangeFrom, AreApart, Meets}
 use Rattle.row_set.specs.Moves.{moved_key, as_key, moved_keys, IsKey, moved_range, Lands}
 use Rattle.row_set.proofs.Held.{among-in, among-keys, each_key, holds-true, keys_of-append, length-keys_in}
 use Rattle.row_set.proofs.Apart.{apart-drop, apart-take, apart_weaker, apart-append, each_range, keys_rise, apart_back, apart_seam}
 use Rattle.row_set.proofs.Counts.{blank}
-use Rattle.row_set.proofs.Lookups.{any-append}
 use Rattle.row_set.proofs.Middles.{span, IsMet, met, three_parts, before_head, after_tail, middle_last}
 use Rattle.row_set.proofs.Edges.{left_edge, right_edge, edges_hold, left_apart, right_apart, left_is_not, right_is_not}
-use Rattle.row_set.proofs.Places.{every-take, every-drop}
 use Rattle.row_set.proofs.Shifted.{after, any_clip, before, clip, clip_apart, clip_within, clipped_move, halves, length-slice, shift, shifts_clipped, pos-as_key}
 
 abbrev move : ℕ → ℕ → ℤ → ℕ → ℕ
@@ -104,7 +104,7 @@ parts_of_met first last ranges head tail le small lows highs is =
     ∙ sym (
     among-append key (keys_of left) (keys_of parts ++ keys_of right)
     ∙ ap₂ ◌||◌ (among-keys key left) (among-append key (keys_of parts) (keys_of right) ∙ ap₂ ◌||◌ (among-keys key parts ∙ any_clip key first last ranges) (among-keys key right))
-    ∙ halves (list_any (holds key) left) (list_any (holds key) right) (holds key (span first last)) (list_any (holds key) ranges) (sym (any-append (holds key) left right) ∙ edges_hold key first last ranges head tail le is)))
+    ∙ halves (list_any (holds key) left) (list_any (holds key) right) (holds key (span first last)) (list_any (holds key) ranges) (sym (list_any-append (holds key) left right) ∙ edges_hold key first last ranges head tail le is)))
 
 -- what the ranges are once they have moved
 pub record IsParted (first last from to : ℕ) (delta : ℤ) (ranges new : List Range) (head tail : Range) : Type 0 where
@@ -259,9 +259,6 @@ all_land first last from to delta ranges h le is keys =
           each those a.1 b.1 c.1 d.1,
         )
 
-pub same_shorter : {X : Type 0} (n m : ℕ) (xs ys : List X) → n ≤ m → take m xs ≡ take m ys → take n xs ≡ take n ys
-same_shorter n m xs ys le same = sym (take-take n m xs le) ∙ ap (take n) same ∙ take-take n m ys le
-
 pub length-edge : (wanted : Bool) (edge : Range) → cond wanted 1 0 ≡ length (cond wanted (edge ∷ []) [])
 length-edge true edge = refl
 length-edge false edge = refl
@@ -269,15 +266,16 @@ length-edge false edge = refl
 pub slice_apart : (from to : ℕ) (ranges : List Range) → AreApart 0 ranges → AreApart 0 (slice_range ranges from to)
 slice_apart from to ranges h = apart-take 0 (to - from) (drop from ranges) (apart-drop 0 from ranges h)
 
--- ranges of the same sizes begin at the same positions
-same_starts : (start : ℕ) (xs ys : List Range) → map (λ range. length (keys_in range)) xs ≡ map (λ range. length (keys_in range)) ys → starts_of start xs ≡ starts_of start ys
-same_starts start [] [] e = refl
-same_starts start [] (y ∷ ys) e = cc
-same_starts start (x ∷ xs) [] e = cc
-same_starts start (x ∷ xs) (y ∷ ys) e =
+-- as many keys come before each of ranges of the same sizes
+same_counts : (xs ys : List Range) → map (λ range. length (keys_in range)) xs ≡ map (λ range. length (keys_in range)) ys → (index : ℕ) → keys_before index xs ≡ keys_before index ys
+same_counts xs ys e zero = refl
+same_counts [] [] e (suc index) = refl
+same_counts [] (y ∷ ys) e (suc index) = cc
+same_counts (x ∷ xs) [] e (suc index) = cc
+same_counts (x ∷ xs) (y ∷ ys) e (suc index) =
     let here : length (keys_in x) ≡ length (keys_in y) = cc in
     let rest : map (λ range. length (keys_in range)) xs ≡ map (λ range. length (keys_in range)) ys = cc in
-    ap (λ those. start ∷ those) (ap (λ n. starts_of (start + n) xs) here ∙ same_starts (start + length (keys_in y)) xs ys rest)
+    omega (arith, here, same_counts xs ys rest index, length-append (keys_in x) (keys_of (take index xs)), length-append (keys_in y) (keys_of (take index ys)))
 
 ends_by : (first last from to : ℕ) (ranges : List Range) → AreApart 0 ranges → Meets first last ranges from to → from < to → AllByRecursion (λ range. range.last ≤ (get_or ranges (to - 1) blank).last) (slice_range ranges from to)
 ends_by first last from to ranges h is lt =
@@ -306,9 +304,9 @@ same_sizes first last low high delta (range ∷ ranges) le ge r a b lands =
     let below = b.0 in
     ap₂ (λ n ns. n ∷ ns) (same_size first last delta range r.0.ascends (omega (arith, le, above)) (omega (arith, ge, below)) lands.0) (same_sizes first last low high delta ranges le ge r.1 a.1 b.1 lands.1)
 
--- where no range is split, all begin at the positions of before
-pub starts_stay : (first last from to : ℕ) (delta : ℤ) (ranges new : List Range) → AreApart 0 ranges → Meets first last ranges from to → from < to → AllByRecursion (Lands first last delta) (slice_range ranges from to) → IsParted first last from to delta ranges new (get_or ranges from blank) (get_or ranges (to - 1) blank) → first ≤ (get_or ranges from blank).first → (get_or ranges (to - 1) blank).last ≤ last → starts_of 0 new ≡ starts_of 0 ranges
-starts_stay first last from to delta ranges new h is lt lands p low high =
+-- where no range is split, as many keys as before come before each
+pub counts_stay : (first last from to : ℕ) (delta : ℤ) (ranges new : List Range) → AreApart 0 ranges → Meets first last ranges from to → from < to → AllByRecursion (Lands first last delta) (slice_range ranges from to) → IsParted first last from to delta ranges new (get_or ranges from blank) (get_or ranges (to - 1) blank) → first ≤ (get_or ranges from blank).first → (get_or ranges (to - 1) blank).last ≤ last → (index : ℕ) → keys_before index new ≡ keys_before index ranges
+counts_stay first last from to delta ranges new h is lt lands p low high =
     let head = get_or ranges from blank in
     let tail = get_or ranges (to - 1) blank in
     let front = take from ranges in
@@ -321,7 +319,7 @@ starts_stay first last from to delta ranges new h is lt lands p low high =
     ∙ ap₂ (λ xs ys. front ++ (xs ++ (parts ++ (ys ++ back)))) (left_is_not first head low) (right_is_not last tail high) in
     let sizes : map (λ range. length (keys_in range)) parts ≡ map (λ range. length (keys_in range)) middle =
     same_sizes first last head.first tail.last delta middle low high (each_range 0 middle meet.apart) meet.begins (ends_by first last from to ranges h is lt) lands in
-    same_starts 0 new ranges
+    same_counts new ranges
     (ap (map (λ (range : Range). length (keys_in range))) whole
     ∙ map-append (λ (range : Range). length (keys_in range)) front (parts ++ back)
     ∙ ap (λ those. map (λ (range : Range). length (keys_in range)) front ++ those) (map-append (λ (range : Range). length (keys_in range)) parts back ∙ ap (λ those. those ++ map (λ (range : Range). length (keys_in range)) back) sizes ∙ sym (map-append (λ (range : Range). length (keys_in range)) middle back))

@@ -1,24 +1,14 @@
 -- Where a search cuts a list of ranges.
-use Rattle.std.proofs.Common.{◌≡◌, sym, subst, Bool, true, false, ℕ, zero, suc, ◌+◌, ◌-◌, ◌<◌, ◌≤◌, arith, List, [], ◌∷◌, length, length-drop, take, drop, get_or, leb, ltb, leb-true, leb-false, ltb-true, ltb-false}
+use Rattle.std.proofs.Common.{◌≡◌, sym, subst, true, false, ℕ, zero, suc, ◌+◌, ◌-◌, ◌<◌, ◌≤◌, arith, List, [], ◌∷◌, length, length-drop, take, drop, get_or, leb, ltb, leb-true, leb-false, ltb-true, ltb-false}
 use Rattle.std.specs.List.{AllByRecursion}
 use Rattle.std.specs.List.Sorted.{IsPartitionPoint, IsPartitionedBy, IsNonDecreasingBy}
 use Rattle.std.proofs.lemmas.List.{drop-drop, drop_more}
 use Rattle.std.proofs.lemmas.List.Sorted.{IsPartitionedBy-ltb, IsPartitionedBy-leb}
 use Rattle.key_lists.proofs.Every.{every_weaker, all_from}
+use Rattle.key_lists.proofs.Parts.{every-take, front_part, back_part}
 use Rattle.row_set.specs.declared.ranges.Range.{Range}
 use Rattle.row_set.specs.Ranges.{IsRangeFrom, AreApart, Meets}
 use Rattle.row_set.proofs.Apart.{apart-drop, each_above, each_range}
-
-pub every_take : {X : Type 0} (P : X → Type 0) (xs : List X) (i : ℕ) → ((k : ℕ) (d : X) → k < i → P (get_or xs k d)) → AllByRecursion P (take i xs)
-every_take P xs zero h = tt
-every_take P [] (suc i) h = tt
-every_take P (x ∷ xs) (suc i) h = (h 0 x (omega arith), every_take P xs i (λ k d lt. h (suc k) d (omega arith)))
-
-pub every_drop : {X : Type 0} (P : X → Type 0) (xs : List X) (i : ℕ) → ((k : ℕ) (d : X) → i ≤ k → k < length xs → P (get_or xs k d)) → AllByRecursion P (drop i xs)
-every_drop P [] zero h = tt
-every_drop P (x ∷ xs) zero h = (h 0 x (omega arith) (omega arith), every_drop P xs zero (λ k d le lt. h (suc k) d (omega arith) (omega arith)))
-every_drop P [] (suc i) h = tt
-every_drop P (x ∷ xs) (suc i) h = every_drop P xs i (λ k d le lt. h (suc k) d (omega arith) (omega arith))
 
 pub range_at : (low : ℕ) (ranges : List Range) → AreApart low ranges → (k : ℕ) (d : Range) → k < length ranges → IsRangeFrom low (get_or ranges k d)
 range_at low ranges h = all_from (IsRangeFrom low) ranges (each_range low ranges h)
@@ -46,12 +36,6 @@ pub firsts_parted : (key : ℕ) (ranges : List Range) → AreApart 0 ranges → 
 firsts_parted key ranges h = IsPartitionedBy-leb (λ range. range.first) ranges key (firsts_rise 0 ranges h)
 
 -- the two parts that a test cuts a list into
-pub front_part : {X : Type 0} (p : X → Bool) (xs : List X) (i : ℕ) → IsPartitionPoint (λ x. p x ≡ true) (λ x. p x ≡ false) xs i → AllByRecursion (λ x. p x ≡ true) (take i xs)
-front_part p xs i h = every_take (λ x. p x ≡ true) xs i (λ k d lt. h.0 k d (omega arith) lt)
-
-pub back_part : {X : Type 0} (p : X → Bool) (xs : List X) (i : ℕ) → IsPartitionPoint (λ x. p x ≡ true) (λ x. p x ≡ false) xs i → AllByRecursion (λ x. p x ≡ false) (drop i xs)
-back_part p xs i h = every_drop (λ x. p x ≡ false) xs i (λ k d le lt. h.1 k d le lt)
-
 pub ended_part : (key : ℕ) (ranges : List Range) (i : ℕ) → IsPartitionPoint (λ range. ltb range.last key ≡ true) (λ range. ltb range.last key ≡ false) ranges i → AllByRecursion (λ range. range.last < key) (take i ranges)
 ended_part key ranges i h = every_weaker (λ range. ltb range.last key ≡ true) (λ range. range.last < key) (take i ranges) (λ range e. ltb-true range.last key e) (front_part (λ range. ltb range.last key) ranges i h)
 
@@ -63,17 +47,6 @@ begun_part key ranges i h = every_weaker (λ range. leb range.first key ≡ true
 
 pub not_begun_part : (key : ℕ) (ranges : List Range) (i : ℕ) → IsPartitionPoint (λ range. leb range.first key ≡ true) (λ range. leb range.first key ≡ false) ranges i → AllByRecursion (λ range. key < range.first) (drop i ranges)
 not_begun_part key ranges i h = every_weaker (λ range. leb range.first key ≡ false) (λ range. key < range.first) (drop i ranges) (λ range e. leb-false range.first key e) (back_part (λ range. leb range.first key) ranges i h)
-
--- the ranges that a search for both ends finds
-pub every-take : {X : Type 0} (P : X → Type 0) (n : ℕ) (xs : List X) → AllByRecursion P xs → AllByRecursion P (take n xs)
-every-take P zero xs h = tt
-every-take P (suc n) [] h = tt
-every-take P (suc n) (x ∷ xs) h = (h.0, every-take P n xs h.1)
-
-pub every-drop : {X : Type 0} (P : X → Type 0) (n : ℕ) (xs : List X) → AllByRecursion P xs → AllByRecursion P (drop n xs)
-every-drop P zero xs h = h
-every-drop P (suc n) [] h = tt
-every-drop P (suc n) (x ∷ xs) h = every-drop P n xs h.1
 
 -- those up to the from-th end before the keys, and of the rest count begin in time
 pub meets : (low high from count : ℕ) (ranges : List Range) → from ≤ length ranges → count ≤ length (drop from ranges) → AllByRecursion (λ range. range.last < low) (take from ranges) → AllByRecursion (λ range. low ≤ range.last) (drop from ranges) → AllByRecursion (λ range. range.first ≤ high) (take count (drop from ranges)) → AllByRecursion (λ range. high < range.first) (drop count (drop from ranges)) → Meets low high ranges from (from + count)
@@ -117,7 +90,3 @@ all_ended key d ranges h some lt =
 pub all_begun : (key : ℕ) (d : Range) (ranges : List Range) → AreApart 0 ranges → 0 < length ranges → (get_or ranges (length ranges - 1) d).first ≤ key → AllByRecursion (λ range. range.first ≤ key) (take (length ranges) ranges)
 all_begun key d ranges h some lt =
     every_front (λ range. range.first ≤ key) d ranges (λ k within. omega (arith, firsts_rise 0 ranges h k (length ranges - 1) d (omega arith) (omega arith), lt))
-
-pub none_left : (P : Range → Type 0) (ranges : List Range) → AllByRecursion P (drop (length ranges) ranges)
-none_left P [] = tt
-none_left P (range ∷ ranges) = none_left P ranges

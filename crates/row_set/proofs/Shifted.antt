@@ -5,6 +5,7 @@ use Rattle.std.proofs.lemmas.Bool.{cases_lt, and_from, and_left, and_right, lt-l
 use Rattle.std.proofs.lemmas.Int.{ints}
 use Rattle.std.proofs.lemmas.List.{get_or-map, map-append}
 use Rattle.key_lists.proofs.Every.{all_from, map_same, map_map}
+use Rattle.key_lists.proofs.Booleans.{and_false}
 use Rattle.row_set.specs.declared.ranges.Range.{Range}
 use Rattle.row_set.specs.Ranges.{keys_in, keys_of, holds, IsRangeFrom, AreApart}
 use Rattle.row_set.specs.Moves.{moved_key, as_key, IsKey, moved_range, Lands}
@@ -129,12 +130,8 @@ and_shared : (b x y : Bool) → ((b && x) || (b && y)) ≡ (b && (x || y))
 and_shared true x y = refl
 and_shared false x y = refl
 
-and_none : (b : Bool) → false ≡ (b && false)
-and_none true = refl
-and_none false = refl
-
 pub any_clip : (key first last : ℕ) (ranges : List Range) → list_any (holds key) (map (clip first last) ranges) ≡ (holds key (span first last) && list_any (holds key) ranges)
-any_clip key first last [] = and_none (holds key (span first last))
+any_clip key first last [] = sym (and_false (holds key (span first last)))
 any_clip key first last (range ∷ ranges) = ap₂ ◌||◌ (holds_clip key first last range) (any_clip key first last ranges) ∙ and_shared (holds key (span first last)) (holds key range) (list_any (holds key) ranges)
 
 pub halves : (l r b m : Bool) → (l || r) ≡ (not b && m) → (l || ((b && m) || r)) ≡ m

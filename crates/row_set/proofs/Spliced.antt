@@ -1,5 +1,5 @@
 -- A list with other elements in the place of some.
-use Rattle.std.proofs.Common.{◌≡◌, ap, sym, ◌∙◌, ℕ, ◌+◌, ◌-◌, ◌<◌, ◌≤◌, min, arith, List, [], ◌∷◌, ◌++◌, length, take, drop, get_or, length-append, length-drop, length-take-le, append_assoc, take_all, take-append-drop, get_or-drop}
+use Rattle.std.proofs.Common.{◌≡◌, ap, sym, ◌∙◌, ℕ, ◌+◌, ◌-◌, ◌<◌, ◌≤◌, min, arith, List, [], ◌∷◌, ◌++◌, length, take, drop, get_or, length-append, length-drop, length-take-le, append_assoc, take_all, get_or-drop}
 use Rattle.std.proofs.lemmas.List.{take_more, take_at, drop_at, drop-drop}
 
 -- i of the others stand behind the first `from` elements, where at is the next place, and then what is left of the old ones
@@ -16,11 +16,6 @@ back_at xs ys zs n is = ap (drop n) (sym (append_assoc xs ys zs)) ∙ drop_at (x
 
 joined : {X : Type 0} (xs ys zs : List X) (x : X) → (xs ++ ys) ++ x ∷ zs ≡ xs ++ ((ys ++ x ∷ []) ++ zs)
 joined xs ys zs x = append_assoc xs ys (x ∷ zs) ∙ ap (λ rest. xs ++ rest) (sym (append_assoc ys (x ∷ []) zs))
-
-pub splicing_starts : {X : Type 0} (old : List X) (from to : ℕ) (others : List X) → from ≤ to → IsSplicing old from to others 0 from old
-splicing_starts old from to others le =
-    let here : min from to ≡ from = omega arith in
-    record { place = omega arith; items = sym (ap (λ n. take from old ++ drop n old) here ∙ take-append-drop from old) }
 
 pub splicing_replaces : {X : Type 0} (old : List X) (from to : ℕ) (others : List X) (i at : ℕ) (new newer : List X) (d : X) → IsSplicing old from to others i at new → from ≤ length old → to ≤ length old → i < length others → at < to → newer ≡ take at new ++ (get_or others i d ∷ drop (at + 1) new) → IsSplicing old from to others (i + 1) (at + 1) newer
 splicing_replaces old from to others i at new newer d h within end more lt is =
@@ -67,12 +62,6 @@ length-splicing old from to others i at new h within le =
       length-take-le i others le,
       length-drop (min at to) old,
     )
-
--- all of them stand there
-pub splicing_ends : {X : Type 0} (old : List X) (from to : ℕ) (others : List X) (i at : ℕ) (new : List X) → IsSplicing old from to others i at new → length others ≤ i → to ≤ at → new ≡ take from old ++ (others ++ drop to old)
-splicing_ends old from to others i at new h all le =
-    let here : min at to ≡ to = omega arith in
-    h.items ∙ ap (λ those. take from old ++ (those ++ drop (min at to) old)) (take_all i others all) ∙ ap (λ n. take from old ++ (others ++ drop n old)) here
 
 pub splicing_cut : {X : Type 0} (old : List X) (from to : ℕ) (others : List X) (i at : ℕ) (new newer : List X) → IsSplicing old from to others i at new → from ≤ length old → i ≡ length others → at < to → newer ≡ take at new ++ drop to new → newer ≡ take from old ++ (others ++ drop to old)
 splicing_cut old from to others i at new newer h within all lt is =

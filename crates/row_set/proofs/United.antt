@@ -5,21 +5,9 @@ use Rattle.std.proofs.lemmas.Bool.{eqb-false as neq-from}
 use Rattle.std.proofs.lemmas.List.Folds.{list_any_more}
 use Rattle.key_lists.specs.Keys.{is_among, IsRising}
 use Rattle.key_lists.proofs.Every.{every_weaker}
+use Rattle.key_lists.proofs.Booleans.{or_assoc, or_swap, or_turned, or_twice}
 use Rattle.row_set.specs.Ranges.{keys_from}
 use Rattle.row_set.specs.Sets.{with_key, united}
-
-or_twice : (a b : Bool) → (a || b) ≡ (a || (a || b))
-or_twice true b = refl
-or_twice false b = refl
-
-or_swap : (a b c : Bool) → (a || (b || c)) ≡ (b || (a || c))
-or_swap true true c = refl
-or_swap true false c = refl
-or_swap false b c = refl
-
-pub or_assoc : (a b c : Bool) → (a || (b || c)) ≡ ((a || b) || c)
-or_assoc true b c = refl
-or_assoc false b c = refl
 
 pub among-with_key : (key other : ℕ) (keys : List ℕ) → is_among key (with_key other keys) ≡ ((other == key) || is_among key keys)
 among-with_key key other [] = refl
@@ -28,7 +16,7 @@ among-with_key key other (first ∷ rest) =
       | true ↦ refl
       | false ↦
           (elim (other == first) as (λ b. (other == first) ≡ b → is_among key (cond b (first ∷ rest) (first ∷ with_key other rest)) ≡ ((other == key) || ((first == key) || is_among key rest))) [
-            | true ↦ λ e. or_twice (first == key) (is_among key rest) ∙ ap (λ k. (k == key) || ((first == key) || is_among key rest)) (sym (eqb-true other first e))
+            | true ↦ λ e. sym (or_twice (first == key) (is_among key rest)) ∙ ap (λ k. (k == key) || ((first == key) || is_among key rest)) (sym (eqb-true other first e))
             | false ↦ λ e. ap (λ b. (first == key) || b) (among-with_key key other rest) ∙ or_swap (first == key) (other == key) (is_among key rest)
           ]) refl
     ]
@@ -94,11 +82,5 @@ among_more key keys set n within so_far =
     ap (λ ks. is_among key (united ks set)) (one_key more)
     ∙ among-with_key key more set
     ∙ ap (λ b. (more == key) || b) so_far
-    ∙ or_flip (more == key) (is_among key (take n keys))
+    ∙ or_turned (more == key) (is_among key (take n keys))
     ∙ sym (list_any_more (λ other. other == key) keys n 0 within)
-  where
-    or_flip : (a b : Bool) → (a || b) ≡ (b || a)
-    or_flip true true = refl
-    or_flip true false = refl
-    or_flip false true = refl
-    or_flip false false = refl

@@ -1,16 +1,18 @@
 -- The keys at neighbouring positions of a rising list.
-use Rattle.std.proofs.Common.{◌≡◌, refl, ap, sym, ◌∙◌, subst, Bool, true, false, ◌&&◌, ◌||◌, ℕ, zero, suc, ◌+◌, ◌-◌, ◌<◌, ◌≤◌, min, arith, List, [], ◌∷◌, ◌++◌, length, take, drop, slice_get, take-append-drop, take_all, length-drop, Some, inl, inr}
+use Rattle.std.proofs.Common.{◌≡◌, ap, sym, ◌∙◌, subst, Bool, true, false, ◌&&◌, ◌||◌, ℕ, zero, suc, ◌+◌, ◌-◌, ◌<◌, ◌≤◌, min, arith, List, [], ◌∷◌, ◌++◌, length, take, drop, slice_get, take-append-drop, take_all, length-drop, Some, inl, inr}
 use Rattle.std.specs.List.{AllByRecursion}
 use Rattle.std.proofs.lemmas.Bool.{cases_Bool, cases_lt}
 use Rattle.std.proofs.lemmas.List.{drop-take, drop-drop, drop_all}
+use Rattle.std.proofs.lemmas.Option.{same_Some}
 use Rattle.key_lists.specs.Keys.{is_among, IsRising}
-use Rattle.key_lists.proofs.Every.{every_weaker}
+use Rattle.key_lists.proofs.Every.{every_weaker, every-append}
 use Rattle.key_lists.proofs.Among.{among-append, among-filter, of_among}
 use Rattle.key_lists.proofs.Rising.{rising_same, rising_some}
+use Rattle.key_lists.proofs.Booleans.{or_false, and_true, and_false}
+use Rattle.key_lists.proofs.Parts.{every-take, every-drop, every_front, every_back, take_nil}
 use Rattle.row_set.specs.Ranges.{keys_from, holds}
 use Rattle.row_set.specs.Sets.{united, common}
 use Rattle.row_set.proofs.Held.{among-in, holds-true, holds_before, holds_after}
-use Rattle.row_set.proofs.Places.{every-take, every-drop}
 use Rattle.row_set.proofs.Middles.{span}
 use Rattle.row_set.proofs.United.{among-united, united_rises}
 
@@ -23,20 +25,10 @@ drop_get (suc n) x (y ∷ xs) e = drop_get n x xs e
 cut_get : (n x : ℕ) (xs : List ℕ) → slice_get xs n ≡ Some x → take n xs ++ x ∷ drop (suc n) xs ≡ xs
 cut_get n x xs e = ap (λ rest. take n xs ++ rest) (sym (drop_get n x xs e)) ∙ take-append-drop n xs
 
-within_get : (n x : ℕ) (xs : List ℕ) → slice_get xs n ≡ Some x → n < length xs
-within_get zero x [] e = cc
-within_get zero x (y ∷ xs) e = omega arith
-within_get (suc n) x [] e = cc
-within_get (suc n) x (y ∷ xs) e = omega (arith, within_get n x xs e)
-
 -- the parts of a rising list
 pub rising_front : (xs ys : List ℕ) → IsRising (xs ++ ys) → IsRising xs
 rising_front [] ys h = tt
-rising_front (x ∷ xs) ys h = (front xs h.0, rising_front xs ys h.1)
-  where
-    front : (zs : List ℕ) → AllByRecursion (λ z. x < z) (zs ++ ys) → AllByRecursion (λ z. x < z) zs
-    front [] k = tt
-    front (z ∷ zs) k = (k.0, front zs k.1)
+rising_front (x ∷ xs) ys h = (every_front (λ z. x < z) xs ys h.0, rising_front xs ys h.1)
 
 pub rising_back : (xs ys : List ℕ) → IsRising (xs ++ ys) → IsRising ys
 rising_back [] ys h = h
@@ -44,19 +36,13 @@ rising_back (x ∷ xs) ys h = rising_back xs ys h.1
 
 pub rising_before : (xs : List ℕ) (y : ℕ) (ys : List ℕ) → IsRising (xs ++ y ∷ ys) → AllByRecursion (λ x. x < y) xs
 rising_before [] y ys h = tt
-rising_before (x ∷ xs) y ys h = (at xs h.0, rising_before xs y ys h.1)
-  where
-    at : (zs : List ℕ) → AllByRecursion (λ z. x < z) (zs ++ y ∷ ys) → x < y
-    at [] k = k.0
-    at (z ∷ zs) k = at zs k.1
+rising_before (x ∷ xs) y ys h = ((every_back (λ z. x < z) xs (y ∷ ys) h.0).0, rising_before xs y ys h.1)
 
 pub rising_left_out : (xs : List ℕ) (y : ℕ) (ys : List ℕ) → IsRising (xs ++ y ∷ ys) → IsRising (xs ++ ys)
 rising_left_out [] y ys h = h.1
-rising_left_out (x ∷ xs) y ys h = (out xs h.0, rising_left_out xs y ys h.1)
-  where
-    out : (zs : List ℕ) → AllByRecursion (λ z. x < z) (zs ++ y ∷ ys) → AllByRecursion (λ z. x < z) (zs ++ ys)
-    out [] k = k.1
-    out (z ∷ zs) k = (k.0, out zs k.1)
+rising_left_out (x ∷ xs) y ys h =
+    let rest = every_back (λ z. x < z) xs (y ∷ ys) h.0 in
+    (every-append (λ z. x < z) xs ys (every_front (λ z. x < z) xs (y ∷ ys) h.0) rest.1, rising_left_out xs y ys h.1)
 
 pub rising-drop : (n : ℕ) (xs : List ℕ) → IsRising xs → IsRising (drop n xs)
 rising-drop n xs h = rising_back (take n xs) (drop n xs) (subst IsRising (sym (take-append-drop n xs)) h)
@@ -119,18 +105,6 @@ window_is first last low high keys rising le at_first at_last =
                 ∙ sym (right ∙ ap (λ b. is_among key keys && b) (holds-true key (span low high) from to) ∙ and_true (is_among key keys) ∙ all)
           ]
     ])
-  where
-    or_false : (b : Bool) → (b || false) ≡ b
-    or_false true = refl
-    or_false false = refl
-
-    and_false : (b : Bool) → (b && false) ≡ false
-    and_false true = refl
-    and_false false = refl
-
-    and_true : (b : Bool) → (b && true) ≡ b
-    and_true true = refl
-    and_true false = refl
 
 -- at most count keys from the first position on, where end is past the last of them
 pub window_at : (first count end low high : ℕ) (keys : List ℕ) → IsRising keys → end ≡ min (first + count) (length keys) → first < end → slice_get keys first ≡ Some low → slice_get keys (end - 1) ≡ Some high → take count (drop first keys) ≡ common (united (keys_from low high) []) keys
@@ -154,10 +128,6 @@ window_none first count end keys is le =
       | inl within ↦ let none : count ≡ 0 = omega (arith, is) in ap (λ n. take n (drop first keys)) none
       | inr past ↦ ap (take count) (drop_all first keys past) ∙ take_nil count
     ]
-  where
-    take_nil : (n : ℕ) → take {A = ℕ} n [] ≡ []
-    take_nil zero = refl
-    take_nil (suc n) = refl
 
 pub low_to_high : (first last low high : ℕ) (keys : List ℕ) → IsRising keys → first ≤ last → slice_get keys first ≡ Some low → slice_get keys last ≡ Some high → low ≤ high
 low_to_high first last low high keys rising le at_first at_last =
@@ -168,16 +138,13 @@ low_to_high first last low high keys rising le at_first at_last =
           omega (arith, at (λ key. low < key) (last - suc first) high (drop (suc first) keys) there back.0)
       | inr same ↦
           let one : first ≡ last = omega arith in
-          let equal : low ≡ high = some_is low high (sym at_first ∙ ap (slice_get keys) one ∙ at_last) in
+          let equal : low ≡ high = same_Some low high (sym at_first ∙ ap (slice_get keys) one ∙ at_last) in
           omega (arith, equal)
     ]
   where
-    some_is : (x y : ℕ) → Some x ≡ Some y → x ≡ y
-    some_is x y e = cc
-
     at : (P : ℕ → Type 0) (n x : ℕ) (xs : List ℕ) → slice_get xs n ≡ Some x → AllByRecursion P xs → P x
     at P zero x [] e h = cc
-    at P zero x (y ∷ xs) e h = subst P (some_is y x e) h.0
+    at P zero x (y ∷ xs) e h = subst P (same_Some y x e) h.0
     at P (suc n) x [] e h = cc
     at P (suc n) x (y ∷ xs) e h = at P n x xs e h.1
 

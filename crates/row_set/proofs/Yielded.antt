@@ -5,7 +5,7 @@ use Rattle.std.specs.List.{AllByRecursion}
 use Rattle.std.proofs.lemmas.Bool.{ne_eqb}
 use Rattle.key_lists.specs.Keys.{IsRising, is_among}
 use Rattle.row_set.specs.Sets.{IsKeySet}
-use Rattle.row_set.proofs.Windows.{rising_back, rising_before}
+use Rattle.row_set.proofs.Windows.{rising_before}
 
 -- an iterator over some keys has yielded these, and has others left
 abbrev HasYielded : List ℕ → List ℕ → List ℕ → Type 0
@@ -36,9 +36,6 @@ module _ {keys from left others : List ℕ} {key : ℕ} (yielded : List ℕ) (gi
   -- the keys before it and those after it
   pub next_above : AllByRecursion (λ other. other < key) yielded
   next_above = rising_before yielded key others (subst IsRising yielded_next gives.1.rising)
-
-  pub next_below : AllByRecursion (λ other. key < other) others
-  next_below = (rising_back yielded (key ∷ others) (subst IsRising yielded_next gives.1.rising)).0
 
   pub next_new : is_among key yielded ≡ false
   next_new = among_above yielded next_above

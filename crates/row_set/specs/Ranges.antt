@@ -3,13 +3,15 @@
 --     keys_of ranges      the keys of the ranges, one range after another
 --     ranges_of keys      the longest ranges of rising keys
 --     AreApart low ranges      the ranges ascend from low on, and a key is left out between any two of them
---     starts_of start ranges      the position at which each range begins, where the first begins at start
+--     keys_before index ranges      how many keys the ranges before this one hold
+--     start_of starts block      the number of keys before a block, as the starts have it
+--     AreStarts ranges starts      which keys are counted: those before the 32nd range, before the 64th, and so on
 --     Meets low high ranges from to      which ranges meet the keys from low to high
 --     stretched first last met      the range from first to last, stretched over those that it meets
 --     left_edge first range      what is left of the range before first, if anything
 --     right_edge last range      what is left of it after last, if anything
 --     IsStored ranges starts      how a set is kept
-use Rattle.std.specs.Prelude.{◌≡◌, ℕ, ◌+◌, ◌-◌, ◌^◌, ◌<◌, ◌≤◌, ◌==◌, ◌&&◌, Bool, List, [], ◌∷◌, length, take, drop, slice_range, slice_index_or, min, max, nat_le, nat_lt, if◌then◌else◌}
+use Rattle.std.specs.Prelude.{◌≡◌, ℕ, ◌+◌, ◌-◌, ◌*◌, ◌^◌, ◌<◌, ◌≤◌, ◌==◌, ◌&&◌, Bool, List, [], ◌∷◌, length, take, drop, slice_range, slice_index_or, min, max, nat_le, nat_lt, if◌then◌else◌}
 use Rattle.std.specs.List.{AllByRecursion, flat_map, range_with_len}
 use Rattle.row_set.specs.declared.ranges.Range.{Range}
 
@@ -48,9 +50,16 @@ abbrev pub AreApart : ℕ → List Range → Type 0
 AreApart low [] = Unit {0}
 AreApart low (range ∷ ranges) = IsRangeFrom low range × AreApart (range.last + 2) ranges
 
-abbrev pub starts_of : ℕ → List Range → List ℕ
-starts_of start [] = []
-starts_of start (range ∷ ranges) = start ∷ starts_of (start + length (keys_in range)) ranges
+abbrev pub keys_before : ℕ → List Range → ℕ
+keys_before index ranges = length (keys_of (take index ranges))
+
+-- none before the first block
+abbrev pub start_of : List ℕ → ℕ → ℕ
+start_of starts block = slice_index_or (0 ∷ starts) block 0
+
+pub record AreStarts (ranges : List Range) (starts : List ℕ) : Type 0 where
+  pub counted : (block : ℕ) → block ≤ length starts → start_of starts block ≡ keys_before (32 * block) ranges
+  pub within : 32 * length starts ≤ length ranges - 1
 
 abbrev pub stretched : ℕ → ℕ → List Range → Range
 stretched first last [] = record { first = first; last = last }
@@ -64,7 +73,8 @@ right_edge last range = if nat_lt last range.last then (record range { first = l
 
 pub record IsStored (ranges : List Range) (starts : List ℕ) : Type 0 where
   pub apart : AreApart 0 ranges
-  pub placed : starts ≡ starts_of 0 ranges
+  pub counts : AreStarts ranges starts
+  pub full : length ranges ≤ 32 * length starts + 32
 
 -- the ranges from `from` up to `to` are those that end at low or after it and begin at high or before it
 pub record Meets (low high : ℕ) (ranges : List Range) (from to : ℕ) : Type 0 where

@@ -1,16 +1,16 @@
 //! Edits of a set's ranges in place, where there is room for them.
-ghost use Rattle.std.specs.Prelude.{◌≡◌, ◌+◌, ◌-◌, ◌^◌, ◌<◌, ◌≤◌, ◌∷◌, [], ◌++◌, length, take, drop, OnOk, vec_len, vec_capacity};
+ghost use Rattle.std.specs.Prelude.{◌≡◌, ℕ, ◌+◌, ◌-◌, ◌*◌, ◌^◌, ◌<◌, ◌≤◌, ◌∷◌, [], ◌++◌, length, take, drop, OnOk, vec_len, vec_capacity};
 ghost use Rattle.std.specs.List.{AllByRecursion};
 ghost use Rattle.key_lists.specs.Keys.{without};
 ghost use Rattle.row_set.specs.Gaps.{listed};
-ghost use Rattle.row_set.specs.Ranges.{AreApart, IsStored, keys_of, keys_from, left_edge, right_edge, starts_of, stretched};
+ghost use Rattle.row_set.specs.Ranges.{AreApart, AreStarts, IsStored, keys_before, keys_of, keys_from, left_edge, right_edge, start_of, stretched};
 ghost use Rattle.row_set.specs.Sets.{united};
 
-use crate::ranges::Range;
-use crate::search::{count_keys, meeting};
+use crate::ranges::{BLOCK, Range};
+use crate::search::{count_in, keys_before_block, meeting};
 use std::alloc::AllocError;
 
-/// Makes room for some more ranges and their starts.
+/// Makes room for some more ranges and the starts of their blocks.
 pub(crate) fn make_room(
     ranges: &mut Vec<Range>,
     starts: &mut Vec<u64>,
@@ -19,10 +19,11 @@ pub(crate) fn make_room(
     ensures ranges { ranges.new.items ≡ ranges.old.items }
     ensures starts { starts.new.items ≡ starts.old.items }
     ensures ranges_room { OnOk result (vec_len ranges.new + more ≤ vec_capacity ranges.new) }
-    ensures starts_room { OnOk result (vec_len starts.new + more ≤ vec_capacity starts.new) }
+    ensures starts_room { OnOk result (vec_len ranges.new + more ≤ 32 * vec_capacity starts.new + 32) }
 {
     ranges.reserve(more)?;
-    starts.reserve(more)
+    let blocks = (ranges.len() + more) / BLOCK;
+    starts.reserve(blocks.saturating_sub(starts.len()))
 }
 
 /// Puts a range at an index, in the place of the one there or, where that is one of the last to stay, before it.
@@ -73,20 +74,35 @@ pub(crate) fn splice(ranges: &mut Vec<Range>, from: usize, to: usize, others: &[
     }
 }
 
-/// Sets the starts of the ranges from `from` on. Those before are right, and there is room.
+/// Counts the keys before each block anew from the range at `from` on. The starts of those before are right, and there is
+/// room.
 pub(crate) fn recount(starts: &mut Vec<u64>, ranges: &[Range], from: usize)
     requires within { from ≤ length ranges.now }
-    requires before { take from starts.old.items ≡ starts_of 0 (take from ranges.now) }
-    requires room { length ranges.now ≤ vec_capacity starts.old }
+    requires before { (block : ℕ) → block ≤ length starts.old.items → 32 * block < from → start_of starts.old.items block ≡ keys_before (32 * block) ranges.now }
+    requires room { length ranges.now ≤ 32 * vec_capacity starts.old + 32 }
     requires apart { AreApart 0 ranges.now }
-    ensures starts { starts.new.items ≡ starts_of 0 ranges.now }
+    ensures stored { IsStored ranges.now starts.new.items }
     ensures capacity { vec_capacity starts.old ≤ vec_capacity starts.new }
 {
-    starts.truncate(from);
-    let mut next = count_keys(&ranges[..from], starts);
-    for range in &ranges[from..] {
+    starts.truncate(from.saturating_sub(1) / BLOCK);
+    count_rest(starts, ranges);
+}
+
+/// Puts the starts of the blocks that are missing behind those that are there. There is room for them.
+fn count_rest(starts: &mut Vec<u64>, ranges: &[Range])
+    requires starts { AreStarts ranges.now starts.old.items }
+    requires room { length ranges.now ≤ 32 * vec_capacity starts.old + 32 }
+    requires apart { AreApart 0 ranges.now }
+    ensures stored { IsStored ranges.now starts.new.items }
+    ensures capacity { vec_capacity starts.old ≤ vec_capacity starts.new }
+{
+    let mut next = keys_before_block(starts, starts.len());
+    let mut from = starts.len() * BLOCK;
+    while from + BLOCK < ranges.len() {
+        let to = from + BLOCK;
+        next += count_in(&ranges[from..to]);
         let _ = starts.push(next);
-        next += range.last - range.first + 1;
+        from = to;
     }
 }
 
@@ -131,19 +147,6 @@ pub(crate) fn right_edge(range: Range, last: u64) -> Option<Range>
     }
 }
 
-/// Puts a range behind the others. There is room for it and its start.
-fn push_range(ranges: &mut Vec<Range>, starts: &mut Vec<u64>, range: Range)
-    requires stored { IsStored ranges.old.items starts.old.items }
-    requires ranges_room { vec_len ranges.old < vec_capacity ranges.old }
-    requires starts_room { vec_len starts.old < vec_capacity starts.old }
-    ensures ranges { ranges.new.items ≡ ranges.old.items ++ range ∷ [] }
-    ensures starts { starts.new.items ≡ starts_of 0 (ranges.old.items ++ range ∷ []) }
-{
-    let start = count_keys(ranges, starts);
-    let _ = ranges.push(range);
-    let _ = starts.push(start);
-}
-
 /// Adds every key from `first` to `last`, where all ranges end before them: the last one is stretched over them where it
 /// touches them, or else a range of their own is put behind it. There is room for that.
 pub(crate) fn append_keys(ranges: &mut Vec<Range>, starts: &mut Vec<u64>, first: u64, last: u64)
@@ -152,7 +155,7 @@ pub(crate) fn append_keys(ranges: &mut Vec<Range>, starts: &mut Vec<u64>, first:
     requires order { first ≤ last }
     requires small { last < 2 ^ 62 }
     requires ranges_room { vec_len ranges.old < vec_capacity ranges.old }
-    requires starts_room { vec_len starts.old < vec_capacity starts.old }
+    requires starts_room { vec_len ranges.old + 1 ≤ 32 * vec_capacity starts.old + 32 }
     ensures stored { IsStored ranges.new.items starts.new.items }
     ensures keys { keys_of ranges.new.items ≡ united (keys_from first last) (keys_of ranges.old.items) }
 {
@@ -161,7 +164,8 @@ pub(crate) fn append_keys(ranges: &mut Vec<Range>, starts: &mut Vec<u64>, first:
         ranges[count - 1].last = last;
         return;
     }
-    push_range(ranges, starts, Range { first, last });
+    let _ = ranges.push(Range { first, last });
+    count_rest(starts, ranges);
 }
 
 /// Adds every key from `first` to `last`. The ranges before the index that it gives stay.

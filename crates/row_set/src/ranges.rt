@@ -8,3 +8,6 @@ pub struct Range {
     /// The greatest key.
     pub last: u64,
 }
+
+/// How many ranges make a block, of which the set knows the position at which it begins.
+pub(crate) const BLOCK: usize = 32;

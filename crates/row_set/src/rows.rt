@@ -10,7 +10,7 @@ ghost use Rattle.row_set.specs.Sets.{IsKeySet, count_below, common, found, last_
 use crate::algebra::{Choice, KEYS_END, rest_from, stretch_from};
 use crate::edits::{append_keys, insert_keys, make_room, recount, remove_keys};
 use crate::iter::Keys;
-use crate::ranges::Range;
+use crate::ranges::{BLOCK, Range};
 use crate::search::{self, all_end_before};
 use crate::shifts::shift_keys;
 use crate::sweeps::{insert_ranges, remove_ranges};
@@ -21,7 +21,7 @@ use std::marker::Model;
 pub struct RowSet {
     /// The longest ranges, rising.
     ranges: Vec<Range>,
-    /// The position at which each of them begins.
+    /// The number of keys before the first range of each block but the first. A set of few ranges has none.
     starts: Vec<u64>,
 }
 
@@ -62,7 +62,7 @@ impl RowSet {
     {
         Ok(RowSet {
             ranges: Vec::with_capacity(alloc, ranges)?,
-            starts: Vec::with_capacity(alloc, ranges)?,
+            starts: Vec::with_capacity(alloc, ranges / BLOCK)?,
         })
     }
 

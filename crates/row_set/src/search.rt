@@ -1,12 +1,12 @@
-//! Searches in lists of ranges that ascend with a gap between any two, and in the positions at which they begin.
+//! Searches in lists of ranges that ascend with a gap between any two, and in the positions at which their blocks begin.
 ghost use Rattle.std.specs.Prelude.{◌≡◌, ◌<◌, ◌≤◌, length, take, drop, find, nat_le, slice_get};
 ghost use Rattle.std.specs.Bool.{OnTrue};
 ghost use Rattle.std.specs.List.{AllByRecursion};
 ghost use Rattle.std.specs.List.Sorted.{IsNonDecreasing, IsPartitionPoint};
-ghost use Rattle.row_set.specs.Ranges.{AreApart, IsStored, Meets, holds, keys_of};
+ghost use Rattle.row_set.specs.Ranges.{AreApart, IsStored, Meets, holds, keys_before, keys_of, start_of};
 ghost use Rattle.row_set.specs.Sets.{found, last_key};
 
-use crate::ranges::Range;
+use crate::ranges::{BLOCK, Range};
 
 /// How many of the ranges end before the key. Where all do, this is seen at once.
 pub(crate) fn ended_before(ranges: &[Range], key: u64) -> usize
@@ -82,30 +82,42 @@ pub(crate) fn meeting(ranges: &[Range], low: u64, high: u64) -> (usize, usize)
     (from, from + few_begun_by(&ranges[from..], high))
 }
 
+/// How many keys the ranges hold.
+pub(crate) fn count_in(ranges: &[Range]) -> u64
+    requires { AreApart 0 ranges.now }
+    ensures { result ≡ length (keys_of ranges.now) }
+{
+    let mut count = 0;
+    for range in ranges {
+        count += range.last - range.first + 1;
+    }
+    count
+}
+
+/// The number of keys before a block.
+pub(crate) fn keys_before_block(starts: &[u64], block: usize) -> u64
+    requires { block ≤ length starts.now }
+    ensures { result ≡ start_of starts.now block }
+{
+    if block == 0 { 0 } else { starts[block - 1] }
+}
+
+/// The number of keys in the ranges before this one. Those of its own block are counted.
+pub(crate) fn keys_before(ranges: &[Range], starts: &[u64], index: usize) -> u64
+    requires stored { IsStored ranges.now starts.now }
+    requires within { index ≤ length ranges.now }
+    ensures { result ≡ keys_before index ranges.now }
+{
+    let block = (index / BLOCK).min(starts.len());
+    keys_before_block(starts, block) + count_in(&ranges[block * BLOCK..index])
+}
+
 /// The number of keys in all ranges.
 pub(crate) fn count_keys(ranges: &[Range], starts: &[u64]) -> u64
     requires { IsStored ranges.now starts.now }
     ensures { result ≡ length (keys_of ranges.now) }
 {
-    if ranges.is_empty() {
-        return 0;
-    }
-    let end = ranges.len() - 1;
-    let range = ranges[end];
-    starts[end] + (range.last - range.first + 1)
-}
-
-/// The number of keys in the ranges before this one.
-pub(crate) fn keys_before(ranges: &[Range], starts: &[u64], index: usize) -> u64
-    requires stored { IsStored ranges.now starts.now }
-    requires within { index ≤ length ranges.now }
-    ensures { result ≡ length (keys_of (take index ranges.now)) }
-{
-    if index < ranges.len() {
-        starts[index]
-    } else {
-        count_keys(ranges, starts)
-    }
+    keys_before(ranges, starts, ranges.len())
 }
 
 /// The range that holds the key.
@@ -162,17 +174,25 @@ pub(crate) fn key_at(ranges: &[Range], starts: &[u64], position: u64) -> Option<
     requires { IsStored ranges.now starts.now }
     ensures { result ≡ slice_get (keys_of ranges.now) position }
 {
-    let started = started_by(starts, position);
-    if started == 0 {
-        return None;
+    let block = started_by(starts, position);
+    let offset = position - keys_before_block(starts, block);
+    key_in(&ranges[block * BLOCK..], offset)
+}
+
+/// The key at a position, looked for from the first range on.
+fn key_in(ranges: &[Range], position: u64) -> Option<u64>
+    requires { AreApart 0 ranges.now }
+    ensures { result ≡ slice_get (keys_of ranges.now) position }
+{
+    let mut offset = position;
+    for range in ranges {
+        let count = range.last - range.first + 1;
+        if offset < count {
+            return Some(range.first + offset);
+        }
+        offset -= count;
     }
-    let range = ranges[started - 1];
-    let offset = position - starts[started - 1];
-    if offset <= range.last - range.first {
-        Some(range.first + offset)
-    } else {
-        None
-    }
+    None
 }
 
 /// The first key of the ranges.

@@ -1,10 +1,10 @@
 //! Keys of a set that move by one difference, in place, where there is room for the edges that stay behind.
-ghost use Rattle.std.specs.Prelude.{◌≡◌, pos, ◌+ℤ◌, ◌+◌, ◌-◌, ◌^◌, ◌<◌, ◌≤◌, ◌∷◌, [], ◌++◌, if◌then◌else◌, length, map, take, drop, slice_range, vec_len, vec_capacity};
+ghost use Rattle.std.specs.Prelude.{◌≡◌, ℕ, pos, ◌+ℤ◌, ◌+◌, ◌-◌, ◌^◌, ◌<◌, ◌≤◌, ◌∷◌, [], ◌++◌, if◌then◌else◌, length, map, take, drop, slice_range, vec_len, vec_capacity};
 ghost use Rattle.std.specs.Bool.{OnFalse};
 ghost use Rattle.std.specs.List.{AllByRecursion};
 ghost use Rattle.key_lists.specs.Keys.{IsRising};
 ghost use Rattle.row_set.specs.Moves.{IsKey, Lands, moved_key, moved_keys, moved_range};
-ghost use Rattle.row_set.specs.Ranges.{AreApart, Meets, keys_of, starts_of};
+ghost use Rattle.row_set.specs.Ranges.{AreApart, Meets, keys_before, keys_of};
 
 use crate::edits::splice;
 use crate::ranges::Range;
@@ -90,8 +90,8 @@ fn join(ranges: &mut Vec<Range>, from: usize, index: usize) -> bool
     }
 }
 
-/// Moves every key from `first` to `last` by delta. The starts of the ranges before the index that it gives stay: they are
-/// those of all ranges where none is split and none joined.
+/// Moves every key from `first` to `last` by delta. As many keys as before come before each range below the index that it
+/// gives: that is each of them where none is split and none joined.
 pub(crate) fn shift_keys(ranges: &mut Vec<Range>, first: u64, last: u64, delta: i64) -> usize
     requires apart { AreApart 0 ranges.old.items }
     requires order { first ≤ last }
@@ -102,7 +102,7 @@ pub(crate) fn shift_keys(ranges: &mut Vec<Range>, first: u64, last: u64, delta: 
     ensures apart { AreApart 0 ranges.new.items }
     ensures keys { keys_of ranges.new.items ≡ moved_keys first last delta (keys_of ranges.old.items) }
     ensures within { result ≤ vec_len ranges.new }
-    ensures starts { take result (starts_of 0 ranges.new.items) ≡ take result (starts_of 0 ranges.old.items) }
+    ensures before { (index : ℕ) → index < result → keys_before index ranges.new.items ≡ keys_before index ranges.old.items }
     ensures growth { vec_len ranges.new ≤ vec_len ranges.old + 2 }
     ensures capacity { vec_capacity ranges.old ≤ vec_capacity ranges.new }
 {

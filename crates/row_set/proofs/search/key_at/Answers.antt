@@ -1,38 +1,30 @@
-use Rattle.std.proofs.Common.{◌≡◌, ◌-◌, ◌+◌, ◌<◌, ◌≤◌, sym, ap, ◌∙◌, length, take, get_or, slice_get, arith}
-use Rattle.row_set.specs.Ranges.{keys_of}
-use Rattle.row_set.proofs.Counts.{blank, stored_at, stored_length}
-use Rattle.row_set.proofs.Places.{range_at}
-use Rattle.row_set.proofs.Lookups.{stored_rise, started_at, none_started, past_started, key_in}
+use Rattle.std.proofs.Common.{◌≡◌, ◌-◌, ◌*◌, ◌≤◌, sym, ap, ap₂, ◌∙◌, subst, slice_get, arith}
+use Rattle.std.proofs.lemmas.List.{take_rest}
+use Rattle.row_set.specs.Ranges.{AreApart, keys_before, keys_of}
+use Rattle.row_set.proofs.Apart.{apart-drop}
+use Rattle.row_set.proofs.Lookups.{key_behind, started_at, stored_rise}
 use Rattle.row_set.proofs.search.key_at.Goals as goal
 
-pub started_by-started-requires : goal.started_by-started-requires
-started_by-started-requires c = stored_rise c.args.ranges.now c.args.starts.now c.requires
+pub started_by-block-requires : goal.started_by-block-requires
+started_by-block-requires c = stored_rise c.args.ranges.now c.args.starts.now c.requires
 
-pub returns-then-started-eq0 : goal.returns-then-started-eq0
-returns-then-started-eq0 c =
-    sym (none_started c.args.position c.started_by-started.result c.args.ranges.now c.args.starts.now c.requires c.started_by-started.ensures.cut c.if-started-eq0.true)
+pub key_in-requires : goal.key_in-requires
+key_in-requires c =
+    let from = c.started_by-block.result * 32 in
+    subst (λ those. AreApart 0 those) (sym (take_rest c.args.ranges.now from)) (apart-drop 0 from c.args.ranges.now c.requires.apart)
 
-pub bounds-ranges-started : goal.bounds-ranges-started
-bounds-ranges-started c = omega (arith, stored_length c.args.ranges.now c.args.starts.now c.requires, c.if-started-eq0.false)
-
-pub overflow_sub-offset-2 : goal.overflow_sub-offset-2
-overflow_sub-offset-2 c = started_at c.args.position c.started_by-started.result c.args.starts.now c.started_by-started.ensures.cut c.if-started-eq0.false
-
-pub overflow_sub-range-2 : goal.overflow_sub-range-2
-overflow_sub-range-2 c =
-    (range_at 0 c.args.ranges.now c.requires.apart (c.started_by-started.result - 1) blank (omega (arith, stored_length c.args.ranges.now c.args.starts.now c.requires, c.if-started-eq0.false))).ascends
-
-pub returns-then-offset-range : goal.returns-then-offset-range
-returns-then-offset-range c =
-    let i = c.started_by-started.result - 1 in
+pub returns : goal.returns
+returns c =
+    let block = c.started_by-block.result in
+    let from = block * 32 in
     let ranges = c.args.ranges.now in
     let starts = c.args.starts.now in
     let position = c.args.position in
-    let within : i < length ranges = omega (arith, stored_length ranges starts c.requires, c.if-started-eq0.false) in
-    let begun : get_or starts i 0 ≤ position = started_at position c.started_by-started.result starts c.started_by-started.ensures.cut c.if-started-eq0.false in
-    let place : length (keys_of (take i ranges)) + (position - get_or starts i 0) ≡ position = omega (arith, stored_at i 0 ranges starts c.requires within, begun) in
-    sym (sym (ap (slice_get (keys_of ranges)) place) ∙ key_in i (position - get_or starts i 0) ranges within (omega (arith, c.if-offset-range.true, (range_at 0 ranges c.requires.apart i blank within).ascends)))
-
-pub returns-else-offset-range : goal.returns-else-offset-range
-returns-else-offset-range c =
-    sym (past_started c.args.position c.started_by-started.result c.args.ranges.now c.args.starts.now c.requires c.started_by-started.ensures.cut c.if-started-eq0.false (omega (arith, stored_length c.args.ranges.now c.args.starts.now c.requires)) c.if-offset-range.false)
+    let place : 32 * block ≡ from = omega arith in
+    let before : c.keys_before_block.result ≡ keys_before from ranges =
+    c.keys_before_block.ensures ∙ c.requires.counts.counted block c.started_by-block.ensures.within ∙ ap (λ n. keys_before n ranges) place in
+    let begun : c.keys_before_block.result ≤ position =
+    omega (arith, c.keys_before_block.ensures, started_at position block starts c.started_by-block.ensures.cut c.started_by-block.ensures.within) in
+    c.key_in.ensures
+    ∙ ap₂ (λ those k. slice_get (keys_of those) (position - k)) (take_rest ranges from) before
+    ∙ key_behind from position ranges (omega (arith, before, begun))

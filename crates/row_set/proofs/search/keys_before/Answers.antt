@@ -1,13 +1,27 @@
-use Rattle.std.proofs.Common.{◌∙◌, ap, sym, length, arith, take_all}
-use Rattle.row_set.specs.Ranges.{keys_of}
-use Rattle.row_set.proofs.Counts.{stored_at, stored_length}
+use Rattle.std.proofs.Common.{◌≡◌, ◌+◌, ◌*◌, ◌/◌, ◌≤◌, length, arith}
+use Rattle.row_set.proofs.Counts.{counted_to, few_before}
+use Rattle.row_set.proofs.Parted.{slice_apart}
 use Rattle.row_set.proofs.search.keys_before.Goals as goal
 
-pub bounds-starts-index : goal.bounds-starts-index
-bounds-starts-index c = omega (arith, stored_length c.args.ranges.now c.args.starts.now c.requires.stored)
+pub count_in-requires : goal.count_in-requires
+count_in-requires c = slice_apart (c.min-block.result * 32) c.args.index c.args.ranges.now c.requires.stored.apart
 
-pub returns-then-index-ranges : goal.returns-then-index-ranges
-returns-then-index-ranges c = stored_at c.args.index 0 c.args.ranges.now c.args.starts.now c.requires.stored c.if-index-ranges.true
+pub overflow_add-result : goal.overflow_add-result
+overflow_add-result c =
+    let block = c.min-block.result in
+    let few : block ≤ length c.args.starts.now = omega (arith, c.min-block.ensures) in
+    let le : 32 * block ≤ c.args.index = omega (arith, c.min-block.ensures) in
+    omega (
+      arith,
+      c.keys_before_block.ensures,
+      c.count_in.ensures,
+      counted_to block c.args.index c.args.ranges.now c.args.starts.now c.requires.stored few le,
+      few_before c.args.index c.args.ranges.now c.requires.stored.apart,
+    )
 
-pub returns-else-index-ranges : goal.returns-else-index-ranges
-returns-else-index-ranges c = c.count_keys.ensures ∙ ap (λ those. length (keys_of those)) (sym (take_all c.args.index c.args.ranges.now c.if-index-ranges.false))
+pub returns : goal.returns
+returns c =
+    let block = c.min-block.result in
+    let few : block ≤ length c.args.starts.now = omega (arith, c.min-block.ensures) in
+    let le : 32 * block ≤ c.args.index = omega (arith, c.min-block.ensures) in
+    omega (arith, c.keys_before_block.ensures, c.count_in.ensures, counted_to block c.args.index c.args.ranges.now c.args.starts.now c.requires.stored few le)

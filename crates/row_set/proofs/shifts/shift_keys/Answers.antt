@@ -3,13 +3,13 @@ use Rattle.std.specs.List.{AllByRecursion}
 use Rattle.std.proofs.lemmas.List.{get_or_default}
 use Rattle.key_lists.specs.Keys.{IsRising}
 use Rattle.row_set.specs.declared.ranges.Range.{Range}
-use Rattle.row_set.specs.Ranges.{AreApart, Meets, keys_of, starts_of}
+use Rattle.row_set.specs.Ranges.{AreApart, Meets, keys_before, keys_of}
 use Rattle.row_set.specs.Moves.{Lands, moved_keys, moved_range}
-use Rattle.row_set.proofs.Counts.{blank, take-starts}
+use Rattle.row_set.proofs.Counts.{blank, keys_before_kept, same_shorter}
 use Rattle.row_set.proofs.Middles.{span}
 use Rattle.row_set.proofs.Edges.{left_edge}
 use Rattle.row_set.proofs.Shifted.{moved_apart}
-use Rattle.row_set.proofs.Parted.{IsParted, all_land, back_apart, edge_count, length-moved, starts_stay, unsplit_left, unsplit_right, front_apart, length-edge, none_moved, parted, parted_back, parted_before, parted_front, parted_keys, parted_middle, same_shorter, slice_apart}
+use Rattle.row_set.proofs.Parted.{IsParted, all_land, back_apart, edge_count, length-moved, counts_stay, unsplit_left, unsplit_right, front_apart, length-edge, none_moved, parted, parted_back, parted_before, parted_front, parted_keys, parted_middle, slice_apart}
 use Rattle.row_set.proofs.shifts.shift_keys.Goals as goal
 
 pub returns-then-from-to-clause-keys : goal.returns-then-from-to-clause-keys
@@ -267,8 +267,8 @@ returns-else-before-after-eq0-clause-keys c =
     let keys : keys_of new ≡ moved_keys first last delta (keys_of ranges) = parted_keys first last from to delta ranges new c.requires.apart c.requires.order c.requires.small met lt land is in
     c.join-joined_before.ensures.keys ∙ c.join-joined_after.ensures.keys ∙ keys
 
-pub returns-then-not-joined_before-clause-starts : goal.returns-then-not-joined_before-clause-starts
-returns-then-not-joined_before-clause-starts c =
+pub returns-then-not-joined_before-clause-before : goal.returns-then-not-joined_before-clause-before
+returns-then-not-joined_before-clause-before c =
     let ranges = c.args.ranges.now.items in
     let from = c.meeting-from.result.0 in
     let to = c.meeting-from.result.1 in
@@ -299,11 +299,11 @@ returns-then-not-joined_before-clause-starts c =
     ∙ ap (λ (range : Range). length (left_edge first range)) head_is in
     let low : first ≤ head.first = subst (λ (range : Range). first ≤ range.first) head_is (unsplit_left first c.index.result.now (sym c.put_edge-before.ensures.count ∙ omega (arith, c.if-before-after-eq0.true))) in
     let high : tail.last ≤ last = subst (λ (range : Range). range.last ≤ last) tail_is (unsplit_right last c.index-2.result.now (sym c.put_edge-after.ensures.count ∙ omega (arith, c.if-before-after-eq0.true))) in
-    ap (λ those. take c.len-then-not-joined_before.result (starts_of 0 those)) (c.if-not-joined_before.ensures.same ∙ c.if-not-joined_after.ensures.same)
-    ∙ ap (take c.len-then-not-joined_before.result) (starts_stay first last from to delta ranges new c.requires.apart met lt land is low high)
+    λ index under. ap (keys_before index) (c.if-not-joined_before.ensures.same ∙ c.if-not-joined_after.ensures.same)
+    ∙ counts_stay first last from to delta ranges new c.requires.apart met lt land is low high index
 
-pub returns-else-before-after-eq0-clause-starts : goal.returns-else-before-after-eq0-clause-starts
-returns-else-before-after-eq0-clause-starts c =
+pub returns-else-before-after-eq0-clause-before : goal.returns-else-before-after-eq0-clause-before
+returns-else-before-after-eq0-clause-before c =
     let ranges = c.args.ranges.now.items in
     let from = c.meeting-from.result.0 in
     let to = c.meeting-from.result.1 in
@@ -334,12 +334,10 @@ returns-else-before-after-eq0-clause-starts c =
     ∙ ap (λ (range : Range). length (left_edge first range)) head_is in
     let k = c.saturating_sub-else-before-after-eq0.result in
     let place : k ≡ from - 1 = c.saturating_sub-else-before-after-eq0.ensures in
-    take-starts k 0 c.join-joined_before.new.ranges.items
-    ∙ ap (starts_of 0)
+    λ index below. keys_before_kept k index c.join-joined_before.new.ranges.items ranges (omega (arith, below))
     (same_shorter k (from + n - 1) c.join-joined_before.new.ranges.items c.join-joined_after.new.ranges.items (omega (arith, place)) c.join-joined_before.ensures.kept
     ∙ same_shorter k (to + n - 1) c.join-joined_after.new.ranges.items new (omega (arith, place, met.order)) c.join-joined_after.ensures.kept
     ∙ same_shorter k from new ranges (omega (arith, place)) (parted_before first last from to delta ranges new head tail met is))
-    ∙ sym (take-starts k 0 ranges)
 
 pub returns-else-before-after-eq0-clause-growth : goal.returns-else-before-after-eq0-clause-growth
 returns-else-before-after-eq0-clause-growth c =

@@ -1,24 +1,18 @@
-use Rattle.std.proofs.Common.{◌≡◌, ap, sym, ◌∙◌, take, length, vec_len, subst, ℤ, to_z, of_z, to_z-of_z, w64, arith}
+use Rattle.std.proofs.Common.{◌≡◌, ℕ, ◌*◌, ◌<◌, ◌≤◌, ap, sym, ◌∙◌, length, subst, ℤ, to_z, of_z, to_z-of_z, w64, arith}
 use Rattle.std.specs.List.{AllByRecursion}
 use Rattle.row_set.specs.Moves.{IsKey, moved_key}
-use Rattle.row_set.specs.Ranges.{keys_of, starts_of}
-use Rattle.row_set.proofs.Counts.{stored_length, take-starts}
+use Rattle.row_set.specs.Ranges.{keys_before, keys_of, start_of}
 use Rattle.row_set.proofs.rows.RowSet.shift_range.Goals as goal
 
 pub recount-requires-clause-before : goal.recount-requires-clause-before
 recount-requires-clause-before c =
-    let n = c.shift_keys-from.result in
-    let new = c.shift_keys-from.new.ranges.items in
-    ap (take n) (c.make_room.ensures.starts ∙ c.self.invariant.placed ∙ ap (starts_of 0) (sym c.make_room.ensures.ranges))
-    ∙ sym c.shift_keys-from.ensures.starts
-    ∙ take-starts n 0 new
-    ∙ ap (λ those. starts_of 0 (take n those)) (sym c.deref.ensures.value)
-
-pub recount-requires-clause-room : goal.recount-requires-clause-room
-recount-requires-clause-room c =
-    let before : vec_len c.make_room.new.ranges ≡ vec_len c.make_room.new.starts =
-    omega (arith, c.make_room.new.ranges.ok.0, c.make_room.new.starts.ok.0, ap length c.make_room.ensures.ranges, ap length c.make_room.ensures.starts, stored_length c.self.inside.ranges.items c.self.inside.starts.items c.self.invariant) in
-    omega (arith, before, c.deref.ensures.len, c.shift_keys-from.ensures.growth, c.in_ok-make_room.ensures.starts_room)
+    let starts = c.make_room.new.starts.items in
+    subst (λ those. (block : ℕ) → block ≤ length starts → 32 * block < c.shift_keys-from.result → start_of starts block ≡ keys_before (32 * block) those) (sym c.deref.ensures.value)
+    (λ block few under.
+    ap (λ list. start_of list block) c.make_room.ensures.starts
+    ∙ c.self.invariant.counts.counted block (omega (arith, few, ap length c.make_room.ensures.starts))
+    ∙ ap (keys_before (32 * block)) (sym c.make_room.ensures.ranges)
+    ∙ sym (c.shift_keys-from.ensures.before (32 * block) under))
 
 pub shift_keys-from-requires-clause-in_bounds : goal.shift_keys-from-requires-clause-in_bounds
 shift_keys-from-requires-clause-in_bounds c =
