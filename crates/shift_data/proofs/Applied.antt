@@ -3,38 +3,24 @@ use Rattle.std.proofs.Common.{◌≡◌, refl, ap, sym, ◌∙◌, subst, false,
 use Rattle.std.specs.List.{AllByRecursion, range_with_len}
 use Rattle.std.proofs.lemmas.Bool.{lt-ltb, le-ltb, ne_eqb}
 use Rattle.std.proofs.lemmas.Int.{ints, to_z-of_z}
-use Rattle.std.proofs.lemmas.List.{map-append, take_more}
+use Rattle.std.proofs.lemmas.List.{map-append, take_more, append-nil}
 use Rattle.std.proofs.lemmas.Grind.{flat_map-append}
 use Rattle.key_lists.specs.Keys.{IsRising}
-use Rattle.key_lists.proofs.Every.{every-append, all_from}
+use Rattle.key_lists.proofs.Every.{all_from}
 use Rattle.row_set.specs.declared.ranges.Range.{Range}
 use Rattle.row_set.specs.Ranges.{keys_from, keys_in, keys_of, AreApart, IsRangeFrom}
 use Rattle.row_set.specs.Sets.{united, with_key}
 use Rattle.row_set.proofs.Apart.{each_range}
 use Rattle.row_set.proofs.Held.{among-in, holds-true}
+use Rattle.row_set.proofs.Windows.{rising_front, rising_left_out}
 use Rattle.key_lists.proofs.Among.{of_among}
+use Rattle.key_lists.proofs.Parts.{every_front, every_back}
+use Rattle.key_lists.proofs.Ranges.{range-append}
 use Rattle.tick_model.specs.declared.update.ShiftRange.{ShiftRange}
 use Rattle.tick_model.specs.Rules.{is_past, landed}
 use Rattle.tick_model.specs.Shifts.{moved, as_key, delta_at}
 use Rattle.shift_data.specs.Moves.{IsLawful}
 use Rattle.shift_data.proofs.Lawful.{lawful, not_past, place}
-
--- rising keys added past others
-every_front : (P : ℕ → Type 0) (xs ys : List ℕ) → AllByRecursion P (xs ++ ys) → AllByRecursion P xs
-every_front P [] ys h = tt
-every_front P (x ∷ xs) ys h = (h.0, every_front P xs ys h.1)
-
-every_back : (P : ℕ → Type 0) (xs ys : List ℕ) → AllByRecursion P (xs ++ ys) → AllByRecursion P ys
-every_back P [] ys h = h
-every_back P (x ∷ xs) ys h = every_back P xs ys h.1
-
-pub rising_front : (xs ys : List ℕ) → IsRising (xs ++ ys) → IsRising xs
-rising_front [] ys h = tt
-rising_front (x ∷ xs) ys h = (every_front (λ y. x < y) xs ys h.0, rising_front xs ys h.1)
-
-rising_without : (xs : List ℕ) (y : ℕ) (ys : List ℕ) → IsRising (xs ++ y ∷ ys) → IsRising (xs ++ ys)
-rising_without [] y ys h = h.1
-rising_without (x ∷ xs) y ys h = (every-append (λ z. x < z) xs ys (every_front (λ z. x < z) xs (y ∷ ys) h.0) (every_back (λ z. x < z) xs (y ∷ ys) h.0).1, rising_without xs y ys h.1)
 
 key_past : (old : List ℕ) (key : ℕ) (keys : List ℕ) → IsRising (old ++ key ∷ keys) → with_key key (old ++ keys) ≡ old ++ key ∷ keys
 key_past [] key [] h = refl
@@ -45,33 +31,17 @@ key_past (other ∷ old) key keys h =
     ∙ ap (λ t. cond t (other ∷ (old ++ keys)) (other ∷ with_key key (old ++ keys))) (ne_eqb key other (λ e. omega arith))
     ∙ ap (λ rest. other ∷ rest) (key_past old key keys h.1)
 
-pub append_none : (xs : List ℕ) → xs ++ [] ≡ xs
-append_none [] = refl
-append_none (x ∷ xs) = ap (λ ys. x ∷ ys) (append_none xs)
-
 pub united_past : (keys old : List ℕ) → IsRising (old ++ keys) → united keys old ≡ old ++ keys
-united_past [] old h = sym (append_none old)
-united_past (key ∷ keys) old h = ap (with_key key) (united_past keys old (rising_without old key keys h)) ∙ key_past old key keys h
+united_past [] old h = sym (append-nil old)
+united_past (key ∷ keys) old h = ap (with_key key) (united_past keys old (rising_left_out old key keys h)) ∙ key_past old key keys h
 
 -- neighbouring keys, cut in two
-with_len_append : (first m n : ℕ) → range_with_len first (m + n) ≡ range_with_len first m ++ range_with_len (first + m) n
-with_len_append first zero n =
-    let all : 0 + n ≡ n = omega arith in
-    let here : first ≡ first + 0 = omega arith in
-    ap (range_with_len first) all ∙ ap (λ k. range_with_len k n) here
-with_len_append first (suc m) n =
-    let more : suc m + n ≡ suc (m + n) = omega arith in
-    let there : first + 1 + m ≡ first + suc m = omega arith in
-    ap (range_with_len first) more
-    ∙ ap (λ rest. first ∷ rest) (with_len_append (first + 1) m n)
-    ∙ ap (λ k. first ∷ (range_with_len (first + 1) m ++ range_with_len k n)) there
-
 pub keys_cut : (first middle last : ℕ) → first ≤ middle + 1 → middle ≤ last → keys_from first last ≡ keys_from first middle ++ keys_from (middle + 1) last
 keys_cut first middle last order below =
     let whole : last + 1 - first ≡ (middle + 1 - first) + (last + 1 - (middle + 1)) = omega arith in
     let there : first + (middle + 1 - first) ≡ middle + 1 = omega arith in
     ap (range_with_len first) whole
-    ∙ with_len_append first (middle + 1 - first) (last + 1 - (middle + 1))
+    ∙ range-append first (middle + 1 - first) (last + 1 - (middle + 1))
     ∙ ap (λ k. range_with_len first (middle + 1 - first) ++ range_with_len k (last + 1 - (middle + 1))) there
 
 -- neighbouring keys that move by one delta land on neighbouring keys
@@ -112,11 +82,6 @@ run_step shifts delta from middle last start end places whole order below same a
     ap (λ keys. keys ++ landed shifts (keys_from (middle + 1) last)) (united_past (keys_from start end) places (rising_front (places ++ keys_from start end) (landed shifts (keys_from (middle + 1) last)) (subst IsRising (sym all) rising)))
     ∙ all
 
-pub run_none : (shifts : List ShiftRange) (from last : ℕ) (places : List ℕ) → last < from → places ++ landed shifts (keys_from from last) ≡ places
-run_none shifts from last places past =
-    let none : last + 1 - from ≡ 0 = omega arith in
-    ap (λ n. places ++ landed shifts (range_with_len from n)) none ∙ append_none places
-
 -- run by run
 pub range_of_set : (ranges : List Range) (i : ℕ) (range : Range) → AreApart 0 ranges → i < length ranges → range ≡ get_or ranges i range → IsRangeFrom 0 range
 range_of_set ranges i range apart lt is = subst (IsRangeFrom 0) (sym is) (all_from (IsRangeFrom 0) ranges (each_range 0 ranges apart) i range lt)
@@ -125,7 +90,7 @@ pub keys_taken : (ranges : List Range) (i : ℕ) (range : Range) → i < length 
 keys_taken ranges i range lt is =
     ap keys_of (take_more ranges i range lt ∙ ap (λ r. take i ranges ++ r ∷ []) (sym is))
     ∙ flat_map-append keys_in (take i ranges) (range ∷ [])
-    ∙ ap (λ keys. keys_of (take i ranges) ++ keys) (append_none (keys_in range))
+    ∙ ap (λ keys. keys_of (take i ranges) ++ keys) (append-nil (keys_in range))
 
 keys_split : (ranges : List Range) (n : ℕ) → keys_of ranges ≡ keys_of (take n ranges) ++ keys_of (drop n ranges)
 keys_split ranges zero = refl
@@ -162,9 +127,3 @@ key_inside shifts run key delta h above below is = subst (λ d. is_past (2 ^ 62)
 
 pub landing_is : (key : ℕ) (delta : ℤ) (place : ℕ) → SFits w64 delta → is_past (2 ^ 62) (pos key +ℤ delta) ≡ false → place ≡ as_key (pos key +ℤ to_z w64 (of_z w64 delta)) → pos key +ℤ delta ≡ pos place
 landing_is key delta place fits inside is = (not_past (2 ^ 62) (pos key +ℤ delta) inside).0 ∙ ap pos (sym (is ∙ ap (λ d. as_key (pos key +ℤ d)) (to_z-of_z w64 delta fits)))
-
--- an element by its index, whatever stands for one that is not there
-pub own_default : {X : Type 0} (xs : List X) (i : ℕ) (d e : X) → i < length xs → get_or xs i d ≡ get_or xs i e
-own_default [] i d e lt = absurd (omega arith)
-own_default (x ∷ xs) zero d e lt = refl
-own_default (x ∷ xs) (suc i) d e lt = own_default xs i d e (omega arith)

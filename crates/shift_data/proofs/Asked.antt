@@ -1,9 +1,10 @@
 -- Keys that are asked for by the keys to which they move.
-use Rattle.std.proofs.Common.{◌≡◌, refl, ap, sym, ◌∙◌, subst, Bool, true, false, cond, ◌&&◌, ◌==◌, ℕ, suc, ◌+◌, ◌-◌, ◌^◌, ◌<◌, ◌≤◌, arith, List, [], ◌∷◌, ◌++◌, leb, Some, None, pos, ℤ, ◌+ℤ◌, append_assoc}
+use Rattle.std.proofs.Common.{◌≡◌, refl, ap, sym, ◌∙◌, subst, true, false, cond, ◌&&◌, ◌==◌, ℕ, suc, ◌+◌, ◌-◌, ◌^◌, ◌<◌, ◌≤◌, arith, List, [], ◌∷◌, ◌++◌, leb, Some, None, pos, ℤ, ◌+ℤ◌, append_assoc}
 use Rattle.std.specs.Prelude.{find, filter}
 use Rattle.std.specs.List.{AllByRecursion, list_any, range_with_len}
 use Rattle.std.proofs.lemmas.Bool.{or_left, or_right, or_from, leb-true, and_parts, true≢false, eqb-true}
 use Rattle.std.proofs.lemmas.Option.{none-some, same_Some}
+use Rattle.std.proofs.lemmas.List.Elements.{filter-append}
 use Rattle.key_lists.specs.Keys.{is_among, IsRising}
 use Rattle.key_lists.proofs.Every.{every_weaker, filter_same, filter_none, filter_all}
 use Rattle.key_lists.proofs.Among.{of_among, among-filter, each_among}
@@ -12,6 +13,7 @@ use Rattle.row_set.specs.declared.ranges.Range.{Range}
 use Rattle.row_set.specs.Ranges.{keys_from, keys_of, holds, ranges_of, preceded}
 use Rattle.row_set.specs.Sets.{IsKeySet, united}
 use Rattle.row_set.proofs.Held.{among-keys, among-in, range_rises, holds-true}
+use Rattle.row_set.proofs.Windows.{rising_front}
 use Rattle.tick_model.specs.declared.update.ShiftRange.{ShiftRange}
 use Rattle.tick_model.specs.Rules.{is_past}
 use Rattle.tick_model.specs.Shifts.{moved, as_key, delta_at}
@@ -22,7 +24,7 @@ use Rattle.shift_data.specs.Parts.{from_on, within, IsSegment}
 use Rattle.shift_data.specs.Wanted.{IsAskedPart}
 use Rattle.shift_data.proofs.Keys.{find_key, none_between, cut}
 use Rattle.shift_data.proofs.Lawful.{lawful, place}
-use Rattle.shift_data.proofs.Applied.{lands_at, rising_front, united_past}
+use Rattle.shift_data.proofs.Applied.{lands_at, united_past}
 
 -- the keys of the longest runs are the keys
 ascends : (keys : List ℕ) → AllByRecursion (λ (run : Range). run.first ≤ run.last) (ranges_of keys)
@@ -122,17 +124,6 @@ module _ (shifts : List ShiftRange) (survivors after : List ℕ) (from first : �
       }
 
 -- the keys, part by part
-pub filter-append : (p : ℕ → Bool) (xs ys : List ℕ) → filter p (xs ++ ys) ≡ filter p xs ++ filter p ys
-filter-append p [] ys = refl
-filter-append p (x ∷ xs) ys =
-    elim (p x) as (λ b. cond b (x ∷ filter p (xs ++ ys)) (filter p (xs ++ ys)) ≡ cond b (x ∷ filter p xs) (filter p xs) ++ filter p ys) [
-      | true ↦ ap (λ zs. x ∷ zs) (filter-append p xs ys)
-      | false ↦ filter-append p xs ys
-    ]
-
-abbrev is_asked : List ShiftRange → List ℕ → ℕ → Bool
-is_asked shifts after key = is_among (place shifts key) after
-
 asked_cut : (shifts : List ShiftRange) (survivors after : List ℕ) (from : ℕ) (part : AskedPart) → IsKeySet survivors → IsAskedPart shifts survivors after from part → unapplied shifts (from_on from survivors) after ≡ filter (λ key. is_among (as_key (moved shifts key)) after) (within part.first part.last survivors) ++ unapplied shifts (from_on (part.last + 1) survivors) after
 asked_cut shifts survivors after from part set h =
     ap (λ keys. unapplied shifts keys after) (cut survivors from part.first part.last set.rising h.above h.order h.none_before)

@@ -1,7 +1,7 @@
 -- The ranges of a shift that are left while ranges of keys are gone over.
-use Rattle.std.proofs.Common.{◌≡◌, refl, ap, sym, ◌∙◌, subst, false, ℕ, ◌+◌, ◌^◌, ◌<◌, ◌≤◌, arith, List, [], ◌∷◌, ◌++◌, length, take, get_or, pos, ◌+ℤ◌}
+use Rattle.std.proofs.Common.{◌≡◌, ap, sym, ◌∙◌, subst, false, ℕ, ◌+◌, ◌^◌, ◌<◌, ◌≤◌, arith, List, [], ◌∷◌, ◌++◌, length, take, get_or, pos, ◌+ℤ◌}
 use Rattle.std.specs.List.{AllByRecursion}
-use Rattle.std.proofs.lemmas.List.{take_more}
+use Rattle.std.proofs.lemmas.List.{take_more, get_or_default}
 use Rattle.key_lists.proofs.Every.{every_weaker, map_same}
 use Rattle.row_set.specs.declared.ranges.Range.{Range}
 use Rattle.row_set.specs.Ranges.{AreApart, keys_in}
@@ -12,7 +12,7 @@ use Rattle.tick_model.specs.declared.update.ShiftRange.{ShiftRange}
 use Rattle.tick_model.specs.Rules.{is_past, landed}
 use Rattle.tick_model.specs.Shifts.{as_key, delta_at, moved}
 use Rattle.shift_data.specs.ShiftLists.{IsShiftList}
-use Rattle.shift_data.proofs.Applied.{own_default, run_key}
+use Rattle.shift_data.proofs.Applied.{run_key}
 use Rattle.shift_data.proofs.Lawful.{place}
 
 -- the ranges that are left move the keys behind the first i ranges of keys as all do
@@ -20,13 +20,10 @@ pub record AreLeft (shifts : List ShiftRange) (runs : List Range) (i : ℕ) (ran
   pub list : IsShiftList ranges
   pub same : (key : ℕ) → AllByRecursion (λ run. run.last < key) (take i runs) → delta_at ranges key ≡ delta_at shifts key
 
-pub all_left : (shifts : List ShiftRange) (runs : List Range) → IsShiftList shifts → AreLeft shifts runs 0 shifts
-all_left shifts runs list = record { list = list; same = λ key ended. refl }
-
 -- the ranges of keys before one end before its keys
 ended_before : (runs : List Range) (i : ℕ) (run : Range) (key : ℕ) → AreApart 0 runs → i < length runs → run ≡ get_or runs i run → run.first ≤ key → AllByRecursion (λ run. run.last < key) (take i runs)
 ended_before runs i run key apart lt is above =
-    let here : run ≡ get_or runs i blank = is ∙ own_default runs i run blank lt in
+    let here : run ≡ get_or runs i blank = is ∙ get_or_default runs i run blank lt in
     let begins : (get_or runs i blank).first ≤ key = subst (λ (r : Range). r.first ≤ key) here above in
     every_weaker (λ other. other.last + 2 ≤ (get_or runs i blank).first) (λ other. other.last < key) (take i runs) (λ other below. omega (arith, below, begins)) (before_head i runs lt apart)
 

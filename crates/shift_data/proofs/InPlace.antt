@@ -6,13 +6,16 @@ use Rattle.std.specs.Cmp.{signed_Decides}
 use Rattle.std.proofs.lemmas.Bool.{not_from_true, not_from_false, false_from_ne_true}
 use Rattle.std.proofs.lemmas.Int.{to_z-of_z}
 use Rattle.std.proofs.lemmas.List.{map-append}
+use Rattle.std.proofs.lemmas.List.Elements.{filter-append}
 use Rattle.key_lists.specs.Keys.{is_among, IsRising, without}
 use Rattle.key_lists.proofs.Every.{every, map_own, every_weaker, filter_same, filter_none, filter_all}
 use Rattle.key_lists.proofs.Among.{among-filter, each_among}
 use Rattle.key_lists.proofs.Rising.{rising_some, rising_same, rising-filter}
+use Rattle.key_lists.proofs.Booleans.{or_assoc, or_swap}
 use Rattle.row_set.specs.Ranges.{keys_from}
 use Rattle.row_set.specs.Sets.{IsKeySet, united}
 use Rattle.row_set.proofs.United.{among-united, united_rises}
+use Rattle.row_set.proofs.Windows.{rising_front}
 use Rattle.tick_model.specs.declared.update.ShiftRange.{ShiftRange}
 use Rattle.tick_model.specs.Rules.{landed}
 use Rattle.tick_model.specs.Shifts.{as_key, delta_at}
@@ -20,8 +23,8 @@ use Rattle.shift_data.specs.declared.parts.Part.{Part}
 use Rattle.shift_data.specs.Moves.{IsLawful}
 use Rattle.shift_data.specs.Movers.{movers, IsMove}
 use Rattle.shift_data.specs.Parts.{from_on, within}
-use Rattle.shift_data.proofs.Applied.{rising_front, united_past, run_lands}
-use Rattle.shift_data.proofs.Asked.{all_within, filter-append}
+use Rattle.shift_data.proofs.Applied.{united_past, run_lands}
+use Rattle.shift_data.proofs.Asked.{all_within}
 use Rattle.shift_data.proofs.Keys.{cut, each_within}
 use Rattle.shift_data.proofs.Lawful.{lawful, place}
 
@@ -73,26 +76,16 @@ module _ (shifts : List ShiftRange) (keys : List ℕ) (from : ℕ) (part : Part)
 staying_place : (shifts : List ShiftRange) (key : ℕ) → int_eq (delta_at shifts key) (pos 0) ≡ true → place shifts key ≡ key
 staying_place shifts key stays = let same : key + 0 ≡ key = omega arith in ap (λ d. as_key (pos key +ℤ d)) ((signed_Decides (delta_at shifts key) (pos 0)).0 stays) ∙ same
 
-or_front : (a b c : Bool) → (a || (b || c)) ≡ ((a || b) || c)
-or_front true b c = refl
-or_front false b c = refl
-
-or_middle : (a b c : Bool) → (a || (b || c)) ≡ (b || (a || c))
-or_middle true true c = refl
-or_middle true false c = refl
-or_middle false true c = refl
-or_middle false false c = refl
-
 among_moved : (shifts : List ShiftRange) (key : ℕ) (xs : List ℕ) → (is_among key (landed shifts (movers (delta_at shifts) xs)) || is_among key (filter (λ key. int_eq (delta_at shifts key) (pos 0)) xs)) ≡ is_among key (landed shifts xs)
 among_moved shifts key [] = refl
 among_moved shifts key (x ∷ xs) =
     (elim (int_eq (delta_at shifts x) (pos 0)) as (λ b. int_eq (delta_at shifts x) (pos 0) ≡ b → (is_among key (landed shifts (cond (not b) (x ∷ movers (delta_at shifts) xs) (movers (delta_at shifts) xs))) || is_among key (cond b (x ∷ filter (λ key. int_eq (delta_at shifts key) (pos 0)) xs) (filter (λ key. int_eq (delta_at shifts key) (pos 0)) xs))) ≡ ((place shifts x == key) || is_among key (landed shifts xs))) [
       | true ↦ λ e.
-          or_middle (is_among key (landed shifts (movers (delta_at shifts) xs))) (x == key) (is_among key (filter (λ key. int_eq (delta_at shifts key) (pos 0)) xs))
+          or_swap (is_among key (landed shifts (movers (delta_at shifts) xs))) (x == key) (is_among key (filter (λ key. int_eq (delta_at shifts key) (pos 0)) xs))
           ∙ ap (λ b. (x == key) || b) (among_moved shifts key xs)
           ∙ ap (λ k. (k == key) || is_among key (landed shifts xs)) (sym (staying_place shifts x e))
       | false ↦ λ e.
-          sym (or_front (place shifts x == key) (is_among key (landed shifts (movers (delta_at shifts) xs))) (is_among key (filter (λ key. int_eq (delta_at shifts key) (pos 0)) xs)))
+          sym (or_assoc (place shifts x == key) (is_among key (landed shifts (movers (delta_at shifts) xs))) (is_among key (filter (λ key. int_eq (delta_at shifts key) (pos 0)) xs)))
           ∙ ap (λ b. (place shifts x == key) || b) (among_moved shifts key xs)
     ]) refl
 

@@ -8,7 +8,9 @@ use Rattle.key_lists.specs.Keys.{is_among, IsRising}
 use Rattle.key_lists.proofs.Every.{every, every_weaker, filter_passes, filter_same, filter_all}
 use Rattle.key_lists.proofs.Among.{among_below, among_own, among_past, among-filter, among-append, of_among}
 use Rattle.key_lists.proofs.Rising.{rising_some, rising-append, rising_same}
+use Rattle.key_lists.proofs.Booleans.{or_false, and_false}
 use Rattle.row_set.specs.Sets.{count_below}
+use Rattle.row_set.proofs.Lookups.{count_none}
 use Rattle.shift_data.specs.Parts.{from_on, within}
 
 -- what a search for the first key that passes a test says
@@ -43,18 +45,6 @@ none_between low key (x ∷ xs) rising e other above below =
           let same : x ≡ key = same_Some x key (sym (ap (λ b. cond b (Some x) (find (leb low) xs)) (le-leb low x past)) ∙ e) in
           among_below other (x ∷ xs) (omega arith, every_weaker (λ y. x < y) (λ y. other < y) xs (λ y more. omega (arith, more)) rising.0)
     ]
-
--- the keys from one on, as a first part and those past it
-and_false : (b : Bool) → (b && false) ≡ false
-and_false true = refl
-and_false false = refl
-
-and_true : (b : Bool) → (true && b) ≡ b
-and_true b = refl
-
-or_false : (b : Bool) → (b || false) ≡ b
-or_false true = refl
-or_false false = refl
 
 pub cut : (keys : List ℕ) (from first last : ℕ) → IsRising keys → from ≤ first → first ≤ last → ((key : ℕ) → from ≤ key → key < first → is_among key keys ≡ false) → from_on from keys ≡ within first last keys ++ from_on (last + 1) keys
 cut keys from first last rising le order none =
@@ -148,10 +138,6 @@ not_counted bound x xs more =
     let smaller : List ℕ = filter (λ other. ltb other bound) xs in
     let none : length smaller ≡ 0 + length smaller = omega arith in
     ap (λ b. length (cond b (x ∷ smaller) smaller)) (le-ltb x bound more) ∙ none
-
-pub count_none : (bound : ℕ) (xs : List ℕ) → AllByRecursion (λ x. bound ≤ x) xs → count_below bound xs ≡ 0
-count_none bound [] h = refl
-count_none bound (x ∷ xs) h = omega (arith, not_counted bound x xs h.0, count_none bound xs h.1)
 
 none_counted : (bound last : ℕ) (xs : List ℕ) → count_below bound xs ≡ 0 → AllByRecursion (λ x. x < bound → x ≤ last) xs
 none_counted bound last [] z = tt

@@ -1,8 +1,8 @@
 pub mod Applied
 pub mod Asked
+pub mod ByRange
 pub mod Followed
 pub mod InPlace
-pub mod OneRange
 pub mod Kept
 pub mod Keys
 pub mod Lawful

@@ -9,11 +9,11 @@ use Rattle.std.proofs.lemmas.Option.{none-some, same_Some}
 use Rattle.key_lists.specs.Keys.{is_among}
 use Rattle.key_lists.proofs.Among.{each_among}
 use Rattle.key_lists.proofs.Every.{every_weaker, filter_none}
+use Rattle.key_lists.proofs.Parts.{every-drop}
 use Rattle.row_set.specs.declared.ranges.Range.{Range}
 use Rattle.row_set.specs.Choice.{AreAhead}
 use Rattle.row_set.specs.Ranges.{AreApart, keys_of}
 use Rattle.row_set.proofs.Merged.{stretch_free, stretch_held}
-use Rattle.row_set.proofs.Places.{every-drop}
 use Rattle.tick_model.specs.declared.update.ShiftRange.{ShiftRange}
 use Rattle.tick_model.specs.Printable.{IsShiftRange}
 use Rattle.tick_model.specs.Shifts.{delta_at}
@@ -45,10 +45,6 @@ pub record StandFor (shifts : List ShiftRange) (keys : List ℕ) (from : ℕ) (r
 pub all_ahead : (runs : List Range) → AreApart 0 runs → AreAhead 0 runs
 all_ahead [] h = tt
 all_ahead (run ∷ runs) h = (omega arith, h)
-
-pub ahead_apart : (from : ℕ) (runs : List Range) → AreAhead from runs → AreApart 0 runs
-ahead_apart from [] h = tt
-ahead_apart from (run ∷ runs) h = h.1
 
 pub stand_at_first : (shifts : List ShiftRange) (keys : List ℕ) (runs : List Range) → IsShiftList shifts → AreApart 0 runs → keys_of runs ≡ keys → StandFor shifts keys 0 shifts runs
 stand_at_first shifts keys runs list apart held = record {

@@ -5,10 +5,10 @@ use Rattle.std.specs.List.{AllByRecursion, range_with_len}
 use Rattle.std.proofs.lemmas.Bool.{leb-true}
 use Rattle.std.proofs.lemmas.Int.{ints}
 use Rattle.key_lists.specs.Keys.{IsRising}
+use Rattle.key_lists.proofs.Ranges.{each_from}
 use Rattle.row_set.specs.declared.ranges.Range.{Range}
 use Rattle.row_set.specs.Ranges.{holds, ranges_of}
 use Rattle.row_set.specs.Sets.{IsKeySet}
-use Rattle.row_set.proofs.Held.{each_from}
 use Rattle.tick_model.specs.declared.update.KeyPair.{KeyPair}
 use Rattle.tick_model.specs.Shifts.{stretches, shifted}
 use Rattle.shift_data.specs.ShiftLists.{IsShiftList}

@@ -1,6 +1,6 @@
 -- Where a search cuts the ranges of a shift, and which range holds a key.
 use Rattle.std.proofs.Common.{◌≡◌, refl, ap, sym, ◌∙◌, subst, Bool, true, false, cond, ℕ, zero, suc, ◌<◌, ◌≤◌, arith, List, [], ◌∷◌, length, take, drop, get_or, leb, ltb, ltb-true, ltb-false, Option, Some, None}
-use Rattle.std.specs.Prelude.{find, IfSome, option_copied}
+use Rattle.std.specs.Prelude.{find, option_copied}
 use Rattle.std.specs.Bool.{then_some}
 use Rattle.std.specs.Slice.{IsItemAt}
 use denote.Ref.{Bor}
@@ -10,20 +10,10 @@ use Rattle.std.specs.List.Sorted.{IsPartitionPoint, IsPartitionedBy, IsNonDecrea
 use Rattle.std.proofs.lemmas.Bool.{le-leb, lt-leb, and_left, and_right, and_from}
 use Rattle.std.proofs.lemmas.List.Sorted.{IsPartitionedBy-ltb}
 use Rattle.key_lists.proofs.Every.{every_weaker, all_from}
+use Rattle.key_lists.proofs.Parts.{every_before, every_from}
 use Rattle.tick_model.specs.declared.update.ShiftRange.{ShiftRange}
 use Rattle.tick_model.specs.Printable.{IsShift}
 use Rattle.tick_model.specs.Shifts.{holds}
-
-pub every_take : {X : Type 0} (P : X → Type 0) (xs : List X) (i : ℕ) → ((k : ℕ) (d : X) → k < i → P (get_or xs k d)) → AllByRecursion P (take i xs)
-every_take P xs zero h = tt
-every_take P [] (suc i) h = tt
-every_take P (x ∷ xs) (suc i) h = (h 0 x (omega arith), every_take P xs i (λ k d lt. h (suc k) d (omega arith)))
-
-pub every_drop : {X : Type 0} (P : X → Type 0) (xs : List X) (i : ℕ) → ((k : ℕ) (d : X) → i ≤ k → k < length xs → P (get_or xs k d)) → AllByRecursion P (drop i xs)
-every_drop P [] zero h = tt
-every_drop P (x ∷ xs) zero h = (h 0 x (omega arith) (omega arith), every_drop P xs zero (λ k d le lt. h (suc k) d (omega arith) (omega arith)))
-every_drop P [] (suc i) h = tt
-every_drop P (x ∷ xs) (suc i) h = every_drop P xs i (λ k d le lt. h (suc k) d (omega arith) (omega arith))
 
 ordered : (shifts : List ShiftRange) → IsShift shifts → AllByRecursion (λ range. range.begin ≤ range.end) shifts
 ordered [] h = tt
@@ -41,10 +31,10 @@ pub ends_parted : (key : ℕ) (shifts : List ShiftRange) → IsShift shifts → 
 ends_parted key shifts h = IsPartitionedBy-ltb (λ range. range.end) shifts key (ends_rise shifts h)
 
 pub ended_part : (key : ℕ) (shifts : List ShiftRange) (i : ℕ) → IsPartitionPoint (λ range. ltb range.end key ≡ true) (λ range. ltb range.end key ≡ false) shifts i → AllByRecursion (λ range. range.end < key) (take i shifts)
-ended_part key shifts i h = every_take (λ range. range.end < key) shifts i (λ k d lt. ltb-true (get_or shifts k d).end key (h.0 k d (omega arith) lt))
+ended_part key shifts i h = every_before (λ range. range.end < key) shifts i (λ k d lt. ltb-true (get_or shifts k d).end key (h.0 k d (omega arith) lt))
 
 pub other_part : (key : ℕ) (shifts : List ShiftRange) (i : ℕ) → IsPartitionPoint (λ range. ltb range.end key ≡ true) (λ range. ltb range.end key ≡ false) shifts i → AllByRecursion (λ range. key ≤ range.end) (drop i shifts)
-other_part key shifts i h = every_drop (λ range. key ≤ range.end) shifts i (λ k d le lt. ltb-false (get_or shifts k d).end key (h.1 k d le lt))
+other_part key shifts i h = every_from (λ range. key ≤ range.end) shifts i (λ k d le lt. ltb-false (get_or shifts k d).end key (h.1 k d le lt))
 
 -- a range holds the keys from its begin to its end
 pub holds_not_before : (range : ShiftRange) (key : ℕ) → key < range.begin → holds range key ≡ false
@@ -55,9 +45,6 @@ holds_not_after range key h = and_right (leb range.begin key) (leb key range.end
 
 pub holds_within : (range : ShiftRange) (key : ℕ) → range.begin ≤ key → key ≤ range.end → holds range key ≡ true
 holds_within range key above below = and_from (leb range.begin key) (leb key range.end) (le-leb range.begin key above) (le-leb key range.end below)
-
-pub held_in : ℕ → List ShiftRange → Option ShiftRange
-held_in key = find (λ range. holds range key)
 
 -- a range that does not hold the key need not be looked at
 pub find_past : (range : ShiftRange) (shifts : List ShiftRange) (key : ℕ) → holds range key ≡ false → find (λ range. holds range key) (range ∷ shifts) ≡ find (λ range. holds range key) shifts
@@ -131,8 +118,3 @@ missed xs i (Some x) h e = absurd (none-some x.now (sym e))
 pub got : {X : Type 0} (xs : List X) (i : ℕ) (o : Option (Bor X)) (x : X) → IsItemAt xs i o → option_copied o ≡ Some x → (i < length xs) × (x ≡ get_or xs i x)
 got xs i None x h e = absurd (none-some x e)
 got xs i (Some y) x h e = (h.3.0, subst (λ z. z ≡ get_or xs i z) (same_Some y.now x e) h.1)
-
--- what holds of each range holds of the one that is found
-pub found_is : (P : ShiftRange → Type 0) (p : ShiftRange → Bool) (shifts : List ShiftRange) → AllByRecursion P shifts → IfSome (find p shifts) P
-found_is P p [] h = tt
-found_is P p (range ∷ shifts) h = elim (p range) as (λ b. IfSome (cond b (Some range) (find p shifts)) P) [ true ↦ h.0 | false ↦ found_is P p shifts h.1 ]

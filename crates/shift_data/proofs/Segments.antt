@@ -7,6 +7,7 @@ use Rattle.std.proofs.lemmas.Int.{ints}
 use Rattle.key_lists.specs.Keys.{is_among, IsRising}
 use Rattle.key_lists.proofs.Every.{every_weaker, all_from}
 use Rattle.key_lists.proofs.Among.{of_among}
+use Rattle.key_lists.proofs.Parts.{first_left}
 use Rattle.row_set.specs.Sets.{count_below, IsKeySet}
 use Rattle.tick_model.specs.declared.update.ShiftRange.{ShiftRange}
 use Rattle.tick_model.specs.Printable.{IsShift, IsShiftRange}
@@ -46,16 +47,11 @@ past_all key (x ∷ xs) (suc i) le ended other above = find_past x xs other (hol
 every_at : {X : Type 0} (P : X → Type 0) (xs : List X) (i : ℕ) (x : X) → i < length xs → x ≡ get_or xs i x → AllByRecursion P xs → P x
 every_at P xs i x lt is h = subst P (sym is) (all_from P xs h i x lt)
 
-drop_at : {X : Type 0} (P : X → Type 0) (xs : List X) (i : ℕ) (x : X) → i < length xs → x ≡ get_or xs i x → AllByRecursion P (drop i xs) → P x
-drop_at P [] i x lt is h = absurd (omega arith)
-drop_at P (y ∷ xs) zero x lt is h = subst P (sym is) h.0
-drop_at P (y ∷ xs) (suc i) x lt is h = drop_at P xs i x (omega arith) is h
-
 -- the segment that begins at a key, by where the search ends
 module _ (shifts : List ShiftRange) (key i : ℕ) (h : IsShiftList shifts) (ended : AllByRecursion (λ range. range.end < key) (take i shifts)) where
   pub segment_held : (range : ShiftRange) → i < length shifts → range ≡ get_or shifts i range → AllByRecursion (λ range. key ≤ range.end) (drop i shifts) → range.begin ≤ key → let segment : Segment = record { last = range.end; delta = range.delta } in IsSegment (delta_at shifts) key segment
   segment_held range lt is others le = record {
-    order = drop_at (λ range. key ≤ range.end) shifts i range lt is others;
+    order = first_left (λ range. key ≤ range.end) shifts i range lt is others;
     small = (every_at (IsShiftRange (2 ^ 62)) shifts i range lt is h.small).end;
     same = λ other above below. ap (λ o. unwrap_or (option_map (λ (range : ShiftRange). range.delta) o) (pos 0)) (held_from key shifts i range lt is ended le other above below);
   }

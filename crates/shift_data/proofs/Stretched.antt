@@ -6,6 +6,7 @@ use Rattle.std.specs.Ordering.{int_eq}
 use Rattle.std.specs.Cmp.{signed_Decides}
 use Rattle.std.proofs.lemmas.Bool.{false_from_ne_true}
 use Rattle.std.proofs.lemmas.Int.{to_z-of_z}
+use Rattle.std.proofs.lemmas.List.{append-nil}
 use Rattle.tick_model.specs.declared.update.ShiftRange.{ShiftRange}
 use Rattle.tick_model.specs.declared.update.KeyPair.{KeyPair}
 use Rattle.tick_model.specs.Shifts.{delta, one, extend, stretches}
@@ -44,11 +45,7 @@ pub built_longer : (whole : List ShiftRange) (last next : ShiftRange) (others : 
 built_longer whole last next others e = ap (λ ranges. whole ++ filter is_moving ranges) (sym (joined_same last next others e))
 
 pub built_more : (whole : List ShiftRange) (last : Option ShiftRange) (next : ShiftRange) (others : List ShiftRange) → ((range : ShiftRange) → last ≡ Some range → int_eq range.delta next.delta ≡ false) → built (built whole last []) (Some next) others ≡ built whole last (joined next others)
-built_more whole None next others h = ap (λ xs. xs ++ filter is_moving (joined next others)) (append_none whole)
-  where
-    append_none : (xs : List ShiftRange) → xs ++ [] ≡ xs
-    append_none [] = refl
-    append_none (x ∷ xs) = ap (λ ys. x ∷ ys) (append_none xs)
+built_more whole None next others h = ap (λ xs. xs ++ filter is_moving (joined next others)) (append-nil whole)
 built_more whole (Some last) next others h =
     append_assoc whole (filter is_moving (last ∷ [])) (filter is_moving (joined next others))
     ∙ ap (λ xs. whole ++ xs) (step (is_moving last))

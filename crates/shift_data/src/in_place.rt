@@ -1,24 +1,30 @@
 //! The keys of a set moved in place.
-ghost use Rattle.std.specs.Prelude.{◌≡◌, ◌-◌, ◌^◌, ◌<◌, ◌≤◌, pos, negsuc, ◌<ℤ◌, [], ◌∷◌, IfSome, IfNone, IfOk, OnOk};
+ghost use Rattle.std.specs.Prelude.{◌≡◌, ◌-◌, ◌^◌, ◌<◌, ◌≤◌, pos, negsuc, ◌<ℤ◌, [], false, IfSome, IfNone, IfOk, OnOk};
+ghost use Rattle.std.specs.List.{AllByRecursion};
+ghost use Rattle.key_lists.specs.Keys.{IsRising};
 ghost use Rattle.row_set.specs.Choice.{AreAhead};
 ghost use Rattle.row_set.specs.Ranges.{keys_of};
 ghost use Rattle.row_set.specs.Sets.{IsKeySet};
-ghost use Rattle.tick_model.specs.Printable.{IsShiftRange};
-ghost use Rattle.tick_model.specs.Rules.{landed};
-ghost use Rattle.tick_model.specs.Shifts.{delta_at};
+ghost use Rattle.tick_model.specs.Rules.{is_past, landed};
+ghost use Rattle.tick_model.specs.Shifts.{delta_at, holds, moved};
 ghost use Rattle.shift_data.specs.ShiftLists.{IsShiftList};
 ghost use Rattle.shift_data.specs.Moves.{IsLawful};
 ghost use Rattle.shift_data.specs.Movers.{IsMove, movers};
+ghost use Rattle.shift_data.specs.Parts.{IsLastUpTo};
 
 use crate::ahead::{runs_from, shifts_from};
 use crate::apply::{landing, moved_keys};
-use crate::parts::{Part, segment_at};
+use crate::parts::{Part, last_up_to, segment_at};
 use row_set::{Range, RowSet};
 use std::alloc::{AllocError, Global};
 use tick_model::update::ShiftRange;
 
+/// The most ranges of a shift that move one by one, where many ranges of keys move. Each passes over the ranges of keys behind
+/// it, so past about so many it costs less to put all keys down anew.
+const FEW_RANGES: usize = 8;
+
 /// The keys, moved. Those of a lone range move where they lie. Of several, where few ranges of keys move, these are taken out
-/// and put in where they land, and where many do, all are put down anew.
+/// and put in where they land, and where many do, they move where they lie too, or all are put down anew.
 pub(crate) fn move_keys(
     alloc: Global,
     shifts: &[ShiftRange],
@@ -29,10 +35,10 @@ pub(crate) fn move_keys(
     ensures { IfOk result (λ places. places ≡ landed shifts.now keys) }
 {
     match shifts {
-        [] => Ok(keys),
-        [range] => move_one(*range, keys),
-        _ if many_move(shifts, keys.ranges()) => moved_keys(alloc, shifts, &keys),
-        _ => move_parts(alloc, shifts, keys),
+        [] | [_] => move_ranges(shifts, keys),
+        _ if !many_move(shifts, keys.ranges()) => move_parts(alloc, shifts, keys),
+        _ if shifts.len() <= FEW_RANGES => move_ranges(shifts, keys),
+        _ => moved_keys(alloc, shifts, &keys),
     }
 }
 
@@ -60,15 +66,42 @@ fn count_met(range: ShiftRange, runs: &[Range]) -> usize {
     begun.saturating_sub(before)
 }
 
-/// The keys, of which those that one range holds are moved.
-fn move_one(range: ShiftRange, mut keys: RowSet) -> Result<RowSet, AllocError>
-    requires order { range.begin ≤ range.end }
-    requires range { IsShiftRange (2 ^ 62) range }
-    requires lawful { IsLawful (range ∷ []) keys }
-    ensures { IfOk result (λ places. places ≡ landed (range ∷ []) keys) }
+/// The keys, moved range by range where they lie, so that they rise all the while: those that fall are taken from the least
+/// range up, and those that rise from the greatest range down. A key that fell may lie between those of a range and its end,
+/// so the range takes the keys up to the last that it held before.
+fn move_ranges(shifts: &[ShiftRange], mut keys: RowSet) -> Result<RowSet, AllocError>
+    requires shifts { IsShiftList shifts.now }
+    requires inside { AllByRecursion (λ key. is_past (2 ^ 62) (moved shifts.now key) ≡ false) keys }
+    requires rising { IsRising (landed shifts.now keys) }
+    ensures { IfOk result (λ places. places ≡ landed shifts.now keys) }
 {
-    keys.shift_range(range.begin, range.end, range.delta)?;
-    Ok(keys)
+    match shifts {
+        [] => Ok(keys),
+        [range, others @ ..] => match last_held(*range, &keys) {
+            None => move_ranges(others, keys),
+            Some(last) if range.delta < 0 => {
+                keys.shift_range(range.begin, last, range.delta)?;
+                move_ranges(others, keys)
+            }
+            Some(last) => {
+                let mut places = move_ranges(others, keys)?;
+                places.shift_range(range.begin, last, range.delta)?;
+                Ok(places)
+            }
+        },
+    }
+}
+
+/// The last key of a set that a range holds.
+fn last_held(range: ShiftRange, keys: &RowSet) -> Option<u64>
+    requires { range.end < 2 ^ 62 }
+    ensures none { IfNone result (AllByRecursion (λ key. holds range key ≡ false) keys.now) }
+    ensures begin { IfSome result (λ last. range.begin ≤ last) }
+    ensures last { IfSome result (IsLastUpTo keys.now range.end) }
+    ensures keys { IsKeySet keys.now }
+{
+    let last = last_up_to(keys, range.end)?;
+    (range.begin <= last).then_some(last)
 }
 
 /// The keys, moved part by part: those that a range holds are taken out and put in where they land.

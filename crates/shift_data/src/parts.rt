@@ -1,5 +1,6 @@
 //! The parts of a set of keys that a shift moves by one delta each.
 ghost use Rattle.std.specs.Prelude.{◌≡◌, ℕ, ◌-◌, ◌^◌, ◌<◌, ◌≤◌, [], pos, negsuc, ◌<ℤ◌, IfSome, IfNone, true, find, nat_le};
+ghost use Rattle.std.specs.List.{AllByRecursion};
 ghost use Rattle.key_lists.specs.Keys.{is_among, without};
 ghost use Rattle.row_set.specs.Sets.{IsKeySet};
 ghost use Rattle.tick_model.specs.Shifts.{delta_at};
@@ -57,7 +58,9 @@ pub(crate) fn segment_at(shifts: &[ShiftRange], key: u64) -> Segment
 /// The greatest key of a set that is not above this one.
 pub(crate) fn last_up_to(keys: &RowSet, key: u64) -> Option<u64>
     requires { key < 2 ^ 63 }
-    ensures { IfSome result (IsLastUpTo keys.now key) }
+    ensures last { IfSome result (IsLastUpTo keys.now key) }
+    ensures none { IfNone result (AllByRecursion (λ other. key < other) keys.now) }
+    ensures keys { IsKeySet keys.now }
 {
     let count = keys.count_below(key + 1);
     keys.get(count.checked_sub(1)?)

@@ -1,10 +1,11 @@
 use Rattle.std.proofs.Common.{sym, ap, ◌∙◌, arith, w64, ◌++◌, ◌+◌}
 use Rattle.std.proofs.lemmas.Int.{to_z-of_z}
+use Rattle.std.proofs.lemmas.List.{append-nil}
 use Rattle.tick_model.specs.Rules.{landed}
 use Rattle.tick_model.specs.Shifts.{delta_at}
 use Rattle.shift_data.specs.Movers.{movers}
 use Rattle.shift_data.specs.Parts.{from_on}
-use Rattle.shift_data.proofs.Applied.{landing_is, append_none}
+use Rattle.shift_data.proofs.Applied.{landing_is}
 use Rattle.shift_data.proofs.Asked.{lands_inside}
 use Rattle.shift_data.proofs.InPlace.{nonzero_bits, zero_bits, left_more, came_more, staying_step}
 use Rattle.shift_data.proofs.Keys.{from_none}
@@ -78,11 +79,11 @@ pub returns-clause-left : goal.returns-clause-left
 returns-clause-left c =
     let move = delta_at c.args.shifts.now in
     let none = none_left c.args.shifts.now c.args.keys.now c.loop-part.from c.loop-part.ranges.now c.loop-part.runs.now c.loop-part.invariant.3 c.in_default.ensures.none in
-    sym (append_none c.loop-part.left) ∙ sym (ap (λ xs. c.loop-part.left ++ movers move xs) none) ∙ c.loop-part.invariant.1
+    sym (append-nil c.loop-part.left) ∙ sym (ap (λ xs. c.loop-part.left ++ movers move xs) none) ∙ c.loop-part.invariant.1
 
 pub returns-clause-came : goal.returns-clause-came
 returns-clause-came c =
     let shifts = c.args.shifts.now in
     let move = delta_at shifts in
     let none = none_left shifts c.args.keys.now c.loop-part.from c.loop-part.ranges.now c.loop-part.runs.now c.loop-part.invariant.3 c.in_default.ensures.none in
-    sym (append_none c.loop-part.came) ∙ sym (ap (λ xs. c.loop-part.came ++ landed shifts (movers move xs)) none) ∙ c.loop-part.invariant.2
+    sym (append-nil c.loop-part.came) ∙ sym (ap (λ xs. c.loop-part.came ++ landed shifts (movers move xs)) none) ∙ c.loop-part.invariant.2

@@ -16,4 +16,4 @@ pub returns-clause-part : goal.returns-clause-part
 returns-clause-part c =
     let s = c.segment_at-segment in
     rw (to_z-of_z w64 s.result.delta (fits_delta s.result.delta s.ensures.up s.ensures.down))
-    (part_made _ c.args.keys.now c.args.from c.in_ok-first.first s.result c.last_up_to.result c.unwrap_or-last.result c.next_from.ensures.keys (sym c.next_from.ensures.next ∙ c.in_ok-first.was) s.ensures.segment c.last_up_to.ensures c.unwrap_or-last.ensures)
+    (part_made _ c.args.keys.now c.args.from c.in_ok-first.first s.result c.last_up_to.result c.unwrap_or-last.result c.next_from.ensures.keys (sym c.next_from.ensures.next ∙ c.in_ok-first.was) s.ensures.segment c.last_up_to.ensures.last c.unwrap_or-last.ensures)

@@ -28,4 +28,4 @@ returns-clause-part c =
       to_z-of_z w64 (part.delta +ℤ further.result.delta) (fits_sum part.delta further.result.delta c.in_ok-part.ensures.up c.in_ok-part.ensures.down further.ensures.up further.ensures.down),
     )
     (part_further c.args.shifts.now c.args.next.now c.args.keys.now c.args.from part c.landing-place.result further.result c.part_from.ensures.keys is at further.ensures.segment
-    c.last_up_to.result c.unwrap_or-last.result (subst (λ high. IfSome c.last_up_to.result (IsLastUpTo c.args.keys.now high)) c.min-high.ensures c.last_up_to.ensures) c.unwrap_or-last.ensures)
+    c.last_up_to.result c.unwrap_or-last.result (subst (λ high. IfSome c.last_up_to.result (IsLastUpTo c.args.keys.now high)) c.min-high.ensures c.last_up_to.ensures.last) c.unwrap_or-last.ensures)
