@@ -5,21 +5,24 @@ use Rattle.tick_model.specs.declared.plan.Published.{Published}
 use Rattle.tick_model.specs.LawfulRuns.{IsLawfulRun}
 use Rattle.snapshot_store.specs.Lines.{below, count, limit, width, size, total, spot, line_of, start_in, total_in, IsWhole}
 use Rattle.tick_model.specs.Clock.{completed, updating}
+use Rattle.tick_model.specs.Words.{line}
 use Rattle.snapshot_store.specs.Views.{IsSameBut}
 use Rattle.snapshot_store.specs.Looks.{looks_of, last_or, NeverFalls, latest}
 use Rattle.snapshot_store.specs.Models.{CallerModel, Place, IsCalling, IsAt, HasRoom, words_of}
-use Rattle.snapshot_store.specs.Answers.{IsAttempt, IsReading, answer}
+use Rattle.snapshot_store.specs.Answers.{AreMoved, IsAttempt, IsReading, IsSnapshot, answer}
 use Rattle.snapshot_store.specs.declared.answers.Attempt.{Attempt}
 use Rattle.snapshot_store.specs.declared.answers.Attempt.TheVariants.{Taken, Moved}
+use Rattle.snapshot_store.specs.declared.answers.Taken.{Taken as Snapped}
 use Rattle.snapshot_store.specs.declared.board.View.{View}
 use Rattle.snapshot_store.specs.declared.board.Doing.TheVariants.{Writing}
-use Rattle.snapshot_store.specs.declared.writers.Phase.{Phase}
-use Rattle.snapshot_store.specs.declared.writers.Phase.TheVariants.{Idle, Begun, Stopped, Left}
+use Rattle.snapshot_store.specs.declared.writers.Phase.TheVariants.{Begun}
 use Rattle.snapshot_store.proofs.Places.{below_less, spot_bound}
 use Rattle.snapshot_store.proofs.Published.{total_small}
 use Rattle.std.specs.List.{All}
 use Rattle.std.proofs.lemmas.Bool.{cases_lt}
+use Rattle.std.proofs.lemmas.List.{append-nil, nil_from_length}
 use Rattle.std.proofs.lemmas.List.Elements.{All-push}
+use Rattle.std.proofs.lemmas.Option.{same_Some}
 use Rattle.std.proofs.Math.Seq.{get_or-append_seam}
 
 pub first_place : (run : Run) (tables : List Published) (bank all start p : ℕ) → tables ≡ run.plan.published → all ≡ total_in tables → start ≡ start_in tables p → 2 + bank * all + start ≡ spot run bank p 0
@@ -47,10 +50,6 @@ place_read run run' f p i end start step lawful same inside within less here fro
     let s = spot_small run (completed f) p i lawful inside' (omega arith) in
     (omega arith, omega arith, omega arith, inside')
 
-pub rows_fit : (run : Run) (p rows w : ℕ) → rows ≤ limit run p → w ≡ width run p → 1 + rows * (1 + w) ≤ size run p
-rows_fit run p rows w few same = let a : rows * (1 + width run p) ≤ limit run p * (1 + width run p) = mul-le-mul_right (1 + width run p) few in
-    let b : rows * (1 + w) ≡ rows * (1 + width run p) = ap (λ (z : ℕ). rows * (1 + z)) same in omega arith
-
 pub answers_taken : (first last step : ℕ) → step ≡ completed first → last < 2 * completed first + 4 → Taken step ≡ answer first last
 answers_taken first last step e h = ap Taken e ∙ ap (λ (b : Bool). cond b (Taken (completed first)) (Moved first last)) (sym (lt-ltb last (2 * completed first + 4) h))
 
@@ -71,17 +70,8 @@ room_on v w n same room run p named inside = room run p (sym same ∙ named) ins
 pub at_begun : (v : View) (run : Run) (step n : ℕ) → v.run ≡ Some run → IsAt v step (Begun n)
     → (v.floor ≡ updating (step + 1)) × (step + 1 < 2 ^ 62) × (v.doing ≡ Writing step (words_of run (step + 1) n)) × (v.turn ≡ true) × ((p : ℕ) → p < n → IsWhole run (step + 1) p)
 at_begun v run step n named at =
-    let h = at.3 in let e : h.0 ≡ run = some_same h.0 run (sym h.1 ∙ named) in
+    let h = at.3 in let e : h.0 ≡ run = same_Some h.0 run (sym h.1 ∙ named) in
     (at.0, at.2, h.2 ∙ ap (λ (z : Run). Writing step (words_of z (step + 1) n)) e, at.1, subst (λ (z : Run). (p : ℕ) → p < n → IsWhole z (step + 1) p) e h.3)
-  where
-    some_same : (a b : Run) → Some a ≡ Some b → a ≡ b
-    some_same a b e = cc
-
-pub at_completed : (v : View) (step : ℕ) (phase : Phase) → IsAt v step phase → completed v.floor ≡ step
-at_completed v step Idle h = let e = h.0 in omega arith
-at_completed v step (Begun n) h = let e = h.0 in omega arith
-at_completed v step Stopped h = let e = h.0 in omega arith
-at_completed v step Left h = let e = h.0 in omega arith
 
 pub all_stored : (run : Run) (step new : ℕ) → new ≡ 2 * step + 3 → (c : ℕ) → new ≡ 2 * c + 1 → (p i : ℕ) → p < count run → i < length (line_of run c p)
     → below (λ q. length (line_of run c q)) p + i < words_of run (step + 1) (count run)
@@ -112,6 +102,19 @@ line_fits run s p table shape is = let long : length table ≡ length (line_of r
 pub popped : {A : Type 0} (P : A → Type 0) (xs ys : List A) (x : A) → xs ≡ ys ++ x ∷ [] → All P xs → P x
 popped P xs ys x e all = let at : get_or xs (length ys) x ≡ x = ap (λ z. get_or z (length ys) x) e ∙ get_or-append_seam ys x [] x in
     let long : length xs ≡ length ys + 1 = ap length e ∙ length-append ys (x ∷ []) in subst P at (all (length ys) x (omega arith))
+
+-- a caller that was refused the turn
+pub refused_on : (at end : Place) (seen capacity : ℕ) → IsCalling at seen capacity → end.me.1 ≡ at.me.1 → IsSameBut at.me.0 end.me.0 → end.me.0.turn ≡ at.me.0.turn → IsCalling end seen capacity
+refused_on at end seen capacity c held same turn = let floor = same.2 in let low = c.below_floor in record {
+  rests = same.3 ∙ c.rests;
+  free = turn ∙ c.free;
+  alone = held ∙ c.alone;
+  last = ap (last_or 1) same.1 ∙ c.last;
+  below_floor = omega arith;
+  started = c.started;
+  rises = subst (NeverFalls 1) (sym same.1) c.rises;
+  room = room_on at.me.0 end.me.0 capacity same.0 c.room;
+}
 
 -- a reading of a caller
 module _ (run : Run) (number : ℕ) (before after : Place) (words : List ℕ) (first last seen capacity : ℕ) (reads : IsReading run number before after words first last) where
@@ -169,19 +172,11 @@ pub looks_of_more : (ts : List (ℕ × ℕ)) (f l : ℕ) → looks_of (ts ++ (f,
 looks_of_more [] f l = refl
 looks_of_more (t ∷ ts) f l = ap (λ (z : List ℕ). t.0 ∷ t.1 ∷ z) (looks_of_more ts f l)
 
--- what the tries so far leave: each moved, and the looks are theirs
-pub record AreTries (before after : List ℕ) (n : ℕ) : Type 0 where
-  pub moved : List (ℕ × ℕ)
-  pub each_moved : All (λ (t : ℕ × ℕ). 2 * completed t.0 + 4 ≤ t.1) moved
-  pub as_many : length moved ≡ n
-  pub looks : after ≡ before ++ looks_of moved
-  pub not_older : latest before ≤ latest after
-
 latest_after : (before : List ℕ) (f l : ℕ) → latest (before ++ f ∷ l ∷ []) ≡ completed l
 latest_after before f l = ap (λ (z : List ℕ). latest z) (sym (append_assoc before (f ∷ []) (l ∷ []))) ∙ ap completed (last_more 1 (before ++ f ∷ []) l)
 
-pub tried_more : (run : Run) (number n : ℕ) (start : List ℕ) (before after : CallerModel) (result : Attempt) (a b : ℕ) → AreTries start before.looks n → IsAttempt run number before after result → result ≡ Moved a b → AreTries start after.looks (n + 1)
-tried_more run number n start before after result a b tries at is = let far = moved_far at.first at.last a b (sym is ∙ at.answers) in let older = at.not_older in let r = at.rises in let so = tries.not_older in
+pub moved_more : (run : Run) (number n : ℕ) (start : List ℕ) (before after : CallerModel) (result : Attempt) (a b : ℕ) → AreMoved n start before.looks → IsAttempt run number before after result → result ≡ Moved a b → AreMoved (n + 1) start after.looks
+moved_more run number n start before after result a b tries at is = let far = moved_far at.first at.last a b (sym is ∙ at.answers) in let older = at.not_older in let r = at.rises in let so = tries.not_older in
     let end : latest after.looks ≡ completed at.last = ap (λ (z : List ℕ). latest z) at.looks ∙ latest_after before.looks at.first at.last in record {
       moved = tries.moved ++ (at.first, at.last) ∷ [];
       each_moved = All-push (λ (t : ℕ × ℕ). 2 * completed t.0 + 4 ≤ t.1) tries.moved (at.first, at.last) tries.each_moved far;
@@ -189,3 +184,69 @@ tried_more run number n start before after result a b tries at is = let far = mo
       looks = at.looks ∙ (ap (λ (z : List ℕ). z ++ at.first ∷ at.last ∷ []) tries.looks ∙ (append_assoc start (looks_of tries.moved) (at.first ∷ at.last ∷ []) ∙ ap (λ (z : List ℕ). start ++ z) (sym (looks_of_more tries.moved at.first at.last))));
       not_older = omega arith;
     }
+
+-- a snapshot, of which attempts were made until `now`
+module _ (run : Run) (number n : ℕ) (before now after : CallerModel) (tries : AreMoved n before.looks now.looks) where
+  -- an attempt more is taken
+  pub by_attempt : (attempts : ℕ) (result : Attempt) (step : ℕ) → n < attempts → IsAttempt run number now after result → result ≡ Taken step → IsSnapshot run number attempts before after record { step = step; tries = n + 1; locked = false }
+  by_attempt attempts result step less at is = let near = taken_near at.first at.last step (sym is ∙ at.answers) in let count = tries.as_many in let low = tries.not_older in let low' = at.not_older in record {
+    moved = tries.moved;
+    first = at.first;
+    last = at.last;
+    each_moved = tries.each_moved;
+    looks = at.looks ∙ ap (λ (z : List ℕ). z ++ at.first ∷ at.last ∷ []) tries.looks;
+    near = near.0;
+    not_older = omega arith;
+    step = near.1;
+    words = at.words near.0;
+    locked = λ e. absurd (cc);
+    unlocked = λ _. (omega arith, omega arith);
+  }
+
+  -- the reading with the turn is taken
+  pub by_turn : (step first : ℕ) → after.looks ≡ now.looks ++ first ∷ first ∷ [] → step ≡ completed first → latest now.looks ≤ completed first → after.words ≡ line run (completed first) number
+      → IsSnapshot run number n before after record { step = step; tries = n; locked = true }
+  by_turn step first looks is older words = let low = tries.not_older in record {
+    moved = tries.moved;
+    first = first;
+    last = first;
+    each_moved = tries.each_moved;
+    looks = looks ∙ ap (λ (z : List ℕ). z ++ first ∷ first ∷ []) tries.looks;
+    near = omega arith;
+    not_older = omega arith;
+    step = is;
+    words = words;
+    locked = λ _. (tries.as_many, refl, refl);
+    unlocked = λ e. absurd (cc);
+  }
+
+  -- a snapshot that may make no attempt more
+  module _ (result : Snapped) (is : IsSnapshot run number 0 now after result) where
+    no_attempt : (locked : Bool) → result.locked ≡ locked → (is.moved ≡ []) × (is.last ≡ is.first)
+    no_attempt true has = let h = is.locked has in (nil_from_length is.moved h.0, h.2)
+    no_attempt false free = let h = is.unlocked free in let a = h.0 in let b = h.1 in absurd (omega arith)
+
+    pub by_turn_later : IsSnapshot run number n before after record { step = result.step; tries = n; locked = result.locked }
+    by_turn_later = let none = no_attempt result.locked refl in let low = tries.not_older in let low' = is.not_older in record {
+      moved = tries.moved;
+      first = is.first;
+      last = is.last;
+      each_moved = tries.each_moved;
+      looks = is.looks ∙ ap (λ (z : List ℕ). z ++ is.first ∷ is.last ∷ []) (ap (λ (z : List (ℕ × ℕ)). now.looks ++ looks_of z) none.0 ∙ (append-nil now.looks ∙ tries.looks));
+      near = is.near;
+      not_older = omega arith;
+      step = is.step;
+      words = is.words;
+      locked = λ _. (tries.as_many, refl, none.1);
+      unlocked = λ free. let h = is.unlocked free in let a = h.0 in let b = h.1 in absurd (omega arith);
+    }
+
+-- no attempt more was made
+pub moved_on : (n : ℕ) (before now after : List ℕ) → AreMoved n before now → AreMoved 0 now after → AreMoved n before after
+moved_on n before now after tries none = let low = tries.not_older in let low' = none.not_older in record {
+  moved = tries.moved;
+  each_moved = tries.each_moved;
+  as_many = tries.as_many;
+  looks = none.looks ∙ (ap (λ (z : List (ℕ × ℕ)). now ++ looks_of z) (nil_from_length none.moved none.as_many) ∙ (append-nil now ∙ tries.looks));
+  not_older = omega arith;
+}

@@ -81,23 +81,23 @@ module _ (run : Run) where
   -- the first look of an attempt, or the one look of a caller that looks_once
   pub looks : (slots id : ℕ) (me : Sat) → Allows Rule slots id me 0 (λ n. n) (looks_first (step slots 0 0 0 none) me)
   looks slots id me s r _ at _ = let v : View = me.0 in let c : ℕ = clock s in let k = r.each_seat id v at in
-      let w : View = record { run = v.run; looks = v.looks ++ c ∷ []; floor = c; turn = v.turn; doing = Looked c } in (
+      let w : View = record { run = v.run; looks = v.looks ++ c ∷ []; floor = c; turn = v.turn; refusals = v.refusals; doing = Looked c } in (
         w,
         keeps,
         tt,
         unmoved s r 0 id me.1 v w at refl record { names = k.names; below_clock = le_refl c; looks_below = All-push (λ (l : ℕ). l ≤ c) v.looks c k.looks_below (le_refl c); has_turn = k.has_turn; does = (r.started, le_refl c, λ _. refl) },
-        (refl, (refl, refl, refl, k.below_clock, r.started, refl), refl),
+        (refl, (refl, refl, refl, k.below_clock, r.started, refl, refl), refl),
       )
 
   -- the one look of a caller that was told of a step
   pub learns : (slots id : ℕ) (me : Sat) → Allows Rule slots id me 0 (λ n. n) (looks_once (step slots 0 0 0 none) me)
   learns slots id me s r _ at _ = let v : View = me.0 in let c : ℕ = clock s in let k = r.each_seat id v at in
-      let w : View = record { run = v.run; looks = v.looks ++ c ∷ []; floor = c; turn = v.turn; doing = Rest } in (
+      let w : View = record { run = v.run; looks = v.looks ++ c ∷ []; floor = c; turn = v.turn; refusals = v.refusals; doing = Rest } in (
         w,
         keeps,
         tt,
         unmoved s r 0 id me.1 v w at refl record { names = k.names; below_clock = le_refl c; looks_below = All-push (λ (l : ℕ). l ≤ c) v.looks c k.looks_below (le_refl c); has_turn = k.has_turn; does = tt },
-        (refl, (refl, refl, refl, k.below_clock, r.started, refl), refl),
+        (refl, (refl, refl, refl, k.below_clock, r.started, refl, refl), refl),
       )
 
   abbrev looked_value : ℕ → Doing → ℕ
@@ -117,7 +117,7 @@ module _ (run : Run) where
       let b : completed f % 2 < 2 = omega arith in
       let has : x ≤ limit run p = subst (λ (z : ℕ). get_or s.words z 0 ≤ limit run p) (sym place) (r.counted (completed f % 2) p b inside) in
       let low = half_below f c known.0 known.1 in
-      let w : View = record { run = v.run; looks = v.looks; floor = v.floor; turn = v.turn; doing = Reading p f (x ∷ []) } in (
+      let w : View = record { run = v.run; looks = v.looks; floor = v.floor; turn = v.turn; refusals = v.refusals; doing = Reading p f (x ∷ []) } in (
         w,
         keeps,
         tt,
@@ -143,7 +143,7 @@ module _ (run : Run) where
         },
         (
           refl,
-          (refl, refl, refl, refl),
+          (refl, refl, refl, refl, refl),
           λ run' f' p' named' is' inside' place'.
               let er : run' ≡ run = k.names run' named' in
               let ef : f ≡ f' = ap (looked_value 0) (sym is ∙ is') in
@@ -166,7 +166,7 @@ module _ (run : Run) where
   reads slots id me f p word read is place some_read less s r _ at _ = let v : View = me.0 in let c : ℕ = clock s in let x : ℕ = get_or s.words word 0 in let k = r.each_seat id v at in
       let known : IsDoing run c r.writer r.stored id v.turn v.floor (Reading p f read) = subst (IsDoing run c r.writer r.stored id v.turn v.floor) is k.does in
       let low = half_below f c known.0 known.1 in
-      let w : View = record { run = v.run; looks = v.looks; floor = v.floor; turn = v.turn; doing = Reading p f (read ++ x ∷ []) } in (
+      let w : View = record { run = v.run; looks = v.looks; floor = v.floor; turn = v.turn; refusals = v.refusals; doing = Reading p f (read ++ x ∷ []) } in (
         w,
         keeps,
         tt,
@@ -186,20 +186,20 @@ module _ (run : Run) where
                 begins_more read (line_of run (completed f) p) x (known.5 l) inside (ap (λ (z : ℕ). get_or s.words z 0) place ∙ stands.1),
           );
         },
-        (refl, (refl, refl, refl, refl), λ p' f' read' is'. let e = ap reading_parts (sym is ∙ is') in λ i. Reading ((e i).0) ((e i).1) ((e i).2 ++ x ∷ [])),
+        (refl, (refl, refl, refl, refl, refl), λ p' f' read' is'. let e = ap reading_parts (sym is ∙ is') in λ i. Reading ((e i).0) ((e i).1) ((e i).2 ++ x ∷ [])),
       )
 
   -- the last look of an attempt
   pub looks_again : (slots id : ℕ) (me : Sat) → Allows Rule slots id me 0 (λ n. n) (looks_last (step slots 0 0 0 none) me)
   looks_again slots id me s r _ at _ = let v : View = me.0 in let c : ℕ = clock s in let k = r.each_seat id v at in
-      let w : View = record { run = v.run; looks = v.looks ++ c ∷ []; floor = c; turn = v.turn; doing = Rest } in (
+      let w : View = record { run = v.run; looks = v.looks ++ c ∷ []; floor = c; turn = v.turn; refusals = v.refusals; doing = Rest } in (
         w,
         keeps,
         tt,
         unmoved s r 0 id me.1 v w at refl record { names = k.names; below_clock = le_refl c; looks_below = All-push (λ (l : ℕ). l ≤ c) v.looks c k.looks_below (le_refl c); has_turn = k.has_turn; does = tt },
         (
           refl,
-          (refl, refl, refl, k.below_clock, r.started, refl),
+          (refl, refl, refl, k.below_clock, r.started, refl, refl),
           refl,
           λ run' p f read named is.
               let known : IsDoing run c r.writer r.stored id v.turn v.floor (Reading p f read) = subst (IsDoing run c r.writer r.stored id v.turn v.floor) is k.does in
@@ -220,7 +220,7 @@ module _ (run : Run) where
       → Allows Rule slots id me 0 (λ _. new) (λ _. sets_clock (step slots 0 new 0 none) me new)
   ticks slots id me step' k new is mine up whole shaped s r _ at _ = let v : View = me.0 in let c : ℕ = clock s in let kn = r.each_seat id v at in
       let known : IsDoing run c r.writer r.stored id v.turn v.floor (Writing step' k) = subst (IsDoing run c r.writer r.stored id v.turn v.floor) is kn.does in
-      let w : View = record { run = v.run; looks = v.looks; floor = new; turn = v.turn; doing = Writing (completed new) 0 } in
+      let w : View = record { run = v.run; looks = v.looks; floor = new; turn = v.turn; refusals = v.refusals; doing = Writing (completed new) 0 } in
       let here = known.1 in let started = r.started in let wide = r.wide in
       let now : get_or (set s.words 0 new) 0 0 ≡ new = get_or-set_same s.words 0 new 0 (omega arith) in
       let one : get_or (set s.words 0 new) 1 0 ≡ turn s = get_or-set_other s.words 0 1 new 0 (λ e. omega arith) in (
@@ -265,7 +265,7 @@ module _ (run : Run) where
       → Allows Rule slots id me word (λ _. x) (λ _. stores_word (step slots word x 0 none) me x)
   stores slots id me done k p i word x is busy inside within sized place right next few s r _ at _ = let v : View = me.0 in let c : ℕ = clock s in let kn = r.each_seat id v at in
       let known : IsDoing run c r.writer r.stored id v.turn v.floor (Writing done k) = subst (IsDoing run c r.writer r.stored id v.turn v.floor) is kn.does in
-      let w : View = record { run = v.run; looks = v.looks; floor = v.floor; turn = v.turn; doing = Writing done (k + 1) } in
+      let w : View = record { run = v.run; looks = v.looks; floor = v.floor; turn = v.turn; refusals = v.refusals; doing = Writing done (k + 1) } in
       let here = known.1 in let wide = r.wide in let kept = known.3 in
       let high = spot_high run ((done + 1) % 2) p i in
       let bank : (done + 1) % 2 < 2 = omega arith in
@@ -310,7 +310,7 @@ module _ (run : Run) where
               (seats_stay (Knows run c (turn s) r.holder r.writer (k + 1)) s.views id w record { names = kn.names; below_clock = kn.below_clock; looks_below = kn.looks_below; has_turn = kn.has_turn; does = (known.0, known.1, known.2, refl) }
               (λ j d other e. knows_later c c (turn s) r.holder r.writer r.writer r.stored (k + 1) j (le_refl c) d (r.each_seat j d e) (λ _. refl) (λ _ _ _ same. absurd (other (same ∙ sym known.0)))));
         },
-        (refl, (refl, refl, refl, refl), λ done' k' is'. let e = ap writer_parts (sym is ∙ is') in λ j. Writing ((e j).0) ((e j).1 + 1)),
+        (refl, (refl, refl, refl, refl, refl), λ done' k' is'. let e = ap writer_parts (sym is ∙ is') in λ j. Writing ((e j).0) ((e j).1 + 1)),
       )
 
   pub parts : (id : ℕ) (v : View) → Splits Rule id v v (informed v.run v.floor)
@@ -336,9 +336,9 @@ module _ (run : Run) where
   meets_doing c writer stored j a b la lb has (Reading p f read) h = h
   meets_doing c writer stored j a b la lb has (Writing step k) h = let e = h.1 in (h.0, omega arith, h.2, h.3)
 
-  pub meets : (id : ℕ) (v : View) (other : ℕ) (w : View) → w.turn ≡ false → Joins Rule id v other w record { run = v.run; looks = v.looks; floor = max v.floor w.floor; turn = v.turn; doing = v.doing } (informed None 0)
+  pub meets : (id : ℕ) (v : View) (other : ℕ) (w : View) → w.turn ≡ false → Joins Rule id v other w record { run = v.run; looks = v.looks; floor = max v.floor w.floor; turn = v.turn; refusals = v.refusals; doing = v.doing } (informed None 0)
   meets id v other w free s r at apart there = let c : ℕ = clock s in let k = r.each_seat id v at in let K = Knows run c (turn s) r.holder r.writer r.stored in
-      let both : View = record { run = v.run; looks = v.looks; floor = max v.floor w.floor; turn = v.turn; doing = v.doing } in
+      let both : View = record { run = v.run; looks = v.looks; floor = max v.floor w.floor; turn = v.turn; refusals = v.refusals; doing = v.doing } in
       let kw = r.each_seat other w (sym (set_else s.views id other both apart) ∙ there) in
       let a = k.below_clock in let b = kw.below_clock in record {
         holder = r.holder;
@@ -386,7 +386,7 @@ module _ (run : Run) where
   -- the turn is asked for
   pub takes : (slots id : ℕ) (me : Sat) → IsQuiet me.0.doing → Allows Rule slots id me 1 (λ n. either (eqb n 0) 1 n) (takes_turn (step slots 1 0 1 none) me)
   takes slots id me quiet s r _ at _ = let v : View = me.0 in let k = r.each_seat id v at in dite (ℕ_discrete (turn s) 0)
-      (λ free. let w : View = record { run = v.run; looks = v.looks; floor = v.floor; turn = true; doing = v.doing } in (
+      (λ free. let w : View = record { run = v.run; looks = v.looks; floor = v.floor; turn = true; refusals = v.refusals; doing = v.doing } in (
         w,
         keeps,
         tt,
@@ -395,18 +395,19 @@ module _ (run : Run) where
             (λ j d other e. let kd = r.each_seat j d e in record { names = kd.names; below_clock = kd.below_clock; looks_below = kd.looks_below; has_turn = λ has. let t = (kd.has_turn has).0 in absurd (omega arith); does = kd.does })),
         (refl, (refl, refl, refl, refl), (λ _. refl), λ not. absurd (not free)),
       ))
-      (λ busy. (
-        v,
+      (λ busy. let w : View = record { run = v.run; looks = v.looks; floor = v.floor; turn = v.turn; refusals = v.refusals + 1; doing = v.doing } in (
+        w,
         keeps,
         tt,
-        subst (λ b. Rule (stepped s 1 (either b 1 (turn s)) id me.1 v keeps)) (sym (ne_eqb (turn s) 0 busy)) (unmoved s r 1 id me.1 v v at refl k),
-        (refl, (refl, refl, refl, refl), (λ free. absurd (busy free)), λ _. refl),
+        subst (λ b. Rule (stepped s 1 (either b 1 (turn s)) id me.1 w keeps)) (sym (ne_eqb (turn s) 0 busy))
+            (unmoved s r 1 id me.1 v w at refl record { names = k.names; below_clock = k.below_clock; looks_below = k.looks_below; has_turn = k.has_turn; does = k.does }),
+        (refl, (refl, refl, refl, refl), (λ free. absurd (busy free)), λ _. (refl, refl)),
       ))
 
   -- the turn is given back
   pub gives : (slots id : ℕ) (me : Sat) → IsQuiet me.0.doing → me.0.turn ≡ true → Allows Rule slots id me 1 (λ _. 0) (λ _. gives_turn (step slots 1 0 0 none) me 0)
   gives slots id me quiet mine s r _ at _ = let v : View = me.0 in let k = r.each_seat id v at in
-      let w : View = record { run = v.run; looks = v.looks; floor = v.floor; turn = false; doing = v.doing } in (
+      let w : View = record { run = v.run; looks = v.looks; floor = v.floor; turn = false; refusals = v.refusals; doing = v.doing } in (
         w,
         keeps,
         tt,

@@ -12,6 +12,7 @@ use Rattle.std.specs.Arc.{arc_value}
 use Rattle.std.specs.declared.alloc.Global.{Global}
 use Rattle.std.specs.declared.sync.Arc.{Arc}
 use Rattle.std.proofs.lemmas.List.{get_or-map}
+use Rattle.key_lists.proofs.Parts.{take_front}
 use Rattle.tick_table.specs.Ticking.{Ticking}
 use Rattle.tick_model.specs.declared.table.PlainTable.{PlainTable}
 use Rattle.tick_model.specs.Evaluation.{no_table}
@@ -119,11 +120,7 @@ opens run words o = let clock = o.clock in record {
     seats (suc j) v e = absurd (some-ne-none v (sym e))
 
 pub front : (a b : List ℕ) (n : ℕ) → n ≡ length a → take n (a ++ b) ≡ a
-front a b n e = ap (λ (k : ℕ). take k (a ++ b)) e ∙ whole a b
-  where
-    whole : (a b : List ℕ) → take (length a) (a ++ b) ≡ a
-    whole [] b = refl
-    whole (x ∷ xs) b = ap (λ (z : List ℕ). x ∷ z) (whole xs b)
+front a b n e = ap (λ (k : ℕ). take k (a ++ b)) e ∙ take_front a b
 
 -- the table that is shared, at its place
 pub shared_table : (tables : List (Arc Ticking Global)) (p : ℕ) (shared : Arc Ticking Global) (table : Ticking) → p < length tables → shared ≡ get_or tables p shared → table ≡ arc_value shared

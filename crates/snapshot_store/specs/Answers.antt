@@ -1,6 +1,7 @@
 -- What calls answer.
 --     answer first last      what an attempt answers after these two looks
 --     IsAttempt, IsSnapshot      what an attempt and a snapshot leave, and what they answer
+--     IsRefused      what a snapshot leaves that is not taken
 use Rattle.std.specs.Prelude.{◌≡◌, ℕ, ◌+◌, ◌*◌, ◌<◌, ◌≤◌, List, [], ◌∷◌, ◌++◌, length, ltb, cond, true, false}
 use Rattle.std.specs.List.{All}
 use Rattle.tick_model.specs.Clock.{completed}
@@ -42,6 +43,18 @@ pub record IsSnapshot (run : Run) (number attempts : ℕ) (before after : Caller
   pub locked : result.locked ≡ true → (length moved ≡ attempts) × (result.tries ≡ attempts) × (last ≡ first)
   pub unlocked : result.locked ≡ false → (result.tries ≡ length moved + 1) × (result.tries ≤ attempts)
 
+-- so many attempts that all answer `Moved`
+pub record AreMoved (tries : ℕ) (before after : List ℕ) : Type 0 where
+  pub moved : List (ℕ × ℕ)
+  pub each_moved : All (λ (looks : ℕ × ℕ). 2 * completed looks.0 + 4 ≤ looks.1) moved
+  pub as_many : length moved ≡ tries
+  pub looks : after ≡ before ++ looks_of moved
+  pub not_older : latest before ≤ latest after
+
+-- A snapshot that is not taken: as many attempts as it may make answer `Moved`, and another has the turn.
+abbrev pub IsRefused : ℕ → CallerModel → CallerModel → Type 0
+IsRefused attempts before after = AreMoved attempts before.looks after.looks × (after.refusals ≡ before.refusals + 1)
+
 -- the table has more rows than its limit
 abbrev pub IsFull : ℕ → ℕ → Full → Type 0
 IsFull rows limit full = (limit < rows) × (full.rows ≡ rows) × (full.limit ≡ limit)
@@ -51,6 +64,7 @@ pub record IsReading (run : Run) (number : ℕ) (before after : Place) (words : 
   pub same : IsSamePlace before after
   pub names : after.me.0.run ≡ before.me.0.run
   pub turn : after.me.0.turn ≡ before.me.0.turn
+  pub refusals : after.me.0.refusals ≡ before.me.0.refusals
   pub rests : after.me.0.doing ≡ Rest
   pub looks : after.me.0.looks ≡ (before.me.0.looks ++ first ∷ []) ++ last ∷ []
   pub later : before.me.0.floor ≤ first

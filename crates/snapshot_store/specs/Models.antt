@@ -18,19 +18,21 @@ pub record StoreModel : Type 0 where
   pub table : TableId
   pub run : Run
 
--- the clock values that a caller has looked at, in order, and the words that it read last
+-- the clock values that a caller has looked at, in order, the words that it read last, and how often it was refused the turn
 pub record CallerModel : Type 0 where
   pub table : TableId
   pub run : Option Run
   pub looks : List ℕ
   pub words : List ℕ
+  pub refusals : ℕ
 
--- the last completed step, and what the writer may do next
+-- the last completed step, what the writer may do next, and how often it was refused the turn
 pub record WriterModel : Type 0 where
   pub table : TableId
   pub run : Option Run
   pub step : ℕ
   pub phase : Phase
+  pub refusals : ℕ
 
 pub record NoteModel : Type 0 where
   pub table : TableId

@@ -46,9 +46,9 @@ abbrev pub stores_word : Plays
 stores_word st me found me' = (me'.1 ≡ me.1) × IsSameSight me.0 me'.0
     × ((step stored : ℕ) → me.0.doing ≡ Writing step stored → me'.0.doing ≡ Writing step (stored + 1))
 
--- the turn is taken where it was free
+-- the turn is taken where it was free, and else the seat is refused it
 abbrev pub takes_turn : Plays
-takes_turn st me found me' = (me'.1 ≡ me.1) × IsSameBut me.0 me'.0 × (found ≡ 0 → me'.0.turn ≡ true) × (found ≢ 0 → me'.0.turn ≡ me.0.turn)
+takes_turn st me found me' = (me'.1 ≡ me.1) × IsSameBut me.0 me'.0 × (found ≡ 0 → me'.0.turn ≡ true) × (found ≢ 0 → (me'.0.turn ≡ me.0.turn) × (me'.0.refusals ≡ me.0.refusals + 1))
 
 -- the turn is given back
 abbrev pub gives_turn : Plays

@@ -8,11 +8,11 @@ use Rattle.snapshot_store.specs.declared.board.Doing.TheVariants.{Rest, Looked, 
 
 -- the writer's view at the start
 abbrev pub first_view : Run → View
-first_view run = record { run = Some run; looks = []; floor = 1; turn = false; doing = Writing 0 0 }
+first_view run = record { run = Some run; looks = []; floor = 1; turn = false; refusals = 0; doing = Writing 0 0 }
 
 -- the view of a new seat, which has seen the clock at `floor`
 abbrev pub informed : Option Run → ℕ → View
-informed run floor = record { run = run; looks = []; floor = floor; turn = false; doing = Rest }
+informed run floor = record { run = run; looks = []; floor = floor; turn = false; refusals = 0; doing = Rest }
 
 -- the view of a seat that was joined to another
 abbrev pub spent_view : View
@@ -20,7 +20,7 @@ spent_view = informed None 0
 
 -- what two views have seen
 abbrev pub both_views : View → View → View
-both_views v w = record { run = v.run; looks = v.looks; floor = max v.floor w.floor; turn = v.turn; doing = v.doing }
+both_views v w = record { run = v.run; looks = v.looks; floor = max v.floor w.floor; turn = v.turn; refusals = v.refusals; doing = v.doing }
 
 -- neither a look nor a reading stands between two steps
 abbrev pub IsQuiet : Doing → Type 0
@@ -31,15 +31,15 @@ IsQuiet (Writing step stored) = Unit {0}
 
 -- what neither a read nor a store changes
 abbrev pub IsSameSight : View → View → Type 0
-IsSameSight v w = (w.run ≡ v.run) × (w.looks ≡ v.looks) × (w.floor ≡ v.floor) × (w.turn ≡ v.turn)
+IsSameSight v w = (w.run ≡ v.run) × (w.looks ≡ v.looks) × (w.floor ≡ v.floor) × (w.turn ≡ v.turn) × (w.refusals ≡ v.refusals)
 
--- all but the turn is as it was
+-- all but the turn, and how often it was refused, is as it was
 abbrev pub IsSameBut : View → View → Type 0
 IsSameBut v w = (w.run ≡ v.run) × (w.looks ≡ v.looks) × (w.floor ≡ v.floor) × (w.doing ≡ v.doing)
 
 -- the clock was looked at, and found
 abbrev pub IsLook : View → ℕ → View → Type 0
-IsLook v found w = (w.run ≡ v.run) × (w.looks ≡ v.looks ++ found ∷ []) × (w.floor ≡ found) × (v.floor ≤ found) × (0 < found) × (w.turn ≡ v.turn)
+IsLook v found w = (w.run ≡ v.run) × (w.looks ≡ v.looks ++ found ∷ []) × (w.floor ≡ found) × (v.floor ≤ found) × (0 < found) × (w.turn ≡ v.turn) × (w.refusals ≡ v.refusals)
 
 -- the clock was set, and nothing is stored since
 abbrev pub IsTick : View → ℕ → View → Type 0

@@ -40,6 +40,8 @@ pub struct View {
     pub floor: u64,
     /// Whether it has the turn.
     pub turn: bool,
+    /// How often it has asked for the turn while another had it.
+    pub refusals: u64,
     pub doing: Doing,
 }
 

@@ -1,9 +1,9 @@
 //! Callers, which read whole tables.
 
-ghost use Rattle.std.specs.Prelude.{◌≡◌, ℕ, ◌+◌, ◌*◌, ◌<◌, ◌≤◌, ◌++◌, [], ◌∷◌, length, slice_index, vec_capacity, Some};
+ghost use Rattle.std.specs.Prelude.{◌≡◌, ℕ, ◌+◌, ◌*◌, ◌<◌, ◌≤◌, ◌++◌, [], ◌∷◌, length, slice_index, vec_capacity, IfNone, IfSome, Some};
 ghost use Rattle.tick_model.specs.Clock.{completed};
 ghost use Rattle.tick_model.specs.Words.{line};
-ghost use Rattle.snapshot_store.specs.Answers.{IsAttempt, IsReading, IsSnapshot};
+ghost use Rattle.snapshot_store.specs.Answers.{IsAttempt, IsReading, IsRefused, IsSnapshot};
 ghost use Rattle.snapshot_store.specs.Lines.{count, size, width};
 ghost use Rattle.snapshot_store.specs.Looks.{NeverFalls, latest};
 ghost use Rattle.snapshot_store.specs.Models.{IsOf, IsSamePlace};
@@ -17,12 +17,14 @@ use crate::store::Store;
 use logical_clock::ClockValue;
 use std::marker::Model;
 use std::sync::Wait;
+use std::thread;
 
 // How far the clock may go past the step completed at the first look: from its idle value until the next step is completed.
 // A later step is stored over its words.
 const NEAR: u64 = 4;
 
-/// A caller reads whole tables. Contracts see the clock values that it has looked at and the words that it read last.
+/// A caller reads whole tables. Contracts see the clock values that it has looked at, the words that it read last, and how
+/// often it has asked for the turn while another had it.
 #[derive(Drop)]
 pub struct Caller {
     pub(crate) place: Place,
@@ -42,7 +44,7 @@ impl Model for Caller {
 
     ghost coded = { Prim.hlevel (codes, expr.the_row.coded, pred.the_row.coded) };
 
-    ghost view = { λ c. record { table = c.place.table_id; run = c.place.me.0.run; looks = c.place.me.0.looks; words = c.words.items } };
+    ghost view = { λ c. record { table = c.place.table_id; run = c.place.me.0.run; looks = c.place.me.0.looks; words = c.words.items; refusals = c.place.me.0.refusals } };
 
     ghost invariant = { λ c. IsCalling c.place c.seen (vec_capacity c.words) };
 }
@@ -123,6 +125,7 @@ impl Store {
         requires number { number < count self.now.run }
         ensures own { IsOf self.now caller.new.table caller.new.run }
         ensures attempt { IsAttempt self.now.run number caller.old caller.new result }
+        ensures refusals { caller.new.refusals ≡ caller.old.refusals }
         ensures rises { NeverFalls 1 caller.new.looks }
     {
         let (first, last) = self.read(&mut caller.place, &mut caller.words, number);
@@ -135,19 +138,49 @@ impl Store {
         }
     }
 
-    // With the turn the first reading is taken. The step whose words were taken.
-    fn read_with_turn<R: Wait>(&self, rt: &R, caller: &mut Caller, number: u32) -> u64
+    // With the turn, where it is free, the first reading is taken. The step whose words were taken.
+    fn read_with_turn(&self, caller: &mut Caller, number: u32) -> Option<u64>
         requires own { IsOf self.now caller.old.table caller.old.run }
         requires number { number < count self.now.run }
         ensures own { IsOf self.now caller.new.table caller.new.run }
-        ensures reading { (first : ℕ) × (caller.new.looks ≡ caller.old.looks ++ first ∷ first ∷ []) × (result ≡ completed first) × (latest caller.old.looks ≤ completed first) × (caller.new.words ≡ line self.now.run (completed first) number) }
+        ensures reading { IfSome result (λ step. (first : ℕ) × (caller.new.looks ≡ caller.old.looks ++ first ∷ first ∷ []) × (step ≡ completed first) × (latest caller.old.looks ≤ completed first) × (caller.new.words ≡ line self.now.run (completed first) number)) }
+        ensures refused { IfNone result ((caller.new.looks ≡ caller.old.looks) × (caller.new.refusals ≡ caller.old.refusals + 1)) }
         ensures rises { NeverFalls 1 caller.new.looks }
     {
-        self.take_turn(rt, &mut caller.place);
+        if !self.try_turn(&mut caller.place) {
+            return None;
+        }
         let (first, last) = self.read(&mut caller.place, &mut caller.words, number);
         self.give_turn(&mut caller.place);
         caller.seen = last;
-        ClockValue(first).completed()
+        Some(ClockValue(first).completed())
+    }
+
+    /// Takes a table by at most so many attempts, and then, where no other has it, with the turn, which it gives back. It never
+    /// waits: where each attempt answers `Moved` and another has the turn, it answers `None`.
+    pub fn try_snapshot(&self, caller: &mut Caller, number: u32, attempts: u32) -> Option<Taken>
+        requires own { IsOf self.now caller.old.table caller.old.run }
+        requires number { number < count self.now.run }
+        ensures own { IsOf self.now caller.new.table caller.new.run }
+        ensures snapshot { IfSome result (IsSnapshot self.now.run number attempts caller.old caller.new) }
+        ensures refused { IfNone result (IsRefused attempts caller.old caller.new) }
+        ensures rises { NeverFalls 1 caller.new.looks }
+    {
+        for tried in 0..attempts {
+            if let Attempt::Taken { step } = self.attempt(caller, number) {
+                return Some(Taken {
+                    step,
+                    tries: tried + 1,
+                    locked: false,
+                });
+            }
+        }
+        let step = self.read_with_turn(caller, number)?;
+        Some(Taken {
+            step,
+            tries: attempts,
+            locked: true,
+        })
     }
 
     /// Takes a table: by at most so many attempts, and then with the turn, for which it may wait and which it gives back.
@@ -164,19 +197,18 @@ impl Store {
         ensures snapshot { IsSnapshot self.now.run number attempts caller.old caller.new result }
         ensures rises { NeverFalls 1 caller.new.looks }
     {
-        for tried in 0..attempts {
-            if let Attempt::Taken { step } = self.attempt(caller, number) {
+        if let Some(taken) = self.try_snapshot(caller, number, attempts) {
+            return taken;
+        }
+        for _ in rt.forever() {
+            thread::yield_now();
+            if let Some(taken) = self.try_snapshot(caller, number, 0) {
                 return Taken {
-                    step,
-                    tries: tried + 1,
-                    locked: false,
+                    tries: attempts,
+                    ..taken
                 };
             }
         }
-        Taken {
-            step: self.read_with_turn(rt, caller, number),
-            tries: attempts,
-            locked: true,
-        }
+        unreachable!()
     }
 }

@@ -1,6 +1,6 @@
 //! The writer, which publishes step after step.
 
-ghost use Rattle.std.specs.Prelude.{◌≡◌, ◌≢◌, ◌+◌, ◌^◌, ◌<◌, ◌≤◌, ◌%◌, length, slice_index, MatchResult, Some};
+ghost use Rattle.std.specs.Prelude.{◌≡◌, ◌≢◌, ◌+◌, ◌^◌, ◌<◌, ◌≤◌, ◌%◌, length, slice_index, IsFalse, IsTrue, MatchResult, Some};
 ghost use Rattle.tick_model.specs.Clock.{updating};
 ghost use Rattle.tick_laws.specs.Reached.{KeepsRules};
 ghost use Rattle.snapshot_store.specs.Answers.{IsFull};
@@ -17,6 +17,7 @@ use crate::store::Store;
 use logical_clock::ClockValue;
 use std::marker::Model;
 use std::sync::Wait;
+use std::thread;
 use tick_table::TickTable;
 
 /// What a writer may do next.
@@ -33,7 +34,8 @@ pub enum Phase {
     Left,
 }
 
-/// The writer publishes the tables of step after step. Contracts see the last completed step and what it may do next.
+/// The writer publishes the tables of step after step. Contracts see the last completed step, what it may do next, and how
+/// often it has asked for the turn while a caller had it.
 #[derive(Drop)]
 pub struct Writer {
     pub(crate) place: Place,
@@ -54,12 +56,34 @@ impl Model for Writer {
 
     ghost coded = { Prim.hlevel (codes, expr.the_row.coded, pred.the_row.coded) };
 
-    ghost view = { λ w. record { table = w.place.table_id; run = w.place.me.0.run; step = w.step; phase = w.phase } };
+    ghost view = { λ w. record { table = w.place.table_id; run = w.place.me.0.run; step = w.step; phase = w.phase; refusals = w.place.me.0.refusals } };
 
     ghost invariant = { λ w. IsWriting w.place w.step w.phase (vec_capacity w.words) };
 }
 
 impl Store {
+    /// Begins the next step where no caller has the turn: it takes the turn, and sets the clock to updating. It never waits:
+    /// where a caller has the turn it answers false, and nothing is begun.
+    pub fn try_begin(&self, writer: &mut Writer) -> bool
+        requires own { IsOf self.now writer.old.table writer.old.run }
+        requires idle { writer.old.phase ≡ Phase.Idle }
+        requires room { writer.old.step + 1 < 2 ^ 62 }
+        ensures own { IsOf self.now writer.new.table writer.new.run }
+        ensures step { writer.new.step ≡ writer.old.step }
+        ensures begun { IsTrue result → writer.new.phase ≡ Phase.Begun 0 }
+        ensures refused { IsFalse result → (writer.new.phase ≡ Phase.Idle) × (writer.new.refusals ≡ writer.old.refusals + 1) }
+    {
+        if !self.try_turn(&mut writer.place) {
+            return false;
+        }
+        let clock = ClockValue::updating(writer.step + 1);
+        self.board
+            .shared
+            .store::<SetClock>(&mut writer.place, 0, clock.0);
+        writer.phase = Phase::Begun(0);
+        true
+    }
+
     /// Begins the next step: it takes the turn, for which it waits while a caller has it, and sets the clock to updating.
     pub fn begin<R: Wait>(&self, rt: &R, writer: &mut Writer)
         requires own { IsOf self.now writer.old.table writer.old.run }
@@ -69,12 +93,13 @@ impl Store {
         ensures step { writer.new.step ≡ writer.old.step }
         ensures phase { writer.new.phase ≡ Phase.Begun 0 }
     {
-        self.take_turn(rt, &mut writer.place);
-        let clock = ClockValue::updating(writer.step + 1);
-        self.board
-            .shared
-            .store::<SetClock>(&mut writer.place, 0, clock.0);
-        writer.phase = Phase::Begun(0);
+        for _ in rt.forever() {
+            if self.try_begin(writer) {
+                return;
+            }
+            thread::yield_now();
+        }
+        unreachable!()
     }
 
     // Stores a table's words in the bank of the step that follows `step`.

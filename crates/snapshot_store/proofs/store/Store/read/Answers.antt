@@ -53,6 +53,7 @@ returns-clause-reading c = let t = c.load-first.ensures in let u = c.load-rows.e
       same = (z.0 ∙ (g.0.0 ∙ (u.0 ∙ t.0)), z.1 ∙ (g.0.1 ∙ (u.1 ∙ t.1)), z.2.0 ∙ (g.0.2 ∙ (u.2.0 ∙ t.2.0)));
       names = z.2.1.0 ∙ (g.1.0 ∙ (u.2.1.0 ∙ t.2.1.0));
       turn = z.2.1.5 ∙ turn;
+      refusals = z.2.1.6 ∙ (g.1.4 ∙ (u.2.1.4 ∙ t.2.1.6));
       rests = z.2.2;
       looks = z.2.1.1 ∙ ap (λ (l : List ℕ). l ++ c.load-last.result ∷ []) (g.1.1 ∙ (u.2.1.1 ∙ t.2.1.1));
       later = t.2.1.3;

@@ -26,7 +26,7 @@ load-word-requires c = let p = place_read c.self.inside.board.shared.key.value c
 
 pub loop-i-preserved : goal.loop-i-preserved
 loop-i-preserved c = let t = c.load-word.ensures in let old = c.loop-i.invariant.stays in let s = t.2.1 in let more = c.push_reserved.ensures in record {
-  stays = ((t.0 ∙ old.0.0, t.1 ∙ old.0.1, t.2.0 ∙ old.0.2), (s.0 ∙ old.1.0, s.1 ∙ old.1.1, s.2 ∙ old.1.2, s.3 ∙ old.1.3));
+  stays = ((t.0 ∙ old.0.0, t.1 ∙ old.0.1, t.2.0 ∙ old.0.2), (s.0 ∙ old.1.0, s.1 ∙ old.1.1, s.2 ∙ old.1.2, s.3 ∙ old.1.3, s.4 ∙ old.1.4));
   reading = t.2.2 c.args.number c.args.first c.loop-i.words.items c.loop-i.invariant.reading ∙ ap (λ z. Reading c.args.number c.args.first z) (sym more.items);
   as_many = omega arith;
   head = ap (λ (z : List ℕ). get_or z 0 0) more.items ∙ (get_or-append c.loop-i.words.items (c.load-word.result ∷ []) 0 0 (omega arith) ∙ c.loop-i.invariant.head);
