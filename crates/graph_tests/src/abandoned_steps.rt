@@ -1,10 +1,10 @@
-//! A step that is begun and abandoned: what attempts take before it, within it and after it.
+//! A step that is begun and abandoned, and one that is published: what callers take before it, within it and after it.
 
 ghost use Rattle.std.specs.Prelude.{◌≡◌, ◌*◌, ◌++◌, ◌^◌, ◌<◌, [], ◌∷◌, All, IfOk, IfSome, OnOk, None, length, pos};
 ghost use Rattle.tick_model.specs.Changes.{changed, told_keys};
 ghost use Rattle.tick_model.specs.Rules.{update_fault};
 ghost use Rattle.tick_model.specs.Tables.{keys};
-ghost use Rattle.snapshot_store.specs.Example.{example, example_batch, example_columns, example_plan, example_row, example_table, add_row, adds, first_rows};
+ghost use Rattle.snapshot_store.specs.Example.{example, example_batch, example_columns, example_plan, example_row, example_table, add_row, adds, first_rows, second_rows};
 ghost use Rattle.snapshot_store.specs.Lines.{count};
 ghost use Rattle.snapshot_store.specs.Models.{IsNewCaller, IsOf};
 
@@ -181,6 +181,14 @@ fn first_table(alloc: Global) -> Result<TickTable, AllocError>
     with_row(alloc, table, 3, 7)
 }
 
+/// What is published after the first step.
+fn second_table(alloc: Global) -> Result<TickTable, AllocError>
+    ensures { IfOk result (λ table. table.new ≡ example_table second_rows) }
+{
+    let table = first_table(alloc)?;
+    with_row(alloc, table, 4, 8)
+}
+
 /// The store of the run.
 fn start(
     alloc: Global,
@@ -231,14 +239,14 @@ fn last(store: &Store, callers: Items<Caller>) -> Option<Caller>
     callers.pop()
 }
 
-/// Whether an attempt before a step that is abandoned, one within it and one after it take the opening, and what the caller
-/// has seen in the end.
+/// Whether an attempt before a step that is abandoned, one within it and one after it take the opening, whether the turn is
+/// refused to the caller within it, and what the caller has seen in the end.
 fn abandoned_step<R: Wait>(
     rt: &R,
     store: &Store,
     writer: &mut Writer,
     caller: &mut Caller,
-) -> ([bool; 3], u64)
+) -> ([bool; 4], u64)
     requires writer { IsOf store.now writer.old.table writer.old.run }
     requires caller { IsOf store.now caller.old.table caller.old.run }
     requires one { count store.now.run ≡ 1 }
@@ -247,13 +255,14 @@ fn abandoned_step<R: Wait>(
     let before = takes(store, caller, 0, &[1, 3, 7]);
     store.begin(rt, writer);
     let within = takes(store, caller, 0, &[1, 3, 7]);
+    let refused = store.try_snapshot(caller, 0, 0).is_none();
     store.abandon(writer);
     let latest = told(store, writer, caller);
     let after = takes(store, caller, 0, &[1, 3, 7]);
-    ([before, within, after], latest)
+    ([before, within, refused, after], latest)
 }
 
-fn abandoned<R: Wait>(rt: &R, alloc: Global) -> Result<Option<([bool; 3], u64)>, AllocError> {
+fn abandoned<R: Wait>(rt: &R, alloc: Global) -> Result<Option<([bool; 4], u64)>, AllocError> {
     let run = run(alloc)?;
     let (store, mut writer, callers) = start(alloc, &run, 1)?;
     let Some(mut caller) = last(&store, callers) else {
@@ -264,6 +273,45 @@ fn abandoned<R: Wait>(rt: &R, alloc: Global) -> Result<Option<([bool; 3], u64)>,
 
 #[test]
 fn an_abandoned_step_changes_nothing(rt: HostRuntime) -> Result<(), Fail> {
-    assert!(rt; abandoned(&rt, rt.alloc())? == Some(([true, true, true], 0)));
+    assert!(rt; abandoned(&rt, rt.alloc())? == Some(([true, true, true, true], 0)));
+    Ok(())
+}
+
+/// Whether an attempt takes the opening, and one after the first step that step, of which the caller was not told.
+fn published_step<R: Wait>(
+    rt: &R,
+    store: &Store,
+    writer: &mut Writer,
+    caller: &mut Caller,
+    table: &TickTable,
+) -> bool
+    requires writer { IsOf store.now writer.old.table writer.old.run }
+    requires caller { IsOf store.now caller.old.table caller.old.run }
+    requires run { store.now.run ≡ example }
+    requires idle { (writer.old.phase ≡ Phase.Idle) × (writer.old.step ≡ 0) }
+    requires table { table.now.new ≡ example_table second_rows }
+{
+    let before = takes(store, caller, 0, &[1, 3, 7]);
+    store.begin(rt, writer);
+    match store.put(writer, 0, table) {
+        Ok(()) => store.finish(writer),
+        Err(_) => return false,
+    }
+    before && takes(store, caller, 1, &[2, 3, 7, 4, 8])
+}
+
+fn published<R: Wait>(rt: &R, alloc: Global) -> Result<Option<bool>, AllocError> {
+    let run = run(alloc)?;
+    let (store, mut writer, callers) = start(alloc, &run, 1)?;
+    let Some(mut caller) = last(&store, callers) else {
+        return Ok(None);
+    };
+    let table = second_table(alloc)?;
+    Ok(Some(published_step(rt, &store, &mut writer, &mut caller, &table)))
+}
+
+#[test]
+fn an_attempt_takes_a_step_of_which_its_caller_was_not_told(rt: HostRuntime) -> Result<(), Fail> {
+    assert!(rt; published(&rt, rt.alloc())? == Some(true));
     Ok(())
 }

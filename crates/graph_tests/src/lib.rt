@@ -1,4 +1,5 @@
-//! Tests with ample memory of the public calls of `update_graph` over a crew of `steal_workers`, and of a step of `snapshot_store` that is abandoned.
+//! Tests with ample memory of the public calls of `update_graph` over a crew of `steal_workers`, and of steps of `snapshot_store`, one that is
+//! abandoned and one that is published.
 
 #![tactic(auto)]
 

@@ -4,13 +4,13 @@ use Rattle.std.specs.Prelude.{map, flat_map, slice_index, slice_index_or}
 use Rattle.std.specs.List.{AllByRecursion}
 use Rattle.std.proofs.lemmas.Grind.{flat_map-append}
 use Rattle.std.proofs.lemmas.List.{at_drop_all, at_drop_more, get_or-map, length-map}
+use Rattle.key_lists.proofs.Parts.{every_at}
 use Rattle.tick_laws.specs.Reached.{IsReached}
 use Rattle.tick_model.specs.declared.feed.Run.{Run}
 use Rattle.tick_model.specs.Texts.{calls_records, callers_records, record_text, records_text, snapshot_records}
 use Rattle.tick_model.specs.Words.{line}
 use Rattle.replay.specs.declared.readers.KeptSnapshot.{KeptSnapshot}
 use Rattle.replay.specs.Snapshots.{AreLast, AreTaken, IsLastOf, all_steps, steps_of, table_number}
-use Rattle.replay.proofs.PublishedTables.{at_each}
 
 module _ (run : Run) where
   -- what a caller's calls from one on print
@@ -20,30 +20,30 @@ module _ (run : Run) where
   abbrev pub callers_text : ℕ → List (List KeptSnapshot) → List ℕ
   callers_text caller all = records_text (callers_records run caller (all_steps all))
 
-  taken_at : (d : KeptSnapshot) (caller : ℕ) (kept : List KeptSnapshot) (i call : ℕ) → i < length kept → AreTaken run caller call kept → (get_or kept i d).words ≡ line run (get_or kept i d).step (table_number run caller (call + i))
+  taken_at : (d : KeptSnapshot) (caller : ℕ) (kept : List KeptSnapshot) (i call : ℕ) → i < length kept → AreTaken run caller call kept → (get_or kept i d).words ≡ line run (get_or kept i d).taken.step (table_number run caller (call + i))
   taken_at d caller [] i call less taken = absurd (omega (arith, less))
   taken_at d caller (first ∷ others) zero call less taken =
       let same : call ≡ call + 0 = omega arith in
-      taken.0 ∙ ap (λ n. line run first.step (table_number run caller n)) same
+      taken.0 ∙ ap (λ n. line run first.taken.step (table_number run caller n)) same
   taken_at d caller (first ∷ others) (suc i) call less taken =
       let same : call + 1 + i ≡ call + suc i = omega arith in
-      taken_at d caller others i (call + 1) (omega (arith, less)) taken.1 ∙ ap (λ n. line run (get_or others i d).step (table_number run caller n)) same
+      taken_at d caller others i (call + 1) (omega (arith, less)) taken.1 ∙ ap (λ n. line run (get_or others i d).taken.step (table_number run caller n)) same
 
   module _ (caller i : ℕ) (kept : List KeptSnapshot) (snapshot : KeptSnapshot) (less : i < length kept) (is : snapshot ≡ get_or kept i snapshot) where
-    pub call_next : calls_text caller i (drop i kept) ≡ records_text (snapshot_records run caller i snapshot.step) ++ calls_text caller (i + 1) (drop (i + 1) kept)
+    pub call_next : calls_text caller i (drop i kept) ≡ records_text (snapshot_records run caller i snapshot.taken.step) ++ calls_text caller (i + 1) (drop (i + 1) kept)
     call_next =
         at_drop_more (calls_text caller i) kept i snapshot less
         ∙ ap (λ (k : KeptSnapshot). calls_text caller i (k ∷ drop (i + 1) kept)) (sym is)
-        ∙ flat_map-append record_text (snapshot_records run caller i snapshot.step) (calls_records run caller (i + 1) (steps_of (drop (i + 1) kept)))
+        ∙ flat_map-append record_text (snapshot_records run caller i snapshot.taken.step) (calls_records run caller (i + 1) (steps_of (drop (i + 1) kept)))
 
-    pub call_taken : AreTaken run caller 0 kept → snapshot.words ≡ line run snapshot.step (table_number run caller i)
+    pub call_taken : AreTaken run caller 0 kept → snapshot.words ≡ line run snapshot.taken.step (table_number run caller i)
     call_taken taken =
         let same : 0 + i ≡ i = omega arith in
-        subst (λ (k : KeptSnapshot). k.words ≡ line run k.step (table_number run caller i)) (sym is)
-        (taken_at snapshot caller kept i 0 less taken ∙ ap (λ n. line run (get_or kept i snapshot).step (table_number run caller n)) same)
+        subst (λ (k : KeptSnapshot). k.words ≡ line run k.taken.step (table_number run caller i)) (sym is)
+        (taken_at snapshot caller kept i 0 less taken ∙ ap (λ n. line run (get_or kept i snapshot).taken.step (table_number run caller n)) same)
 
-    pub call_reached : AllByRecursion (λ (k : KeptSnapshot). IsReached run k.step) kept → IsReached run snapshot.step
-    call_reached all = subst (λ (k : KeptSnapshot). IsReached run k.step) (sym is) (at_each (λ (k : KeptSnapshot). IsReached run k.step) kept i snapshot all less)
+    pub call_reached : AllByRecursion (λ (k : KeptSnapshot). IsReached run k.taken.step) kept → IsReached run snapshot.taken.step
+    call_reached all = subst (λ (k : KeptSnapshot). IsReached run k.taken.step) (sym is) (every_at (λ (k : KeptSnapshot). IsReached run k.taken.step) kept i snapshot less all)
 
   pub calls_end : (caller call i : ℕ) (kept : List KeptSnapshot) → length kept ≤ i → calls_text caller call (drop i kept) ≡ []
   calls_end caller call i kept past = at_drop_all (calls_text caller call) kept i past
@@ -79,4 +79,4 @@ comes_next done piece rest text whole before next =
 
 -- a caller has kept one snapshot more than it takes beside the run
 pub length_kept : (run : Run) (snaps last caller : ℕ) (kept : List KeptSnapshot) → IsLastOf run snaps last caller kept → length kept ≡ snaps + 1
-length_kept run snaps last caller kept ends = sym (length-map kept (λ (k : KeptSnapshot). k.step)) ∙ ends.calls.count
+length_kept run snaps last caller kept ends = sym (length-map kept (λ (k : KeptSnapshot). k.taken.step)) ∙ ends.calls.count

@@ -2,7 +2,7 @@
 use Rattle.std.proofs.Common.{◌≡◌, refl, sym, ap, ◌∙◌, subst, ℕ, zero, suc, ◌+◌, ◌<◌, ◌≤◌, ◌++◌, arith, append_assoc, length, length-append, List, [], ◌∷◌, get_or, Result, Ok, Err}
 use Rattle.std.specs.Prelude.{OnOk, map, slice_index}
 use Rattle.std.specs.List.{AllByRecursion}
-use Rattle.std.proofs.lemmas.List.{get_or_push, length-map, map_push}
+use Rattle.std.proofs.lemmas.List.{append-nil, get_or_push, length-map, map_push}
 use Rattle.key_lists.proofs.Every.{every_weaker}
 use Rattle.snapshot_store.specs.Answers.{IsSnapshot}
 use Rattle.snapshot_store.specs.declared.answers.Taken.{Taken}
@@ -13,20 +13,20 @@ use Rattle.tick_model.specs.declared.feed.Run.{Run}
 use Rattle.tick_model.specs.Choices.{NeverFalls}
 use Rattle.tick_model.specs.Words.{line}
 use Rattle.replay.specs.declared.readers.KeptSnapshot.{KeptSnapshot}
-use Rattle.replay.specs.Snapshots.{AreTaken, HasKept, steps_of, table_number}
+use Rattle.replay.specs.Snapshots.{AreTaken, AreTried, HasKept, steps_of, table_number}
 
 pub all_more : {X : Type 0} (P : X → Type 0) (xs : List X) (y : X) → AllByRecursion P xs → P y → AllByRecursion P (xs ++ y ∷ [])
 all_more P [] y all here = (here, tt)
 all_more P (x ∷ xs) y all here = (all.0, all_more P xs y all.1 here)
 
-taken_more : (run : Run) (caller call : ℕ) (all : List KeptSnapshot) (kept : KeptSnapshot) → AreTaken run caller call all → kept.words ≡ line run kept.step (table_number run caller (call + length all)) →
+taken_more : (run : Run) (caller call : ℕ) (all : List KeptSnapshot) (kept : KeptSnapshot) → AreTaken run caller call all → kept.words ≡ line run kept.taken.step (table_number run caller (call + length all)) →
     AreTaken run caller call (all ++ kept ∷ [])
 taken_more run caller call [] kept taken is =
     let same : call + 0 ≡ call = omega arith in
-    (is ∙ ap (λ n. line run kept.step (table_number run caller n)) same, tt)
+    (is ∙ ap (λ n. line run kept.taken.step (table_number run caller n)) same, tt)
 taken_more run caller call (first ∷ others) kept taken is =
     let same : call + suc (length others) ≡ call + 1 + length others = omega arith in
-    (taken.0, taken_more run caller (call + 1) others kept taken.1 (is ∙ ap (λ n. line run kept.step (table_number run caller n)) same))
+    (taken.0, taken_more run caller (call + 1) others kept taken.1 (is ∙ ap (λ n. line run kept.taken.step (table_number run caller n)) same))
 
 steps_more : (steps : List ℕ) (step : ℕ) → NeverFalls steps → AllByRecursion (λ k. k ≤ step) steps → NeverFalls (steps ++ step ∷ [])
 steps_more [] step falls below = (tt, tt)
@@ -42,20 +42,34 @@ module _ (run : Run) (caller calls seen : ℕ) (all : List KeptSnapshot) (has : 
   }
 
   module _ (kept : KeptSnapshot) where
-    steps_are : steps_of (all ++ kept ∷ []) ≡ steps_of all ++ kept.step ∷ []
-    steps_are = map_push (λ (k : KeptSnapshot). k.step) all kept
+    steps_are : steps_of (all ++ kept ∷ []) ≡ steps_of all ++ kept.taken.step ∷ []
+    steps_are = map_push (λ (k : KeptSnapshot). k.taken.step) all kept
 
-    pub kept_more : (later : ℕ) → seen ≤ kept.step → kept.step ≤ later → kept.words ≡ line run kept.step (table_number run caller calls) → HasKept run caller (calls + 1) later (all ++ kept ∷ [])
+    pub kept_more : (later : ℕ) → seen ≤ kept.taken.step → kept.taken.step ≤ later → kept.words ≡ line run kept.taken.step (table_number run caller calls) → HasKept run caller (calls + 1) later (all ++ kept ∷ [])
     kept_more later not_older within is = record {
       count_is = omega (arith, length-append all (kept ∷ []), has.count_is);
-      taken = taken_more run caller 0 all kept has.taken (is ∙ ap (λ n. line run kept.step (table_number run caller n)) (let same : calls ≡ 0 + length all = omega (arith, has.count_is) in same));
-      never_falls = subst NeverFalls (sym steps_are) (steps_more (steps_of all) kept.step has.never_falls (every_weaker (λ k. k ≤ seen) (λ k. k ≤ kept.step) (steps_of all) (λ k below. omega (arith, below, not_older)) has.none_past));
+      taken = taken_more run caller 0 all kept has.taken (is ∙ ap (λ n. line run kept.taken.step (table_number run caller n)) (let same : calls ≡ 0 + length all = omega (arith, has.count_is) in same));
+      never_falls = subst NeverFalls (sym steps_are) (steps_more (steps_of all) kept.taken.step has.never_falls (every_weaker (λ k. k ≤ seen) (λ k. k ≤ kept.taken.step) (steps_of all) (λ k below. omega (arith, below, not_older)) has.none_past));
       none_past = subst (AllByRecursion (λ k. k ≤ later)) (sym steps_are)
-          (all_more (λ k. k ≤ later) (steps_of all) kept.step (every_weaker (λ k. k ≤ seen) (λ k. k ≤ later) (steps_of all) (λ k below. omega (arith, below, not_older, within)) has.none_past) within);
+          (all_more (λ k. k ≤ later) (steps_of all) kept.taken.step (every_weaker (λ k. k ≤ seen) (λ k. k ≤ later) (steps_of all) (λ k below. omega (arith, below, not_older, within)) has.none_past) within);
     }
 
-    pub last_kept : slice_index (steps_of (all ++ kept ∷ [])) calls ≡ kept.step
-    last_kept = ap (λ steps. get_or steps calls 0) steps_are ∙ get_or_push (steps_of all) kept.step 0 calls (length-map all (λ (k : KeptSnapshot). k.step) ∙ has.count_is)
+    pub last_kept : slice_index (steps_of (all ++ kept ∷ [])) calls ≡ kept.taken.step
+    last_kept = ap (λ steps. get_or steps calls 0) steps_are ∙ get_or_push (steps_of all) kept.taken.step 0 calls (length-map all (λ (k : KeptSnapshot). k.taken.step) ∙ has.count_is)
+
+module _ (run : Run) (attempts caller : ℕ) where
+  pub tried_more : (call : ℕ) (seen : List ℕ) (before after : CallerModel) (all : List KeptSnapshot) (kept : KeptSnapshot) → AreTried run attempts caller call seen before.looks all
+      → IsSnapshot run (table_number run caller (call + length all)) attempts before after kept.taken → AreTried run attempts caller call seen after.looks (all ++ kept ∷ [])
+  tried_more call seen before after [] kept tried is =
+      let same : call + 0 ≡ call = omega arith in
+      (before, after, tried.0, tried.1, subst (λ n. IsSnapshot run (table_number run caller n) attempts before after kept.taken) same is, ([], sym (append-nil after.looks)))
+  tried_more call seen before after (first ∷ others) kept tried is =
+      let same : call + suc (length others) ≡ call + 1 + length others = omega arith in
+      (tried.0, tried.1, tried.2, tried.3, tried.4, tried_more (call + 1) tried.1.looks before after others kept tried.5 (subst (λ n. IsSnapshot run (table_number run caller n) attempts before after kept.taken) same is))
+
+  pub tried_later : (call : ℕ) (seen looks later more : List ℕ) (all : List KeptSnapshot) → later ≡ looks ++ more → AreTried run attempts caller call seen looks all → AreTried run attempts caller call seen later all
+  tried_later call seen looks later more [] longer tried = (tried.0 ++ more, longer ∙ ap (λ z. z ++ more) tried.1 ∙ append_assoc seen tried.0 more)
+  tried_later call seen looks later more (first ∷ others) longer tried = (tried.0, tried.1, tried.2, tried.3, tried.4, tried_later (call + 1) tried.1.looks looks later more others longer tried.5)
 
 -- what the looks of a snapshot say
 last_two : (d : ℕ) (xs : List ℕ) (a b : ℕ) → last_or d (xs ++ a ∷ b ∷ []) ≡ b

@@ -1,9 +1,12 @@
 -- The callers and what they have kept, as lists.
-use Rattle.std.proofs.Common.{◌≡◌, refl, sym, ap, ◌∙◌, subst, ℕ, zero, suc, ◌+◌, ◌<◌, ◌≤◌, ◌++◌, arith, length, List, [], ◌∷◌, take, drop, get_or}
+use Rattle.std.proofs.Common.{◌≡◌, refl, sym, ap, ◌∙◌, subst, Bool, true, false, ℕ, zero, suc, ◌+◌, ◌<◌, ◌≤◌, ◌++◌, arith, length, List, [], ◌∷◌, take, drop, get_or}
 use Rattle.std.specs.Prelude.{map, slice_index}
 use Rattle.std.specs.List.{All, AllByRecursion}
 use Rattle.std.proofs.lemmas.List.{append-nil, drop_all, take_all}
 use Rattle.key_lists.proofs.Every.{every_weaker}
+use Rattle.key_lists.proofs.Parts.{every_at}
+use Rattle.snapshot_store.specs.Answers.{IsSnapshot}
+use Rattle.snapshot_store.specs.declared.answers.Taken.{Taken}
 use Rattle.snapshot_store.specs.Looks.{latest}
 use Rattle.snapshot_store.specs.Models.{CallerModel, IsNewCaller, IsOf, StoreModel}
 use Rattle.tick_laws.specs.Reached.{IsReached}
@@ -12,18 +15,18 @@ use Rattle.tick_model.specs.declared.feed.Run.{Run}
 use Rattle.tick_model.specs.Choices.{IsCalls}
 use Rattle.replay.specs.declared.readers.KeptSnapshot.{KeptSnapshot}
 use Rattle.replay.specs.declared.readers.Reader.{Reader}
-use Rattle.replay.specs.Snapshots.{AreLast, EachReader, HasEnded, HasKept, IsLastOf, IsReader, steps_of}
-use Rattle.replay.proofs.PublishedTables.{at_each}
+use Rattle.replay.specs.Snapshots.{AreLast, AreTried, EachReader, HasEnded, HasKept, IsLastOf, IsReader, IsTaking, steps_of, table_number}
 
 -- a caller that has kept nothing
 pub record IsNewReader (store : StoreModel) (reader : Reader) : Type 0 where
   pub new : IsNewCaller store reader.caller
   pub nothing : reader.kept ≡ []
 
-pub new_is_reader : (store : StoreModel) (caller : ℕ) (reader : Reader) → IsNewReader store reader → IsReader store caller 0 reader
-new_is_reader store caller reader is = record {
+pub new_is_reader : (store : StoreModel) (attempts caller : ℕ) (reader : Reader) → IsNewReader store reader → IsReader store attempts caller 0 reader
+new_is_reader store attempts caller reader is = record {
   own = (is.new.0, is.new.1);
   kept_are = subst (HasKept store.run caller 0 (latest reader.caller.looks)) (sym is.nothing) (record { count_is = refl; taken = tt; never_falls = tt; none_past = tt });
+  tried = subst (AreTried store.run attempts caller 0 [] reader.caller.looks) (sym is.nothing) (reader.caller.looks, refl);
 }
 
 -- a slice that is all of a list, written back
@@ -37,10 +40,32 @@ owned store [] each k d less = absurd (omega (arith, less))
 owned store (reader ∷ others) each zero d less = each 0 reader (omega arith)
 owned store (reader ∷ others) each (suc k) d less = owned store others (λ i e within. each (suc i) e (omega (arith, within))) k d (omega (arith, less))
 
-pub callers_owned : (store : StoreModel) (snaps step : ℕ) (readers : List Reader) → EachReader (λ i. HasEnded store i snaps step) readers → (callers : List CallerModel) → callers ≡ map (λ (reader : Reader). reader.caller) readers
+pub callers_owned : (store : StoreModel) (attempts snaps step : ℕ) (readers : List Reader) → EachReader (λ i. HasEnded store attempts i snaps step) readers → (callers : List CallerModel) → callers ≡ map (λ (reader : Reader). reader.caller) readers
     → All (λ (c : CallerModel). IsOf store c.table c.run) callers
-callers_owned store snaps step readers each callers are =
+callers_owned store attempts snaps step readers each callers are =
     subst (All (λ (c : CallerModel). IsOf store c.table c.run)) (sym are) (owned store readers (λ i d less. (each i d less).is.own))
+
+-- how each call took its table
+pub taking : (attempts : ℕ) (run : Run) (number : ℕ) (before after : CallerModel) (taken : Taken) → IsSnapshot run number attempts before after taken → IsTaking attempts taken
+taking attempts run number before after taken is = record { few = few taken.locked refl; locked = λ has. (is.locked has).1; unlocked = λ free. omega (arith, (is.unlocked free).0) }
+  where
+    few : (locked : Bool) → taken.locked ≡ locked → taken.tries ≤ attempts
+    few true has = omega (arith, (is.locked has).1)
+    few false free = (is.unlocked free).1
+
+each_taking : (run : Run) (attempts caller call : ℕ) (seen looks : List ℕ) (all : List KeptSnapshot) → AreTried run attempts caller call seen looks all → AllByRecursion (λ kept. IsTaking attempts kept.taken) all
+each_taking run attempts caller call seen looks [] tried = tt
+each_taking run attempts caller call seen looks (kept ∷ others) tried =
+    (taking attempts run (table_number run caller call) tried.0 tried.1 kept.taken tried.4, each_taking run attempts caller (call + 1) tried.1.looks looks others tried.5)
+
+of_each : (P : List KeptSnapshot → Type 0) (readers : List Reader) → EachReader (λ i reader. P reader.kept) readers → AllByRecursion P (map (λ (reader : Reader). reader.kept) readers)
+of_each P [] each = tt
+of_each P (reader ∷ others) each = (each 0 reader (omega arith), of_each P others (λ i d less. each (suc i) d (omega (arith, less))))
+
+pub all_taking : (store : StoreModel) (attempts snaps step : ℕ) (readers : List Reader) → EachReader (λ i. HasEnded store attempts i snaps step) readers
+    → AllByRecursion (AllByRecursion (λ (kept : KeptSnapshot). IsTaking attempts kept.taken)) (map (λ (reader : Reader). reader.kept) readers)
+all_taking store attempts snaps step readers each = of_each (AllByRecursion (λ (kept : KeptSnapshot). IsTaking attempts kept.taken)) readers
+    (λ i d less. each_taking store.run attempts i 0 [] _ _ (each i d less).is.tried)
 
 module _ (run : Run) (snaps last : ℕ) (reached : IsReached run last) where
   -- what a caller has kept, where it has seen no later step and its last snapshot is not earlier
@@ -55,7 +80,7 @@ module _ (run : Run) (snaps last : ℕ) (reached : IsReached run last) where
           never_falls = has.never_falls;
           none_past = none_past;
           ends =
-              let early : slice_index (steps_of kept) snaps ≤ last = at_each (λ step. step ≤ last) (steps_of kept) snaps 0 none_past (omega (arith, length_steps kept, has.count_is)) in
+              let early : slice_index (steps_of kept) snaps ≤ last = every_at (λ step. step ≤ last) (steps_of kept) snaps 0 (omega (arith, length_steps kept, has.count_is)) none_past in
               omega (arith, early, late);
         };
       }
@@ -64,16 +89,16 @@ module _ (run : Run) (snaps last : ℕ) (reached : IsReached run last) where
       length_steps [] = refl
       length_steps (k ∷ others) = ap suc (length_steps others)
 
-      unmapped : (kept : List KeptSnapshot) → AllByRecursion (λ step. step ≤ last) (steps_of kept) → AllByRecursion (λ snapshot. IsReached run snapshot.step) kept
+      unmapped : (kept : List KeptSnapshot) → AllByRecursion (λ step. step ≤ last) (steps_of kept) → AllByRecursion (λ snapshot. IsReached run snapshot.taken.step) kept
       unmapped [] all = tt
-      unmapped (k ∷ others) all = (reached_before run k.step last all.0 reached, unmapped others all.1)
+      unmapped (k ∷ others) all = (reached_before run k.taken.step last all.0 reached, unmapped others all.1)
 
-  pub all_end : (store : StoreModel) (step : ℕ) → store.run ≡ run → last ≤ step → (caller : ℕ) (readers : List Reader) → ((i : ℕ) (d : Reader) → i < length readers → HasEnded store (caller + i) snaps step (get_or readers i d))
+  pub all_end : (store : StoreModel) (attempts step : ℕ) → store.run ≡ run → last ≤ step → (caller : ℕ) (readers : List Reader) → ((i : ℕ) (d : Reader) → i < length readers → HasEnded store attempts (caller + i) snaps step (get_or readers i d))
       → All (λ (c : CallerModel). latest c.looks ≤ last) (map (λ (reader : Reader). reader.caller) readers) → AreLast run snaps last caller (map (λ (reader : Reader). reader.kept) readers)
-  all_end store step same late caller [] each seen = tt
-  all_end store step same late caller (reader ∷ others) each seen =
-      let first : HasEnded store caller snaps step reader = let e : caller + 0 ≡ caller = omega arith in subst (λ n. HasEnded store n snaps step reader) e (each 0 reader (omega arith)) in (
+  all_end store attempts step same late caller [] each seen = tt
+  all_end store attempts step same late caller (reader ∷ others) each seen =
+      let first : HasEnded store attempts caller snaps step reader = let e : caller + 0 ≡ caller = omega arith in subst (λ n. HasEnded store attempts n snaps step reader) e (each 0 reader (omega arith)) in (
         ends caller reader.kept (latest reader.caller.looks) (subst (λ r. HasKept r caller (snaps + 1) (latest reader.caller.looks) reader.kept) same first.is.kept_are) (seen 0 reader.caller (omega arith)) (omega (arith, late, first.last_is)),
-        all_end store step same late (caller + 1) others
-            (λ i d less. let e : caller + suc i ≡ caller + 1 + i = omega arith in subst (λ n. HasEnded store n snaps step (get_or others i d)) e (each (suc i) d (omega (arith, less)))) (λ k d less. seen (suc k) d (omega (arith, less))),
+        all_end store attempts step same late (caller + 1) others
+            (λ i d less. let e : caller + suc i ≡ caller + 1 + i = omega arith in subst (λ n. HasEnded store attempts n snaps step (get_or others i d)) e (each (suc i) d (omega (arith, less)))) (λ k d less. seen (suc k) d (omega (arith, less))),
       )

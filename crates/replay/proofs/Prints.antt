@@ -1,10 +1,10 @@
 -- What the printed nodes print at a step.
-use Rattle.std.proofs.Common.{◌≡◌, sym, ap, ◌∙◌, subst, ℕ, zero, suc, ◌+◌, ◌<◌, ◌^◌, ◌++◌, arith, length, length-append, List, [], ◌∷◌, map, take, drop, get_or, Result, Ok, Err, Option}
+use Rattle.std.proofs.Common.{◌≡◌, sym, ap, ◌∙◌, subst, ℕ, ◌+◌, ◌<◌, ◌^◌, ◌++◌, arith, length, length-append, List, [], ◌∷◌, map, take, drop, get_or, Result, Ok, Err, Option}
 use Rattle.std.specs.Prelude.{flat_map, OnErr}
-use Rattle.std.specs.List.{AllByRecursion}
 use Rattle.std.specs.Io.KnownBytes.{append_known}
 use Rattle.std.proofs.lemmas.List.{append-nil, get_or-map, length-map, take-append-drop, take_more}
 use Rattle.std.proofs.lemmas.Grind.{flat_map-append}
+use Rattle.key_lists.proofs.Parts.{every_at}
 use Rattle.tick_io.proofs.Prefixes.{append_known-append_known}
 use Rattle.tick_laws.specs.Reached.{IsReached}
 use Rattle.tick_laws.proofs.FittingNodes.{node_printable}
@@ -32,12 +32,6 @@ on_err (Err e) q = q
 pub written_more : (old mid new : Option (List ℕ)) (done piece whole : List ℕ) → mid ≡ append_known old done → new ≡ append_known mid piece → whole ≡ done ++ piece → new ≡ append_known old whole
 written_more old mid new done piece whole before after all =
     after ∙ ap (λ known. append_known known piece) before ∙ append_known-append_known old done piece ∙ ap (append_known old) (sym all)
-
--- each at a place keeps what all keep
-pub each_at : {X : Type 0} (P : X → Type 0) (xs : List X) (i : ℕ) (d : X) → AllByRecursion P xs → i < length xs → P (get_or xs i d)
-each_at P [] i d all less = absurd (omega (arith, less))
-each_at P (x ∷ xs) zero d all less = all.0
-each_at P (x ∷ xs) (suc i) d all less = each_at P xs i d all.1 (omega (arith, less))
 
 -- the table of a node at a step that is reached, its columns and its change
 module _ (run : Run) (lawful : IsLawfulRun run) (step : ℕ) (reached : IsReached run step) (node : ℕ) (less : node < length run.plan.nodes) where
@@ -74,7 +68,7 @@ module _ (run : Run) (printed : List PrintedNode) (i : ℕ) (node : PrintedNode)
 
   pub node_there : IsLawfulRun run → node.node < length run.plan.nodes
   node_there lawful =
-      subst (λ n. n < length run.plan.nodes) (sym number_at) (each_at (λ n. n < length run.plan.nodes) run.plan.printed i 0 (lawful_printed run.plan lawful.plan).there place_within)
+      subst (λ n. n < length run.plan.nodes) (sym number_at) (every_at (λ n. n < length run.plan.nodes) run.plan.printed i 0 place_within (lawful_printed run.plan lawful.plan).there)
 
 -- the records of one node more, and those of the nodes after it
 module _ (run : Run) (step i number : ℕ) (less : i < length run.plan.printed) (is : number ≡ get_or run.plan.printed i 0) where

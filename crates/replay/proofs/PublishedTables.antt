@@ -7,6 +7,7 @@ use Rattle.std.proofs.lemmas.Bool.{and_parts, leb-true, ltb-true}
 use Rattle.std.proofs.lemmas.List.{get_or-map, length-map}
 use Rattle.std.proofs.lemmas.List.Sums.{sum_by-cons}
 use Rattle.key_lists.proofs.Every.{every_weaker}
+use Rattle.key_lists.proofs.Parts.{every_at}
 use Rattle.snapshot_store.specs.Lines.{count, limit, limit_in, node_in, published_table}
 use Rattle.snapshot_store.specs.Opening.{AreFirst}
 use Rattle.tick_laws.specs.Fitting.{FitsColumns}
@@ -77,11 +78,6 @@ count_below (table ∷ tables) = omega (arith, count_below tables, sum_by-cons t
 pub tables_few : (run : Run) → IsLawfulRun run → count run ≤ 1048576
 tables_few run lawful = omega (arith, words_few run.plan lawful.plan, count_below run.plan.published)
 
-pub at_each : {X : Type 0} (P : X → Type 0) (xs : List X) (i : ℕ) (d : X) → AllByRecursion P xs → i < length xs → P (get_or xs i d)
-at_each P [] i d all less = absurd (omega (arith, less))
-at_each P (x ∷ xs) zero d all less = all.0
-at_each P (x ∷ xs) (suc i) d all less = at_each P xs i d all.1 (omega (arith, less))
-
 -- a member that is there, at another default
 pub item_is : {X : Type 0} (xs : List X) (i : ℕ) (d : X) → i < length xs → get_or xs i d ≡ get_or xs i (get_or xs i d)
 item_is [] i d less = absurd (omega (arith, less))
@@ -96,7 +92,7 @@ module _ (run : Run) (lawful : IsLawfulRun run) where
   pub node_there : (p : ℕ) → p < count run → node_in run.plan.published p < length run.plan.nodes
   node_there p less =
       subst (λ n. n < length run.plan.nodes) (sym (get_or-map (λ (t : Published). t.node) run.plan.published p no_publication 0 less))
-      (at_each (λ (t : Published). t.node < length run.plan.nodes) run.plan.published p no_publication (published_there run.plan lawful.plan) less)
+      (every_at (λ (t : Published). t.node < length run.plan.nodes) run.plan.published p no_publication less (published_there run.plan lawful.plan))
 
   -- the words of a node's table
   pub words_told : (step : ℕ) → IsReached run step → (node : ℕ) → node < length run.plan.nodes → (shown : Shown) → shown.columns ≡ columns_at run node → AreWordsOf shown (words (table_at (state run step) node)) (table_at (state run step) node)

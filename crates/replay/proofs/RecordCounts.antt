@@ -6,11 +6,11 @@ use Rattle.std.specs.Ordering.{int_eq}
 use Rattle.std.proofs.lemmas.Bool.{and_parts, ltb-true, leb-true}
 use Rattle.std.proofs.lemmas.List.{append-nil, length-map}
 use Rattle.std.proofs.lemmas.List.FromFn.{length-range_with_len}
-use Rattle.std.proofs.lemmas.List.Sums.{length-filter, count_by-le-length}
 use Rattle.std.proofs.lemmas.Grind.{flat_map-append}
 use Rattle.key_lists.specs.Keys.{is_among, IsRising, run_with, runs}
 use Rattle.key_lists.proofs.Every.{every_weaker}
 use Rattle.key_lists.proofs.Rising.{as_filter}
+use Rattle.key_lists.proofs.Ranges.{range_last, range_below}
 use Rattle.tick_model.specs.declared.feed.Run.{Run}
 use Rattle.tick_model.specs.declared.plan.ColumnSpec.{ColumnSpec}
 use Rattle.tick_model.specs.declared.plan.Plan.{Plan}
@@ -31,12 +31,9 @@ use Rattle.tick_laws.specs.Reached.{IsReached, table_before}
 use Rattle.tick_laws.proofs.EvalNodes.{all_pass}
 use Rattle.tick_laws.proofs.ReachedTables.{bounded_at, reached_tables}
 use Rattle.tick_laws.proofs.RunTicks.{lawful_ticks, reached_before}
+use Rattle.tick_laws.proofs.ResultCells.{length-filter_most}
 use Rattle.update_text.specs.Told.{records_of}
 use Rattle.update_text.proofs.ChangeRecords.{first_and_parts, length-parts}
-
--- what is chosen of a list is at most as long
-chosen_le : {X : Type 0} (p : X → Bool) (xs : List X) → length (filter p xs) ≤ length xs
-chosen_le p xs = omega (arith, length-filter p xs, count_by-le-length p xs)
 
 -- runs and stretches are at most as many as what they are made of
 run_with_le : (key : ℕ) (others : List (ℕ × ℕ)) → length (run_with key others) ≤ length others + 1
@@ -66,7 +63,7 @@ stretches_le (pair ∷ pairs) = omega (arith, extend_le pair (stretches pairs), 
 -- rising keys among others are at most as many
 rising_le : (xs ys : List ℕ) → IsRising xs → IsRising ys → AllByRecursion (λ x. is_among x ys ≡ true) xs → length xs ≤ length ys
 rising_le xs ys rising others among =
-    subst (λ zs. length zs ≤ length ys) (as_filter xs ys rising others among) (chosen_le (λ y. is_among y xs) ys)
+    subst (λ zs. length zs ≤ length ys) (as_filter xs ys rising others among) (length-filter_most (λ y. is_among y xs) ys)
 
 -- the records of a change
 records_le : (step : ℕ) (name : List ℕ) (columns : List ColumnSpec) (texts : List (List ℕ)) (change : Change) → length (change_records step name columns texts change) ≤ records_of change.update
@@ -89,11 +86,11 @@ told_le tick is olds news =
     omega (
       arith,
       runs_le update.removed,
-      chosen_le (λ key. not (is_among key (old_keys tick.kept))) old,
-      chosen_le (λ key. not (is_among key (new_keys tick.kept))) new,
-      chosen_le (λ (range : ShiftRange). not (int_eq range.delta (pos 0))) (stretches tick.kept),
+      length-filter_most (λ key. not (is_among key (old_keys tick.kept))) old,
+      length-filter_most (λ key. not (is_among key (new_keys tick.kept))) new,
+      length-filter_most (λ (range : ShiftRange). not (int_eq range.delta (pos 0))) (stretches tick.kept),
       stretches_le tick.kept,
-      chosen_le (differs tick.old tick.new) tick.kept,
+      length-filter_most (differs tick.old tick.new) tick.kept,
       length-map tick.old.rows (λ (row : PlainRow). row.key),
       length-map tick.new.rows (λ (row : PlainRow). row.key),
       length-map tick.kept (λ (pair : KeyPair). pair.old),
@@ -113,18 +110,6 @@ pub flat_take_le : {X : Type 0} (f : ℕ → List X) (k : ℕ) (xs : List ℕ) �
 flat_take_le f zero xs = omega arith
 flat_take_le f (suc k) [] = omega arith
 flat_take_le f (suc k) (x ∷ xs) = omega (arith, length-append (f x) (flat_map f (take k xs)), length-append (f x) (flat_map f xs), flat_take_le f k xs)
-
--- numbers from one on
-range_below : (a n : ℕ) → AllByRecursion (λ k. k < a + n) (range_with_len a n)
-range_below a zero = tt
-range_below a (suc n) = (omega arith, every_weaker (λ k. k < a + 1 + n) (λ k. k < a + suc n) (range_with_len (a + 1) n) (λ k less. omega (arith, less)) (range_below (a + 1) n))
-
-range_more : (a n : ℕ) → range_with_len a (n + 1) ≡ range_with_len a n ++ (a + n) ∷ []
-range_more a zero = let same : a ≡ a + 0 = omega arith in ap (λ k. k ∷ []) same
-range_more a (suc n) =
-    let more : suc n + 1 ≡ suc (n + 1) = omega arith in
-    let last : a + 1 + n ≡ a + suc n = omega arith in
-    ap (range_with_len a) more ∙ ap (λ rest. a ∷ rest) (range_more (a + 1) n ∙ ap (λ k. range_with_len (a + 1) n ++ k ∷ []) last)
 
 -- numbers that rise below a limit are few
 rises_few : (limit x : ℕ) (xs : List ℕ) → rises (x ∷ xs) ≡ true → AllByRecursion (λ y. y < limit) (x ∷ xs) → x + length (x ∷ xs) ≤ limit
@@ -160,7 +145,7 @@ lawful_printed plan h =
 -- the records of a run, up to a step
 pub updates_more : (run : Run) (step : ℕ) → updates_records run (step + 1) ≡ updates_records run step ++ step_records run (step + 1)
 updates_more run step =
-    ap (flat_map (step_records run)) (range_more 0 (step + 1))
+    ap (flat_map (step_records run)) (range_last 0 (step + 1))
     ∙ flat_map-append (step_records run) (range_with_len 0 (step + 1)) ((0 + (step + 1)) ∷ [])
     ∙ ap (λ records. updates_records run step ++ records) (append-nil (step_records run (0 + (step + 1))) ∙ ap (step_records run) (zero_plus (step + 1)))
   where

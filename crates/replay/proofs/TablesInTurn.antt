@@ -2,6 +2,7 @@
 use Rattle.std.proofs.Common.{◌≡◌, refl, sym, ap, ◌∙◌, subst, ℕ, ◌+◌, ◌<◌, ◌≤◌, ◌++◌, arith, length, List, [], ◌∷◌, take, get_or, Some, None}
 use Rattle.std.specs.Prelude.{map, slice_index_or}
 use Rattle.std.proofs.lemmas.List.{get_or-map, length-map, map_more}
+use Rattle.key_lists.proofs.Parts.{every_at}
 use Rattle.snapshot_store.specs.Lines.{count, limit, limit_in, node_in, published_table}
 use Rattle.tick_laws.specs.Reached.{IsReached, KeepsRules}
 use Rattle.tick_laws.proofs.RunTicks.{lawful_ticks}
@@ -19,7 +20,7 @@ use Rattle.tick_table.specs.Ticking.{Ticking}
 use Rattle.replay.specs.Outcomes.{limit_at}
 use Rattle.replay.specs.Standing.{IsWithin}
 use Rattle.replay.proofs.PastLimits.{fault_from, fault_here, fault_next, fault_none, limit_is, node_is}
-use Rattle.replay.proofs.PublishedTables.{at_each, published_there}
+use Rattle.replay.proofs.PublishedTables.{published_there}
 
 -- a node's table at a step, from its tick
 pub table_now : (run : Run) → IsLawfulRun run → (step : ℕ) → IsReached run step → (node : ℕ) → node < length run.plan.nodes → (table : Ticking) → table ≡ ticking (tick run step node) → table.new ≡ table_at (state run step) node
@@ -38,7 +39,7 @@ none_left run step i tables same past before =
 module _ (run : Run) (step i : ℕ) (tables : List Published) (t : Published) (same : tables ≡ run.plan.published) (less : i < length tables) (is : t ≡ get_or tables i t) where
   pub node_within : IsLawfulRun run → t.node < length run.plan.nodes
   node_within lawful =
-      let there = at_each (λ (p : Published). p.node < length run.plan.nodes) run.plan.published i t (published_there run.plan lawful.plan) (subst (λ (all : List Published). i < length all) same less) in
+      let there = every_at (λ (p : Published). p.node < length run.plan.nodes) run.plan.published i t (subst (λ (all : List Published). i < length all) same less) (published_there run.plan lawful.plan) in
       subst (λ (p : Published). p.node < length run.plan.nodes) (sym (is ∙ ap (λ (all : List Published). get_or all i t) same)) there
 
   pub number_within : i < count run

@@ -1,31 +1,16 @@
 -- The text that is still to come, step by step.
-use Rattle.std.proofs.Common.{◌≡◌, refl, sym, ap, ◌∙◌, subst, ℕ, zero, suc, ◌+◌, ◌-◌, ◌<◌, ◌≤◌, ◌++◌, arith, inl, inr, Bool, true, false, true≢false, cond, length, List, [], ◌∷◌, Option, Some, None}
-use Rattle.std.specs.Prelude.{find, is_some, flat_map, unwrap_or}
+use Rattle.std.proofs.Common.{◌≡◌, refl, sym, ap, ◌∙◌, ℕ, zero, suc, ◌+◌, ◌-◌, ◌<◌, ◌≤◌, ◌++◌, arith, inl, inr, true, false, true≢false, length, List, [], Option, Some, None}
+use Rattle.std.specs.Prelude.{is_some, flat_map, unwrap_or}
 use Rattle.std.specs.List.{range_with_len}
 use Rattle.std.proofs.lemmas.Bool.{cases_lt}
 use Rattle.std.proofs.lemmas.Grind.{flat_map-append}
+use Rattle.key_lists.proofs.Every.{found_passes}
+use Rattle.tick_laws.proofs.GoodSteps.{first_within}
 use Rattle.tick_model.specs.declared.feed.Run.{Run}
 use Rattle.tick_model.specs.Spoiled.{first_spoiled, spoiled_by, step_before}
 use Rattle.tick_model.specs.Texts.{record_text, records_text, step_records}
 use Rattle.replay.specs.ToCome.{good_steps, good_updates, text_from, updates_until}
 use Rattle.replay.proofs.Spoils.{AreGoodBefore}
-
--- what is found passes
-found_passes : (p : ℕ → Bool) (xs : List ℕ) (m : ℕ) → find p xs ≡ Some m → p m ≡ true
-found_passes p [] m found = absurd (cc)
-found_passes p (x ∷ xs) m found =
-    (elim (p x) as (λ b. p x ≡ b → cond b (Some x) (find p xs) ≡ Some m → p m ≡ true) [
-      | true ↦ λ here there. let same : x ≡ m = cc in subst (λ k. p k ≡ true) same here
-      | false ↦ λ here there. found_passes p xs m there
-    ]) refl found
-
-found_within : (p : ℕ → Bool) (a n m : ℕ) → find p (range_with_len a n) ≡ Some m → m < a + n
-found_within p a zero m found = absurd (cc)
-found_within p a (suc n) m found =
-    (elim (p a) as (λ b. cond b (Some a) (find p (range_with_len (a + 1) n)) ≡ Some m → m < a + suc n) [
-      | true ↦ λ there. let same : a ≡ m = cc in omega (arith, same)
-      | false ↦ λ there. let rest = found_within p (a + 1) n m there in omega (arith, rest)
-    ]) found
 
 module _ (run : Run) where
   abbrev steps_text : ℕ → ℕ → List ℕ
@@ -49,7 +34,7 @@ module _ (run : Run) where
     where
       go : (o : Option ℕ) → first_spoiled run ≡ o → unwrap_or o (length run.batches + 1) ≤ length run.batches + 1
       go None e = omega arith
-      go (Some m) e = let within = found_within (λ k. is_some (spoiled_by run k)) 0 (length run.batches + 1) m e in omega (arith, within)
+      go (Some m) e = let within = first_within (λ k. is_some (spoiled_by run k)) 0 (length run.batches + 1) m e in omega (arith, within)
 
   -- a good step, and those after it
   pub text_next : (step : ℕ) → step < good_steps run → text_from run step ≡ records_text (step_records run step) ++ text_from run (step + 1)

@@ -13,7 +13,7 @@ pub record IsStarted (run : Run) (callers : ℕ) (publication : Publication) : T
   pub run_is : publication.store.run ≡ run
   pub writes : IsWriterAt publication.store 0 publication.writer
   pub count_is : length publication.readers.items ≡ callers
-  pub read : EachReader (λ number. IsReader publication.store number 0) publication.readers.items
+  pub read : (attempts : ℕ) → EachReader (λ number. IsReader publication.store attempts number 0) publication.readers.items
 
 pub record IsOpened (run : Run) (knobs : Knobs) (opened : Opened) : Type 0 where
   pub stands : IsAt run 0 opened.progress

@@ -36,12 +36,12 @@ fn read<R: Wait, G: Gate>(
     number: u32,
     reader: &mut Reader,
 )
-    requires reader { IsReader store.now number 0 reader.old }
+    requires reader { IsReader store.now knobs.now.attempts number 0 reader.old }
     requires published { published ≡ count store.now.run }
     requires some { 0 < published }
     requires few { number < 16 }
     requires few_snaps { knobs.now.snaps ≤ 64 }
-    ensures { HasRead store.now number knobs.now.snaps reader.new }
+    ensures { HasRead store.now knobs.now.attempts number knobs.now.snaps reader.new }
 {
     gate.enter(FIRST_CALLER + number);
     let all = reader.take_all(
@@ -67,16 +67,16 @@ fn read_all<R: Threads + Wait + Sync, G: Gate>(
     published: u32,
     readers: &mut [Reader],
 )
-    requires readers { EachReader (λ number. IsReader store.now number 0) readers.old }
+    requires readers { EachReader (λ number. IsReader store.now knobs.now.attempts number 0) readers.old }
     requires published { published ≡ count store.now.run }
     requires some { 0 < length readers.old → 0 < published }
     requires few { length readers.old ≤ 16 }
     requires few_snaps { knobs.now.snaps ≤ 64 }
-    ensures { EachReader (λ number. HasRead store.now number knobs.now.snaps) readers.new }
+    ensures { EachReader (λ number. HasRead store.now knobs.now.attempts number knobs.now.snaps) readers.new }
 {
     let each = |number: usize, reader: &mut Reader|
-        requires { IsSync R.row × IsSync G.row × IsReader store.now number 0 reader.now × (published ≡ count store.now.run) × (0 < published) × (number < 16) × (knobs.now.snaps ≤ 64) }
-        ensures { HasRead store.entry.now number knobs.entry.now.snaps reader.exit.now }
+        requires { IsSync R.row × IsSync G.row × IsReader store.now knobs.now.attempts number 0 reader.now × (published ≡ count store.now.run) × (0 < published) × (number < 16) × (knobs.now.snaps ≤ 64) }
+        ensures { HasRead store.entry.now knobs.entry.now.attempts number knobs.entry.now.snaps reader.exit.now }
     {
         read(
             rt,
@@ -139,19 +139,19 @@ pub(crate) fn run_beside<R: Threads + Wait + Sync, S: Sink, G: Gate>(
     requires store { store.now.run ≡ run.now }
     requires stands { IsAt run.now 0 progress }
     requires writer { IsWriterAt store.now 0 writer.old }
-    requires readers { EachReader (λ number. IsReader store.now number 0) readers.old }
+    requires readers { EachReader (λ number. IsReader store.now knobs.now.attempts number 0) readers.old }
     requires some { 0 < length readers.old → 0 < count run.now }
     requires few { length readers.old ≤ 16 }
     ensures own { IsOf store.now writer.new.table writer.new.run }
     ensures ran { HasRun run.now result writer.new.step (S.bytes out.old) (S.bytes out.new) (S.failures out.old) (S.failures out.new) }
-    ensures read { EachReader (λ number. HasRead store.now number knobs.now.snaps) readers.new }
+    ensures read { EachReader (λ number. HasRead store.now knobs.now.attempts number knobs.now.snaps) readers.new }
 {
     let published = run.plan.published.len() as u32;
     let workers = knobs.workers;
     let mut progress = Some(progress);
     let mut calls = ||
-        requires { IsSync R.row × IsSync G.row × EachReader (λ number. IsReader store.now number 0) readers.now × (published ≡ count store.now.run) × (0 < length readers.now → 0 < published) × (length readers.now ≤ 16) × (knobs.now.snaps ≤ 64) }
-        ensures { EachReader (λ number. HasRead store.entry.now number knobs.entry.now.snaps) readers.exit.now }
+        requires { IsSync R.row × IsSync G.row × EachReader (λ number. IsReader store.now knobs.now.attempts number 0) readers.now × (published ≡ count store.now.run) × (0 < length readers.now → 0 < published) × (length readers.now ≤ 16) × (knobs.now.snaps ≤ 64) }
+        ensures { EachReader (λ number. HasRead store.entry.now knobs.entry.now.attempts number knobs.entry.now.snaps) readers.exit.now }
     { read_all(rt, alloc, knobs, gate, store, published, readers) };
     let mut steps = || -> Outcome
         requires { IsSync R.row × IsSync G.row × IsLawfulRun run.now × (1 ≤ workers) × (workers ≤ 64) × (store.now.run ≡ run.now) × IsReady run.now progress × IsWriterAt store.now 0 writer.now }

@@ -1,9 +1,10 @@
 //! The last call of each caller, after the feed.
 ghost use Rattle.std.specs.Prelude.{◌≡◌, ◌+◌, ◌<◌, ◌≤◌, IfOk, OnOk, length, map};
+ghost use Rattle.std.specs.List.{AllByRecursion};
 ghost use Rattle.snapshot_store.specs.Lines.{count};
 ghost use Rattle.snapshot_store.specs.Models.{IsOf};
 ghost use Rattle.tick_laws.specs.Reached.{IsReached};
-ghost use Rattle.replay.specs.Snapshots.{AreLast, EachReader, HasEnded, HasRead};
+ghost use Rattle.replay.specs.Snapshots.{AreLast, EachReader, HasEnded, HasRead, IsTaking};
 
 use crate::Knobs;
 use crate::opening::Publication;
@@ -25,13 +26,13 @@ fn call_last<R: Wait>(
     reader: &mut Reader,
 ) -> Result<(), AllocError>
     requires own { IsOf store.now writer.old.table writer.old.run }
-    requires read { HasRead store.now number knobs.now.snaps reader.old }
+    requires read { HasRead store.now knobs.now.attempts number knobs.now.snaps reader.old }
     requires published { published ≡ count store.now.run }
     requires some { 0 < published }
     requires few { number < 16 }
     requires few_snaps { knobs.now.snaps ≤ 64 }
     ensures same { writer.new ≡ writer.old }
-    ensures ended { OnOk result (HasEnded store.now number knobs.now.snaps writer.old.step reader.new) }
+    ensures ended { OnOk result (HasEnded store.now knobs.now.attempts number knobs.now.snaps writer.old.step reader.new) }
 {
     if reader.short {
         return Err(AllocError);
@@ -60,13 +61,13 @@ fn call_all<R: Wait>(
     readers: &mut [Reader],
 ) -> Result<(), AllocError>
     requires own { IsOf store.now writer.old.table writer.old.run }
-    requires read { EachReader (λ number. HasRead store.now number knobs.now.snaps) readers.old }
+    requires read { EachReader (λ number. HasRead store.now knobs.now.attempts number knobs.now.snaps) readers.old }
     requires published { published ≡ count store.now.run }
     requires some { 0 < length readers.old → 0 < published }
     requires few { length readers.old ≤ 16 }
     requires few_snaps { knobs.now.snaps ≤ 64 }
     ensures same { writer.new ≡ writer.old }
-    ensures ended { OnOk result (EachReader (λ number. HasEnded store.now number knobs.now.snaps writer.old.step) readers.new) }
+    ensures ended { OnOk result (EachReader (λ number. HasEnded store.now knobs.now.attempts number knobs.now.snaps writer.old.step) readers.new) }
 {
     for number in 0..readers.len() {
         let reader = &mut readers[number];
@@ -115,7 +116,7 @@ pub(crate) fn last_snapshots<R: Wait>(
     publication: Publication,
 ) -> Result<Items<Items<KeptSnapshot>>, AllocError>
     requires own { IsOf publication.store publication.writer.table publication.writer.run }
-    requires read { EachReader (λ number. HasRead publication.store number knobs.now.snaps) publication.readers.items }
+    requires read { EachReader (λ number. HasRead publication.store knobs.now.attempts number knobs.now.snaps) publication.readers.items }
     requires published { published ≡ count publication.store.run }
     requires reached { IsReached publication.store.run publication.writer.step }
     requires some { 0 < length publication.readers.items → 0 < published }
@@ -123,6 +124,7 @@ pub(crate) fn last_snapshots<R: Wait>(
     requires few_snaps { knobs.now.snaps ≤ 64 }
     ensures count { IfOk result (λ all. length all ≡ length publication.readers.items) }
     ensures last { IfOk result (λ all. AreLast publication.store.run knobs.now.snaps publication.writer.step 0 all) }
+    ensures tried { IfOk result (AllByRecursion (AllByRecursion (λ kept. IsTaking knobs.now.attempts kept.taken))) }
 {
     let Publication {
         store,

@@ -1,6 +1,6 @@
 //! The opening of a run: its tables at step 0, and the store in which they are published.
 ghost use Rattle.std.specs.Io.KnownBytes.{append_known};
-ghost use Rattle.std.specs.Prelude.{◌≡◌, ◌<◌, ◌≤◌, All, IfErr, IfOk, IsErrOf, OnErr, OnOk, length, map};
+ghost use Rattle.std.specs.Prelude.{◌≡◌, ◌<◌, ◌≤◌, ℕ, All, IfErr, IfOk, IsErrOf, OnErr, OnOk, length, map};
 ghost use Rattle.std.specs.Arc.{arc_value};
 ghost use Rattle.snapshot_store.specs.Models.{IsNewCaller};
 ghost use Rattle.snapshot_store.specs.Opening.{AreFirst};
@@ -83,7 +83,7 @@ fn readers_of(
 ) -> Result<Vec<Reader>, AllocError>
     requires { All (IsNewCaller store.now) callers }
     ensures count { IfOk result (λ readers. length readers.items ≡ length callers) }
-    ensures each { IfOk result (λ readers. EachReader (λ number. IsReader store.now number 0) readers.items) }
+    ensures each { IfOk result (λ readers. (attempts : ℕ) → EachReader (λ number. IsReader store.now attempts number 0) readers.items) }
 {
     let mut readers = Vec::with_capacity(alloc, callers.len())?;
     let mut callers = callers.into_vec();

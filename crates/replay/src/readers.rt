@@ -5,15 +5,15 @@ ghost use Rattle.snapshot_store.specs.Looks.{latest};
 ghost use Rattle.snapshot_store.specs.Models.{IsOf};
 ghost use Rattle.replay.specs.Snapshots.{IsReader, steps_of};
 
-use snapshot_store::{Caller, Store};
+use snapshot_store::{Caller, Store, Taken};
 use std::alloc::{AllocError, Global};
 use std::sync::Wait;
 use tick_model::items::Items;
 
-/// A snapshot that is kept: its step, and the words of the table.
+/// A snapshot that is kept: how it was taken, and the words of the table.
 #[derive(Drop)]
 pub(crate) struct KeptSnapshot {
-    pub(crate) step: u64,
+    pub(crate) taken: Taken,
     pub(crate) words: Items<u64>,
 }
 
@@ -59,21 +59,18 @@ impl Reader {
         number: u32,
         call: u32,
     ) -> Result<(), AllocError>
-        requires reader { IsReader store.now number call self.old }
+        requires reader { IsReader store.now attempts number call self.old }
         requires published { published ≡ count store.now.run }
         requires some { 0 < published }
         requires few { number + call < 2 ^ 32 }
         ensures own { IsOf store.now self.new.caller.table self.new.caller.run }
-        ensures more { OnOk result (IsReader store.now number (call + 1) self.new) }
+        ensures more { OnOk result (IsReader store.now attempts number (call + 1) self.new) }
         ensures not_older { OnOk result (latest self.old.caller.looks ≤ slice_index (steps_of self.new.kept) call) }
     {
         let table = (number + call) % published;
         let taken = store.snapshot(rt, &mut self.caller, table, attempts);
         let words = copied(alloc, self.caller.words())?;
-        self.kept.push(KeptSnapshot {
-            step: taken.step,
-            words,
-        })?;
+        self.kept.push(KeptSnapshot { taken, words })?;
         Ok(())
     }
 
@@ -88,12 +85,12 @@ impl Reader {
         number: u32,
         calls: u32,
     ) -> Result<(), AllocError>
-        requires reader { IsReader store.now number 0 self.old }
+        requires reader { IsReader store.now attempts number 0 self.old }
         requires published { published ≡ count store.now.run }
         requires some { 0 < published }
         requires few { number + calls < 2 ^ 32 }
         ensures own { IsOf store.now self.new.caller.table self.new.caller.run }
-        ensures all { OnOk result (IsReader store.now number calls self.new) }
+        ensures all { OnOk result (IsReader store.now attempts number calls self.new) }
     {
         for call in 0..calls {
             self.take(rt, alloc, store, published, attempts, number, call)?;

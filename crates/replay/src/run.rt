@@ -39,7 +39,7 @@ fn ended<R: Wait, S: Sink>(
     requires store { publication.store.run ≡ run.now }
     requires own { IsOf publication.store publication.writer.table publication.writer.run }
     requires count { length publication.readers.items ≡ callers_of run.now.plan.published knobs.now.callers }
-    requires read { EachReader (λ number. HasRead publication.store number knobs.now.snaps) publication.readers.items }
+    requires read { EachReader (λ number. HasRead publication.store knobs.now.attempts number knobs.now.snaps) publication.readers.items }
     requires told { IsTold outcome }
     requires last { IsLast run.now publication.writer.step }
     ensures same { IsTold result → result ≡ outcome }

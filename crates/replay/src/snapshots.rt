@@ -34,10 +34,10 @@ fn write_call<S: Sink>(
     requires published { published.now ≡ map (published_of run.now) run.now.plan.published }
     requires some { 0 < length published.now }
     requires few { caller + call < 2 ^ 32 }
-    requires reached { IsReached run.now kept.now.step }
-    requires words { kept.now.words ≡ line run.now kept.now.step (table_number run.now caller call) }
-    ensures whole { OnOk result (S.bytes out.new ≡ append_known (S.bytes out.old) (records_text (snapshot_records run.now caller call kept.now.step))) }
-    ensures err { OnErr result (AppendsPrefix (S.bytes out.old) (S.bytes out.new) (records_text (snapshot_records run.now caller call kept.now.step))) }
+    requires reached { IsReached run.now kept.now.taken.step }
+    requires words { kept.now.words ≡ line run.now kept.now.taken.step (table_number run.now caller call) }
+    ensures whole { OnOk result (S.bytes out.new ≡ append_known (S.bytes out.old) (records_text (snapshot_records run.now caller call kept.now.taken.step))) }
+    ensures err { OnErr result (AppendsPrefix (S.bytes out.old) (S.bytes out.new) (records_text (snapshot_records run.now caller call kept.now.taken.step))) }
     ensures failed { IsErrOf result WriteFault.Failed → Rose (S.failures out.old) (S.failures out.new) }
     ensures never_falls { S.failures out.old ≤ S.failures out.new }
     ensures steady { OnOk result (S.failures out.new ≡ S.failures out.old) }
@@ -49,7 +49,7 @@ fn write_call<S: Sink>(
         out,
         caller,
         call,
-        kept.step,
+        kept.taken.step,
         shown,
         &run.texts,
         kept.words.as_slice(),
@@ -71,7 +71,7 @@ fn write_caller<S: Sink>(
     requires few { caller < 16 }
     requires few_calls { length kept.now ≤ 65 }
     requires taken { AreTaken run.now caller 0 kept.now }
-    requires reached { AllByRecursion (λ snapshot. IsReached run.now snapshot.step) kept.now }
+    requires reached { AllByRecursion (λ snapshot. IsReached run.now snapshot.taken.step) kept.now }
     ensures whole { OnOk result (S.bytes out.new ≡ append_known (S.bytes out.old) (records_text (calls_records run.now caller 0 (steps_of kept.now)))) }
     ensures err { OnErr result (AppendsPrefix (S.bytes out.old) (S.bytes out.new) (records_text (calls_records run.now caller 0 (steps_of kept.now)))) }
     ensures failed { IsErrOf result WriteFault.Failed → Rose (S.failures out.old) (S.failures out.new) }

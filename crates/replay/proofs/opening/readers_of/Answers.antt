@@ -18,4 +18,4 @@ loop-caller-preserved c =
     }
 
 pub returns-clause-each : goal.returns-clause-each
-returns-clause-each c = λ i d less. new_is_reader c.args.store.now i _ (c.loop-caller.invariant.new i d less)
+returns-clause-each c = λ attempts i d less. new_is_reader c.args.store.now attempts i _ (c.loop-caller.invariant.new i d less)

@@ -1,10 +1,15 @@
 use Rattle.std.proofs.Common.{◌≡◌, ◌≤◌, ◌∙◌, ap, sym, subst, arith, rules, length}
 use Rattle.tick_io.proofs.RisingCounts.{rose_earlier}
 use Rattle.replay.specs.Outcomes.{IsEnd, IsTold}
-use Rattle.replay.specs.Snapshots.{EachReader, HasRead}
+use Rattle.replay.specs.Snapshots.{EachReader, HasRead, IsReader}
 use Rattle.replay.proofs.KeptInEnd.{written_back}
 use Rattle.replay.proofs.WholeTexts.{all_after_updates, some_after_updates, some_updates}
 use Rattle.replay.proofs.run.run_opened.Goals as goal
+
+pub run_beside-outcome-requires-clause-readers : goal.run_beside-outcome-requires-clause-readers
+run_beside-outcome-requires-clause-readers g c κs within =
+    let publication = c.args.opened.publication in
+    subst (EachReader (λ number. IsReader publication.store c.args.knobs.now.attempts number 0)) (sym c.as_mut_slice.ensures.value) (c.requires.opened.started.read c.args.knobs.now.attempts)
 
 pub returns-then-not-is_told : goal.returns-then-not-is_told
 returns-then-not-is_told g c =
@@ -24,7 +29,7 @@ ended-requires-clause-read g c κs within =
     let readers = c.args.opened.publication.readers in
     let new = c.run_beside-outcome.new.readers in
     let long : length new ≡ length readers.items = omega (arith, ap length c.as_mut_slice.ensures.value, c.run_beside-outcome.auto.readers) in
-    subst (EachReader (λ number. HasRead c.args.opened.publication.store number c.args.knobs.now.snaps)) (sym (written_back readers.len new readers.items long readers.ok.0)) c.run_beside-outcome.ensures.read
+    subst (EachReader (λ number. HasRead c.args.opened.publication.store c.args.knobs.now.attempts number c.args.knobs.now.snaps)) (sym (written_back readers.len new readers.items long readers.ok.0)) c.run_beside-outcome.ensures.read
 
 pub returns : goal.returns
 returns g c =

@@ -15,8 +15,8 @@ write_snapshot-requires g c =
     let less : number < length published = omega (arith, c.requires.some) in (
       search rules,
       (
-        table_at (state run c.args.kept.now.step) (number_of_node run published c.requires.published c.args.caller c.args.call number refl less c.index-published-number.result),
-        table_told run published c.requires.published c.args.caller c.args.call number refl less c.index-published-number.result c.requires.lawful c.args.kept.now.step c.requires.reached c.as_slice.result.now
+        table_at (state run c.args.kept.now.taken.step) (number_of_node run published c.requires.published c.args.caller c.args.call number refl less c.index-published-number.result),
+        table_told run published c.requires.published c.args.caller c.args.call number refl less c.index-published-number.result c.requires.lawful c.args.kept.now.taken.step c.requires.reached c.as_slice.result.now
             (c.as_slice.ensures ∙ c.requires.words),
       ),
     )
@@ -28,9 +28,9 @@ returns-clause-whole g c =
     let number = (c.args.caller + c.args.call) % length published in
     let less : number < length published = omega (arith, c.requires.some) in
     subst (λ (text : List ℕ). OnOk c.write_snapshot.result (g.S.Sink.bytes c.write_snapshot.new.sink ≡ append_known (g.S.Sink.bytes c.args.out.now) text))
-    (records_told run published c.requires.published c.args.caller c.args.call number refl less c.index-published-number.result c.args.kept.now.step)
-    (c.write_snapshot.ensures.whole (table_at (state run c.args.kept.now.step) (number_of_node run published c.requires.published c.args.caller c.args.call number refl less c.index-published-number.result))
-    (table_told run published c.requires.published c.args.caller c.args.call number refl less c.index-published-number.result c.requires.lawful c.args.kept.now.step c.requires.reached c.as_slice.result.now (c.as_slice.ensures ∙ c.requires.words)))
+    (records_told run published c.requires.published c.args.caller c.args.call number refl less c.index-published-number.result c.args.kept.now.taken.step)
+    (c.write_snapshot.ensures.whole (table_at (state run c.args.kept.now.taken.step) (number_of_node run published c.requires.published c.args.caller c.args.call number refl less c.index-published-number.result))
+    (table_told run published c.requires.published c.args.caller c.args.call number refl less c.index-published-number.result c.requires.lawful c.args.kept.now.taken.step c.requires.reached c.as_slice.result.now (c.as_slice.ensures ∙ c.requires.words)))
 
 pub returns-clause-err : goal.returns-clause-err
 returns-clause-err g c =
@@ -39,6 +39,6 @@ returns-clause-err g c =
     let number = (c.args.caller + c.args.call) % length published in
     let less : number < length published = omega (arith, c.requires.some) in
     subst (λ (text : List ℕ). OnErr c.write_snapshot.result (AppendsPrefix (g.S.Sink.bytes c.args.out.now) (g.S.Sink.bytes c.write_snapshot.new.sink) text))
-    (records_told run published c.requires.published c.args.caller c.args.call number refl less c.index-published-number.result c.args.kept.now.step)
-    (c.write_snapshot.ensures.err (table_at (state run c.args.kept.now.step) (number_of_node run published c.requires.published c.args.caller c.args.call number refl less c.index-published-number.result))
-    (table_told run published c.requires.published c.args.caller c.args.call number refl less c.index-published-number.result c.requires.lawful c.args.kept.now.step c.requires.reached c.as_slice.result.now (c.as_slice.ensures ∙ c.requires.words)))
+    (records_told run published c.requires.published c.args.caller c.args.call number refl less c.index-published-number.result c.args.kept.now.taken.step)
+    (c.write_snapshot.ensures.err (table_at (state run c.args.kept.now.taken.step) (number_of_node run published c.requires.published c.args.caller c.args.call number refl less c.index-published-number.result))
+    (table_told run published c.requires.published c.args.caller c.args.call number refl less c.index-published-number.result c.requires.lawful c.args.kept.now.taken.step c.requires.reached c.as_slice.result.now (c.as_slice.ensures ∙ c.requires.words)))

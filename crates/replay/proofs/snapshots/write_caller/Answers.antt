@@ -52,7 +52,7 @@ loop-call-preserved g c =
     let i = c.loop-call.call in
     let kept = c.args.kept.now in
     let so_far = c.loop-call.invariant in
-    let piece = records_text (snapshot_records run caller i c.index-kept-call.result.step) in (
+    let piece = records_text (snapshot_records run caller i c.index-kept-call.result.taken.step) in (
       so_far.0 ++ piece,
       written_more (g.S.Sink.bytes c.args.out.now) (g.S.Sink.bytes c.loop-call.out) (g.S.Sink.bytes c.write_call.new.out) so_far.0 piece (so_far.0 ++ piece) so_far.1 c.in_ok-write_call.ensures.whole refl,
       comes_next so_far.0 piece (calls_text run caller (i + 1) (drop (i + 1) kept)) (calls_text run caller i (drop i kept)) (calls_text run caller 0 kept) so_far.2

@@ -40,7 +40,7 @@ write_caller-requires-clause-reached g c κs within =
     let last = c.requires.last in
     let run = c.args.run.now in
     let ends = caller_ends run c.loop-caller.caller c.args.all.now c.index-all-caller.result c.loop-caller-test.true c.index-all-caller.is last.0 last.1 last.3 in
-    subst (AllByRecursion (λ (k : KeptSnapshot). IsReached run k.step)) (sym c.as_slice.ensures) ends.reached
+    subst (AllByRecursion (λ (k : KeptSnapshot). IsReached run k.taken.step)) (sym c.as_slice.ensures) ends.reached
 
 pub returns-in_err-write_caller-clause-err : goal.returns-in_err-write_caller-clause-err
 returns-in_err-write_caller-clause-err g c =
