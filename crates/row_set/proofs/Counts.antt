@@ -72,33 +72,33 @@ pub keys_before_kept : (n i : ℕ) (new old : List Range) → i ≤ n → take n
 keys_before_kept n i new old le same = ap (λ those. length (keys_of those)) (same_shorter i n new old le same)
 
 -- the keys before an index, of which those of its block are counted
-pub counted_to : (block index : ℕ) (ranges : List Range) (starts : List ℕ) → IsStored ranges starts → block ≤ length starts → 32 * block ≤ index → start_of starts block + length (keys_of (slice_range ranges (block * 32) index)) ≡ keys_before index ranges
+pub counted_to : (block index : ℕ) (ranges : List Range) (starts : List ℕ) → IsStored ranges starts → block ≤ length starts → 16 * block ≤ index → start_of starts block + length (keys_of (slice_range ranges (block * 16) index)) ≡ keys_before index ranges
 counted_to block index ranges starts h few le =
-    let place : 32 * block ≡ block * 32 = omega arith in
-    omega (arith, h.counts.counted block few, keys_before_to (32 * block) index ranges le, ap (λ n. length (keys_of (slice_range ranges n index))) place)
+    let place : 16 * block ≡ block * 16 = omega arith in
+    omega (arith, h.counts.counted block few, keys_before_to (16 * block) index ranges le, ap (λ n. length (keys_of (slice_range ranges n index))) place)
 
 -- the starts of ranges of which the first ones are as before
-pub kept_starts : (from : ℕ) (old new : List Range) (starts those : List ℕ) → IsStored old starts → those ≡ starts → take from new ≡ take from old → (block : ℕ) → block ≤ length those → 32 * block < from → start_of those block ≡ keys_before (32 * block) new
+pub kept_starts : (from : ℕ) (old new : List Range) (starts those : List ℕ) → IsStored old starts → those ≡ starts → take from new ≡ take from old → (block : ℕ) → block ≤ length those → 16 * block < from → start_of those block ≡ keys_before (16 * block) new
 kept_starts from old new starts those h same kept block le lt =
     ap (λ list. start_of list block) same
     ∙ h.counts.counted block (omega (arith, le, ap length same))
-    ∙ sym (keys_before_kept from (32 * block) new old (omega (arith, lt)) kept)
+    ∙ sym (keys_before_kept from (16 * block) new old (omega (arith, lt)) kept)
 
 -- the starts of ranges behind which others are put
 pub starts_stay_before : (n : ℕ) (old new : List Range) (starts : List ℕ) → AreStarts old starts → n ≡ length old - 1 → take n new ≡ take n old → length old ≤ length new → AreStarts new starts
 starts_stay_before n old new starts h is kept le = record {
-  counted = λ block few. h.counted block few ∙ sym (keys_before_kept n (32 * block) new old (omega (arith, few, h.within, is)) kept);
+  counted = λ block few. h.counted block few ∙ sym (keys_before_kept n (16 * block) new old (omega (arith, few, h.within, is)) kept);
   within = omega (arith, h.within, le);
 }
 
 -- one start more
-pub start_more : (next : ℕ) (ranges : List Range) (starts : List ℕ) → AreStarts ranges starts → next ≡ keys_before (32 * length starts + 32) ranges → 32 * length starts + 32 < length ranges → AreStarts ranges (starts ++ next ∷ [])
+pub start_more : (next : ℕ) (ranges : List Range) (starts : List ℕ) → AreStarts ranges starts → next ≡ keys_before (16 * length starts + 16) ranges → 16 * length starts + 16 < length ranges → AreStarts ranges (starts ++ next ∷ [])
 start_more next ranges starts h is lt = record {
   counted = λ block few. elim (cases_lt block (length starts + 1)) [
     | inl before ↦ get_or_append_left (0 ∷ starts) (next ∷ []) 0 block (omega (arith, before)) ∙ h.counted block (omega (arith, before))
     | inr at_end ↦
         let here : block ≡ length starts + 1 = omega (arith, at_end, few, length-append starts (next ∷ [])) in
-        let place : 32 * length starts + 32 ≡ 32 * block = omega (arith, here) in
+        let place : 16 * length starts + 16 ≡ 16 * block = omega (arith, here) in
         let index : block ≡ length (0 ∷ starts) = omega (arith, here) in
         ap (λ n. get_or ((0 ∷ starts) ++ next ∷ []) n 0) index
         ∙ get_or-append_seam (0 ∷ starts) next [] 0
@@ -109,9 +109,9 @@ start_more next ranges starts h is lt = record {
 }
 
 -- fewer starts
-pub starts_cut : (k from : ℕ) (ranges : List Range) (starts : List ℕ) → ((block : ℕ) → block ≤ length starts → 32 * block < from → start_of starts block ≡ keys_before (32 * block) ranges) → 32 * k ≤ from - 1 → from ≤ length ranges → AreStarts ranges (take k starts)
+pub starts_cut : (k from : ℕ) (ranges : List Range) (starts : List ℕ) → ((block : ℕ) → block ≤ length starts → 16 * block < from → start_of starts block ≡ keys_before (16 * block) ranges) → 16 * k ≤ from - 1 → from ≤ length ranges → AreStarts ranges (take k starts)
 starts_cut k from ranges starts h le within = record {
-  counted = λ block few. elim block as (λ b. b ≤ length (take k starts) → start_of (take k starts) b ≡ keys_before (32 * b) ranges) [
+  counted = λ block few. elim block as (λ b. b ≤ length (take k starts) → start_of (take k starts) b ≡ keys_before (16 * b) ranges) [
     | zero ↦ λ none. refl
     | suc b ↦ λ some.
         get_or-take (suc k) (0 ∷ starts) (suc b) 0 (omega (arith, some, length-take k starts))

@@ -239,10 +239,10 @@ key_behind i position ranges le =
 
 pub stored_rise : (ranges : List Range) (starts : List ℕ) → IsStored ranges starts → IsNonDecreasing starts
 stored_rise ranges starts h i j d le lt =
-    let at : (k : ℕ) → k < length starts → get_or starts k d ≡ keys_before (32 * (k + 1)) ranges = λ k few.
+    let at : (k : ℕ) → k < length starts → get_or starts k d ≡ keys_before (16 * (k + 1)) ranges = λ k few.
     let next : k + 1 ≡ suc k = omega arith in
-    get_or_default starts k d 0 few ∙ h.counts.counted (suc k) (omega (arith, few)) ∙ ap (λ n. keys_before (32 * n) ranges) (sym next) in
-    omega (arith, at i (omega (arith, le, lt)), at j lt, keys_before_rise (32 * (i + 1)) (32 * (j + 1)) ranges (omega (arith, le)))
+    get_or_default starts k d 0 few ∙ h.counts.counted (suc k) (omega (arith, few)) ∙ ap (λ n. keys_before (16 * n) ranges) (sym next) in
+    omega (arith, at i (omega (arith, le, lt)), at j lt, keys_before_rise (16 * (i + 1)) (16 * (j + 1)) ranges (omega (arith, le)))
 
 abbrev pub IsStartCut : ℕ → List ℕ → ℕ → Type 0
 IsStartCut position starts i = IsPartitionPoint (λ start. start ≤ position) (λ start. position < start) starts i

@@ -5,7 +5,7 @@
 --     AreApart low ranges      the ranges ascend from low on, and a key is left out between any two of them
 --     keys_before index ranges      how many keys the ranges before this one hold
 --     start_of starts block      the number of keys before a block, as the starts have it
---     AreStarts ranges starts      which keys are counted: those before the 32nd range, before the 64th, and so on
+--     AreStarts ranges starts      which keys are counted: those before the 16th range, before the 32nd, and so on
 --     Meets low high ranges from to      which ranges meet the keys from low to high
 --     stretched first last met      the range from first to last, stretched over those that it meets
 --     left_edge first range      what is left of the range before first, if anything
@@ -58,8 +58,8 @@ abbrev pub start_of : List ℕ → ℕ → ℕ
 start_of starts block = slice_index_or (0 ∷ starts) block 0
 
 pub record AreStarts (ranges : List Range) (starts : List ℕ) : Type 0 where
-  pub counted : (block : ℕ) → block ≤ length starts → start_of starts block ≡ keys_before (32 * block) ranges
-  pub within : 32 * length starts ≤ length ranges - 1
+  pub counted : (block : ℕ) → block ≤ length starts → start_of starts block ≡ keys_before (16 * block) ranges
+  pub within : 16 * length starts ≤ length ranges - 1
 
 abbrev pub stretched : ℕ → ℕ → List Range → Range
 stretched first last [] = record { first = first; last = last }
@@ -74,7 +74,7 @@ right_edge last range = if nat_lt last range.last then (record range { first = l
 pub record IsStored (ranges : List Range) (starts : List ℕ) : Type 0 where
   pub apart : AreApart 0 ranges
   pub counts : AreStarts ranges starts
-  pub full : length ranges ≤ 32 * length starts + 32
+  pub full : length ranges ≤ 16 * length starts + 16
 
 -- the ranges from `from` up to `to` are those that end at low or after it and begin at high or before it
 pub record Meets (low high : ℕ) (ranges : List Range) (from to : ℕ) : Type 0 where

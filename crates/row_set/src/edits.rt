@@ -19,7 +19,7 @@ pub(crate) fn make_room(
     ensures ranges { ranges.new.items ≡ ranges.old.items }
     ensures starts { starts.new.items ≡ starts.old.items }
     ensures ranges_room { OnOk result (vec_len ranges.new + more ≤ vec_capacity ranges.new) }
-    ensures starts_room { OnOk result (vec_len ranges.new + more ≤ 32 * vec_capacity starts.new + 32) }
+    ensures starts_room { OnOk result (vec_len ranges.new + more ≤ 16 * vec_capacity starts.new + 16) }
 {
     ranges.reserve(more)?;
     let blocks = (ranges.len() + more) / BLOCK;
@@ -78,8 +78,8 @@ pub(crate) fn splice(ranges: &mut Vec<Range>, from: usize, to: usize, others: &[
 /// room.
 pub(crate) fn recount(starts: &mut Vec<u64>, ranges: &[Range], from: usize)
     requires within { from ≤ length ranges.now }
-    requires before { (block : ℕ) → block ≤ length starts.old.items → 32 * block < from → start_of starts.old.items block ≡ keys_before (32 * block) ranges.now }
-    requires room { length ranges.now ≤ 32 * vec_capacity starts.old + 32 }
+    requires before { (block : ℕ) → block ≤ length starts.old.items → 16 * block < from → start_of starts.old.items block ≡ keys_before (16 * block) ranges.now }
+    requires room { length ranges.now ≤ 16 * vec_capacity starts.old + 16 }
     requires apart { AreApart 0 ranges.now }
     ensures stored { IsStored ranges.now starts.new.items }
     ensures capacity { vec_capacity starts.old ≤ vec_capacity starts.new }
@@ -91,7 +91,7 @@ pub(crate) fn recount(starts: &mut Vec<u64>, ranges: &[Range], from: usize)
 /// Puts the starts of the blocks that are missing behind those that are there. There is room for them.
 fn count_rest(starts: &mut Vec<u64>, ranges: &[Range])
     requires starts { AreStarts ranges.now starts.old.items }
-    requires room { length ranges.now ≤ 32 * vec_capacity starts.old + 32 }
+    requires room { length ranges.now ≤ 16 * vec_capacity starts.old + 16 }
     requires apart { AreApart 0 ranges.now }
     ensures stored { IsStored ranges.now starts.new.items }
     ensures capacity { vec_capacity starts.old ≤ vec_capacity starts.new }
@@ -155,7 +155,7 @@ pub(crate) fn append_keys(ranges: &mut Vec<Range>, starts: &mut Vec<u64>, first:
     requires order { first ≤ last }
     requires small { last < 2 ^ 62 }
     requires ranges_room { vec_len ranges.old < vec_capacity ranges.old }
-    requires starts_room { vec_len ranges.old + 1 ≤ 32 * vec_capacity starts.old + 32 }
+    requires starts_room { vec_len ranges.old + 1 ≤ 16 * vec_capacity starts.old + 16 }
     ensures stored { IsStored ranges.new.items starts.new.items }
     ensures keys { keys_of ranges.new.items ≡ united (keys_from first last) (keys_of ranges.old.items) }
 {

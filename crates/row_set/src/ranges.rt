@@ -10,4 +10,4 @@ pub struct Range {
 }
 
 /// How many ranges make a block, of which the set knows the position at which it begins.
-pub(crate) const BLOCK: usize = 32;
+pub(crate) const BLOCK: usize = 16;

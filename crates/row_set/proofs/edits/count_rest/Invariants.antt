@@ -5,7 +5,7 @@ use Rattle.row_set.proofs.edits.count_rest.Given as goal
 abbrev pub invariant-loop-from : goal.invariant-loop-from
 invariant-loop-from l =
     AreStarts l.ranges l.starts.items
-    × (l.from ≡ 32 * length l.starts.items)
+    × (l.from ≡ 16 * length l.starts.items)
     × (l.next ≡ keys_before l.from l.ranges)
     × (vec_capacity l.fn.starts ≤ vec_capacity l.starts)
 

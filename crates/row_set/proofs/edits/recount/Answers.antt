@@ -5,6 +5,6 @@ use Rattle.row_set.proofs.edits.recount.Goals as goal
 
 pub count_rest-requires-clause-starts : goal.count_rest-requires-clause-starts
 count_rest-requires-clause-starts c =
-    let k = c.saturating_sub.result / 32 in
+    let k = c.saturating_sub.result / 16 in
     subst (λ those. AreStarts c.args.ranges.now those) (sym c.truncate.ensures.items)
     (starts_cut k c.args.from c.args.ranges.now c.args.starts.now.items c.requires.before (omega (arith, c.saturating_sub.ensures)) c.requires.within)

@@ -10,17 +10,17 @@ started_by-block-requires c = stored_rise c.args.ranges.now c.args.starts.now c.
 
 pub key_in-requires : goal.key_in-requires
 key_in-requires c =
-    let from = c.started_by-block.result * 32 in
+    let from = c.started_by-block.result * 16 in
     subst (λ those. AreApart 0 those) (sym (take_rest c.args.ranges.now from)) (apart-drop 0 from c.args.ranges.now c.requires.apart)
 
 pub returns : goal.returns
 returns c =
     let block = c.started_by-block.result in
-    let from = block * 32 in
+    let from = block * 16 in
     let ranges = c.args.ranges.now in
     let starts = c.args.starts.now in
     let position = c.args.position in
-    let place : 32 * block ≡ from = omega arith in
+    let place : 16 * block ≡ from = omega arith in
     let before : c.keys_before_block.result ≡ keys_before from ranges =
     c.keys_before_block.ensures ∙ c.requires.counts.counted block c.started_by-block.ensures.within ∙ ap (λ n. keys_before n ranges) place in
     let begun : c.keys_before_block.result ≤ position =

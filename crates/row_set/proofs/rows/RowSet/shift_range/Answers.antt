@@ -7,12 +7,12 @@ use Rattle.row_set.proofs.rows.RowSet.shift_range.Goals as goal
 pub recount-requires-clause-before : goal.recount-requires-clause-before
 recount-requires-clause-before c =
     let starts = c.make_room.new.starts.items in
-    subst (λ those. (block : ℕ) → block ≤ length starts → 32 * block < c.shift_keys-from.result → start_of starts block ≡ keys_before (32 * block) those) (sym c.deref.ensures.value)
+    subst (λ those. (block : ℕ) → block ≤ length starts → 16 * block < c.shift_keys-from.result → start_of starts block ≡ keys_before (16 * block) those) (sym c.deref.ensures.value)
     (λ block few under.
     ap (λ list. start_of list block) c.make_room.ensures.starts
     ∙ c.self.invariant.counts.counted block (omega (arith, few, ap length c.make_room.ensures.starts))
-    ∙ ap (keys_before (32 * block)) (sym c.make_room.ensures.ranges)
-    ∙ sym (c.shift_keys-from.ensures.before (32 * block) under))
+    ∙ ap (keys_before (16 * block)) (sym c.make_room.ensures.ranges)
+    ∙ sym (c.shift_keys-from.ensures.before (16 * block) under))
 
 pub shift_keys-from-requires-clause-in_bounds : goal.shift_keys-from-requires-clause-in_bounds
 shift_keys-from-requires-clause-in_bounds c =
