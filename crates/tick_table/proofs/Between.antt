@@ -16,7 +16,7 @@ use Rattle.tick_model.specs.declared.update.UpdateFault.TheVariants.{RemovedAbse
 use Rattle.tick_model.specs.declared.table.PlainTable.{PlainTable}
 use Rattle.tick_model.specs.Changes.{change_of, rows_under, told_keys}
 use Rattle.tick_model.specs.Rules.{is_past, landed, shift_fault, shift_fault_after, update_fault}
-use Rattle.tick_model.specs.Shifts.{moved, shifted}
+use Rattle.tick_model.specs.Shifts.{moved}
 use Rattle.tick_model.specs.Tables.{IsRow, keys}
 use Rattle.tick_model.specs.Updates.{IsTick, Tick, Update, between, differs, kept_pair, new_keys, old_keys, pairs}
 use Rattle.tick_laws.specs.Checked.{IsChecked, keys_after}

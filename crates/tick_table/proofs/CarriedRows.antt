@@ -15,7 +15,7 @@ use Rattle.tick_model.specs.Tables.{keys}
 use Rattle.tick_model.specs.Updates.{Update, rows_at, carry, removing, shifting, adding, modifying}
 use Rattle.tick_laws.specs.Checked.{IsChecked}
 use Rattle.tick_laws.proofs.CheckedUpdates.{modified_not_added, keys_after-rise, keys-stay, keys-carry, keys-modifying}
-use Rattle.tick_table.specs.SlotRows.{put_rows, stepped}
+use Rattle.tick_table.specs.Placed.{put_rows, stepped}
 use Rattle.tick_table.proofs.NewKeys.{among-adding}
 use Rattle.tick_table.proofs.Puts.{put_rows-append, put_rows-new, put_rows-known, keys-rows_under, rows_under-append}
 

@@ -3,7 +3,7 @@ use Rattle.std.proofs.Common.{◌≡◌, refl, ap, ap₂, sym, ◌∙◌, subst,
 use Rattle.std.specs.List.{AllByRecursion}
 use Rattle.std.proofs.Math.Nat.{suc-mul}
 use Rattle.std.proofs.lemmas.List.{drop-drop}
-use Rattle.std.proofs.lemmas.Bool.{cases_lt, ne_eqb, eq-eqb, eqb-true, eqb-false, lt-ltb, or_parts, or_from, or_right, le-ltb}
+use Rattle.std.proofs.lemmas.Bool.{cases_lt, ne_eqb, eq-eqb, eqb-true, eqb-false, lt-ltb, or_parts, or_from, le-ltb}
 use Rattle.tick_laws.proofs.CheckedUpdates.{keys-modifying}
 use Rattle.key_lists.specs.Keys.{is_among, IsRising}
 use Rattle.key_lists.proofs.Among.{among_below}
@@ -13,7 +13,7 @@ use Rattle.tick_model.specs.declared.table.PlainRow.{PlainRow}
 use Rattle.tick_model.specs.Changes.{rows_under}
 use Rattle.tick_model.specs.Tables.{keys, row_at}
 use Rattle.tick_model.specs.Updates.{insert_row, adding, modifying}
-use Rattle.tick_table.specs.SlotRows.{put_row, put_rows}
+use Rattle.tick_table.specs.Placed.{put_row, put_rows}
 
 -- the keys after a row was put
 pub among-put_row : (key : ℕ) (row : PlainRow) (rows : List PlainRow) → is_among key (keys (put_row row rows)) ≡ ((row.key == key) || is_among key (keys rows))
@@ -30,14 +30,6 @@ among-put_row key row (other ∷ others) =
 pub put_rows-append : (first second others : List PlainRow) → put_rows (first ++ second) others ≡ put_rows second (put_rows first others)
 put_rows-append [] second others = refl
 put_rows-append (row ∷ first) second others = put_rows-append first second (put_row row others)
-
--- a key that a row has is there after others were put
-pub there_after : (rows others : List PlainRow) (ks : List ℕ) → AllByRecursion (λ key. is_among key (keys others) ≡ true) ks → AllByRecursion (λ key. is_among key (keys (put_rows rows others)) ≡ true) ks
-there_after [] others ks there = there
-there_after (row ∷ rows) others ks there =
-    there_after rows (put_row row others) ks
-    (every_weaker (λ key. is_among key (keys others) ≡ true) (λ key. is_among key (keys (put_row row others)) ≡ true) ks
-    (λ key here. among-put_row key row others ∙ or_right (row.key == key) (is_among key (keys others)) here) there)
 
 -- a row whose key no other has is inserted
 put_new : (row : PlainRow) (rows : List PlainRow) → is_among row.key (keys rows) ≡ false → put_row row rows ≡ insert_row row rows

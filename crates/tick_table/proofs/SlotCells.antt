@@ -1,27 +1,13 @@
 -- The cells of slots: as the cells of one are written, and as a new one comes.
-use Rattle.std.proofs.Common.{◌≡◌, refl, ap, sym, ◌∙◌, subst, ℕ, ◌+◌, ◌*◌, ◌<◌, ◌≤◌, arith, List, [], ◌∷◌, ◌++◌, length, take, drop, get_or, set, ℤ, pos, negsuc, inl, inr, length-append, length-drop}
+use Rattle.std.proofs.Common.{◌≡◌, ap, sym, ◌∙◌, ℕ, ◌+◌, ◌*◌, ◌<◌, ◌≤◌, arith, List, [], ◌∷◌, ◌++◌, length, take, drop, get_or, set, ℤ, inl, inr, length-append, length-drop}
 use Rattle.std.specs.List.{range_with_len}
 use Rattle.std.proofs.lemmas.Bool.{cases_lt}
-use Rattle.std.proofs.lemmas.Int.{ints}
 use Rattle.std.proofs.lemmas.Nat.{row_fits}
 use Rattle.std.proofs.lemmas.List.{drop-take, drop_at, take_at, take_all, take-append-le, length-map, length-set, length-take-le, get_or-set_same, get_or-set_other, get_or_append_left, get_or_push, length_push, same_lists}
 use Rattle.std.proofs.lemmas.List.FromFn.{length-range_with_len, get_or-map-range_with_len}
 use Rattle.std.proofs.lemmas.Slice.{take-put_mid_below, drop-put_mid}
 use borrow.Rule.Slice.PartMut.{put_mid}
-use Rattle.tick_model.specs.Shifts.{as_key}
-use Rattle.tick_table.specs.Slots.{IsFilled, IsSlot, SlotCells, slot_cells, slot_list}
-
--- the number of a slot as a place
-pub slot_below : (count : ℕ) (slot : ℤ) → IsSlot count slot → as_key slot < count
-slot_below count (pos n) h = let few = h.few in omega (arith, ints, few)
-slot_below count (negsuc n) h = let some = h.some in absurd (omega (arith, ints, some))
-
-pub slot_place : (count : ℕ) (slot : ℤ) → IsSlot count slot → pos (as_key slot) ≡ slot
-slot_place count (pos n) h = refl
-slot_place count (negsuc n) h = let some = h.some in absurd (omega (arith, ints, some))
-
-pub wider : (count more : ℕ) (slot : ℤ) → count ≤ more → IsSlot count slot → IsSlot more slot
-wider count more slot most h = record { some = h.some; few = let few = h.few in omega (arith, ints, few, most) }
+use Rattle.tick_table.specs.Slots.{IsFilled, SlotCells, slot_cells, slot_list}
 
 -- a slot ends where the next begins or before
 pub slot_fits : (slot count width : ℕ) → slot < count → slot * width + width ≤ count * width
@@ -34,13 +20,12 @@ pub at-slot_list : (width count : ℕ) (cells : List ℤ) (slot : ℕ) (d : List
 at-slot_list width count cells slot d h = get_or-map-range_with_len (slot_cells width cells) 0 count slot slot d h (omega arith)
 
 -- the place at which the cells of a slot begin
-pub placed : (width count : ℕ) (cells : List ℤ) (view : SlotCells) (slot : ℤ) (index : ℕ) → length cells ≡ count * width → slot_list width count cells ≡ view.rows → IsSlot (length view.rows) slot → pos index ≡ slot
-    → (index ≡ as_key slot) × ((index < count) × (index * width + width ≤ length cells))
-placed width count cells view slot index whole shown own is =
-    let same : index ≡ as_key slot = ap as_key is in
-    let below : as_key slot < count = omega (arith, slot_below (length view.rows) slot own, ap length shown, length-slot_list width count cells) in
-    let less : index < count = omega (arith, same, below) in
-    (same, (less, omega (arith, slot_fits index count width less, whole)))
+pub slot_within : (width count : ℕ) (cells : List ℤ) (view : SlotCells) (slot : ℕ) → length cells ≡ count * width → slot_list width count cells ≡ view.rows → slot < length view.rows
+    → (slot < count) × (slot * width + width ≤ length cells)
+slot_within width count cells view slot whole shown own =
+    let below : slot < count = omega (arith, own, ap length shown, length-slot_list width count cells) in
+    let ends = slot_fits slot count width below in
+    (below, omega (arith, ends, whole))
 
 -- the cells of a slot are written
 module _ (width count : ℕ) (cells row : List ℤ) (slot : ℕ) (whole : length cells ≡ count * width) (fits : length row ≡ width) (h : slot < count) where
@@ -114,13 +99,13 @@ module _ (width count : ℕ) (cells row : List ℤ) (whole : length cells ≡ co
       ]))
 
 -- a row was put into a slot that was free, or into a new one
-pub filled_over : (row : List ℤ) (old new : SlotCells) (slot : ℤ) → new.width ≡ old.width → new.rows ≡ set old.rows (as_key slot) row → old.free ≡ new.free ++ slot ∷ [] → IsSlot (length old.rows) slot → IsFilled row old new slot
+pub filled_over : (row : List ℤ) (old new : SlotCells) (slot : ℕ) → new.width ≡ old.width → new.rows ≡ set old.rows slot row → old.free ≡ new.free ++ slot ∷ [] → slot < length old.rows → IsFilled row old new slot
 filled_over row old new slot w rows free own =
-    let same : length new.rows ≡ length old.rows = ap length rows ∙ length-set old.rows (as_key slot) row in record {
+    let same : length new.rows ≡ length old.rows = ap length rows ∙ length-set old.rows slot row in record {
       width = w;
       more = omega (arith, same);
-      inside = subst (λ n. IsSlot n slot) (sym same) own;
-      here = ap (λ (rows : List (List ℤ)). get_or rows (as_key slot) []) rows ∙ get_or-set_same old.rows (as_key slot) row [] (slot_below (length old.rows) slot own);
-      others = λ other below apart. ap (λ (rows : List (List ℤ)). get_or rows other []) rows ∙ get_or-set_other old.rows (as_key slot) other row [] apart;
+      inside = omega (arith, same, own);
+      here = ap (λ (rows : List (List ℤ)). get_or rows slot []) rows ∙ get_or-set_same old.rows slot row [] own;
+      others = λ other below apart. ap (λ (rows : List (List ℤ)). get_or rows other []) rows ∙ get_or-set_other old.rows slot other row [] apart;
       source = inl free;
     }

@@ -1,5 +1,6 @@
 pub mod Exact
 pub mod Kept
-pub mod SlotRows
+pub mod Placed
+pub mod Places
 pub mod Slots
 pub mod Ticking

@@ -1,8 +1,7 @@
 //! Slots that hold the cells of rows, one slot after the other.
 
-ghost use Rattle.std.specs.Prelude.{◌≡◌, ◌+◌, ◌*◌, ◌≤◌, [], ◌∷◌, ◌++◌, length, set, pos, ◌≤ℤ◌, slice_index_or, IfOk, OnOk, OnErr};
-ghost use Rattle.tick_model.specs.Shifts.{as_key};
-ghost use Rattle.tick_table.specs.Slots.{AreSlots, IsFilled, IsSlot};
+ghost use Rattle.std.specs.Prelude.{◌≡◌, ◌+◌, ◌*◌, ◌<◌, ◌≤◌, [], ◌∷◌, ◌++◌, length, take, drop, set, slice_index_or, IfOk, OnOk, OnErr};
+ghost use Rattle.tick_table.specs.Slots.{AreSlots, IsFilled};
 
 use std::alloc::{AllocError, Global};
 use std::marker::Model;
@@ -18,7 +17,7 @@ pub(crate) struct Slots {
     /// The cells of each slot.
     cells: Vec<i64>,
     /// The slots that are free: the last of them is taken first.
-    free: Vec<i64>,
+    free: Vec<usize>,
 }
 
 impl Model for Slots {
@@ -59,58 +58,58 @@ impl Slots {
     }
 
     /// The cells of a slot.
-    pub(crate) fn row(&self, slot: i64) -> &[i64]
-        requires { IsSlot (length self.now.rows) slot }
-        ensures cells { result.now ≡ slice_index_or self.now.rows (as_key slot) [] }
+    pub(crate) fn row(&self, slot: usize) -> &[i64]
+        requires { slot < length self.now.rows }
+        ensures cells { result.now ≡ slice_index_or self.now.rows slot [] }
         ensures whole { length result.now ≡ self.now.width }
     {
-        let start = index_of(slot) * self.width;
-        &self.cells[start..start + self.width]
+        row_at(&self.cells, slot, self.width)
     }
 
     /// Puts the cells of a row into a slot, and gives the slot. After a refusal all is as it was.
-    pub(crate) fn fill(&mut self, row: &[i64]) -> Result<i64, AllocError>
+    pub(crate) fn fill(&mut self, row: &[i64]) -> Result<usize, AllocError>
         requires { length row.now ≡ self.old.width }
         ensures filled { IfOk result (λ slot. IsFilled row.now self.old self.new slot) }
         ensures refused { OnErr result (self.new ≡ self.old) }
     {
         match self.free.pop() {
-            Some(slot) => Ok(self.overwrite(slot, row)),
+            Some(slot) => {
+                self.overwrite(slot, row);
+                Ok(slot)
+            }
             None => self.open(row),
         }
     }
 
-    /// Puts the cells of a row into one of the slots, and gives the slot.
-    fn overwrite(&mut self, slot: i64, row: &[i64]) -> i64
-        requires slot { IsSlot (length self.old.rows) slot }
+    /// Puts the cells of a row into one of the slots.
+    pub(crate) fn overwrite(&mut self, slot: usize, row: &[i64])
+        requires slot { slot < length self.old.rows }
         requires whole { length row.now ≡ self.old.width }
-        ensures slot { result ≡ slot }
         ensures width { self.new.width ≡ self.old.width }
-        ensures rows { self.new.rows ≡ set self.old.rows (as_key slot) row.now }
+        ensures rows { self.new.rows ≡ set self.old.rows slot row.now }
         ensures free { self.new.free ≡ self.old.free }
     {
-        let start = index_of(slot) * self.width;
+        let start = slot * self.width;
         self.cells[start..start + self.width].copy_from_slice(row);
-        slot
     }
 
     /// Puts the cells of a row into a new slot, and gives the slot. After a refusal all is as it was.
-    fn open(&mut self, row: &[i64]) -> Result<i64, AllocError>
+    fn open(&mut self, row: &[i64]) -> Result<usize, AllocError>
         requires { length row.now ≡ self.old.width }
-        ensures slot { IfOk result (λ slot. slot ≡ pos (length self.old.rows)) }
+        ensures slot { IfOk result (λ slot. slot ≡ length self.old.rows) }
         ensures width { self.new.width ≡ self.old.width }
         ensures rows { OnOk result (self.new.rows ≡ self.old.rows ++ row.now ∷ []) }
         ensures free { self.new.free ≡ self.old.free }
         ensures refused { OnErr result (self.new ≡ self.old) }
     {
         self.cells.extend_from_slice(row)?;
-        let slot = self.count as i64;
+        let slot = self.count;
         self.count += 1;
         Ok(slot)
     }
 
     /// Makes slots free: the last of them is taken first. After a refusal all is as it was.
-    pub(crate) fn release(&mut self, slots: &[i64]) -> Result<(), AllocError>
+    pub(crate) fn release(&mut self, slots: &[usize]) -> Result<(), AllocError>
         requires { AreSlots (length self.old.rows) slots.now }
         ensures width { self.new.width ≡ self.old.width }
         ensures rows { self.new.rows ≡ self.old.rows }
@@ -134,10 +133,12 @@ impl Slots {
     }
 }
 
-/// The number of a slot as an index.
-fn index_of(slot: i64) -> usize
-    requires { pos 0 ≤ℤ slot }
-    ensures { pos result ≡ slot }
+/// The cells of one of several rows of one width, which stand one after the other.
+pub(crate) fn row_at(cells: &[i64], place: usize, width: usize) -> &[i64]
+    requires { place * width + width ≤ length cells.now }
+    ensures cells { result.now ≡ take width (drop (place * width) cells.now) }
+    ensures whole { length result.now ≡ width }
 {
-    slot as usize
+    let start = place * width;
+    &cells[start..start + width]
 }

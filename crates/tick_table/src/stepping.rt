@@ -1,75 +1,165 @@
 //! Rows that a change brings on.
 
-ghost use Rattle.std.specs.Prelude.{◌≡◌, ◌*◌, ◌^◌, ◌<◌, ◌≤◌, IsTrue, None, true, length, drop, IfOk, OnOk};
+ghost use Rattle.std.specs.Prelude.{◌≡◌, ◌*◌, ◌^◌, ◌≤◌, ◌++◌, [], IsTrue, None, length, map, drop, flat_map, IfOk, IfSome, OnOk};
 ghost use Rattle.std.specs.List.{AllByRecursion};
-ghost use Rattle.key_lists.specs.Keys.{is_among};
+ghost use Rattle.key_lists.specs.Keys.{is_among, without};
+ghost use Rattle.row_set.specs.Sets.{IsKeySet};
+ghost use Rattle.tick_laws.specs.Checked.{keys_after};
 ghost use Rattle.tick_model.specs.Changes.{rows_under, told_keys};
 ghost use Rattle.tick_model.specs.Rules.{update_fault};
-ghost use Rattle.tick_model.specs.Tables.{keys as row_keys};
-ghost use Rattle.tick_table.specs.SlotRows.{put_row, put_rows, stepped};
+ghost use Rattle.tick_model.specs.Tables.{cells_at};
+ghost use Rattle.tick_model.specs.Updates.{removing};
+ghost use Rattle.tick_table.specs.Placed.{IsRowPlace, paired, put_rows, stayed, stepped};
 
-use crate::slot_rows::SlotRows;
+use crate::placed::PlacedRows;
 use row_set::RowSet;
 use std::alloc::AllocError;
 use table_update::Update;
 
-/// Brings rows on by a change: those of now become those from before the step, and the update changes those of now.
+/// The key of a row and its position.
+#[derive(Clone, Copy)]
+pub(crate) struct RowPlace {
+    key: u64,
+    position: usize,
+}
+
+/// Brings rows under these keys on by a change, and gives their keys after it. What the change removes and replaces is kept
+/// aside, so that the rows from before can be told.
 pub(crate) fn bring_on(
-    rows: &mut SlotRows,
+    placed: &mut PlacedRows,
+    rows: RowSet,
     update: &Update,
     cells: &[i64],
-) -> Result<(), AllocError>
-    requires lawful { update_fault (2 ^ 62) (row_keys rows.old.now) update.now ≡ None }
-    requires whole { length cells.now ≡ length (told_keys update.now) * rows.old.width }
-    ensures width { OnOk result (rows.new.width ≡ rows.old.width) }
-    ensures now { OnOk result (rows.new.now ≡ stepped update.now (rows_under rows.old.width (told_keys update.now) cells.now) rows.old.now) }
-    ensures before { OnOk result (rows.new.before ≡ rows.old.now) }
+) -> Result<RowSet, AllocError>
+    requires lawful { update_fault (2 ^ 62) rows update.now ≡ None }
+    requires count { length placed.old.rows ≡ length rows }
+    requires whole { length cells.now ≡ length (told_keys update.now) * placed.old.width }
+    ensures keys { IfOk result (λ after. after ≡ keys_after rows update.now) }
+    ensures width { OnOk result (placed.new.width ≡ placed.old.width) }
+    ensures count { OnOk result (length placed.new.rows ≡ length (keys_after rows update.now)) }
+    ensures now { OnOk result (paired (keys_after rows update.now) placed.new.rows
+        ≡ stepped update.now (rows_under placed.old.width (told_keys update.now) cells.now) (paired rows placed.old.rows)) }
+    ensures left { OnOk result (placed.new.left ≡ map (λ key. cells_at key (paired rows placed.old.rows)) update.now.removed) }
+    ensures saved { OnOk result (placed.new.saved
+        ≡ flat_map (λ key. cells_at key (stayed update.now (paired rows placed.old.rows))) update.now.modified) }
+    ensures removed { OnOk result (IsKeySet update.now.removed) }
+    ensures added { OnOk result (IsKeySet update.now.added) }
+    ensures modified { OnOk result (IsKeySet update.now.modified) }
 {
     let removed = update.removed();
-    let shifted = update.shifted();
-    rows.begin_step()?;
-    rows.remove(removed)?;
-    rows.shift(shifted)?;
-    let modified = put_all(rows, update.added(), cells, false)?;
-    let _ = put_all(rows, update.modified(), modified, true)?;
+    let added = update.added();
+    let modified = update.modified();
+    placed.begin_step()?;
+    remove_rows(placed, &rows, removed)?;
+    let rows = update.apply_to_keys(rows)?;
+    let rest = add_rows(placed, &rows, added, cells)?;
+    modify_rows(placed, &rows, modified, rest)?;
+    Ok(rows)
+}
+
+/// Takes the rows under some of the keys out.
+fn remove_rows(placed: &mut PlacedRows, rows: &RowSet, removed: &RowSet) -> Result<(), AllocError>
+    requires own { AllByRecursion (λ key. IsTrue (is_among key rows.now)) removed.now }
+    requires count { length placed.old.rows ≡ length rows.now }
+    requires none_left { placed.old.left ≡ [] }
+    ensures width { OnOk result (placed.new.width ≡ placed.old.width) }
+    ensures count { OnOk result (length placed.new.rows ≡ length (without removed.now rows.now)) }
+    ensures now { OnOk result (paired (without removed.now rows.now) placed.new.rows ≡ removing removed.now (paired rows.now placed.old.rows)) }
+    ensures left { OnOk result (placed.new.left ≡ map (λ key. cells_at key (paired rows.now placed.old.rows)) removed.now) }
+    ensures saved { OnOk result (placed.new.saved ≡ placed.old.saved) }
+{
+    let _ = rows.ranges();
+    let mut last = None;
+    for key in removed {
+        let place = place_after(rows, last, key);
+        let position = place.position - placed.count_left();
+        placed.take_out(position)?;
+        last = Some(place);
+    }
     Ok(())
 }
 
-/// Puts rows, whose cells stand one after the other, under these keys. It gives the cells behind those of the rows.
-fn put_all<'a>(
-    rows: &mut SlotRows,
-    keys: &RowSet,
+/// Puts rows, whose cells stand one after the other, in under those of the keys that have none. It gives the cells behind those
+/// of the rows.
+fn add_rows<'a>(
+    placed: &mut PlacedRows,
+    rows: &RowSet,
+    added: &RowSet,
     cells: &'a [i64],
-    known: bool,
 ) -> Result<&'a [i64], AllocError>
-    requires known { known ≡ true → AllByRecursion (λ key. IsTrue (is_among key (row_keys rows.old.now))) keys.now }
-    requires whole { length keys.now * rows.old.width ≤ length cells.now }
-    ensures width { OnOk result (rows.new.width ≡ rows.old.width) }
-    ensures now { OnOk result (rows.new.now ≡ put_rows (rows_under rows.old.width keys.now cells.now) rows.old.now) }
-    ensures before { OnOk result (rows.new.before ≡ rows.old.before) }
-    ensures rest { IfOk result (λ rest. rest.now ≡ drop (length keys.now * rows.old.width) cells.now) }
+    requires own { AllByRecursion (λ key. IsTrue (is_among key rows.now)) added.now }
+    requires count { length placed.old.rows ≡ length (without added.now rows.now) }
+    requires whole { length added.now * placed.old.width ≤ length cells.now }
+    ensures width { OnOk result (placed.new.width ≡ placed.old.width) }
+    ensures count { OnOk result (length placed.new.rows ≡ length rows.now) }
+    ensures now { OnOk result (paired rows.now placed.new.rows
+        ≡ put_rows (rows_under placed.old.width added.now cells.now) (paired (without added.now rows.now) placed.old.rows)) }
+    ensures left { OnOk result (placed.new.left ≡ placed.old.left) }
+    ensures saved { OnOk result (placed.new.saved ≡ placed.old.saved) }
+    ensures rest { IfOk result (λ rest. rest.now ≡ drop (length added.now * placed.old.width) cells.now) }
 {
+    let _ = rows.ranges();
     let mut rest = cells;
-    for key in keys {
-        let (row, others) = rest.split_at(rows.width());
-        put(rows, key, row, known)?;
+    let mut last = None;
+    for key in added {
+        let place = place_after(rows, last, key);
+        let (row, others) = rest.split_at(placed.width());
+        placed.put_in(place.position, row)?;
         rest = others;
+        last = Some(place);
     }
     Ok(rest)
 }
 
-/// Puts a row under a key that is known, or under one that has no row.
-fn put(rows: &mut SlotRows, key: u64, row: &[i64], known: bool) -> Result<(), AllocError>
-    requires known { known ≡ true → IsTrue (is_among key (row_keys rows.old.now)) }
-    requires small { key < 2 ^ 62 }
-    requires whole { length row.now ≡ rows.old.width }
-    ensures width { OnOk result (rows.new.width ≡ rows.old.width) }
-    ensures now { OnOk result (rows.new.now ≡ put_row (record { key = key; cells = row.now }) rows.old.now) }
-    ensures before { OnOk result (rows.new.before ≡ rows.old.before) }
+/// Puts rows, whose cells stand first, one after the other, in place of those under some of the keys.
+fn modify_rows(
+    placed: &mut PlacedRows,
+    rows: &RowSet,
+    modified: &RowSet,
+    cells: &[i64],
+) -> Result<(), AllocError>
+    requires own { AllByRecursion (λ key. IsTrue (is_among key rows.now)) modified.now }
+    requires count { length placed.old.rows ≡ length rows.now }
+    requires whole { length modified.now * placed.old.width ≤ length cells.now }
+    ensures width { OnOk result (placed.new.width ≡ placed.old.width) }
+    ensures count { OnOk result (length placed.new.rows ≡ length rows.now) }
+    ensures now { OnOk result (paired rows.now placed.new.rows
+        ≡ put_rows (rows_under placed.old.width modified.now cells.now) (paired rows.now placed.old.rows)) }
+    ensures left { OnOk result (placed.new.left ≡ placed.old.left) }
+    ensures saved { OnOk result (placed.new.saved
+        ≡ placed.old.saved ++ flat_map (λ key. cells_at key (paired rows.now placed.old.rows)) modified.now) }
 {
-    if known {
-        rows.modify(key, row)
-    } else {
-        rows.add(key, row)
+    let _ = rows.ranges();
+    let mut rest = cells;
+    let mut last = None;
+    for key in modified {
+        let place = place_after(rows, last, key);
+        let (row, others) = rest.split_at(placed.width());
+        placed.replace(place.position, row)?;
+        rest = others;
+        last = Some(place);
+    }
+    Ok(())
+}
+
+/// Where the row under a key is: of rows under neighbouring keys only the first is searched for.
+fn place_after(rows: &RowSet, last: Option<RowPlace>, key: u64) -> RowPlace
+    requires own { IsTrue (is_among key rows.now) }
+    requires last { IfSome last (IsRowPlace rows.now) }
+    ensures key { result.key ≡ key }
+    ensures place { IsRowPlace rows.now result }
+{
+    let _ = rows.ranges();
+    if let Some(place) = last {
+        if place.key + 1 == key {
+            return RowPlace {
+                key,
+                position: place.position + 1,
+            };
+        }
+    }
+    RowPlace {
+        key,
+        position: rows.count_below(key) as usize,
     }
 }

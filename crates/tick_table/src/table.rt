@@ -1,19 +1,18 @@
 //! The table itself: what it is made of, what it answers and how a change is applied.
 
-ghost use Rattle.std.specs.Prelude.{◌++◌, ◌≡◌, ◌+◌, ◌*◌, ◌^◌, ◌<◌, ◌≤◌, IsTrue, None, length, IfOk, OnOk};
-ghost use Rattle.row_set.specs.Sets.{IsKeySet};
-ghost use Rattle.tick_laws.specs.Checked.{keys_after};
+ghost use Rattle.std.specs.Prelude.{◌++◌, ◌≡◌, ◌+◌, ◌*◌, ◌^◌, ◌<◌, ◌≤◌, IsTrue, None, false, length, slice_index, IfOk, OnOk};
 ghost use Rattle.key_lists.specs.Keys.{is_among};
-ghost use Rattle.tick_model.specs.Changes.{change_of, changed, rows_under, told_keys};
+ghost use Rattle.table_update.specs.Kept.{old_modified};
+ghost use Rattle.tick_model.specs.Changes.{change_of, changed, told_keys};
 ghost use Rattle.tick_model.specs.Rules.{update_fault};
 ghost use Rattle.tick_model.specs.Tables.{IsTable, cell as cell_of, cells_at, keys};
 ghost use Rattle.tick_model.specs.Updates.{IsTick, Tick};
 ghost use Rattle.tick_table.specs.Exact.{ticking};
-ghost use Rattle.tick_table.specs.SlotRows.{stepped};
 ghost use Rattle.tick_table.specs.Ticking.{fresh};
 
 use crate::change::Change;
-use crate::slot_rows::SlotRows;
+use crate::placed::PlacedRows;
+use crate::slots::row_at;
 use crate::stepping::bring_on;
 use crate::steps::Steps;
 use row_set::RowSet;
@@ -22,6 +21,7 @@ use std::marker::Model;
 use std::sync::Arc;
 use std::sync::ledger::Ledger;
 use table_update::Update;
+use tick_model::items::Items;
 
 /// A table that several may read.
 pub type Shared = Arc<TickTable>;
@@ -33,10 +33,12 @@ pub struct TickTable {
     rows: RowSet,
     /// The keys of the rows before the step.
     prev_rows: RowSet,
-    /// The rows of now and of before the step.
-    slot_rows: SlotRows,
+    /// The cells of the rows by position, and what the step took out and replaced of them.
+    placed: PlacedRows,
     /// How the rows of before became those of now.
     update: Update,
+    /// The cells of the rows that the update tells.
+    told: Items<i64>,
     /// How often the table was copied whole since it was made.
     copies: u32,
 }
@@ -46,26 +48,23 @@ impl Drop for TickTable {
         let Self {
             rows: _,
             prev_rows: _,
-            slot_rows: _,
+            placed: _,
             update: _,
+            told: _,
             copies: _,
         } = self;
     }
 }
 
 impl Model for TickTable {
-    ghost use Rattle.tick_table.specs.Kept.{IsKept, table_before, table_now};
+    ghost use Rattle.tick_table.specs.Kept.{IsKept, shown};
     ghost use Rattle.tick_table.specs.Ticking.{Ticking};
 
     ghost Value = { Ticking };
 
-    ghost view = { λ table. record {
-      old = table_before table.slot_rows;
-      new = table_now table.slot_rows;
-      update = table.update;
-    } };
+    ghost view = { λ table. shown table.rows table.prev_rows table.placed table.update };
 
-    ghost invariant = { λ table. IsKept table.rows table.prev_rows table.slot_rows table.update };
+    ghost invariant = { λ table. IsKept table.rows table.prev_rows table.placed table.update table.told };
 }
 
 impl TickTable {
@@ -78,8 +77,9 @@ impl TickTable {
         Ok(TickTable {
             rows: RowSet::new(alloc),
             prev_rows: RowSet::new(alloc),
-            slot_rows: SlotRows::new(alloc, width as usize),
+            placed: PlacedRows::new(alloc, width as usize),
             update: Update::none(alloc),
+            told: Items::new(alloc),
             copies: 0,
         })
     }
@@ -91,7 +91,7 @@ impl TickTable {
         ensures some { 1 ≤ result }
         ensures few { result ≤ 32 }
     {
-        self.slot_rows.width() as u32
+        self.placed.width() as u32
     }
 
     /// The keys of the rows now.
@@ -125,7 +125,7 @@ impl TickTable {
         ensures read { reads.new ≡ reads.old + 1 }
     {
         reads.tick();
-        self.slot_rows.row(key)[column as usize]
+        self.row_now(key)[column as usize]
     }
 
     /// The cell that a row had before the step. It is one read.
@@ -136,7 +136,7 @@ impl TickTable {
         ensures read { reads.new ≡ reads.old + 1 }
     {
         reads.tick();
-        self.slot_rows.prev_row(key)[column as usize]
+        self.row_before(key)[column as usize]
     }
 
     /// Puts the cells of a row now behind others. Each is one read.
@@ -151,7 +151,7 @@ impl TickTable {
         ensures whole { length (cells_at key self.now.new.rows) ≡ self.now.new.width }
         ensures reads { OnOk result (reads.new ≡ reads.old + self.now.new.width) }
     {
-        let row = self.slot_rows.row(key);
+        let row = self.row_now(key);
         cells.extend_from_slice(row)?;
         read_all(row, reads);
         Ok(())
@@ -169,10 +169,62 @@ impl TickTable {
         ensures whole { length (cells_at key self.now.old.rows) ≡ self.now.old.width }
         ensures reads { OnOk result (reads.new ≡ reads.old + self.now.old.width) }
     {
-        let row = self.slot_rows.prev_row(key);
+        let row = self.row_before(key);
         cells.extend_from_slice(row)?;
         read_all(row, reads);
         Ok(())
+    }
+
+    /// The cells of an added row, by the place of its key among those of the update. Each is one read.
+    pub fn added_row<L: Ledger>(&self, place: u64, reads: &mut Steps<L>) -> &[i64]
+        requires { place < length self.now.update.added }
+        ensures cells { result.now ≡ cells_at (slice_index self.now.update.added place) self.now.new.rows }
+        ensures whole { length result.now ≡ self.now.new.width }
+        ensures reads { reads.new ≡ reads.old + self.now.new.width }
+    {
+        let row = self.told_row(place as usize);
+        read_all(row, reads);
+        row
+    }
+
+    /// The cells of a modified row, by the place of its key among those of the update. Each is one read.
+    pub fn modified_row<L: Ledger>(&self, place: u64, reads: &mut Steps<L>) -> &[i64]
+        requires { place < length self.now.update.modified }
+        ensures cells { result.now ≡ cells_at (slice_index self.now.update.modified place) self.now.new.rows }
+        ensures whole { length result.now ≡ self.now.new.width }
+        ensures reads { reads.new ≡ reads.old + self.now.new.width }
+    {
+        let _ = self.update.modified();
+        let place = self.update.added().len() as usize + place as usize;
+        let row = self.told_row(place);
+        read_all(row, reads);
+        row
+    }
+
+    /// The cells that a modified row had before the step, by the place of its key among those of the update. Each is one read.
+    pub fn modified_row_before<L: Ledger>(&self, place: u64, reads: &mut Steps<L>) -> &[i64]
+        requires { place < length self.now.update.modified }
+        ensures cells { result.now ≡ cells_at (slice_index (old_modified (keys self.now.old.rows) self.now.update) place) self.now.old.rows }
+        ensures whole { length result.now ≡ self.now.old.width }
+        ensures reads { reads.new ≡ reads.old + self.now.old.width }
+    {
+        let _ = self.update.modified();
+        let row = self.placed.saved_row(place as usize);
+        read_all(row, reads);
+        row
+    }
+
+    /// The cells that a removed row had, by the place of its key among those of the update. Each is one read.
+    pub fn removed_row<L: Ledger>(&self, place: u64, reads: &mut Steps<L>) -> &[i64]
+        requires { place < length self.now.update.removed }
+        ensures cells { result.now ≡ cells_at (slice_index self.now.update.removed place) self.now.old.rows }
+        ensures whole { length result.now ≡ self.now.old.width }
+        ensures reads { reads.new ≡ reads.old + self.now.old.width }
+    {
+        let _ = self.update.removed();
+        let row = self.placed.left_row(place as usize);
+        read_all(row, reads);
+        row
     }
 
     /// How often the table was copied whole since it was made: 0 as long as each change was applied where the rows lie. A
@@ -185,11 +237,13 @@ impl TickTable {
     pub fn copy(&self) -> Result<TickTable, AllocError>
         ensures { IfOk result (λ table. table ≡ self.now) }
     {
+        let told = Vec::from_slice(self.placed.allocator(), self.told.as_slice())?;
         Ok(TickTable {
             rows: self.rows.copy()?,
             prev_rows: self.prev_rows.copy()?,
-            slot_rows: self.slot_rows.copy()?,
+            placed: self.placed.copy()?,
             update: self.update.copy()?,
+            told: Items::of(told),
             copies: self.copies.saturating_add(1),
         })
     }
@@ -208,65 +262,75 @@ impl TickTable {
         let TickTable {
             rows,
             prev_rows,
-            mut slot_rows,
+            mut placed,
             update: last,
+            told: _,
             copies,
         } = self;
         let Change { update, cells } = change;
-        let cells = cells.as_slice();
-        let (rows, prev_rows) = bring_all_on(
-            rows,
-            prev_rows,
-            &mut slot_rows,
-            &last,
-            &update,
-            cells,
-        )?;
+        let prev_rows = last.apply_to_keys(prev_rows)?;
+        let rows = bring_on(&mut placed, rows, &update, cells.as_slice())?;
         Ok(TickTable {
             rows,
             prev_rows,
-            slot_rows,
+            placed,
             update,
+            told: cells,
             copies,
         })
+    }
+
+    /// The cells of a row now.
+    pub(crate) fn row_now(&self, key: u64) -> &[i64]
+        requires { IsTrue (is_among key (keys self.now.new.rows)) }
+        ensures cells { result.now ≡ cells_at key self.now.new.rows }
+        ensures whole { length result.now ≡ self.now.new.width }
+    {
+        self.placed.row(self.rows.count_below(key) as usize)
+    }
+
+    /// The cells that a row had before the step.
+    fn row_before(&self, key: u64) -> &[i64]
+        requires { IsTrue (is_among key (keys self.now.old.rows)) }
+        ensures cells { result.now ≡ cells_at key self.now.old.rows }
+        ensures whole { length result.now ≡ self.now.old.width }
+    {
+        match self.update.removed().find(key) {
+            Ok(place) => self.placed.left_row(place as usize),
+            Err(_) => self.row_stayed(key),
+        }
+    }
+
+    /// The cells that a row had before the step, where the step did not remove it.
+    pub(crate) fn row_stayed(&self, key: u64) -> &[i64]
+        requires here { IsTrue (is_among key (keys self.now.old.rows)) }
+        requires stays { is_among key self.now.update.removed ≡ false }
+        ensures cells { result.now ≡ cells_at key self.now.old.rows }
+        ensures whole { length result.now ≡ self.now.old.width }
+    {
+        let _ = self.prev_rows.ranges();
+        let now = self.update.shifted().landing(key);
+        match self.update.modified().find(now) {
+            Ok(place) => self.placed.saved_row(place as usize),
+            Err(_) => self.row_now(now),
+        }
+    }
+
+    /// The cells of a row that the last change tells, by the place of its key.
+    fn told_row(&self, place: usize) -> &[i64]
+        requires { place < length (told_keys self.now.update) }
+        ensures cells { result.now ≡ cells_at (slice_index (told_keys self.now.update) place) self.now.new.rows }
+        ensures whole { length result.now ≡ self.now.new.width }
+    {
+        row_at(self.told.as_slice(), place, self.placed.width())
     }
 }
 
 /// Each cell of a row is one read.
-fn read_all<L: Ledger>(row: &[i64], reads: &mut Steps<L>)
+pub(crate) fn read_all<L: Ledger>(row: &[i64], reads: &mut Steps<L>)
     ensures { reads.new ≡ reads.old + length row.now }
 {
     for _ in row {
         reads.tick();
     }
-}
-
-/// The keys of now and those from before the step, brought on by the next update and by the last one. The rows of now are
-/// brought on by the next one.
-fn bring_all_on(
-    rows: RowSet,
-    prev_rows: RowSet,
-    slot_rows: &mut SlotRows,
-    last: &Update,
-    next: &Update,
-    cells: &[i64],
-) -> Result<(RowSet, RowSet), AllocError>
-    requires last { update_fault (2 ^ 62) prev_rows last.now ≡ None }
-    requires next { update_fault (2 ^ 62) rows next.now ≡ None }
-    requires keys { rows ≡ keys slot_rows.old.now }
-    requires whole { length cells.now ≡ length (told_keys next.now) * slot_rows.old.width }
-    ensures rows { IfOk result (λ brought. brought.0 ≡ keys_after rows next.now) }
-    ensures prev_rows { IfOk result (λ brought. brought.1 ≡ keys_after prev_rows last.now) }
-    ensures width { OnOk result (slot_rows.new.width ≡ slot_rows.old.width) }
-    ensures now { OnOk result (slot_rows.new.now ≡ stepped next.now (rows_under slot_rows.old.width (told_keys next.now) cells.now) slot_rows.old.now) }
-    ensures before { OnOk result (slot_rows.new.before ≡ slot_rows.old.now) }
-    ensures added { OnOk result (IsKeySet next.now.added) }
-    ensures modified { OnOk result (IsKeySet next.now.modified) }
-{
-    let _added = next.added();
-    let _modified = next.modified();
-    let prev_rows = last.apply_to_keys(prev_rows)?;
-    let rows = next.apply_to_keys(rows)?;
-    bring_on(slot_rows, next, cells)?;
-    Ok((rows, prev_rows))
 }

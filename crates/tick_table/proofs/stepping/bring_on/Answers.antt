@@ -1,84 +1,94 @@
-use Rattle.std.proofs.Common.{◌≡◌, sym, ap, ap₂, ◌∙◌, subst, true, false, not, ◌*◌, ◌^◌, length, drop, ℤ, ℕ, List}
+use Rattle.std.proofs.Common.{◌≡◌, ap, ap₂, sym, ◌∙◌, subst, true, ◌*◌, ◌++◌, length, map, drop, List, ℕ, ℤ}
+use Rattle.std.specs.Prelude.{flat_map}
 use Rattle.std.specs.List.{AllByRecursion}
-use Rattle.std.proofs.lemmas.Bool.{not-false}
-use Rattle.key_lists.specs.Keys.{is_among}
-use Rattle.key_lists.proofs.Every.{every_weaker, none_pass}
-use Rattle.shift_data.specs.Moves.{IsLawful}
-use Rattle.table_update.proofs.KeysAfter.{rules_kept}
-use Rattle.tick_laws.specs.Checked.{IsChecked}
+use Rattle.key_lists.specs.Keys.{is_among, without}
+use Rattle.tick_laws.specs.Checked.{keys_after}
 use Rattle.tick_model.specs.declared.table.PlainRow.{PlainRow}
-use Rattle.tick_model.specs.declared.update.ShiftRange.{ShiftRange}
 use Rattle.tick_model.specs.Changes.{rows_under}
-use Rattle.tick_model.specs.Tables.{keys}
-use Rattle.tick_model.specs.Updates.{removing, shifting}
-use Rattle.tick_table.specs.Kept.{table_now}
-use Rattle.tick_table.specs.SlotRows.{put_rows}
-use Rattle.tick_table.proofs.CarriedRows.{added_put, keys-removing, modified_there}
+use Rattle.tick_model.specs.Tables.{cells_at}
+use Rattle.tick_table.specs.Placed.{paired, put_rows, stayed}
+use Rattle.tick_table.proofs.Applied.{removed_own}
+use Rattle.tick_table.proofs.Brought.{added_are, added_there, keys_again, modified_own, saved_before}
 use Rattle.tick_table.proofs.Puts.{put_two}
+use Rattle.tick_table.proofs.TableColumns.{length-mapped}
 use Rattle.tick_table.proofs.stepping.bring_on.Goals as goal
 
-pub remove-requires : goal.remove-requires
-remove-requires c =
-    let update = c.args.update.now in
-    let old = c.args.rows.now.now in
-    let there : AllByRecursion (λ key. is_among key (keys old) ≡ true) update.removed =
-    every_weaker (λ key. not (is_among key (keys old)) ≡ false) (λ key. is_among key (keys old) ≡ true) update.removed (λ key here. not-false (is_among key (keys old)) here)
-    (none_pass (λ key. not (is_among key (keys old))) update.removed (rules_kept (2 ^ 62) (keys old) update c.requires.lawful).removed) in
-    subst (λ (ks : List ℕ). AllByRecursion (λ key. is_among key (keys c.begin_step.new.self.now) ≡ true) ks) (sym c.removed-removed.ensures.keys)
-    (subst (λ (rows : List PlainRow). AllByRecursion (λ key. is_among key (keys rows) ≡ true) update.removed) (sym c.in_ok-begin_step.ensures.now) there)
+pub remove_rows-requires-clause-own : goal.remove_rows-requires-clause-own
+remove_rows-requires-clause-own c =
+    subst (AllByRecursion (λ key. is_among key c.args.rows ≡ true)) (sym c.removed-removed.ensures.keys) (removed_own c.args.rows c.args.update.now c.requires.lawful)
 
-pub shift-requires : goal.shift-requires
-shift-requires c =
-    let update = c.args.update.now in
-    let old = c.args.rows.now.now in
-    let left : c.remove.new.self.now ≡ removing update.removed old = c.in_ok-remove.ensures.now ∙ ap₂ removing c.removed-removed.ensures.keys c.in_ok-begin_step.ensures.now in
-    subst (λ (shifts : List ShiftRange). IsLawful shifts (keys c.remove.new.self.now)) (sym c.shifted-shifted.ensures)
-    (subst (IsLawful update.shifted) (sym (ap keys left ∙ keys-removing update.removed old)) (rules_kept (2 ^ 62) (keys old) update c.requires.lawful).shifted)
+pub remove_rows-requires-clause-count : goal.remove_rows-requires-clause-count
+remove_rows-requires-clause-count c = ap length c.in_ok-begin_step.ensures.rows ∙ c.requires.count
 
-pub put_all-requires-2-clause-known : goal.put_all-requires-2-clause-known
-put_all-requires-2-clause-known c = λ _.
+pub add_rows-requires-clause-own : goal.add_rows-requires-clause-own
+add_rows-requires-clause-own c =
+    subst (λ (ks : List ℕ). AllByRecursion (λ key. is_among key ks ≡ true) c.added-added.result.now) (sym c.in_ok-rows.ensures)
+    (subst (AllByRecursion (λ key. is_among key (keys_after c.args.rows c.args.update.now) ≡ true)) (sym c.added-added.ensures.keys)
+    (added_there c.args.rows c.args.update.now c.requires.lawful c.added-added.ensures.set.rising))
+
+pub add_rows-requires-clause-count : goal.add_rows-requires-clause-count
+add_rows-requires-clause-count c =
+    let rows = c.args.rows in
     let update = c.args.update.now in
-    let old = c.args.rows.now.now in
-    let width = c.args.rows.now.width in
-    let cells = c.args.cells.now in
-    let checked : IsChecked (2 ^ 62) (keys old) update = record { breaks_none = c.requires.lawful; added_rise = c.added.ensures.set.rising } in
-    let wide : c.shift.new.self.width ≡ width = c.shift.ensures.width ∙ c.remove.ensures.width ∙ c.begin_step.ensures.width in
-    let left : c.remove.new.self.now ≡ removing update.removed old = c.in_ok-remove.ensures.now ∙ ap₂ removing c.removed-removed.ensures.keys c.in_ok-begin_step.ensures.now in
-    let stay : List PlainRow = shifting update.shifted (removing update.removed old) in
-    let moved : c.shift.new.self.now ≡ stay = c.in_ok-shift.ensures.now ∙ ap₂ shifting c.shifted-shifted.ensures left in
-    let added : c.put_all.new.rows.now ≡ put_rows (rows_under width update.added cells) stay =
-    c.in_ok-modified.ensures.now
-    ∙ ap₂ (λ (n : ℕ) (keys : List ℕ). put_rows (rows_under n keys cells) c.shift.new.self.now) wide c.added.ensures.keys
-    ∙ ap (put_rows (rows_under width update.added cells)) moved in
-    let table = table_now c.args.rows.now in
-    subst (λ (ks : List ℕ). AllByRecursion (λ key. is_among key (keys c.put_all.new.rows.now) ≡ true) ks) (sym c.modified.ensures.keys)
-    (subst (λ (rows : List PlainRow). AllByRecursion (λ key. is_among key (keys rows) ≡ true) update.modified) (sym (added ∙ added_put table update cells checked c.modified.ensures.set.rising))
-    (modified_there table update cells checked c.modified.ensures.set.rising))
+    c.in_ok-remove_rows.ensures.count
+    ∙ ap (λ (ks : List ℕ). length (without ks rows)) c.removed-removed.ensures.keys
+    ∙ sym
+    (ap₂ (λ (ks all : List ℕ). length (without ks all)) c.added-added.ensures.keys c.in_ok-rows.ensures
+    ∙ ap length (keys_again rows update c.requires.lawful c.added-added.ensures.set.rising)
+    ∙ length-mapped _ (without update.removed rows))
+
+pub modify_rows-requires-clause-own : goal.modify_rows-requires-clause-own
+modify_rows-requires-clause-own c =
+    subst (λ (ks : List ℕ). AllByRecursion (λ key. is_among key ks ≡ true) c.modified-modified.result.now) (sym c.in_ok-rows.ensures)
+    (subst (AllByRecursion (λ key. is_among key (keys_after c.args.rows c.args.update.now) ≡ true)) (sym c.modified-modified.ensures.keys)
+    (modified_own c.args.rows c.args.update.now c.requires.lawful c.added-added.ensures.set.rising))
 
 pub returns-clause-width : goal.returns-clause-width
-returns-clause-width c = c.in_ok-put_all.ensures.width ∙ c.in_ok-modified.ensures.width ∙ c.shift.ensures.width ∙ c.remove.ensures.width ∙ c.begin_step.ensures.width
+returns-clause-width c = c.in_ok-modify_rows.ensures.width ∙ c.in_ok-rest.ensures.width ∙ c.in_ok-remove_rows.ensures.width ∙ c.begin_step.ensures.width
+
+pub returns-clause-count : goal.returns-clause-count
+returns-clause-count c = c.in_ok-modify_rows.ensures.count ∙ ap length c.in_ok-rows.ensures
 
 pub returns-clause-now : goal.returns-clause-now
 returns-clause-now c =
+    let rows = c.args.rows in
     let update = c.args.update.now in
-    let old = c.args.rows.now.now in
-    let width = c.args.rows.now.width in
+    let was = c.args.placed.now.rows in
+    let width = c.args.placed.now.width in
     let cells = c.args.cells.now in
-    let wide : c.shift.new.self.width ≡ width = c.shift.ensures.width ∙ c.remove.ensures.width ∙ c.begin_step.ensures.width in
-    let wide_2 : c.put_all.new.rows.width ≡ width = c.in_ok-modified.ensures.width ∙ wide in
-    let left : c.remove.new.self.now ≡ removing update.removed old = c.in_ok-remove.ensures.now ∙ ap₂ removing c.removed-removed.ensures.keys c.in_ok-begin_step.ensures.now in
-    let stay : List PlainRow = shifting update.shifted (removing update.removed old) in
-    let moved : c.shift.new.self.now ≡ stay = c.in_ok-shift.ensures.now ∙ ap₂ shifting c.shifted-shifted.ensures left in
-    let added : c.put_all.new.rows.now ≡ put_rows (rows_under width update.added cells) stay =
-    c.in_ok-modified.ensures.now
-    ∙ ap₂ (λ (n : ℕ) (keys : List ℕ). put_rows (rows_under n keys cells) c.shift.new.self.now) wide c.added.ensures.keys
-    ∙ ap (put_rows (rows_under width update.added cells)) moved in
-    let rest : c.in_ok-modified.modified.now ≡ drop (length update.added * width) cells =
-    c.in_ok-modified.ensures.rest ∙ ap₂ (λ (n : ℕ) (keys : List ℕ). drop (length keys * n) cells) wide c.added.ensures.keys in
-    c.in_ok-put_all.ensures.now
-    ∙ ap₂ (λ (n : ℕ) (keys : List ℕ). put_rows (rows_under n keys c.in_ok-modified.modified.now) c.put_all.new.rows.now) wide_2 c.modified.ensures.keys
-    ∙ ap₂ (λ (rest : List ℤ) (rows : List PlainRow). put_rows (rows_under width update.modified rest) rows) rest added
-    ∙ put_two width update.added update.modified cells stay
+    let after = c.in_ok-rows.rows in
+    let wide : c.remove_rows.new.placed.width ≡ width = c.in_ok-remove_rows.ensures.width ∙ c.begin_step.ensures.width in
+    let added =
+    added_are rows update c.requires.lawful c.added-added.ensures.set.rising width c.remove_rows.new.placed.width cells was c.begin_step.new.self.rows c.remove_rows.new.placed.rows c.add_rows.new.placed.rows c.removed-removed.result.now c.added-added.result.now
+    c.in_ok-rows.rows c.in_ok-begin_step.ensures.rows c.removed-removed.ensures.keys c.added-added.ensures.keys c.in_ok-rows.ensures wide c.in_ok-remove_rows.ensures.now c.in_ok-rest.ensures.now in
+    let rest : c.in_ok-rest.rest.now ≡ drop (length update.added * width) cells =
+    c.in_ok-rest.ensures.rest ∙ ap₂ (λ (n : ℕ) (ks : List ℕ). drop (length ks * n) cells) wide c.added-added.ensures.keys in
+    ap (λ (ks : List ℕ). paired ks c.modify_rows.new.placed.rows) (sym c.in_ok-rows.ensures)
+    ∙ c.in_ok-modify_rows.ensures.now
+    ∙ ap₂ (λ (n : ℕ) (ks : List ℕ). put_rows (rows_under n ks c.in_ok-rest.rest.now) (paired after c.add_rows.new.placed.rows)) (c.in_ok-rest.ensures.width ∙ wide) c.modified-modified.ensures.keys
+    ∙ ap₂ (λ (rest : List ℤ) (these : List PlainRow). put_rows (rows_under width update.modified rest) these) rest added
+    ∙ put_two width update.added update.modified cells (stayed update (paired rows was))
 
-pub returns-clause-before : goal.returns-clause-before
-returns-clause-before c = c.in_ok-put_all.ensures.before ∙ c.in_ok-modified.ensures.before ∙ c.in_ok-shift.ensures.before ∙ c.in_ok-remove.ensures.before ∙ c.in_ok-begin_step.ensures.before
+pub returns-clause-left : goal.returns-clause-left
+returns-clause-left c =
+    c.in_ok-modify_rows.ensures.left
+    ∙ c.in_ok-rest.ensures.left
+    ∙ c.in_ok-remove_rows.ensures.left
+    ∙ ap₂ (λ (these : List (List ℤ)) (ks : List ℕ). map (λ key. cells_at key (paired c.args.rows these)) ks) c.in_ok-begin_step.ensures.rows c.removed-removed.ensures.keys
+
+pub returns-clause-saved : goal.returns-clause-saved
+returns-clause-saved c =
+    let rows = c.args.rows in
+    let update = c.args.update.now in
+    let was = c.args.placed.now.rows in
+    let width = c.args.placed.now.width in
+    let cells = c.args.cells.now in
+    let after = c.in_ok-rows.rows in
+    let wide : c.remove_rows.new.placed.width ≡ width = c.in_ok-remove_rows.ensures.width ∙ c.begin_step.ensures.width in
+    let added =
+    added_are rows update c.requires.lawful c.added-added.ensures.set.rising width c.remove_rows.new.placed.width cells was c.begin_step.new.self.rows c.remove_rows.new.placed.rows c.add_rows.new.placed.rows c.removed-removed.result.now c.added-added.result.now
+    c.in_ok-rows.rows c.in_ok-begin_step.ensures.rows c.removed-removed.ensures.keys c.added-added.ensures.keys c.in_ok-rows.ensures wide c.in_ok-remove_rows.ensures.now c.in_ok-rest.ensures.now in
+    c.in_ok-modify_rows.ensures.saved
+    ∙ ap₂ (λ (saved rest : List ℤ). saved ++ rest) (c.in_ok-rest.ensures.saved ∙ c.in_ok-remove_rows.ensures.saved ∙ c.in_ok-begin_step.ensures.saved)
+    (ap₂ (λ (ks : List ℕ) (these : List PlainRow). flat_map (λ key. cells_at key these) ks) c.modified-modified.ensures.keys added
+    ∙ saved_before rows update c.requires.lawful c.added-added.ensures.set.rising width cells (stayed update (paired rows was)))

@@ -1,6 +1,4 @@
-use Rattle.std.proofs.Common.{◌≡◌, ap, sym, ◌∙◌, ◌+◌, ◌<◌, ◌^◌, ◌++◌, ◌∷◌, [], arith, rules, length, pos, w64}
-use Rattle.std.proofs.Math.Facts.{to_z_pos}
-use Rattle.std.proofs.lemmas.Nat.{mul-le}
+use Rattle.std.proofs.Common.{◌≡◌, ap, sym, ◌∙◌, ◌+◌, ◌++◌, ◌∷◌, [], length}
 use Rattle.tick_table.specs.Slots.{SlotCells, slot_list}
 use Rattle.tick_table.proofs.SlotCells.{length-slot_list, slot_list-open}
 use Rattle.tick_table.proofs.slots.Slots.open.Goals as goal
@@ -8,10 +6,7 @@ use Rattle.tick_table.proofs.slots.Slots.open.Goals as goal
 pub returns-clause-slot : goal.returns-clause-slot
 returns-clause-slot c =
     let s = c.self.inside in
-    let room : length s.cells.items < 2 ^ 63 = search rules in
-    let few : s.count < 2 ^ 63 = omega (arith, room, c.self.invariant.whole, mul-le s.count 1 s.count s.width (omega arith) c.self.invariant.wide) in
-    to_z_pos w64 few
-    ∙ ap pos (sym (length-slot_list s.width s.count s.cells.items) ∙ ap (λ (slots : SlotCells). length slots.rows) c.self.view_is)
+    sym (length-slot_list s.width s.count s.cells.items) ∙ ap (λ (slots : SlotCells). length slots.rows) c.self.view_is
 
 pub returns-clause-rows : goal.returns-clause-rows
 returns-clause-rows c =

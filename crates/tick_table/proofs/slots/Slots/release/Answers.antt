@@ -1,7 +1,7 @@
-use Rattle.std.proofs.Common.{◌≡◌, ap, sym, ◌∙◌, subst, true, false, cond, ◌++◌, length}
+use Rattle.std.proofs.Common.{◌≡◌, ap, sym, ◌∙◌, subst, true, false, cond, ◌++◌, ◌<◌, length}
 use Rattle.std.specs.Result.{is_ok}
 use Rattle.key_lists.proofs.Every.{every-append}
-use Rattle.tick_table.specs.Slots.{AreSlots, IsSlot, SlotCells}
+use Rattle.tick_table.specs.Slots.{AreSlots, SlotCells}
 use Rattle.tick_table.proofs.SlotCells.{length-slot_list}
 use Rattle.tick_table.proofs.slots.Slots.release.Goals as goal
 
@@ -15,7 +15,7 @@ invariant_of-self c =
       whole = c.self.invariant.whole;
       free = subst (AreSlots s.count) (sym c.extend_from_slice.ensures.items)
           (elim (is_ok c.extend_from_slice.result) as (λ b. AreSlots s.count (cond b (s.free.items ++ c.args.slots.now) s.free.items)) [
-            | true ↦ every-append (IsSlot s.count) s.free.items c.args.slots.now c.self.invariant.free own
+            | true ↦ every-append (λ slot. slot < s.count) s.free.items c.args.slots.now c.self.invariant.free own
             | false ↦ c.self.invariant.free
           ]);
     }

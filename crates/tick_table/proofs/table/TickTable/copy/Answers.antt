@@ -1,4 +1,4 @@
 use Rattle.tick_table.proofs.table.TickTable.copy.Goals as goal
 
 pub invariant_of-result : goal.invariant_of-result
-invariant_of-result c = rw (c.in_ok-copy.ensures, c.in_ok-copy-2.ensures, c.in_ok-copy-3.ensures, c.in_ok-copy-4.ensures) c.self.invariant
+invariant_of-result c = rw (c.of.ensures, c.in_ok-told.ensures.items, c.as_slice.ensures, c.in_ok-copy.ensures, c.in_ok-copy-2.ensures, c.in_ok-copy-3.ensures, c.in_ok-copy-4.ensures) c.self.invariant

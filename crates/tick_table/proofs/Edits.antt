@@ -1,0 +1,144 @@
+-- One row more that is taken out, put in or replaced, as a walk along rising keys comes to its key.
+use Rattle.std.proofs.Common.{map, ◌≡◌, ap, ap₂, sym, ◌∙◌, subst, true, false, not, ℕ, ◌+◌, ◌<◌, ◌≤◌, arith, List, [], ◌∷◌, ◌++◌, length, get_or, set, ℤ, unwrap_or}
+use Rattle.std.specs.Prelude.{flat_map, option_map}
+use Rattle.std.specs.List.{AllByRecursion, insert, remove}
+use Rattle.std.proofs.lemmas.List.{length-set}
+use Rattle.std.proofs.lemmas.List.Edits.{length-insert, length-remove}
+use Rattle.key_lists.specs.Keys.{is_among, IsRising, without}
+use Rattle.key_lists.proofs.Among.{among_above, among_below}
+use Rattle.key_lists.proofs.Every.{every_weaker}
+use Rattle.key_lists.proofs.Parts.{every_back, every_front}
+use Rattle.key_lists.proofs.Rising.{rising_some}
+use Rattle.row_set.specs.Sets.{count_below}
+use Rattle.row_set.proofs.Windows.{rising_back, rising_before, rising_front}
+use Rattle.tick_model.specs.declared.table.PlainRow.{PlainRow}
+use Rattle.tick_model.specs.Tables.{cells_at}
+use Rattle.tick_model.specs.Updates.{removing}
+use Rattle.tick_model.proofs.Among.{row_at-filter}
+use Rattle.tick_table.specs.declared.stepping.RowPlace.{RowPlace}
+use Rattle.tick_table.specs.Placed.{IsRowPlace, paired, put_row}
+use Rattle.tick_table.proofs.Applied.{among-without}
+use Rattle.tick_table.proofs.Paired.{at_place, count_left, count_without, paired-insert, paired-remove, paired-set, place_below, removing-last, row_of, without-first, without-last, without_shorter}
+use Rattle.tick_table.proofs.TableColumns.{length-mapped}
+use Rattle.tick_table.proofs.Told.{at_put_row, flat_map-same}
+
+-- a walk along some keys of rows has come to this one: those are behind it, and those are still to come
+pub record IsComeTo (rows behind : List ℕ) (key : ℕ) (others : List ℕ) : Type 0 where
+  pub rows_rise : IsRising rows
+  pub behind_rise : IsRising behind
+  pub behind_own : AllByRecursion (λ other. is_among other rows ≡ true) behind
+  pub below : AllByRecursion (λ other. other < key) behind
+  pub own : is_among key rows ≡ true
+  pub above : AllByRecursion (λ other. key < other) others
+
+pub come_to : (rows walked behind : List ℕ) (key : ℕ) (others : List ℕ) → IsRising rows → IsRising walked → AllByRecursion (λ other. is_among other rows ≡ true) walked → walked ≡ behind ++ key ∷ others → IsComeTo rows behind key others
+come_to rows walked behind key others rises walked_rise there e =
+    let parts_rise : IsRising (behind ++ key ∷ others) = subst IsRising e walked_rise in
+    let parts_own : AllByRecursion (λ other. is_among other rows ≡ true) (behind ++ key ∷ others) = subst (AllByRecursion (λ other. is_among other rows ≡ true)) e there in
+    record {
+      rows_rise = rises;
+      behind_rise = rising_front behind (key ∷ others) parts_rise;
+      behind_own = every_front (λ other. is_among other rows ≡ true) behind (key ∷ others) parts_own;
+      below = rising_before behind key others parts_rise;
+      own = (every_back (λ other. is_among other rows ≡ true) behind (key ∷ others) parts_own).0;
+      above = (rising_back behind (key ∷ others) parts_rise).0;
+    }
+
+-- the position of a place is that of its key
+pub place_is : (rows : List ℕ) (place : RowPlace) (key : ℕ) → place.key ≡ key → IsRowPlace rows place → place.position ≡ count_below key rows
+place_is rows place key same h = h.position ∙ ap (λ k. count_below k rows) same
+
+module _ (rows behind : List ℕ) (key : ℕ) (others : List ℕ) (h : IsComeTo rows behind key others) where
+  -- the rows behind it were taken out
+  absent : is_among key behind ≡ false
+  absent = among_above key behind h.below
+
+  stays : is_among key (without behind rows) ≡ true
+  stays = among-without key behind rows absent h.own
+
+  left_rise : IsRising (without behind rows)
+  left_rise = rising_some (λ other. not (is_among other behind)) rows h.rows_rise
+
+  taken_place : count_below key rows ≡ length behind + count_below key (without behind rows)
+  taken_place = count_left key behind rows h.rows_rise h.behind_rise h.behind_own h.below
+
+  pub taken_position : (place : RowPlace) (count : ℕ) (left : List (List ℤ)) (cells : ℕ → List ℤ) → place.key ≡ key → IsRowPlace rows place → count ≡ length left → left ≡ map cells behind → place.position ≡ count + count_below key (without behind rows)
+  taken_position place count left cells same here counted is =
+      let parts = taken_place in
+      let at = place_is rows place key same here in
+      let many = counted ∙ ap length is ∙ length-mapped cells behind in
+      omega (arith, parts, at, many)
+
+  pub taken_within : count_below key (without behind rows) < length (without behind rows)
+  taken_within = place_below key (without behind rows) left_rise stays
+
+  module _ (was now : List (List ℤ)) (n : ℕ) (count : length now ≡ length (without behind rows)) (is : n ≡ count_below key (without behind rows)) where
+    pub taken_count : length (remove now n) ≡ length (without (behind ++ key ∷ []) rows)
+    taken_count =
+        let within = taken_within in
+        let fewer = length-remove now n (omega (arith, within, is, count)) in
+        let left = without_shorter key (without behind rows) left_rise stays in
+        let same = ap length (without-last key behind rows) in
+        omega (arith, fewer, left, same, count)
+
+    pub taken_now : paired (without behind rows) now ≡ removing behind (paired rows was) → paired (without (behind ++ key ∷ []) rows) (remove now n) ≡ removing (behind ++ key ∷ []) (paired rows was)
+    taken_now so_far =
+        ap₂ (λ (left : List ℕ) (place : ℕ). paired left (remove now place)) (sym (without-last key behind rows)) is
+        ∙ paired-remove key (without behind rows) now count left_rise stays
+        ∙ ap (removing (key ∷ [])) so_far
+        ∙ removing-last key behind (paired rows was)
+
+    pub taken_cells : paired (without behind rows) now ≡ removing behind (paired rows was) → get_or now n [] ≡ cells_at key (paired rows was)
+    taken_cells so_far =
+        ap (λ place. get_or now place []) is
+        ∙ at_place key (without behind rows) now count left_rise stays
+        ∙ ap (cells_at key) so_far
+        ∙ ap (λ o. unwrap_or (option_map (λ (row : PlainRow). row.cells) o) []) (row_at-filter (λ other. not (is_among other behind)) key (paired rows was) (ap not absent))
+
+  -- the rows of the keys from it on are still to be put in
+  abbrev there : List ℕ
+  there = without others rows
+
+  there_own : is_among key there ≡ true
+  there_own = among-without key others rows (among_below key others h.above) h.own
+
+  there_rise : IsRising there
+  there_rise = rising_some (λ other. not (is_among other others)) rows h.rows_rise
+
+  there_count : count_below key there ≡ count_below key rows
+  there_count = count_without key others rows (every_weaker (λ other. key < other) (λ other. key ≤ other) others (λ other more. omega (arith, more)) h.above)
+
+  there_more : length (without (key ∷ others) rows) + 1 ≡ length there
+  there_more = let fewer = without_shorter key there there_rise there_own in let same = ap length (without-first key others rows) in omega (arith, fewer, same)
+
+  module _ (row : List ℤ) (now : List (List ℤ)) (n : ℕ) (count : length now ≡ length (without (key ∷ others) rows)) (is : n ≡ count_below key rows) where
+    pub put_within : n ≤ length now
+    put_within = let within = place_below key there there_rise there_own in let more = there_more in let same = there_count in omega (arith, within, more, same, is, count)
+
+    pub put_count : length (insert now n row) ≡ length there
+    put_count = let longer = length-insert now n row put_within in let more = there_more in omega (arith, longer, more, count)
+
+    pub put_now : paired there (insert now n row) ≡ put_row (row_of key row) (paired (without (key ∷ others) rows) now)
+    put_now =
+        ap (λ place. paired there (insert now place row)) (is ∙ sym there_count)
+        ∙ paired-insert key row there now (count ∙ sym (ap length (without-first key others rows))) there_rise there_own
+        ∙ ap (λ left. put_row (row_of key row) (paired left now)) (without-first key others rows)
+
+  -- the row is replaced
+  module _ (row : List ℤ) (now : List (List ℤ)) (n : ℕ) (count : length now ≡ length rows) (is : n ≡ count_below key rows) where
+    pub set_within : n < length now
+    set_within = let within = place_below key rows h.rows_rise h.own in omega (arith, within, is, count)
+
+    pub set_count : length (set now n row) ≡ length rows
+    set_count = length-set now n row ∙ count
+
+    pub set_now : paired rows (set now n row) ≡ put_row (row_of key row) (paired rows now)
+    set_now = ap (λ place. paired rows (set now place row)) is ∙ paired-set key row rows now count h.rows_rise h.own
+
+    pub set_saved : get_or now n [] ++ flat_map (λ other. cells_at other (paired rows (set now n row))) others ≡ flat_map (λ other. cells_at other (paired rows now)) (key ∷ others)
+    set_saved =
+        ap₂ (λ (cells rest : List ℤ). cells ++ rest)
+        (ap (λ place. get_or now place []) is ∙ at_place key rows now count h.rows_rise h.own)
+        (flat_map-same (λ other. cells_at other (paired rows (set now n row))) (λ other. cells_at other (paired rows now)) others
+        (every_weaker (λ other. key < other) (λ other. cells_at other (paired rows (set now n row)) ≡ cells_at other (paired rows now)) others
+        (λ other more. ap (cells_at other) set_now ∙ at_put_row other (row_of key row) (paired rows now) (λ same. omega (arith, more, same))) h.above))

@@ -1,0 +1,246 @@
+-- Slots of which no two rows have one: as rows are taken out, put in and replaced.
+use Rattle.std.proofs.Common.{◌≡◌, refl, ap, ap₂, sym, ◌∙◌, subst, cond, ℕ, zero, suc, ◌+◌, ◌<◌, ◌≤◌, arith, List, [], ◌∷◌, ◌++◌, length, map, take, drop, get_or, set, reverse, ℤ, ◌==◌, inl, inr}
+use Rattle.std.specs.List.{AllByRecursion, insert, remove}
+use Rattle.std.proofs.lemmas.Bool.{cases_eq, eq-eqb, ne_eqb}
+use Rattle.std.proofs.lemmas.List.{drop-map, get_or-map, get_or-set_other, get_or-set_same, length-map, length-set, map-append, reverse-append, take-map}
+use Rattle.std.proofs.lemmas.List.Sorted.{IsPermutation-reverse, sum_by-IsPermutation}
+use Rattle.std.proofs.lemmas.List.Sums.{sum_by-append, sum_by-cons, sum_by-insert, sum_by-remove}
+use Rattle.key_lists.proofs.Every.{every_both, every_weaker, every-append, map_same}
+use Rattle.key_lists.proofs.Parts.{every_at, every_front, every_insert, every_remove}
+use Rattle.tick_table.specs.Placed.{AreOwn, cells_of, uses}
+use Rattle.tick_table.specs.Slots.{AreSlots, IsFilled, SlotCells}
+
+abbrev is_used : ℕ → ℕ → ℕ
+is_used slot other = cond (other == slot) 1 0
+
+used_own : (slot other : ℕ) → other ≡ slot → is_used slot other ≡ 1
+used_own slot other e = ap (λ b. cond b 1 0) (eq-eqb other slot e)
+
+used_other : (slot other : ℕ) → (other ≡ slot → ⊥) → is_used slot other ≡ 0
+used_other slot other e = ap (λ b. cond b 1 0) (ne_eqb other slot e)
+
+uses-cons : (slot other : ℕ) (others : List ℕ) → uses slot (other ∷ others) ≡ is_used slot other + uses slot others
+uses-cons slot other others = sum_by-cons (is_used slot) other others
+
+uses-append : (slot : ℕ) (xs ys : List ℕ) → uses slot (xs ++ ys) ≡ uses slot xs + uses slot ys
+uses-append slot xs ys = sum_by-append (is_used slot) xs ys
+
+uses-one : (slot other : ℕ) → uses slot (other ∷ []) ≡ is_used slot other
+uses-one slot other = uses-cons slot other [] ∙ omega arith
+
+uses-reverse : (slot : ℕ) (xs : List ℕ) → uses slot (reverse xs) ≡ uses slot xs
+uses-reverse slot xs = sum_by-IsPermutation (is_used slot) xs (reverse xs) (IsPermutation-reverse xs)
+
+uses-remove : (slot : ℕ) (xs : List ℕ) (n : ℕ) → n < length xs → uses slot (remove xs n) + is_used slot (get_or xs n 0) ≡ uses slot xs
+uses-remove slot xs n within = sum_by-remove (is_used slot) xs n 0 within
+
+uses-insert : (slot : ℕ) (xs : List ℕ) (n other : ℕ) → uses slot (insert xs n other) ≡ uses slot xs + is_used slot other
+uses-insert slot xs n other = sum_by-insert (is_used slot) xs n other
+
+uses_at : (slot : ℕ) (xs : List ℕ) (n : ℕ) → n < length xs → get_or xs n 0 ≡ slot → 1 ≤ uses slot xs
+uses_at slot xs n within same = let own = used_own slot (get_or xs n 0) same in let all = uses-remove slot xs n within in omega (arith, own, all)
+
+every-reverse : {X : Type 0} (P : X → Type 0) (xs : List X) → AllByRecursion P xs → AllByRecursion P (reverse xs)
+every-reverse P [] h = tt
+every-reverse P (x ∷ xs) h = subst (AllByRecursion P) (sym (reverse-append (x ∷ []) xs)) (every-append P (reverse xs) (x ∷ []) (every-reverse P xs h.1) (h.0, tt))
+
+-- a slot that does not stand in a list is none of it, and one behind all slots does not
+none_of : (slot : ℕ) (xs : List ℕ) → uses slot xs ≡ 0 → AllByRecursion (λ other. other ≡ slot → ⊥) xs
+none_of slot [] none = tt
+none_of slot (x ∷ xs) none =
+    let first = uses-cons slot x xs in
+    (λ same. let own = used_own slot x same in omega (arith, first, none, own), none_of slot xs (omega (arith, first, none)))
+
+uses_past : (count : ℕ) (xs : List ℕ) → AreSlots count xs → uses count xs ≡ 0
+uses_past count [] h = refl
+uses_past count (x ∷ xs) h = uses-cons count x xs ∙ ap₂ (λ (m n : ℕ). m + n) (used_other count x (λ same. omega (arith, same, h.0))) (uses_past count xs h.1)
+
+-- the cells of slots: at a position, after an edit of the list, and where one slot alone has other cells
+pub length-cells : (rows : List (List ℤ)) (xs : List ℕ) → length (cells_of rows xs) ≡ length xs
+length-cells rows xs = length-map xs (λ slot. get_or rows slot [])
+
+pub at-cells : (rows : List (List ℤ)) (xs : List ℕ) (n : ℕ) → n < length xs → get_or (cells_of rows xs) n [] ≡ get_or rows (get_or xs n 0) []
+at-cells rows xs n within = get_or-map (λ slot. get_or rows slot []) xs n 0 [] within
+
+pub cells-push : (rows : List (List ℤ)) (xs : List ℕ) (slot : ℕ) → cells_of rows (xs ++ slot ∷ []) ≡ cells_of rows xs ++ get_or rows slot [] ∷ []
+cells-push rows xs slot = map-append (λ slot. get_or rows slot []) xs (slot ∷ [])
+
+pub own_as : (slots : SlotCells) (places left places_is left_is : List ℕ) → places_is ≡ places → left_is ≡ left → AreOwn slots places left → AreOwn slots places_is left_is
+own_as slots places left places_is left_is p l h = subst (λ (xs : List ℕ). AreOwn slots xs left_is) (sym p) (subst (AreOwn slots places) (sym l) h)
+
+pub map-remove : {X Y : Type 0} (f : X → Y) (xs : List X) (n : ℕ) → map f (remove xs n) ≡ remove (map f xs) n
+map-remove f xs n = map-append f (take n xs) (drop (suc n) xs) ∙ sym (ap₂ (λ ys zs. ys ++ zs) (take-map f n xs) (drop-map f (suc n) xs))
+
+pub map-insert : {X Y : Type 0} (f : X → Y) (xs : List X) (n : ℕ) (x : X) → map f (insert xs n x) ≡ insert (map f xs) n (f x)
+map-insert f xs n x = map-append f (take n xs) (x ∷ drop n xs) ∙ sym (ap₂ (λ ys zs. ys ++ f x ∷ zs) (take-map f n xs) (drop-map f n xs))
+
+cells_same : (count slot : ℕ) (new old : List (List ℤ)) (xs : List ℕ) → ((other : ℕ) → other < count → (other ≡ slot → ⊥) → get_or new other [] ≡ get_or old other [])
+    → AreSlots count xs → uses slot xs ≡ 0 → cells_of new xs ≡ cells_of old xs
+cells_same count slot new old xs others within none =
+    map_same (λ other. get_or new other []) (λ other. get_or old other []) xs
+    (every_both (λ other. other < count) (λ other. other ≡ slot → ⊥) (λ other. get_or new other [] ≡ get_or old other []) xs (λ other inside apart. others other inside apart) within (none_of slot xs none))
+
+cells_set : (count slot : ℕ) (row : List ℤ) (new old : List (List ℤ)) (xs : List ℕ) (n : ℕ) → ((other : ℕ) → other < count → (other ≡ slot → ⊥) → get_or new other [] ≡ get_or old other []) → get_or new slot [] ≡ row
+    → AreSlots count xs → uses slot xs ≤ 1 → n < length xs → get_or xs n 0 ≡ slot → cells_of new xs ≡ set (cells_of old xs) n row
+cells_set count slot row new old [] n others own within once below same = absurd (omega (arith, below))
+cells_set count slot row new old (x ∷ xs) zero others own within once below same =
+    let first = uses-cons slot x xs in
+    let used = used_own slot x same in
+    ap₂ (λ (cells : List ℤ) (rest : List (List ℤ)). cells ∷ rest) (ap (λ k. get_or new k []) same ∙ own) (cells_same count slot new old xs others within.1 (omega (arith, first, used, once)))
+cells_set count slot row new old (x ∷ xs) (suc n) others own within once below same =
+    let first = uses-cons slot x xs in
+    let inside : n < length xs = omega (arith, below) in
+    let later = uses_at slot xs n inside same in
+    ap₂ (λ (cells : List ℤ) (rest : List (List ℤ)). cells ∷ rest)
+    (others x within.0 (λ is. let used = used_own slot x is in omega (arith, first, used, later, once)))
+    (cells_set count slot row new old xs n others own within.1 (omega (arith, first, once)) inside same)
+
+module _ (slots : SlotCells) (places left : List ℕ) (h : AreOwn slots places left) where
+  pub own_reversed : AreOwn slots places (reverse left)
+  own_reversed = record {
+    place_slots = h.place_slots;
+    left_slots = every-reverse (λ slot. slot < length slots.rows) left h.left_slots;
+    free_slots = h.free_slots;
+    once = λ slot. omega (arith, h.once slot, uses-reverse slot left);
+  }
+
+  pub own_released : (new : SlotCells) → new.rows ≡ slots.rows → new.free ≡ slots.free ++ reverse left → AreOwn new places []
+  own_released new same free =
+      let count : length slots.rows ≡ length new.rows = sym (ap length same) in record {
+        place_slots = subst (λ n. AreSlots n places) count h.place_slots;
+        left_slots = tt;
+        free_slots = subst (λ n. AreSlots n new.free) count
+            (subst (AreSlots (length slots.rows)) (sym free)
+            (every-append (λ slot. slot < length slots.rows) slots.free (reverse left) h.free_slots (every-reverse (λ slot. slot < length slots.rows) left h.left_slots)));
+        once = λ slot.
+            let used = ap (uses slot) free ∙ uses-append slot slots.free (reverse left) in
+            let none : uses slot [] ≡ 0 = refl in
+            omega (arith, h.once slot, used, none, uses-reverse slot left);
+      }
+
+  pub own_out : (n : ℕ) → n < length places → AreOwn slots (remove places n) left
+  own_out n within = record {
+    place_slots = every_remove (λ slot. slot < length slots.rows) places n h.place_slots;
+    left_slots = h.left_slots;
+    free_slots = h.free_slots;
+    once = λ slot. let fewer = uses-remove slot places n within in omega (arith, h.once slot, fewer);
+  }
+
+  pub own_left : (n : ℕ) → n < length places → AreOwn slots (remove places n) (left ++ get_or places n 0 ∷ [])
+  own_left n within = record {
+    place_slots = every_remove (λ slot. slot < length slots.rows) places n h.place_slots;
+    left_slots = every-append (λ slot. slot < length slots.rows) left (get_or places n 0 ∷ []) h.left_slots (every_at (λ slot. slot < length slots.rows) places n 0 within h.place_slots, tt);
+    free_slots = h.free_slots;
+    once = λ slot.
+        let fewer = uses-remove slot places n within in
+        let more = uses-append slot left (get_or places n 0 ∷ []) in
+        let one = uses-one slot (get_or places n 0) in
+        omega (arith, h.once slot, fewer, more, one);
+  }
+
+  -- a row was put into a slot that no row had
+  module _ (row : List ℤ) (new : SlotCells) (slot : ℕ) (f : IsFilled row slots new slot) where
+    widened : (xs : List ℕ) → AreSlots (length slots.rows) xs → AreSlots (length new.rows) xs
+    widened xs = every_weaker (λ other. other < length slots.rows) (λ other. other < length new.rows) xs (λ other own. omega (arith, own, f.more))
+
+    unused : (xs : List ℕ) → AreSlots (length slots.rows) xs → (1 ≤ uses slot slots.free → uses slot xs ≡ 0) → uses slot xs ≡ 0
+    unused xs own none =
+        elim f.source [
+          | inl taken ↦
+              let all = ap (uses slot) taken ∙ uses-append slot new.free (slot ∷ []) in
+              let one = uses-one slot slot ∙ used_own slot slot refl in
+              none (omega (arith, all, one))
+          | inr opened ↦ ap (λ other. uses other xs) opened.1 ∙ uses_past (length slots.rows) xs own
+        ]
+
+    unused_places : uses slot places ≡ 0
+    unused_places = unused places h.place_slots (λ one. omega (arith, h.once slot, one))
+
+    unused_left : uses slot left ≡ 0
+    unused_left = unused left h.left_slots (λ one. omega (arith, h.once slot, one))
+
+    unused_free : uses slot new.free ≡ 0
+    unused_free =
+        elim f.source [
+          | inl taken ↦
+              let all = ap (uses slot) taken ∙ uses-append slot new.free (slot ∷ []) in
+              let one = uses-one slot slot ∙ used_own slot slot refl in
+              omega (arith, all, one, h.once slot)
+          | inr opened ↦ ap₂ uses opened.1 opened.0 ∙ uses_past (length slots.rows) slots.free h.free_slots
+        ]
+
+    fewer : (other : ℕ) → uses other new.free ≤ uses other slots.free
+    fewer other =
+        elim f.source [
+          | inl taken ↦ let all = ap (uses other) taken ∙ uses-append other new.free (slot ∷ []) in omega (arith, all)
+          | inr opened ↦ let same = ap (uses other) opened.0 in omega (arith, same)
+        ]
+
+    free_ones : AreSlots (length slots.rows) new.free
+    free_ones =
+        elim f.source [
+          | inl taken ↦ every_front (λ other. other < length slots.rows) new.free (slot ∷ []) (subst (AreSlots (length slots.rows)) taken h.free_slots)
+          | inr opened ↦ subst (AreSlots (length slots.rows)) (sym opened.0) h.free_slots
+        ]
+
+    pub own_filled : AreOwn new places left
+    own_filled = record {
+      place_slots = widened places h.place_slots;
+      left_slots = widened left h.left_slots;
+      free_slots = widened new.free free_ones;
+      once = λ other. omega (arith, h.once other, fewer other);
+    }
+
+    pub own_put : (n : ℕ) → AreOwn new (insert places n slot) left
+    own_put n = record {
+      place_slots = every_insert (λ other. other < length new.rows) places n slot f.inside (widened places h.place_slots);
+      left_slots = widened left h.left_slots;
+      free_slots = widened new.free free_ones;
+      once = λ other. once_put other;
+    }
+      where
+        once_put : (other : ℕ) → uses other new.free + uses other left + uses other (insert places n slot) ≤ 1
+        once_put other =
+            let more = uses-insert other places n slot in
+            elim (cases_eq slot other) [
+              | inl same ↦
+                  let own = used_own other slot same in
+                  let a = ap (λ k. uses k places) (sym same) ∙ unused_places in
+                  let b = ap (λ k. uses k left) (sym same) ∙ unused_left in
+                  let d = ap (λ k. uses k new.free) (sym same) ∙ unused_free in
+                  omega (arith, more, own, a, b, d)
+              | inr differs ↦ let own = used_other other slot differs in omega (arith, more, own, h.once other, fewer other)
+            ]
+
+    pub places_same : cells_of new.rows places ≡ cells_of slots.rows places
+    places_same = cells_same (length slots.rows) slot new.rows slots.rows places f.others h.place_slots unused_places
+
+    pub left_same : cells_of new.rows left ≡ cells_of slots.rows left
+    left_same = cells_same (length slots.rows) slot new.rows slots.rows left f.others h.left_slots unused_left
+
+  -- the cells of the row at a position were written over
+  module _ (row : List ℤ) (new : SlotCells) (n : ℕ) (within : n < length places) (rows : new.rows ≡ set slots.rows (get_or places n 0) row) (free : new.free ≡ slots.free) where
+    same_count : length new.rows ≡ length slots.rows
+    same_count = ap length rows ∙ length-set slots.rows (get_or places n 0) row
+
+    others_same : (other : ℕ) → other < length slots.rows → (other ≡ get_or places n 0 → ⊥) → get_or new.rows other [] ≡ get_or slots.rows other []
+    others_same other below apart = ap (λ (rows : List (List ℤ)). get_or rows other []) rows ∙ get_or-set_other slots.rows (get_or places n 0) other row [] apart
+
+    pub own_over : AreOwn new places left
+    own_over = record {
+      place_slots = subst (λ count. AreSlots count places) (sym same_count) h.place_slots;
+      left_slots = subst (λ count. AreSlots count left) (sym same_count) h.left_slots;
+      free_slots = subst (λ count. AreSlots count new.free) (sym same_count) (subst (AreSlots (length slots.rows)) (sym free) h.free_slots);
+      once = λ slot. let same = ap (uses slot) free in omega (arith, h.once slot, same);
+    }
+
+    pub places_set : cells_of new.rows places ≡ set (cells_of slots.rows places) n row
+    places_set =
+        cells_set (length slots.rows) (get_or places n 0) row new.rows slots.rows places n others_same
+        (ap (λ (rows : List (List ℤ)). get_or rows (get_or places n 0) []) rows ∙ get_or-set_same slots.rows (get_or places n 0) row [] (every_at (λ slot. slot < length slots.rows) places n 0 within h.place_slots))
+        h.place_slots (omega (arith, h.once (get_or places n 0))) within refl
+
+    pub left_kept : cells_of new.rows left ≡ cells_of slots.rows left
+    left_kept =
+        let used = uses_at (get_or places n 0) places n within refl in
+        cells_same (length slots.rows) (get_or places n 0) new.rows slots.rows left others_same h.left_slots (omega (arith, h.once (get_or places n 0), used))
