@@ -78,8 +78,10 @@ pub column_end : (told less : Bool) → told ≡ (told || (less && false))
 column_end told less = sym (ap (λ b. told || b) (and_right less false refl) ∙ or_false told)
 
 -- the cells of the rows under more keys
-pub cells_next : (table : PlainTable) (some : List ℕ) (key : ℕ) → cells_under table some ++ cells_at key table.rows ≡ cells_under table (some ++ key ∷ [])
-cells_next table some key = sym (flat_map-append (λ key. cells_at key table.rows) some (key ∷ []) ∙ ap (λ cells. cells_under table some ++ cells) (append-nil (cells_at key table.rows)))
+pub cells_next : (table : PlainTable) (others : List ℤ) (some : List ℕ) (key : ℕ) → (others ++ cells_under table some) ++ cells_at key table.rows ≡ others ++ cells_under table (some ++ key ∷ [])
+cells_next table others some key =
+    append_assoc others (cells_under table some) (cells_at key table.rows)
+    ∙ ap (λ cells. others ++ cells) (sym (flat_map-append (λ key. cells_at key table.rows) some (key ∷ []) ∙ ap (λ cells. cells_under table some ++ cells) (append-nil (cells_at key table.rows))))
 
 pub cells_more : (table : PlainTable) (others cells more : List ℤ) (told added all : List ℕ) → cells ≡ others ++ cells_under table told → all ≡ told ++ added → more ≡ cells ++ cells_under table added → more ≡ others ++ cells_under table all
 cells_more table others cells more told added all h a m =

@@ -7,7 +7,7 @@ ghost use Rattle.tick_model.specs.Changes.{change_of};
 ghost use Rattle.row_changes.specs.Parts.{AreParts, AreThere, tick_along};
 
 use crate::rows::Rows;
-use crate::told::{cells_now, compare_rows};
+use crate::told::compare_rows;
 use crate::touched::Touched;
 use std::alloc::{AllocError, Global};
 use std::sync::ledger::Ledger;
@@ -42,7 +42,8 @@ pub fn change_of_touched<L: Ledger, R: Rows<L>>(
         compared_before,
         compared_now,
     } = touched;
-    let cells = cells_now(alloc, rows, &added, reads)?;
+    let mut cells = Vec::new(alloc);
+    rows.all_now(&added, &mut cells, reads)?;
     let told = compare_rows(
         alloc,
         rows,

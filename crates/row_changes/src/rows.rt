@@ -1,13 +1,15 @@
 //! Where the rows of an operator are read, before the step and now.
 
-ghost use Rattle.std.specs.Prelude.{◌≡◌, ℕ, ◌+◌, ◌≤◌, ◌++◌, IsTrue, OnOk};
+ghost use Rattle.std.specs.Prelude.{◌≡◌, ℕ, ◌+◌, ◌*◌, ◌≤◌, ◌++◌, IsTrue, length, OnOk};
 ghost use Rattle.key_lists.specs.Keys.{is_among};
 ghost use Rattle.tick_model.specs.declared.table.PlainTable.{PlainTable};
 ghost use Rattle.tick_model.specs.Tables.{cells_at, keys};
+ghost use Rattle.row_changes.specs.Parts.{AreThere, cells_under};
 
+use row_set::RowSet;
 use std::alloc::AllocError;
 use std::sync::ledger::Ledger;
-use tick_table::{Steps, TickTable};
+use tick_table::{RowsNow, Steps, TickTable};
 
 /// Gives whole rows of a table, as it was before the step and as it is now. A table gives its own; an operator whose rows
 /// are computed gives them by a type of its own.
@@ -37,6 +39,24 @@ pub trait Rows<L: Ledger> {
         requires here { IsTrue (is_among key (keys (table_now self.now).rows)) }
         ensures cells { OnOk result (cells.new.items ≡ cells.old.items ++ cells_at key (table_now self.now).rows) }
         ensures reads { OnOk result (reads.new ≤ reads.old + row_reads self.now) };
+
+    /// Puts the cells that rows have now behind others, one row after the other.
+    fn all_now(
+        &self,
+        rows: &RowSet,
+        cells: &mut Vec<i64>,
+        reads: &mut Steps<L>,
+    ) -> Result<(), AllocError>
+        requires ready { ready self.now }
+        requires there { AreThere (table_now self.now) rows.now }
+        ensures cells { OnOk result (cells.new.items ≡ cells.old.items ++ cells_under (table_now self.now) rows.now) }
+        ensures reads { OnOk result (reads.new ≤ reads.old + row_reads self.now * length rows.now) }
+    {
+        for key in rows {
+            self.now(key, cells, reads)?;
+        }
+        Ok(())
+    }
 }
 
 /// A table gives its own rows, with a read for each cell.
@@ -61,5 +81,18 @@ impl<L: Ledger> Rows<L> for TickTable {
 
     fn now(&self, key: u64, cells: &mut Vec<i64>, reads: &mut Steps<L>) -> Result<(), AllocError> {
         self.row(key, cells, reads)
+    }
+
+    fn all_now(
+        &self,
+        rows: &RowSet,
+        cells: &mut Vec<i64>,
+        reads: &mut Steps<L>,
+    ) -> Result<(), AllocError> {
+        let mut reader = RowsNow::of(self);
+        for key in rows {
+            cells.extend_from_slice(reader.row(key, reads))?;
+        }
+        Ok(())
     }
 }

@@ -29,25 +29,6 @@ pub(crate) struct Told {
     pub(crate) columns: ColumnSet,
 }
 
-/// The cells of the rows under these keys, one row after the other.
-pub(crate) fn cells_now<L: Ledger, R: Rows<L>>(
-    alloc: Global,
-    rows: &R,
-    keys: &RowSet,
-    reads: &mut Steps<L>,
-) -> Result<Vec<i64>, AllocError>
-    requires ready { R.ready rows.now }
-    requires there { AreThere (R.table_now rows.now) keys.now }
-    ensures cells { IfOk result (λ cells. cells.items ≡ cells_under (R.table_now rows.now) keys.now) }
-    ensures reads { OnOk result (reads.new ≤ reads.old + R.row_reads rows.now * length keys.now) }
-{
-    let mut cells = Vec::new(alloc);
-    for key in keys {
-        rows.now(key, &mut cells, reads)?;
-    }
-    Ok(cells)
-}
-
 /// Compares the rows that stay, place by place. Those that differ are told behind the cells.
 pub(crate) fn compare_rows<L: Ledger, R: Rows<L>>(
     alloc: Global,

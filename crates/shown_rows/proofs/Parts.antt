@@ -3,12 +3,15 @@ use Rattle.std.proofs.Common.{◌≡◌, ap, sym, ◌∙◌, subst, Bool, true, 
 use Rattle.std.specs.Prelude.{option_map, unwrap_or}
 use Rattle.std.specs.List.{AllByRecursion}
 use Rattle.key_lists.specs.Keys.{is_among}
-use Rattle.key_lists.proofs.Every.{every-map, every-filter}
+use Rattle.key_lists.proofs.Among.{of_among}
+use Rattle.key_lists.proofs.Every.{every_weaker, every-map, every-filter}
 use Rattle.key_lists.proofs.Rising.{rising-filter}
 use Rattle.tick_model.specs.declared.table.PlainRow.{PlainRow}
 use Rattle.tick_model.specs.declared.table.PlainTable.{PlainTable}
 use Rattle.tick_model.specs.Tables.{IsRow, IsTable, cells_at, keys}
 use Rattle.tick_model.proofs.Among.{row_at-filter, rows_among}
+use Rattle.tick_table.proofs.Told.{flat_map-same}
+use Rattle.row_changes.specs.Parts.{AreThere, cells_under}
 use Rattle.shown_rows.specs.Shown.{IsPart, part}
 use Rattle.shown_rows.proofs.Named.{filter_named}
 
@@ -34,6 +37,17 @@ pub cells_there : (some table : PlainTable) (key : ℕ) → IsPart some table �
 cells_there some table key p own =
     ap (λ (made : PlainTable). cells_at key made.rows) p
     ∙ ap (λ (found : Option PlainRow). unwrap_or (option_map (λ (row : PlainRow). row.cells) found) []) (row_at-filter (λ key. is_among key (keys some.rows)) key table.rows own)
+
+-- the same of several keys
+pub are_there : (some table : PlainTable) (ks : List ℕ) → IsPart some table → AreThere some ks → AreThere table ks
+are_there some table ks p there =
+    every_weaker (λ key. is_among key (keys some.rows) ≡ true) (λ key. is_among key (keys table.rows) ≡ true) ks
+    (λ key own. of_among (λ key. is_among key (keys table.rows) ≡ true) key (keys some.rows) (keys_there some table p) own) there
+
+pub cells_under-part : (some table : PlainTable) (ks : List ℕ) → IsPart some table → AreThere some ks → cells_under some ks ≡ cells_under table ks
+cells_under-part some table ks p there =
+    flat_map-same (λ key. cells_at key some.rows) (λ key. cells_at key table.rows) ks
+    (every_weaker (λ key. is_among key (keys some.rows) ≡ true) (λ key. cells_at key some.rows ≡ cells_at key table.rows) ks (λ key own. cells_there some table key p own) there)
 
 -- the rows that pass a test are a part
 pub passing_part : (test : PlainRow → Bool) (table : PlainTable) → IsTable table → let some : PlainTable = record table { rows = filter test table.rows } in IsPart some table

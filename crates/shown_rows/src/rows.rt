@@ -1,6 +1,7 @@
 //! The rows that an operator chooses of its input's.
 
 use row_changes::Rows;
+use row_set::RowSet;
 use std::alloc::AllocError;
 use std::sync::ledger::Ledger;
 use tick_table::{Steps, TickTable};
@@ -44,5 +45,14 @@ impl<L: Ledger, C: Chooses> Rows<L> for ChosenRows<'_, C> {
 
     fn now(&self, key: u64, cells: &mut Vec<i64>, reads: &mut Steps<L>) -> Result<(), AllocError> {
         self.input.row(key, cells, reads)
+    }
+
+    fn all_now(
+        &self,
+        rows: &RowSet,
+        cells: &mut Vec<i64>,
+        reads: &mut Steps<L>,
+    ) -> Result<(), AllocError> {
+        self.input.all_now(rows, cells, reads)
     }
 }

@@ -1,0 +1,30 @@
+use Rattle.std.proofs.Common.{ap, ◌∙◌, ◌++◌, List, ℤ, subst, ℕ, length, ◌≤◌, ◌+◌, ◌*◌}
+use Rattle.std.specs.Prelude.{IsTrue}
+use Rattle.key_lists.specs.Keys.{is_among}
+use Rattle.row_set.proofs.Yielded.{next_has, yielded_all}
+use Rattle.tick_model.specs.Tables.{cells_at, keys}
+use Rattle.row_changes.specs.Parts.{cells_under}
+use Rattle.row_changes.proofs.Comparing.{cells_next, reads_next}
+use Rattle.row_changes.proofs.rows.Rows.all_now.Goals as goal
+
+pub now-requires-clause-here : goal.now-requires-clause-here
+now-requires-clause-here g c =
+    next_has c.loop-key.yielded c.into_iter-key-iterator.ensures.into_iter_gives c.loop-key.yielded_by c.in-Some.ensures.steps (λ key. IsTrue (is_among key (keys (g.Self.Rows.table_now c.args.self.now).rows))) c.requires.there
+
+pub loop-key-preserved : goal.loop-key-preserved
+loop-key-preserved g c =
+    let table = g.Self.Rows.table_now c.args.self.now in
+    let key = c.in-Some.key in
+    let yielded = c.loop-key.yielded in record {
+      cells = c.in_ok-now.ensures.cells ∙ ap (λ (cells : List ℤ). cells ++ cells_at key table.rows) c.loop-key.invariant.cells ∙ cells_next table c.args.cells.now.items yielded key;
+      reads = reads_next (g.Self.Rows.row_reads c.args.self.now) c.args.reads.now c.loop-key.reads c.now.new.reads yielded key c.loop-key.invariant.reads c.in_ok-now.ensures.reads;
+    }
+
+pub returns-clause-cells : goal.returns-clause-cells
+returns-clause-cells g c =
+    c.loop-key.invariant.cells
+    ∙ ap (λ (keys : List ℕ). c.args.cells.now.items ++ cells_under (g.Self.Rows.table_now c.args.self.now) keys) (yielded_all c.loop-key.yielded c.into_iter-key-iterator.ensures.into_iter_gives c.loop-key.yielded_by c.in-None.ensures.steps.0)
+
+pub returns-clause-reads : goal.returns-clause-reads
+returns-clause-reads g c =
+    subst (λ (keys : List ℕ). c.loop-key.reads ≤ c.args.reads.now + g.Self.Rows.row_reads c.args.self.now * length keys) (yielded_all c.loop-key.yielded c.into_iter-key-iterator.ensures.into_iter_gives c.loop-key.yielded_by c.in-None.ensures.steps.0) c.loop-key.invariant.reads
