@@ -1,6 +1,5 @@
 -- The rows of a view are made of those of its input.
-use Rattle.std.proofs.Common.{◌≡◌, refl, ap, ◌∙◌, subst, ℕ, ◌+◌, List, ◌++◌, map, length, drop, ℤ, true, append_assoc}
-use Rattle.std.proofs.Math.Seq.{drop-append_seam}
+use Rattle.std.proofs.Common.{◌≡◌, refl, ap, ap₂, sym, ◌∙◌, subst, ℕ, ◌+◌, List, ◌++◌, map, length, drop, ℤ, true, append_assoc}
 use Rattle.key_lists.specs.Keys.{is_among}
 use Rattle.tick_model.specs.declared.plan.Expr.{Expr}
 use Rattle.tick_model.specs.declared.plan.Op.TheVariants.{View}
@@ -13,6 +12,7 @@ use Rattle.table_update.specs.Kept.{old_modified}
 use Rattle.tick_laws.proofs.ResultTables.{result_table}
 use Rattle.row_changes.specs.Mapped.{IsMapped}
 use Rattle.row_changes.specs.Parts.{AreCompared}
+use Rattle.row_changes.proofs.Comparing.{behind}
 use Rattle.row_changes.proofs.MadeRows.{cells-made, keys-made, made_compared}
 use Rattle.tick_table.specs.Exact.{IsExact}
 use Rattle.tick_table.specs.Ticking.{Ticking}
@@ -42,11 +42,11 @@ view_mapped exprs input h = record {
 pub view_compared : (exprs : List Expr) (t : Ticking) → IsExact t → AreCompared (view_table exprs t.old) (view_table exprs t.new) (pairs t.old t.update) (old_modified (keys t.old.rows) t.update) t.update.modified
 view_compared exprs t e = made_compared (with_values exprs) t e (view_table exprs t.old) (view_table exprs t.new) refl refl
 
--- the last row of cells, and its values behind it
-pub last_row : (others row cells : List ℤ) → cells ≡ others ++ row → drop (length others) cells ≡ row
-last_row others row cells e = ap (drop (length others)) e ∙ drop-append_seam others row
-
-pub values_behind : (exprs : List Expr) (others row cells more : List ℤ) → cells ≡ others ++ row → more ≡ cells ++ map (λ expr. value expr (drop (length others) cells)) exprs → more ≡ others ++ with_values exprs row
-values_behind exprs others row cells more e made =
-    made ∙ ap (λ last. cells ++ map (λ expr. value expr last) exprs) (last_row others row cells e)
-    ∙ ap (λ all. all ++ map (λ expr. value expr row) exprs) e ∙ append_assoc others row (map (λ expr. value expr row) exprs)
+-- the last row of cells, with its values behind it
+pub row_viewed : (exprs : List Expr) (table : PlainTable) (key : ℕ) (others cells : List ℤ) (start : ℕ) → is_among key (keys (view_table exprs table).rows) ≡ true → start ≡ length others → cells ≡ others ++ cells_at key table.rows
+    → cells ++ map (λ expr. value expr (drop start cells)) exprs ≡ others ++ cells_at key (view_table exprs table).rows
+row_viewed exprs table key others cells start own begun read =
+    let row = cells_at key table.rows in
+    ap₂ (λ (all last : List ℤ). all ++ map (λ expr. value expr last) exprs) read (behind others row cells (drop start cells) start read begun refl)
+    ∙ append_assoc others row (map (λ expr. value expr row) exprs)
+    ∙ ap (λ (row : List ℤ). others ++ row) (sym (cells-view exprs table key own))

@@ -10,13 +10,14 @@ ghost use Rattle.tick_model.specs.Updates.{between, new_keys, old_keys};
 ghost use Rattle.tick_model.specs.Where.{where_table};
 ghost use Rattle.tick_table.specs.Exact.{IsExact, tick_of};
 
-use crate::testing::{passes_now, passing_keys};
+use crate::testing::passing_keys;
+use formula::passes;
 use row_set::RowSet;
 use shown_rows::{KeyPairs, keys_among, put_last_if};
 use std::alloc::{AllocError, Global};
 use std::sync::ledger::Ledger;
 use tick_model::plan::Pred;
-use tick_table::{Steps, TickTable};
+use tick_table::{RowsNow, Steps, TickTable};
 
 /// The rows that pass no more, by their old keys, and those that pass and did not before, by their new ones.
 #[derive(Drop)]
@@ -32,7 +33,6 @@ pub(crate) fn crossing_rows<L: Ledger>(
     test: &Pred,
     input: &TickTable,
     shown: &RowSet,
-    row: &mut Vec<i64>,
     reads: &mut Steps<L>,
 ) -> Result<Crossing, AllocError>
     requires exact { IsExact input.now }
@@ -44,9 +44,9 @@ pub(crate) fn crossing_rows<L: Ledger>(
 {
     let update = input.update();
     let gone = keys_among(alloc, update.removed(), shown)?;
-    let new = passing_keys(alloc, test, input, update.added(), row, reads)?;
+    let new = passing_keys(alloc, test, input, update.added(), reads)?;
     let modified = KeyPairs::modified(input)?;
-    let changed = changed_rows(alloc, test, input, &modified, shown, row, reads)?;
+    let changed = changed_rows(alloc, test, input, &modified, shown, reads)?;
     let leaving = gone.union(&changed.leaving)?;
     let coming = new.union(&changed.coming)?;
     Ok(Crossing { leaving, coming })
@@ -59,7 +59,6 @@ fn changed_rows<L: Ledger>(
     input: &TickTable,
     pairs: &KeyPairs,
     shown: &RowSet,
-    row: &mut Vec<i64>,
     reads: &mut Steps<L>,
 ) -> Result<Crossing, AllocError>
     requires within { IsTestWithin input.now.new.width test.now }
@@ -72,10 +71,11 @@ fn changed_rows<L: Ledger>(
 {
     let mut leaving = RowSet::new(alloc);
     let mut coming = RowSet::new(alloc);
+    let mut rows = RowsNow::of(input);
     for place in 0..pairs.len() {
         let pair = pairs.at(place);
         let before = shown.contains(pair.old);
-        let now = passes_now(test, input, pair.new, row, reads)?;
+        let now = passes(test, rows.row(pair.new, reads));
         put_last_if(before && !now, &mut leaving, pair.old)?;
         put_last_if(!before && now, &mut coming, pair.new)?;
     }

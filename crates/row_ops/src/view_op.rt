@@ -12,12 +12,13 @@ ghost use Rattle.tick_table.specs.Exact.{IsExact, counted, tick_of};
 
 use formula::value;
 use row_changes::{Rows, mapped};
+use row_set::RowSet;
 use std::alloc::{AllocError, Global};
 use std::marker::Model;
 use std::sync::ledger::Ledger;
 use tick_model::items::Items;
 use tick_model::plan::Expr;
-use tick_table::{Change, Steps, TickTable};
+use tick_table::{Change, RowsNow, Steps, TickTable};
 
 /// Puts computed columns behind those of its input. It keeps nothing of the rows that it saw.
 pub struct ViewOp {
@@ -85,6 +86,21 @@ impl<L: Ledger> Rows<L> for ViewRows<'_> {
         let start = cells.len();
         self.input.row(key, cells, reads)?;
         put_values(self.exprs, start, cells)
+    }
+
+    fn all_now(
+        &self,
+        rows: &RowSet,
+        cells: &mut Vec<i64>,
+        reads: &mut Steps<L>,
+    ) -> Result<(), AllocError> {
+        let mut input = RowsNow::of(self.input);
+        for key in rows {
+            let start = cells.len();
+            cells.extend_from_slice(input.row(key, reads))?;
+            put_values(self.exprs, start, cells)?;
+        }
+        Ok(())
     }
 }
 

@@ -26,8 +26,6 @@ pub struct WhereOp {
     width: u32,
     /// The keys of the rows that pass.
     shown: RowSet,
-    /// A row that is tested.
-    row: Vec<i64>,
 }
 
 impl Drop for WhereOp {
@@ -36,7 +34,6 @@ impl Drop for WhereOp {
             test: _,
             width: _,
             shown: _,
-            row: _,
         } = self;
     }
 }
@@ -80,7 +77,6 @@ impl WhereOp {
             test,
             width,
             shown: RowSet::new(alloc),
-            row: Vec::new(alloc),
         }
     }
 
@@ -103,9 +99,8 @@ impl WhereOp {
             test,
             width,
             mut shown,
-            mut row,
         } = self;
-        let crossing = crossing_rows(alloc, &test, input, &shown, &mut row, reads)?;
+        let crossing = crossing_rows(alloc, &test, input, &shown, reads)?;
         let passing = Passing { test: &test };
         let change = shown_change(
             alloc,
@@ -116,14 +111,6 @@ impl WhereOp {
             crossing.coming,
             reads,
         )?;
-        Ok((
-            WhereOp {
-                test,
-                width,
-                shown,
-                row,
-            },
-            change,
-        ))
+        Ok((WhereOp { test, width, shown }, change))
     }
 }

@@ -6,8 +6,10 @@ use Rattle.row_ops.proofs.Walked.{named_below, named_next, new_at, reads_next}
 use Rattle.row_ops.proofs.crossing.changed_rows.Goals as goal
 use Rattle.row_ops.proofs.crossing.changed_rows.Goals.{then-before, else-before, then-not-before, else-not-before}
 
-pub passes_now-requires-clause-here : goal.passes_now-requires-clause-here
-passes_now-requires-clause-here g c = new_at (λ key. is_among key (keys c.args.input.now.new.rows) ≡ true) c.args.pairs.now c.loop-place.place c.at-pair.result c.requires.here c.at-pair.ensures.pair
+pub row-requires : goal.row-requires
+row-requires g c = record {
+  here = rw c.loop-place.invariant.rows (new_at (λ key. is_among key (keys c.args.input.now.new.rows) ≡ true) c.args.pairs.now c.loop-place.place c.at-pair.result c.requires.here c.at-pair.ensures.pair);
+}
 
 pub put_last_if-requires-clause-last : goal.put_last_if-requires-clause-last
 put_last_if-requires-clause-last g c =
@@ -19,16 +21,19 @@ put_last_if-requires-in-loop-place-clause-last g c =
 
 pub loop-place-preserved : goal.loop-place-preserved
 loop-place-preserved g c =
-    let now = c.in_ok-now.now in
+    let now = c.passes-now.result in
+    let row = rw c.loop-place.invariant.rows at c.row.ensures in
+    let passing : now ≡ truth c.args.test.now (cells_at c.at-pair.result.new c.args.input.now.new.rows) = c.passes-now.ensures ∙ ap (truth c.args.test.now) row.cells in
     let goes : c.if-before.put_last_if ≡ (c.contains-before.result && not now) =
     elim c.if-before.branch [ then-before w ↦ w.put_last_if-is ∙ ap (λ b. b && not now) (sym w.if-before.true) | else-before w ↦ w.put_last_if-is ∙ w.if-before.false ∙ ap (λ b. b && not now) (sym w.if-before.false) ] in
     let comes : c.if-not-before.put_last_if ≡ (not c.contains-before.result && now) =
     elim c.if-not-before.branch [ then-not-before w ↦ w.put_last_if-is ∙ ap (λ b. not b && now) (sym w.if-not-before.true) | else-not-before w ↦ w.put_last_if-is ∙ ap not w.if-not-before.false ∙ ap (λ b. not b && now) (sym w.if-not-before.false) ] in record {
+      rows = row.same;
       leaving =
           named_next (λ pair. pair.old) (λ pair. is_among pair.old c.args.shown.now && not (truth c.args.test.now (cells_at pair.new c.args.input.now.new.rows))) c.args.pairs.now c.loop-place.place c.at-pair.result c.loop-place.leaving c.put_last_if.new.keys c.if-before.put_last_if
-          c.at-pair.ensures.pair c.loop-place.invariant.leaving (goes ∙ ap₂ (λ a b. a && not b) c.contains-before.ensures.member c.in_ok-now.ensures.answer) c.in_ok-put_last_if.ensures;
+          c.at-pair.ensures.pair c.loop-place.invariant.leaving (goes ∙ ap₂ (λ a b. a && not b) c.contains-before.ensures.member passing) c.in_ok-put_last_if.ensures;
       coming =
           named_next (λ pair. pair.new) (λ pair. not (is_among pair.old c.args.shown.now) && truth c.args.test.now (cells_at pair.new c.args.input.now.new.rows)) c.args.pairs.now c.loop-place.place c.at-pair.result c.loop-place.coming c.put_last_if-in-loop-place.new.keys c.if-not-before.put_last_if
-          c.at-pair.ensures.pair c.loop-place.invariant.coming (comes ∙ ap₂ (λ a b. not a && b) c.contains-before.ensures.member c.in_ok-now.ensures.answer) c.in_ok-put_last_if-2.ensures;
-      reads = reads_next c.args.input.now.new.width c.loop-place.reads c.passes_now.new.reads c.args.reads.now c.loop-place.place c.loop-place.invariant.reads c.in_ok-now.ensures.reads;
+          c.at-pair.ensures.pair c.loop-place.invariant.coming (comes ∙ ap₂ (λ a b. not a && b) c.contains-before.ensures.member passing) c.in_ok-put_last_if-2.ensures;
+      reads = reads_next c.args.input.now.new.width c.loop-place.reads c.row.new.reads c.args.reads.now c.loop-place.place c.loop-place.invariant.reads row.reads;
     }

@@ -1,4 +1,4 @@
-use Rattle.std.proofs.Common.{arith, [], ◌∷◌, IsTrue, length-append, ap, ◌∙◌, filter, subst, ℕ, List, length, ◌≤◌, ◌+◌, ◌*◌}
+use Rattle.std.proofs.Common.{arith, IsTrue, ap, ◌∙◌, filter, subst, ℕ, List, length, ◌≤◌, ◌+◌, ◌*◌}
 use Rattle.key_lists.specs.Keys.{is_among}
 use Rattle.row_set.proofs.Yielded.{next_above, next_has, next_small, yielded_all}
 use Rattle.shown_rows.proofs.Walks.{chosen_below, chosen_more}
@@ -7,9 +7,10 @@ use Rattle.tick_model.specs.Tables.{cells_at, keys}
 use Rattle.row_changes.proofs.Comparing.{reads_next}
 use Rattle.row_ops.proofs.testing.passing_keys.Goals as goal
 
-pub passes_now-requires-clause-here : goal.passes_now-requires-clause-here
-passes_now-requires-clause-here g c =
-    next_has c.loop-key.yielded c.into_iter-key-iterator.ensures.into_iter_gives c.loop-key.yielded_by c.in-Some.ensures.steps (λ key. IsTrue (is_among key (keys c.args.input.now.new.rows))) c.requires.here
+pub row-requires : goal.row-requires
+row-requires g c = record {
+  here = rw c.loop-key.invariant.rows (next_has c.loop-key.yielded c.into_iter-key-iterator.ensures.into_iter_gives c.loop-key.yielded_by c.in-Some.ensures.steps (λ key. IsTrue (is_among key (keys c.args.input.now.new.rows))) c.requires.here);
+}
 
 pub put_last_if-requires-clause-small : goal.put_last_if-requires-clause-small
 put_last_if-requires-clause-small g c =
@@ -25,11 +26,13 @@ put_last_if-requires-clause-last g c =
 pub loop-key-preserved : goal.loop-key-preserved
 loop-key-preserved g c =
     let yielded = c.loop-key.yielded in
-    let key = c.in-Some.key in record {
+    let key = c.in-Some.key in
+    let row = rw c.loop-key.invariant.rows at c.row.ensures in record {
+      rows = row.same;
       found =
-          chosen_more (λ key. truth c.args.test.now (cells_at key c.args.input.now.new.rows)) yielded key c.loop-key.found c.put_last_if.new.keys c.in_ok-answer.answer
-          c.loop-key.invariant.found c.in_ok-answer.ensures.answer c.in_ok-put_last_if.ensures;
-      reads = reads_next c.args.input.now.new.width c.args.reads.now c.loop-key.reads c.passes_now.new.reads yielded key c.loop-key.invariant.reads (omega (arith, c.in_ok-answer.ensures.reads));
+          chosen_more (λ key. truth c.args.test.now (cells_at key c.args.input.now.new.rows)) yielded key c.loop-key.found c.put_last_if.new.keys c.passes-passing.result
+          c.loop-key.invariant.found (c.passes-passing.ensures ∙ ap (truth c.args.test.now) row.cells) c.in_ok-put_last_if.ensures;
+      reads = reads_next c.args.input.now.new.width c.args.reads.now c.loop-key.reads c.row.new.reads yielded key c.loop-key.invariant.reads (omega (arith, row.reads));
     }
 
 pub returns-clause-keys : goal.returns-clause-keys
