@@ -1,17 +1,17 @@
 -- The numbers of touched groups, as they are noted, and the groups that have them before and after a step.
-use Rattle.std.proofs.Common.{◌≡◌, ◌≢◌, refl, ap, ap₂, sym, ◌∙◌, subst, Bool, true, false, cond, ◌||◌, ◌==◌, ℕ, zero, suc, ◌+◌, ◌<◌, ◌≤◌, arith, List, [], ◌∷◌, ◌++◌, map, filter, get_or, length, set, take, Option, Some, None, ℤ, true≢false, inl, inr, ◌⊎◌, if◌then◌else◌}
+use Rattle.std.proofs.Common.{◌≡◌, ◌≢◌, refl, ap, ap₂, sym, ◌∙◌, subst, Bool, true, false, cond, ◌||◌, ◌==◌, ℕ, zero, suc, ◌+◌, ◌<◌, arith, List, [], ◌∷◌, ◌++◌, map, filter, get_or, length, set, take, Option, Some, None, ℤ, true≢false, inl, inr, ◌⊎◌, if◌then◌else◌}
 use Rattle.std.specs.Prelude.{slice_get, not}
 use Rattle.std.specs.Cmp.Rules.{signed_items}
-use Rattle.std.specs.List.{AllByRecursion, list_any}
+use Rattle.std.specs.List.{list_any}
 use Rattle.std.specs.Option.{option_map_or}
 use Rattle.std.proofs.lemmas.Bool.{cases_eq, eq-eqb, eqb-true, ne_eqb, or_cases, or_right, and_parts}
-use Rattle.std.proofs.lemmas.List.{get_or-set_other, get_or-set_same}
+use Rattle.std.proofs.lemmas.List.{get_or-set_other, get_or-set_same, map-append}
 use Rattle.std.proofs.lemmas.Option.{none-some, same_Some}
 use Rattle.std.proofs.lemmas.List.Folds.{list_any-append}
 use Rattle.key_lists.specs.Keys.{is_among}
 use Rattle.key_lists.proofs.Among.{among-append, of_among}
 use Rattle.key_lists.proofs.Every.{every-append, every_unmapped, every_weaker, filter-map, filter_swap, any-map}
-use Rattle.key_lists.proofs.Booleans.{or_false, same_truth}
+use Rattle.key_lists.proofs.Booleans.{or_assoc, or_false, same_truth}
 use Rattle.row_groups.specs.Members.{IsNumberOf, IsPart, Member, Names, Numbered, group_of, keys_of, name_at}
 use Rattle.shown_rows.proofs.Walks.{take_next}
 use Rattle.tick_model.specs.declared.table.PlainRow.{PlainRow}
@@ -22,12 +22,11 @@ use Rattle.tick_model.specs.Tables.{IsTable, keys, same_cells}
 use Rattle.tick_model.specs.Updates.{moved_row, removing, shifting}
 use Rattle.agg_by.specs.Kept.{group_rows}
 use Rattle.agg_by.specs.Steps.{key_at, starts}
-use Rattle.agg_by.specs.Touched.{AreMarks, AreNoted, is_named, starts_numbered, with_number}
+use Rattle.agg_by.specs.Touched.{AreNoted, is_named, starts_numbered, with_number}
 use Rattle.agg_by.proofs.Answering.{group_is, keys_group}
 use Rattle.agg_by.proofs.Bringing.{members}
 use Rattle.agg_by.proofs.FirstKeys.{starts_when}
 use Rattle.agg_by.proofs.Made.{no_rows}
-use Rattle.agg_by.proofs.Touching.{any_next}
 
 -- marks of numbers
 pub marked_within : (marks : List Bool) (number : ℕ) → get_or marks number false ≡ true → number < length marks
@@ -109,22 +108,57 @@ named-append xs ys names number =
       | Some own ↦ list_any-append (same_cells own) xs ys
     ]
 
--- one key more, whose cells a group may have
-pub named_next : (f : ℕ → List ℤ) (keys : List ℕ) (n key number : ℕ) (names : Names) (before : Bool) → slice_get keys n ≡ Some key
-    → ((before || is_named (map f (take n keys)) names number) || is_named (f key ∷ []) names number) ≡ (before || is_named (map f (take (n + 1) keys)) names number)
-named_next f keys n key number names before here = by_name (name_at number names)
-  where
-    neither : (b : Bool) → ((b || false) || false) ≡ (b || false)
-    neither true = refl
-    neither false = refl
-
-    by_name : (named : Option (List ℤ)) → ((before || option_map_or (λ own. list_any (same_cells own) (map f (take n keys))) named false) || option_map_or (λ own. list_any (same_cells own) (f key ∷ [])) named false)
-        ≡ (before || option_map_or (λ own. list_any (same_cells own) (map f (take (n + 1) keys))) named false)
-    by_name None = neither before
-    by_name (Some own) = ap (λ b. (before || list_any (same_cells own) (map f (take n keys))) || b) (or_false (same_cells own (f key))) ∙ any_next (same_cells own) f keys n key before here
-
 pub starts_none : (cells : List ℤ) (ms : List Member) (first : ℕ) → group_of cells ms ≡ [] → starts ms first cells ≡ false
 starts_none cells ms first none = ap (λ (group : List Member). option_map_or (λ (key : ℕ). key == first) (slice_get (keys_of group) 0) false) none
+
+-- what is told of some keys, with one key more
+next_key : {X : Type 0} (g : List X → Bool) (f : ℕ → X) (some : List ℕ) (key : ℕ) (before : Bool) → ((xs ys : List X) → g (xs ++ ys) ≡ (g xs || g ys)) → ((before || g (map f some)) || g (f key ∷ [])) ≡ (before || g (map f (some ++ key ∷ [])))
+next_key g f some key before append =
+    sym (or_assoc before (g (map f some)) (g (f key ∷ []))) ∙ ap (λ b. before || b) (sym (ap g (map-append f some (key ∷ [])) ∙ append (map f some) (f key ∷ [])))
+
+-- besides the numbers of before they are those of the groups that have the cells of some keys, and so are their first rows
+pub record HaveNoted (f : ℕ → List ℤ) (rows : Numbered) (before numbers some : List ℕ) : Type 0 where
+  pub named : (number : ℕ) → is_among number numbers ≡ (is_among number before || is_named (map f some) rows.names number)
+  pub firsts : (first : ℕ) → list_any (starts_numbered rows first) numbers ≡ (list_any (starts_numbered rows first) before || list_any (starts rows.members first) (map f some))
+
+module _ (f : ℕ → List ℤ) (rows : Numbered) (before : List ℕ) where
+  pub noted_first : HaveNoted f rows before before []
+  noted_first = record {
+    named = λ number. sym (is_named_nothing number);
+    firsts = λ first. sym (or_false (list_any (starts_numbered rows first) before));
+  }
+    where
+      is_named_nothing : (number : ℕ) → (is_among number before || is_named [] rows.names number) ≡ is_among number before
+      is_named_nothing number =
+          elim (name_at number rows.names) as (λ named. (is_among number before || option_map_or (λ own. list_any (same_cells own) []) named false) ≡ is_among number before) [
+            | None ↦ or_false (is_among number before)
+            | Some own ↦ or_false (is_among number before)
+          ]
+
+  module _ (numbers some : List ℕ) (key : ℕ) (noted : HaveNoted f rows before numbers some) where
+    -- one key more, whose cells a group has
+    pub noted_own : (number : ℕ) (more : List ℕ) → more ≡ with_number number numbers → IsNumberOf number (f key) rows.names → HaveNoted f rows before more (some ++ key ∷ [])
+    noted_own number more are is = record {
+      named = λ other.
+          ap (is_among other) are ∙ any_with (λ n. n == other) number numbers ∙ ap₂ (λ a b. a || b) (noted.named other) (sym (named_one number other (f key) rows.names is))
+          ∙ next_key (λ cells. is_named cells rows.names other) f some key (is_among other before) (λ xs ys. named-append xs ys rows.names other);
+      firsts = λ first.
+          ap (list_any (starts_numbered rows first)) are ∙ any_with (starts_numbered rows first) number numbers
+          ∙ ap₂ (λ a b. a || b) (noted.firsts first) (starts_own rows first number (f key) is.own ∙ sym (or_false (starts rows.members first (f key))))
+          ∙ next_key (list_any (starts rows.members first)) f some key (list_any (starts_numbered rows first) before) (list_any-append (starts rows.members first));
+    }
+
+    -- or none has
+    pub noted_alien : ((number : ℕ) → name_at number rows.names ≢ Some (f key)) → group_of (f key) rows.members ≡ [] → HaveNoted f rows before numbers (some ++ key ∷ [])
+    noted_alien unnamed empty = record {
+      named = λ other.
+          sym (or_false (is_among other numbers)) ∙ ap₂ (λ a b. a || b) (noted.named other) (sym (named_none (f key) rows.names unnamed other))
+          ∙ next_key (λ cells. is_named cells rows.names other) f some key (is_among other before) (λ xs ys. named-append xs ys rows.names other);
+      firsts = λ first.
+          sym (or_false (list_any (starts_numbered rows first) numbers))
+          ∙ ap₂ (λ a b. a || b) (noted.firsts first) (sym (ap (λ b. b || false) (starts_none (f key) rows.members first empty)))
+          ∙ next_key (list_any (starts rows.members first)) f some key (list_any (starts_numbered rows first) before) (list_any-append (starts rows.members first));
+    }
 
 -- what is noted of some cells and then of others is noted of all
 pub together : {X : Type 0} (f : List ℕ → Bool) (g : List X → Bool) (start middle numbers : List ℕ) (xs ys all : List X) → f [] ≡ false → ((xs ys : List X) → g (xs ++ ys) ≡ (g xs || g ys)) → start ≡ [] → f middle ≡ (f start || g xs) → f numbers ≡ (f middle || g ys) → xs ++ ys ≡ all → f numbers ≡ g all

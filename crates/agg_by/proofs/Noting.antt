@@ -1,19 +1,16 @@
 -- The rows that are noted of the touched groups.
-use Rattle.std.proofs.Common.{◌≡◌, refl, ap, ap₂, sym, ◌∙◌, Bool, true, false, ℕ, zero, suc, ◌+◌, ◌-◌, ◌*◌, ◌<◌, ◌≤◌, zero-add, arith, List, [], ◌∷◌, ◌++◌, length, take, drop, Some, ℤ, slice_range, append-nil, append_assoc, if◌then◌else◌, Ok, Err}
+use Rattle.std.proofs.Common.{◌≡◌, refl, ap, ap₂, sym, ◌∙◌, Bool, true, false, ℕ, zero, suc, ◌+◌, ◌-◌, ◌*◌, ◌<◌, ◌≤◌, zero-add, arith, List, [], ◌∷◌, ◌++◌, length, take, drop, Some, ℤ, slice_range, if◌then◌else◌, Ok, Err}
 use Rattle.std.specs.List.{AllByRecursion}
 use Rattle.std.specs.Prelude.{flat_map, slice_get}
 use Rattle.std.specs.Result.{result_ok}
 use Rattle.std.proofs.Math.Nat.{mul-le-mul_left}
-use Rattle.std.proofs.lemmas.Grind.{flat_map-append}
 use Rattle.std.proofs.lemmas.List.{length-append}
 use Rattle.std.proofs.lemmas.Option.{none-some, same_Some}
 use Rattle.key_lists.specs.Keys.{is_among, IsRising}
 use Rattle.key_lists.proofs.Every.{every_weaker}
 use Rattle.key_lists.proofs.Parts.{take_front}
-use Rattle.row_changes.specs.Parts.{cells_under}
 use Rattle.row_set.specs.Sets.{count_below, found}
 use Rattle.row_set.proofs.Lookups.{count_at}
-use Rattle.shown_rows.proofs.Walks.{take_next}
 use Rattle.tick_laws.proofs.ResultTables.{result_table}
 use Rattle.tick_laws.proofs.ToldRows.{cells_of_row}
 use Rattle.tick_model.specs.Agg.{agg_table}
@@ -26,13 +23,6 @@ use Rattle.agg_by.specs.declared.notes.Notes.{Notes}
 use Rattle.agg_by.specs.Notes.{IsNoted}
 use Rattle.agg_by.specs.Steps.{first_keys}
 use Rattle.agg_by.proofs.GroupRows.{keys-agg}
-
--- one row more behind those of the keys before
-pub told_next : (table : PlainTable) (keys : List ℕ) (n key : ℕ) (others cells more : List ℤ) → slice_get keys n ≡ Some key → cells ≡ others ++ cells_under table (take n keys) → more ≡ cells ++ cells_at key table.rows → more ≡ others ++ cells_under table (take (n + 1) keys)
-told_next table keys n key others cells more here so_far made =
-    made ∙ ap₂ (λ xs ys. xs ++ ys) so_far (sym (append-nil (cells_at key table.rows)))
-    ∙ append_assoc others (cells_under table (take n keys)) (cells_at key table.rows ++ [])
-    ∙ ap (λ (rows : List ℤ). others ++ rows) (sym (ap (cells_under table) (take_next keys n key here) ∙ flat_map-append (λ key. cells_at key table.rows) (take n keys) (key ∷ [])))
 
 pub agg_is_table : (by : List ℕ) (aggs : List Agg) (table : PlainTable) → IsTable table → IsTable (agg_table by aggs table)
 agg_is_table by aggs table t = result_table (Aggregated 0 by aggs) (λ _. table) (t, tt) tt

@@ -3,19 +3,19 @@ use Rattle.std.proofs.Common.{◌≡◌, refl, ap, ap₂, sym, ◌∙◌, subst,
 use Rattle.std.specs.Cmp.Rules.{signed_items}
 use Rattle.std.specs.List.{AllByRecursion}
 use Rattle.std.specs.Option.{option_map_or}
-use Rattle.std.specs.Prelude.{slice_get}
 use Rattle.std.proofs.lemmas.Bool.{and_parts}
-use Rattle.std.proofs.lemmas.List.{length-append, length-map, map-append}
+use Rattle.std.proofs.lemmas.List.{append-nil, length-append, length-map, map-append}
+use Rattle.std.proofs.lemmas.List.Elements.{filter-append}
 use Rattle.std.proofs.lemmas.Option.{same_Some}
 use Rattle.key_lists.specs.Keys.{is_among, IsRising, without}
 use Rattle.key_lists.proofs.Among.{among-filter, each_among, of_among}
 use Rattle.key_lists.proofs.Every.{every_both, every_weaker, every-filter, every-map, filter-map, filter_filter, filter_passes}
 use Rattle.key_lists.proofs.Rising.{rising_some}
-use Rattle.key_lists.proofs.Parts.{every-take, take_front}
+use Rattle.key_lists.proofs.Parts.{every_front, take_front}
 use Rattle.row_groups.specs.Members.{Grouped, Member, member_under}
+use Rattle.row_set.proofs.Windows.{rising_before}
 use Rattle.shift_data.proofs.Lawful.{lawful, not_past}
 use Rattle.shown_rows.proofs.Restricted.{exact_shift}
-use Rattle.shown_rows.proofs.Walks.{below_keys, filter_next, of_place}
 use Rattle.tick_model.specs.Agg.{agg_table, aggregate}
 use Rattle.tick_model.specs.declared.plan.Agg.{Agg}
 use Rattle.tick_model.specs.declared.table.PlainRow.{PlainRow}
@@ -59,34 +59,27 @@ pub staying_map : {X Y : Type 0} (test : Y → Bool) (f : X → Y) (stay : X →
 staying_map test f stay xs = filter-map test f (filter stay xs) ∙ ap (map f) (filter_filter (λ x. test (f x)) stay xs)
 
 -- one element more
-staying_next : {X Y : Type 0} (test : Y → Bool) (f : X → Y) (stay : X → Bool) (xs : List X) (n : ℕ) (x : X) → slice_get xs n ≡ Some x
-    → filter test (map f (filter stay (take (n + 1) xs))) ≡ filter test (map f (filter stay (take n xs))) ++ map f (cond (stay x && test (f x)) (x ∷ []) [])
-staying_next test f stay xs n x e =
-    staying_map test f stay (take (n + 1) xs) ∙ ap (map f) (filter_next (λ x. stay x && test (f x)) xs n x e)
-    ∙ map-append f (filter (λ x. stay x && test (f x)) (take n xs)) (cond (stay x && test (f x)) (x ∷ []) [])
-    ∙ ap (λ ys. ys ++ map f (cond (stay x && test (f x)) (x ∷ []) [])) (sym (staying_map test f stay (take n xs)))
+staying_next : {X Y : Type 0} (test : Y → Bool) (f : X → Y) (stay : X → Bool) (xs : List X) (x : X)
+    → filter test (map f (filter stay (xs ++ x ∷ []))) ≡ filter test (map f (filter stay xs)) ++ map f (cond (stay x && test (f x)) (x ∷ []) [])
+staying_next test f stay xs x =
+    staying_map test f stay (xs ++ x ∷ []) ∙ ap (map f) (filter-append (λ x. stay x && test (f x)) xs (x ∷ []))
+    ∙ map-append f (filter (λ x. stay x && test (f x)) xs) (cond (stay x && test (f x)) (x ∷ []) [])
+    ∙ ap (λ ys. ys ++ map f (cond (stay x && test (f x)) (x ∷ []) [])) (sym (staying_map test f stay xs))
 
-pub staying_one : {X Y : Type 0} (test : Y → Bool) (f : X → Y) (stay : X → Bool) (xs : List X) (n : ℕ) (x : X) (made : List Y) → slice_get xs n ≡ Some x → (stay x && test (f x)) ≡ true
-    → made ≡ filter test (map f (filter stay (take n xs))) → made ++ f x ∷ [] ≡ filter test (map f (filter stay (take (n + 1) xs)))
-staying_one test f stay xs n x made here passes so_far =
-    ap (λ ys. ys ++ f x ∷ []) so_far ∙ sym (staying_next test f stay xs n x here ∙ ap (λ b. filter test (map f (filter stay (take n xs))) ++ map f (cond b (x ∷ []) [])) passes)
+pub staying_one : {X Y : Type 0} (test : Y → Bool) (f : X → Y) (stay : X → Bool) (xs : List X) (x : X) (made : List Y) → (stay x && test (f x)) ≡ true → made ≡ filter test (map f (filter stay xs))
+    → made ++ f x ∷ [] ≡ filter test (map f (filter stay (xs ++ x ∷ [])))
+staying_one test f stay xs x made passes so_far =
+    ap (λ ys. ys ++ f x ∷ []) so_far ∙ sym (staying_next test f stay xs x ∙ ap (λ b. filter test (map f (filter stay xs)) ++ map f (cond b (x ∷ []) [])) passes)
 
-pub staying_none : {X Y : Type 0} (test : Y → Bool) (f : X → Y) (stay : X → Bool) (xs : List X) (n : ℕ) (x : X) (made : List Y) → slice_get xs n ≡ Some x → (stay x && test (f x)) ≡ false
-    → made ≡ filter test (map f (filter stay (take n xs))) → made ≡ filter test (map f (filter stay (take (n + 1) xs)))
-staying_none {Y = Y} test f stay xs n x made here fails so_far =
-    so_far ∙ sym (staying_next test f stay xs n x here ∙ ap (λ b. filter test (map f (filter stay (take n xs))) ++ map f (cond b (x ∷ []) [])) fails ∙ none_behind (filter test (map f (filter stay (take n xs)))))
-  where
-    none_behind : (ys : List Y) → ys ++ [] ≡ ys
-    none_behind [] = refl
-    none_behind (y ∷ ys) = ap (λ zs. y ∷ zs) (none_behind ys)
+pub staying_none : {X Y : Type 0} (test : Y → Bool) (f : X → Y) (stay : X → Bool) (xs : List X) (x : X) (made : List Y) → (stay x && test (f x)) ≡ false → made ≡ filter test (map f (filter stay xs))
+    → made ≡ filter test (map f (filter stay (xs ++ x ∷ [])))
+staying_none test f stay xs x made fails so_far =
+    so_far ∙ sym (staying_next test f stay xs x ∙ ap (λ b. filter test (map f (filter stay xs)) ++ map f (cond b (x ∷ []) [])) fails ∙ append-nil (filter test (map f (filter stay xs))))
 
--- where a noted row is known, what is told of it is told of the row at its place
-pub pair_when : (by : List ℕ) (t : Ticking) (firsts : List ℕ) (place old : ℕ) (found : Option KeyPair) (b : Bool) → slice_get firsts place ≡ Some old → (not (is_among old t.update.removed) && stays by t (kept_pair t.update old)) ≡ b
-    → found ≡ (if b then Some (kept_pair t.update old) else None) → (other : ℕ) → slice_get firsts place ≡ Some other
-    → found ≡ (if not (is_among other t.update.removed) && stays by t (kept_pair t.update other) then Some (kept_pair t.update other) else None)
-pair_when by t firsts place old found b here when is other there =
-    subst (λ (k : ℕ). found ≡ (if not (is_among k t.update.removed) && stays by t (kept_pair t.update k) then Some (kept_pair t.update k) else None)) (same_Some _ _ (sym here ∙ there))
-    (is ∙ sym (ap (λ b. if b then Some (kept_pair t.update old) else None) when))
+-- what is told of a row of which it is known whether it stays
+pub pair_when : (by : List ℕ) (t : Ticking) (old : ℕ) (found : Option KeyPair) (b : Bool) → (not (is_among old t.update.removed) && stays by t (kept_pair t.update old)) ≡ b → found ≡ (if b then Some (kept_pair t.update old) else None)
+    → found ≡ (if not (is_among old t.update.removed) && stays by t (kept_pair t.update old) then Some (kept_pair t.update old) else None)
+pair_when by t old found b when is = is ∙ sym (ap (λ b. if b then Some (kept_pair t.update old) else None) when)
 
 pub all_three : (r m s : Bool) → r ≡ false → m ≡ true → s ≡ true → (not r && (m && s)) ≡ true
 all_three r m s e f g = ap₂ (λ a b. not a && b) e (ap₂ (λ a b. a && b) f g)
@@ -129,33 +122,39 @@ module _ (by : List ℕ) (t : Ticking) (e : IsExact t) where
   abbrev stays_first : ℕ → Bool
   stays_first key = not (is_among key t.update.removed) && stays by t (kept_pair t.update key)
 
-  abbrev so_far : ℕ → List ℕ
-  so_far place = filter stays_first (take place firsts)
+  pub lands_small : (key : ℕ) → is_among key (without t.update.removed (keys t.old.rows)) ≡ true → as_key (moved t.update.shifted key) < 2 ^ 62
+  lands_small key own = (not_past (2 ^ 62) (moved t.update.shifted key) (lands key own)).1
 
-  -- those before the one at a place have lesser keys, before and now
-  pub lesser_old : (place old : ℕ) (made : List KeyPair) → slice_get firsts place ≡ Some old → made ≡ filter (stays by t) (map (kept_pair t.update) (without t.update.removed (take place firsts))) → AllByRecursion (λ other. other < old) (old_keys made)
-  lesser_old place old made here are =
-      subst (λ (pairs : List KeyPair). AllByRecursion (λ other. other < old) (old_keys pairs)) (sym (are ∙ staying_map (stays by t) (kept_pair t.update) (λ key. not (is_among key t.update.removed)) (take place firsts)))
-      (every-map (λ other. other < old) (λ (pair : KeyPair). pair.old) (map (kept_pair t.update) (so_far place))
-      (every-map (λ (pair : KeyPair). pair.old < old) (kept_pair t.update) (so_far place)
-      (below_keys stays_first firsts place old (so_far place) firsts_rise here refl)))
+  -- those before one of them have lesser keys, before and now
+  module _ (before others : List ℕ) (old : ℕ) (made : List KeyPair) (next : firsts ≡ before ++ old ∷ others) (are : made ≡ filter (stays by t) (map (kept_pair t.update) (without t.update.removed before))) where
+    abbrev those : List ℕ
+    those = filter stays_first before
 
-  pub lesser_new : (place old : ℕ) (made : List KeyPair) → slice_get firsts place ≡ Some old → is_among old t.update.removed ≡ false
-      → made ≡ filter (stays by t) (map (kept_pair t.update) (without t.update.removed (take place firsts))) → AllByRecursion (λ other. other < as_key (moved t.update.shifted old)) (new_keys made)
-  lesser_new place old made here left are =
-      let land : ℕ → ℕ = λ key. as_key (moved t.update.shifted key) in
-      let staying_keys : List ℕ = without t.update.removed (keys t.old.rows) in
-      let own : is_among old staying_keys ≡ true = stays_on old (first_there old (of_place (λ key. is_among key (first_keys by t.old.rows) ≡ true) place firsts old firsts_there here)) left in
-      subst (λ (pairs : List KeyPair). AllByRecursion (λ other. other < land old) (new_keys pairs)) (sym (are ∙ staying_map (stays by t) (kept_pair t.update) (λ key. not (is_among key t.update.removed)) (take place firsts)))
-      (every-map (λ other. other < land old) (λ (pair : KeyPair). pair.new) (map (kept_pair t.update) (so_far place))
-      (every-map (λ (pair : KeyPair). pair.new < land old) (kept_pair t.update) (so_far place)
-      (every_both (λ key. key < old) (λ key. is_among key staying_keys ≡ true) (λ key. land key < land old) (so_far place)
-      (λ key below stays. moves_up land staying_keys key old (rising_some (λ key. not (is_among key t.update.removed)) (keys t.old.rows) e.tick.old_table.rising) (rising_moved by [] t e) stays own below)
-      (below_keys stays_first firsts place old (so_far place) firsts_rise here refl)
-      (every_both (λ key. is_among key (first_keys by t.old.rows) ≡ true) (λ key. stays_first key ≡ true) (λ key. is_among key staying_keys ≡ true) (so_far place)
-      (λ key first passes. stays_on key (first_there key first) (is_false (and_parts _ _ passes).0))
-      (every-filter (λ key. is_among key (first_keys by t.old.rows) ≡ true) stays_first (take place firsts) (every-take (λ key. is_among key (first_keys by t.old.rows) ≡ true) place firsts firsts_there))
-      (filter_passes stays_first (take place firsts))))))
+    these : made ≡ map (kept_pair t.update) those
+    these = are ∙ staying_map (stays by t) (kept_pair t.update) (λ key. not (is_among key t.update.removed)) before
+
+    below : AllByRecursion (λ key. key < old) those
+    below = every-filter (λ key. key < old) stays_first before (rising_before before old others (subst IsRising next firsts_rise))
+
+    pub lesser_old : AllByRecursion (λ other. other < old) (old_keys made)
+    lesser_old =
+        subst (λ (pairs : List KeyPair). AllByRecursion (λ other. other < old) (old_keys pairs)) (sym these)
+        (every-map (λ other. other < old) (λ (pair : KeyPair). pair.old) (map (kept_pair t.update) those) (every-map (λ (pair : KeyPair). pair.old < old) (kept_pair t.update) those below))
+
+    pub lesser_new : is_among old (without t.update.removed (keys t.old.rows)) ≡ true → AllByRecursion (λ other. other < as_key (moved t.update.shifted old)) (new_keys made)
+    lesser_new own =
+        let land : ℕ → ℕ = λ key. as_key (moved t.update.shifted key) in
+        let staying_keys : List ℕ = without t.update.removed (keys t.old.rows) in
+        subst (λ (pairs : List KeyPair). AllByRecursion (λ other. other < land old) (new_keys pairs)) (sym these)
+        (every-map (λ other. other < land old) (λ (pair : KeyPair). pair.new) (map (kept_pair t.update) those)
+        (every-map (λ (pair : KeyPair). pair.new < land old) (kept_pair t.update) those
+        (every_both (λ key. key < old) (λ key. is_among key staying_keys ≡ true) (λ key. land key < land old) those
+        (λ key lesser stays. moves_up land staying_keys key old (rising_some (λ key. not (is_among key t.update.removed)) (keys t.old.rows) e.tick.old_table.rising) (rising_moved by [] t e) stays own lesser)
+        below
+        (every_both (λ key. is_among key (first_keys by t.old.rows) ≡ true) (λ key. stays_first key ≡ true) (λ key. is_among key staying_keys ≡ true) those
+        (λ key first passes. stays_on key (first_there key first) (is_false (and_parts _ _ passes).0))
+        (every-filter (λ key. is_among key (first_keys by t.old.rows) ≡ true) stays_first before (every_front (λ key. is_among key (first_keys by t.old.rows) ≡ true) before (old ∷ others) (subst (AllByRecursion (λ key. is_among key (first_keys by t.old.rows) ≡ true)) next firsts_there)))
+        (filter_passes stays_first before)))))
 
   -- the key cells of a first row before, and of a row now, as they are noted and kept
   pub has_cells : (aggs : List Agg) (old new : ℕ) (row : List ℤ) (kept : Grouped) → is_among old (first_keys by t.old.rows) ≡ true → row ≡ cells_at old (agg_table by aggs t.old).rows → is_among new (keys t.new.rows) ≡ true → kept ≡ indexed by None t.new.rows
@@ -174,18 +173,11 @@ module _ (by : List ℕ) (t : Ticking) (e : IsExact t) where
       through None f = absurd (cc)
       through (Some member) f = ap (λ cells. same_cells cells (key_at by t.old.rows old)) (same_Some _ _ f)
 
-  pub lands_small : (key : ℕ) → is_among key (without t.update.removed (keys t.old.rows)) ≡ true → as_key (moved t.update.shifted key) < 2 ^ 62
-  lands_small key own = (not_past (2 ^ 62) (moved t.update.shifted key) (lands key own)).1
-
   pub begins_long : (aggs : List Agg) (old : ℕ) (row : List ℤ) → is_among old (first_keys by t.old.rows) ≡ true → row ≡ cells_at old (agg_table by aggs t.old).rows → length by ≤ length row
   begins_long aggs old row own noted =
       subst (λ (n : ℕ). length by ≤ n)
       (sym (ap length (noted ∙ cells-agg by aggs t.old old e.tick.old_table own) ∙ length-append (key_at by t.old.rows old) (map (aggregate (group_rows by (key_at by t.old.rows old) t.old.rows)) aggs) ∙ ap (λ n. n + length (map (aggregate (group_rows by (key_at by t.old.rows old) t.old.rows)) aggs)) (length-map by (cell (cells_at old t.old.rows)))))
       (omega arith)
-
-  -- a noted row that is not removed
-  pub row_of_place : (place old : ℕ) → slice_get firsts place ≡ Some old → is_among old (first_keys by t.old.rows) ≡ true
-  row_of_place place old here = of_place (λ key. is_among key (first_keys by t.old.rows) ≡ true) place firsts old firsts_there here
 
   pub first_row_there : (key : ℕ) → is_among key (touched_firsts by t t.new.rows) ≡ true → is_among key (keys t.new.rows) ≡ true
   first_row_there key own =

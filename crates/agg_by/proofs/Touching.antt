@@ -1,13 +1,10 @@
 -- The rows that a step takes out of their groups are there before, those that it puts in are there now, and the others move in order.
-use Rattle.std.proofs.Common.{◌≡◌, refl, ap, ap₂, sym, ◌∙◌, subst, Bool, true, false, not, ◌&&◌, ◌||◌, ℕ, ◌+◌, List, [], ◌∷◌, map, take, Some, filter}
-use Rattle.std.specs.Prelude.{slice_get}
-use Rattle.std.specs.List.{AllByRecursion, list_any}
+use Rattle.std.proofs.Common.{◌≡◌, refl, ap, sym, ◌∙◌, subst, Bool, true, false, not, ◌&&◌, ◌||◌, filter}
+use Rattle.std.specs.List.{AllByRecursion}
 use Rattle.std.proofs.lemmas.Bool.{and_parts}
-use Rattle.std.proofs.lemmas.List.Folds.{list_any-append}
 use Rattle.key_lists.specs.Keys.{is_among, without}
 use Rattle.key_lists.proofs.Among.{among-filter, each_among, of_among}
-use Rattle.key_lists.proofs.Every.{every, every_weaker, every-filter, every-map, every_unmapped, filter_filter, filter_same, any-map}
-use Rattle.key_lists.proofs.Booleans.{or_false, or_assoc}
+use Rattle.key_lists.proofs.Every.{every, every_weaker, every-filter, every-map, every_unmapped, filter_filter, filter_same}
 use Rattle.row_set.proofs.United.{among-united}
 use Rattle.shift_data.specs.Moves.{IsLawful}
 use Rattle.shown_rows.proofs.Restricted.{exact_shift, is_modified, kept, modified_new}
@@ -19,7 +16,6 @@ use Rattle.tick_model.specs.Updates.{Update, kept_pair, new_keys, old_keys}
 use Rattle.tick_table.specs.Exact.{IsExact}
 use Rattle.tick_table.specs.Ticking.{Ticking}
 use Rattle.agg_by.specs.Steps.{come, gone}
-use Rattle.shown_rows.proofs.Walks.{take_next}
 
 either_there : (a b c : Bool) → (a ≡ true → c ≡ true) → (b ≡ true → c ≡ true) → (a || b) ≡ true → c ≡ true
 either_there true b c f g h = f refl
@@ -67,11 +63,3 @@ module _ (t : Ticking) (e : IsExact t) where
       (every (λ key. (not (is_among key t.update.removed) && not (is_among key (gone t))) ≡ not (is_among key (gone t))) (keys t.old.rows)
       (λ key. subst (λ b. (not (is_among key t.update.removed) && not b) ≡ not b) (sym (among-united key t.update.removed (old_modified (keys t.old.rows) t.update))) (neither (is_among key t.update.removed) (is_among key (old_modified (keys t.old.rows) t.update))))))
       (lawful_some t.update.shifted (λ key. not (is_among key (gone t))) (without t.update.removed (keys t.old.rows)) (exact_shift t e))
-
--- whether one of the first so many passes, with one more
-pub any_next : {Y : Type 0} (p : Y → Bool) (f : ℕ → Y) (keys : List ℕ) (n key : ℕ) (before : Bool) → slice_get keys n ≡ Some key → ((before || list_any p (map f (take n keys))) || p (f key)) ≡ (before || list_any p (map f (take (n + 1) keys)))
-any_next p f keys n key before here =
-    sym (or_assoc before (list_any p (map f (take n keys))) (p (f key)))
-    ∙ ap (λ b. before || b)
-    (ap₂ (λ a b. a || b) (any-map p f (take n keys)) (sym (or_false (p (f key)))) ∙ sym (list_any-append (λ key. p (f key)) (take n keys) (key ∷ []))
-    ∙ ap (list_any (λ key. p (f key))) (sym (take_next keys n key here)) ∙ sym (any-map p f (take (n + 1) keys)))

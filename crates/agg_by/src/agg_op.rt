@@ -18,7 +18,6 @@ ghost use Rattle.tick_table.specs.Ticking.{no_rows};
 
 use crate::firsts::firsts_of;
 use crate::kept::Kept;
-use crate::moment::RowBuffer;
 use crate::notes::Notes;
 use crate::rows::GroupRows;
 use crate::staying::staying_firsts;
@@ -40,8 +39,8 @@ pub struct AggOp {
     kept: Kept,
     /// The keys of the first rows of the groups.
     shown: RowSet,
-    /// A row that is read, and its key cells.
-    buffer: RowBuffer,
+    /// Room for the key cells of a row that comes.
+    key_cells: Vec<i64>,
     /// The groups that a step touches.
     touched: TouchedGroups,
     /// Room for the rows that are noted in a step.
@@ -54,7 +53,7 @@ impl Drop for AggOp {
             width: _,
             kept: _,
             shown: _,
-            buffer: _,
+            key_cells: _,
             touched: _,
             noted: _,
         } = self;
@@ -119,7 +118,7 @@ impl AggOp {
             width,
             kept: Kept::new(alloc, by, aggs),
             shown: RowSet::new(alloc),
-            buffer: RowBuffer::new(alloc),
+            key_cells: Vec::new(alloc),
             touched: TouchedGroups::new(alloc),
             noted: Vec::new(alloc),
         }
@@ -148,7 +147,7 @@ impl AggOp {
             width,
             mut kept,
             mut shown,
-            mut buffer,
+            mut key_cells,
             mut touched,
             noted,
         } = self;
@@ -156,7 +155,7 @@ impl AggOp {
             alloc,
             &mut kept,
             &mut shown,
-            &mut buffer,
+            &mut key_cells,
             &mut touched,
             noted,
             input,
@@ -167,7 +166,7 @@ impl AggOp {
                 width,
                 kept,
                 shown,
-                buffer,
+                key_cells,
                 touched,
                 noted,
             },
@@ -181,7 +180,7 @@ fn grouped_step<L: Ledger>(
     alloc: Global,
     kept: &mut Kept,
     shown: &mut RowSet,
-    buffer: &mut RowBuffer,
+    key_cells: &mut Vec<i64>,
     touched: &mut TouchedGroups,
     noted: Vec<i64>,
     input: &TickTable,
@@ -201,8 +200,10 @@ fn grouped_step<L: Ledger>(
 {
     let moving = Moving::of(input)?;
     kept.begin(alloc)?;
-    let notes = noted_groups(alloc, kept, input, &moving, touched, buffer, noted, reads)?;
-    kept.bring_on(input, &moving.gone, &moving.come, touched, buffer, reads)?;
+    let notes = noted_groups(
+        alloc, kept, input, &moving, touched, key_cells, noted, reads,
+    )?;
+    kept.bring_on(input, &moving.gone, &moving.come, touched, key_cells, reads)?;
     let firsts = firsts_of(alloc, &kept.rows, touched.numbers())?;
     let rows = GroupRows {
         input,
@@ -222,7 +223,7 @@ fn noted_groups<L: Ledger>(
     input: &TickTable,
     moving: &Moving,
     touched: &mut TouchedGroups,
-    buffer: &mut RowBuffer,
+    key_cells: &mut Vec<i64>,
     noted: Vec<i64>,
     reads: &mut Steps<L>,
 ) -> Result<Notes, AllocError>
@@ -237,7 +238,7 @@ fn noted_groups<L: Ledger>(
     ensures keys { IfOk result (λ notes. notes.keys ≡ touched_firsts kept.now.by input.now input.now.old.rows) }
     ensures reads { OnOk result (reads.new ≤ reads.old + (input.now.new.width + length kept.now.aggs) * (length moving.now.gone + length moving.now.come)) }
 {
-    touched.note_before(kept, input, &moving.gone, &moving.come, buffer, reads)?;
+    touched.note_before(kept, input, &moving.gone, &moving.come, key_cells, reads)?;
     let before = firsts_of(alloc, &kept.rows, touched.numbers())?;
     Notes::take(kept, input, before, noted, reads)
 }

@@ -5,7 +5,7 @@ ghost use Rattle.std.specs.List.{AllByRecursion, list_any};
 ghost use Rattle.key_lists.specs.Keys.{is_among, without};
 ghost use Rattle.row_groups.specs.Members.{IsPart, groups_of};
 ghost use Rattle.shift_data.specs.Moves.{IsLawful};
-ghost use Rattle.tick_model.specs.Agg.{agg_table};
+ghost use Rattle.tick_model.specs.Agg.{agg_table, key_cells};
 ghost use Rattle.tick_model.specs.Tables.{IsTable, cells_at, keys};
 ghost use Rattle.tick_model.specs.Updates.{removing, shifting};
 ghost use Rattle.tick_model.specs.declared.table.PlainRow.{PlainRow};
@@ -15,16 +15,17 @@ ghost use Rattle.agg_by.specs.Moments.{table_at};
 ghost use Rattle.agg_by.specs.Steps.{come as come_of, first_keys, gone as gone_of, key_at, starts, touched_cells};
 ghost use Rattle.agg_by.specs.Touched.{AreNoted, is_named, starts_numbered};
 
-use crate::moment::{Moment, RowBuffer};
+use crate::moment::Moment;
 use crate::running::{Running, begun, put_all, put_values, take_all};
 use crate::touched::TouchedGroups;
 use row_groups::NumberedGroups;
 use row_set::RowSet;
 use std::alloc::{AllocError, Global};
 use std::sync::ledger::Ledger;
+use tick_model::cells::cell;
 use tick_model::items::Items;
 use tick_model::plan::Agg;
-use tick_table::{Steps, TickTable};
+use tick_table::{RowsBefore, RowsNow, Steps, TickTable};
 
 /// The rows of an input by their key cells, and what answers each aggregate.
 pub struct Kept {
@@ -88,7 +89,7 @@ impl Kept {
         gone: &RowSet,
         come: &RowSet,
         touched: &mut TouchedGroups,
-        buffer: &mut RowBuffer,
+        key_cells: &mut Vec<i64>,
         reads: &mut Steps<L>,
     ) -> Result<(), AllocError>
         requires exact { IsExact input.now }
@@ -101,9 +102,9 @@ impl Kept {
         ensures made { OnOk result (IsMade self.old self.new) }
         ensures reads { OnOk result (reads.new ≤ reads.old + input.now.new.width * (length gone.now + length come.now)) }
     {
-        self.take_rows(input, gone, buffer, reads)?;
+        self.take_rows(input, gone, reads)?;
         self.move_rows(input, gone)?;
-        self.put_rows(input, come, touched, buffer, reads)
+        self.put_rows(input, come, touched, key_cells, reads)
     }
 
     /// Takes rows out of what answers the aggregates.
@@ -111,7 +112,6 @@ impl Kept {
         &mut self,
         input: &TickTable,
         gone: &RowSet,
-        buffer: &mut RowBuffer,
         reads: &mut Steps<L>,
     ) -> Result<(), AllocError>
         requires keeps { Keeps self.old input.now.old.rows }
@@ -122,11 +122,11 @@ impl Kept {
         ensures running { OnOk result (AnswerAll self.old.by self.old.rows.names self.old.aggs (removing gone.now input.now.old.rows) self.new.running.items) }
         ensures reads { OnOk result (reads.new ≤ reads.old + input.now.old.width * length gone.now) }
     {
-        for position in 0..gone.len() {
-            let key = gone.get(position).unwrap();
-            buffer.read(Moment::Before, self.by.as_slice(), input, key, reads)?;
+        let mut rows = RowsBefore::of(input);
+        for key in gone {
+            let row = rows.row(key, reads);
             let number = self.rows.number_of(key);
-            take_all(&mut self.running, number, &buffer.row)?;
+            take_all(&mut self.running, number, row)?;
         }
         Ok(())
     }
@@ -152,7 +152,7 @@ impl Kept {
         input: &TickTable,
         come: &RowSet,
         touched: &mut TouchedGroups,
-        buffer: &mut RowBuffer,
+        key_cells: &mut Vec<i64>,
         reads: &mut Steps<L>,
     ) -> Result<(), AllocError>
         requires keeps { Keeps self.old (removing come.now input.now.new.rows) }
@@ -165,12 +165,24 @@ impl Kept {
         ensures noted { OnOk result (AreNoted touched.old (map (key_at self.old.by input.now.new.rows) come.now) self.new.rows.names touched.new) }
         ensures reads { OnOk result (reads.new ≤ reads.old + input.now.new.width * length come.now) }
     {
-        for position in 0..come.len() {
-            let key = come.get(position).unwrap();
-            buffer.read(Moment::Now, self.by.as_slice(), input, key, reads)?;
-            let number = self.rows.add(key, &buffer.key, 0)?;
+        let mut rows = RowsNow::of(input);
+        for key in come {
+            let row = rows.row(key, reads);
+            self.read_key_cells(row, key_cells)?;
+            let number = self.rows.add(key, key_cells.as_slice(), 0)?;
             touched.note(number)?;
-            put_all(&mut self.running, number, &buffer.row)?;
+            put_all(&mut self.running, number, row)?;
+        }
+        Ok(())
+    }
+
+    /// Puts the cells by which a row stands in its group in place of others.
+    pub(crate) fn read_key_cells(&self, row: &[i64], cells: &mut Vec<i64>) -> Result<(), AllocError>
+        ensures { OnOk result (cells.new.items ≡ key_cells self.now.by row.now) }
+    {
+        cells.clear();
+        for column in self.by.as_slice() {
+            cells.push(cell(row, *column))?;
         }
         Ok(())
     }

@@ -100,8 +100,7 @@ fn put_groups<L: Ledger>(
     ensures cells { OnOk result (cells.new.items ≡ cells.old.items ++ cells_under (agg_table kept.now.by kept.now.aggs input.now.old) keys.now) }
     ensures reads { OnOk result (reads.new ≤ reads.old + length kept.now.aggs * length keys.now) }
 {
-    for position in 0..keys.len() {
-        let first = keys.get(position).unwrap();
+    for first in keys {
         kept.put_group(Moment::Before, input, first, cells, reads)?;
     }
     Ok(())

@@ -1,14 +1,14 @@
 //! The touched groups whose first row stays the first.
 
-ghost use Rattle.std.specs.Prelude.{◌≡◌, ℕ, ◌<◌, ◌≤◌, ◌&&◌, false, not, length, slice_get, take, None, Some, if◌then◌else◌, IfOk};
+ghost use Rattle.std.specs.Prelude.{◌≡◌, ◌≤◌, ◌&&◌, false, not, length, take, None, Some, if◌then◌else◌, IfOk, IsTrue};
 ghost use Rattle.std.specs.Option.{option_map_or};
 ghost use Rattle.agg_by.specs.Kept.{Keeps};
 ghost use Rattle.agg_by.specs.Notes.{IsNoted};
-ghost use Rattle.agg_by.specs.Steps.{staying, stays, touched_firsts};
+ghost use Rattle.agg_by.specs.Steps.{first_keys, staying, stays, touched_firsts};
 ghost use Rattle.key_lists.specs.Keys.{is_among};
 ghost use Rattle.row_groups.specs.Members.{member_under};
 ghost use Rattle.tick_model.specs.Agg.{agg_table};
-ghost use Rattle.tick_model.specs.Tables.{same_cells};
+ghost use Rattle.tick_model.specs.Tables.{cells_at, same_cells};
 ghost use Rattle.tick_model.specs.Updates.{kept_pair};
 ghost use Rattle.tick_table.specs.Exact.{IsExact};
 
@@ -37,8 +37,11 @@ pub(crate) fn staying_firsts(
     ensures { IfOk result (λ pairs. pairs ≡ staying kept.now.by input.now) }
 {
     let mut staying = KeyPairs::new(alloc);
-    for position in 0..notes.keys.len() {
-        let Some(pair) = staying_pair(kept, input, notes, firsts, position) else {
+    let mut position = 0;
+    for old in &notes.keys {
+        let row = notes.row_at(position);
+        position += 1;
+        let Some(pair) = staying_pair(kept, input, firsts, old, row) else {
             continue;
         };
         staying = staying.with_last(pair)?;
@@ -46,25 +49,23 @@ pub(crate) fn staying_firsts(
     Ok(staying)
 }
 
-/// The keys before and now of the noted first row at a position, if it is a first row with the same key cells again.
+/// The keys before and now of a first row of before, which is noted, if it is a first row with the same key cells again.
 fn staying_pair(
     kept: &Kept,
     input: &TickTable,
-    notes: &Notes,
     firsts: &RowSet,
-    position: u64,
+    old: u64,
+    row: &[i64],
 ) -> Option<KeyPair>
     requires exact { IsExact input.now }
     requires keeps { Keeps kept.now input.now.new.rows }
-    requires noted { IsNoted notes.now (agg_table kept.now.by kept.now.aggs input.now.old) }
-    requires keys { notes.now.keys ≡ touched_firsts kept.now.by input.now input.now.old.rows }
     requires firsts { firsts.now ≡ touched_firsts kept.now.by input.now input.now.new.rows }
-    requires within { position < length notes.now.keys }
-    ensures { (old : ℕ) → slice_get notes.now.keys position ≡ Some old → result
+    requires first { IsTrue (is_among old (first_keys kept.now.by input.now.old.rows)) }
+    requires noted { row.now ≡ cells_at old (agg_table kept.now.by kept.now.aggs input.now.old).rows }
+    ensures { result
         ≡ (if not (is_among old input.now.update.removed) && stays kept.now.by input.now (kept_pair input.now.update old)
         then Some (kept_pair input.now.update old) else None) }
 {
-    let old = notes.keys.get(position).unwrap();
     if input.update().removed().contains(old) {
         return None;
     }
@@ -72,7 +73,7 @@ fn staying_pair(
     if !firsts.contains(new) {
         return None;
     }
-    if !has_key_cells(kept, new, notes.row_at(position)) {
+    if !has_key_cells(kept, new, row) {
         return None;
     }
     Some(KeyPair { old, new })

@@ -11,13 +11,12 @@ ghost use Rattle.tick_model.specs.Tables.{keys as keys_of};
 ghost use Rattle.tick_table.specs.Exact.{IsExact};
 
 use crate::kept::Kept;
-use crate::moment::{Moment, RowBuffer};
 use row_groups::NumberedGroups;
 use row_set::RowSet;
 use std::alloc::{AllocError, Global};
 use std::marker::Model;
 use std::sync::ledger::Ledger;
-use tick_table::{Steps, TickTable};
+use tick_table::{RowsNow, Steps, TickTable};
 
 /// The numbers of groups, each once. A contract sees the list of them.
 #[derive(Drop)]
@@ -88,7 +87,7 @@ impl TouchedGroups {
         input: &TickTable,
         gone: &RowSet,
         come: &RowSet,
-        buffer: &mut RowBuffer,
+        key_cells: &mut Vec<i64>,
         reads: &mut Steps<L>,
     ) -> Result<(), AllocError>
         requires exact { IsExact input.now }
@@ -101,7 +100,7 @@ impl TouchedGroups {
     {
         self.clear();
         self.note_kept(&kept.rows, gone)?;
-        self.note_coming(kept, input, come, buffer, reads)
+        self.note_coming(kept, input, come, key_cells, reads)
     }
 
     /// Notes the groups of these rows, which are kept.
@@ -112,8 +111,7 @@ impl TouchedGroups {
         ensures firsts { OnOk result ((first : ℕ) → list_any (starts_numbered rows.now first) self.new
             ≡ (list_any (starts_numbered rows.now first) self.old || list_any (starts rows.now.members first) (map (kept_cells rows.now.members) keys.now))) }
     {
-        for position in 0..keys.len() {
-            let key = keys.get(position).unwrap();
+        for key in keys {
             self.note(rows.number_of(key))?;
         }
         Ok(())
@@ -125,7 +123,7 @@ impl TouchedGroups {
         kept: &Kept,
         input: &TickTable,
         keys: &RowSet,
-        buffer: &mut RowBuffer,
+        key_cells: &mut Vec<i64>,
         reads: &mut Steps<L>,
     ) -> Result<(), AllocError>
         requires { AllByRecursion (λ key. IsTrue (is_among key (keys_of input.now.new.rows))) keys.now }
@@ -135,10 +133,10 @@ impl TouchedGroups {
             ≡ (list_any (starts_numbered kept.now.rows first) self.old || list_any (starts kept.now.rows.members first) (map (key_at kept.now.by input.now.new.rows) keys.now))) }
         ensures reads { OnOk result (reads.new ≤ reads.old + input.now.new.width * length keys.now) }
     {
-        for position in 0..keys.len() {
-            let key = keys.get(position).unwrap();
-            buffer.read(Moment::Now, kept.by.as_slice(), input, key, reads)?;
-            if let Some(number) = kept.rows.find(&buffer.key) {
+        let mut rows = RowsNow::of(input);
+        for key in keys {
+            kept.read_key_cells(rows.row(key, reads), key_cells)?;
+            if let Some(number) = kept.rows.find(key_cells.as_slice()) {
                 self.note(number)?;
             }
         }

@@ -1,22 +1,20 @@
-use Rattle.std.proofs.Common.{◌≡◌, refl, ap, ap₂, sym, ◌∙◌, subst, rules, arith, false, true, List, Some, None, [], ◌∷◌, suc, ℕ, ℤ, ◌+◌, length, map, take, drop, add-one, pos}
-use Rattle.std.specs.Prelude.{slice_get}
+use Rattle.std.proofs.Common.{◌≡◌, refl, ap, ap₂, sym, ◌∙◌, subst, rules, arith, false, true, List, [], ◌∷◌, ◌++◌, ℕ, ℤ, ◌+◌, ◌*◌, ◌≤◌, IsTrue, length, map, append-nil, append_assoc, pos}
 use Rattle.std.specs.List.{AllByRecursion}
-use Rattle.std.proofs.lemmas.List.{map-append, with_items_is}
-use Rattle.std.proofs.Math.Seq.{drop-length, take-length}
-use Rattle.row_set.proofs.Windows.{rising-drop}
+use Rattle.std.proofs.lemmas.List.{length-map, map-append, with_items_is}
 use Rattle.key_lists.specs.Keys.{is_among, IsRising}
 use Rattle.key_lists.proofs.Among.{among_below}
 use Rattle.key_lists.proofs.Every.{every_weaker, filter_all}
-use Rattle.key_lists.proofs.Parts.{drop_got}
+use Rattle.row_changes.proofs.Comparing.{reads_next}
 use Rattle.row_groups.specs.Members.{Grouped, IsNumberOf, groups_of, member_of, with_member}
-use Rattle.shown_rows.proofs.Walks.{of_place, take_next}
-use Rattle.tick_model.specs.declared.table.PlainRow.{PlainRow}
+use Rattle.row_set.proofs.Windows.{rising_back}
+use Rattle.row_set.proofs.Yielded.{next_has, next_small, yielded_all, yielded_next}
 use Rattle.tick_model.specs.Agg.{key_cells}
-use Rattle.tick_model.specs.Tables.{cells_at, keys}
+use Rattle.tick_model.specs.Tables.{cell, cells_at, keys}
 use Rattle.tick_model.specs.Updates.{removing}
+use Rattle.tick_table.specs.Ticking.{Ticking}
 use Rattle.agg_by.specs.declared.running.Running.{Running}
 use Rattle.agg_by.specs.Answers.{with_row}
-use Rattle.agg_by.specs.Kept.{AnswerAll, Answers, Keeps, indexed}
+use Rattle.agg_by.specs.Kept.{AnswerAll, Answers, Keeps}
 use Rattle.agg_by.specs.Steps.{key_at}
 use Rattle.agg_by.specs.Touched.{AreNoted, with_number}
 use Rattle.agg_by.proofs.KeptSteps.{all_changed, gains, indexed_gains, indexed_room, same_answers, with_agg}
@@ -24,98 +22,100 @@ use Rattle.agg_by.proofs.Made.{same_named}
 use Rattle.agg_by.proofs.Noted.{noted_more, noted_none, part_again}
 use Rattle.agg_by.proofs.kept.Kept.put_rows.Goals as goal
 
-pub loop-position-init : goal.loop-position-init
-loop-position-init g c = record {
+apart : (come yielded left : List ℕ) (key : ℕ) → IsRising come → come ≡ yielded ++ key ∷ left → is_among key left ≡ false
+apart come yielded left key rising next = among_below key left (rising_back yielded (key ∷ left) (subst IsRising next rising)).0
+
+pub loop-key-init : goal.loop-key-init
+loop-key-init g c = record {
+  table = c.of-rows.ensures;
   by = refl;
   aggs = refl;
-  keeps = c.requires.keeps;
+  keeps = λ left all. subst (λ (keys : List ℕ). Keeps c.args.self.now (removing keys c.args.input.now.new.rows)) all c.requires.keeps;
   names = c.requires.names;
   noted = noted_none c.args.touched.now c.args.self.now.rows.names;
   reads = omega arith;
 }
 
-pub add-requires-clause-absent : goal.add-requires-clause-absent
-add-requires-clause-absent g c =
-    let rows = c.args.input.now.new.rows in
-    let by = c.loop-position.self.by in
-    let come = c.args.come.now in
-    let place = c.loop-position.position in
-    let key = c.unwrap-key.result in
-    let rest = drop (suc place) come in
-    let rising = c.requires.new_table.rising in
-    let here : slice_get come place ≡ Some key = sym c.get.ensures.key ∙ c.unwrap-key.ensures in
-    let next : drop place come ≡ key ∷ rest = drop_got come place key here in
-    let own : is_among key (keys rows) ≡ true = of_place (λ key. is_among key (keys rows) ≡ true) place come key c.requires.come here in
-    let ordered : IsRising (key ∷ rest) = subst IsRising next (rising-drop place come c.get.ensures.keys.rising) in
-    let apart : is_among key rest ≡ false = among_below key rest ordered.0 in
-    let kept_rows : groups_of c.loop-position.self.rows ≡ indexed by None (removing (key ∷ rest) rows) = c.loop-position.invariant.keeps.rows ∙ ap (λ (ks : List ℕ). indexed by None (removing ks rows)) next in
-    indexed_room by rows rising key rest own apart (groups_of c.loop-position.self.rows) kept_rows
+pub row-row-requires : goal.row-row-requires
+row-row-requires g c = record {
+  here = subst (λ (table : Ticking). IsTrue (is_among c.in-Some.key (keys table.new.rows))) (sym c.loop-key.invariant.table)
+      (next_has c.loop-key.yielded c.into_iter-key-iterator.ensures.into_iter_gives c.loop-key.yielded_by c.in-Some.ensures.steps (λ key. IsTrue (is_among key (keys c.args.input.now.new.rows))) c.requires.come);
+}
 
-pub loop-position-preserved : goal.loop-position-preserved
-loop-position-preserved g c =
+pub add-requires : goal.add-requires
+add-requires g c =
     let rows = c.args.input.now.new.rows in
-    let by = c.loop-position.self.by in
-    let kept = c.loop-position.self.rows in
-    let more = c.add.new.self in
-    let number = c.in_ok-number.number in
-    let come = c.args.come.now in
-    let place = c.loop-position.position in
-    let key = c.unwrap-key.result in
-    let rest = drop (suc place) come in
-    let before = removing (key ∷ rest) rows in
-    let rising = c.requires.new_table.rising in
-    let here : slice_get come place ≡ Some key = sym c.get.ensures.key ∙ c.unwrap-key.ensures in
-    let next : drop place come ≡ key ∷ rest = drop_got come place key here in
-    let own : is_among key (keys rows) ≡ true = of_place (λ key. is_among key (keys rows) ≡ true) place come key c.requires.come here in
-    let ordered : IsRising (key ∷ rest) = subst IsRising next (rising-drop place come c.get.ensures.keys.rising) in
-    let apart : is_among key rest ≡ false = among_below key rest ordered.0 in
-    let kept_rows : groups_of kept ≡ indexed by None before = c.loop-position.invariant.keeps.rows ∙ ap (λ (ks : List ℕ). indexed by None (removing ks rows)) next in
-    let items = c.loop-position.self.running.items in
-    let cells : c.read.new.self.key.items ≡ key_at by rows key = c.in_ok-read.ensures.key ∙ ap (λ (columns : List ℕ). key_cells columns (cells_at key rows)) c.as_slice.ensures in
-    let slice : c.deref.result.now ≡ c.read.new.self.key.items = search rules in
-    let is : IsNumberOf number (key_at by rows key) more.names = subst (λ (cells : List ℤ). IsNumberOf number cells more.names) (slice ∙ cells) c.in_ok-number.ensures.number in
-    let all : c.deref_mut.result.now ≡ items = search rules in
-    let answers : AllByRecursion (Answers by kept.names before) items = subst (λ (ks : List ℕ). AllByRecursion (Answers by kept.names (removing ks rows)) items) next c.loop-position.invariant.keeps.running.1 in
-    let widened : AllByRecursion (Answers by more.names before) items =
-    every_weaker (Answers by kept.names before) (Answers by more.names before) items
-    (same_answers by kept.names more.names before before (λ column. same_named by column before kept more c.add.ensures.names (ap (λ (grouped : Grouped). grouped.members) kept_rows))) answers in
-    let new = c.put_all.new.all in
-    let f = with_row number (cells_at key rows) in
-    let row : c.deref-in-loop-position.result.now ≡ c.read.new.self.row.items = search rules in
-    let gained : new ≡ map f items = c.in_ok-put_all.ensures ∙ ap₂ (λ (row : List ℤ) (old : List Running). map (with_row number row) old) (row ∙ c.in_ok-read.ensures.row) all in
-    let long : length new ≡ c.loop-position.self.running.len = c.put_all.auto.all ∙ ap length all ∙ sym c.loop-position.self.running.ok.0 in
-    let noted = key_at c.args.self.now.by rows in
-    let left : removing rest rows ≡ removing (drop (place + 1) come) rows = ap (λ (n : ℕ). removing (drop n come) rows) (sym (add-one place)) in record {
-      by = c.loop-position.invariant.by;
-      aggs = c.loop-position.invariant.aggs;
-      keeps = record {
-        rows =
-            c.in_ok-number.ensures.members ∙ ap (λ (cells : List ℤ). let more : Grouped = record (groups_of kept) { members = with_member (member_of key cells (pos 0)) kept.members } in more) (slice ∙ cells)
-            ∙ indexed_gains by rows rising key rest own apart (groups_of kept) kept_rows
-            ∙ ap (indexed by None) left;
-        running =
-            subst (AnswerAll by more.names c.loop-position.self.aggs (removing (drop (place + 1) come) rows)) (sym (with_items_is c.loop-position.self.running new long ∙ gained))
-            (subst (λ (left : List PlainRow). AnswerAll by more.names c.loop-position.self.aggs left (map f items)) left
-            (all_changed f (Answers by more.names before) (Answers by more.names (removing rest rows)) c.loop-position.self.aggs items (with_agg number (cells_at key rows))
-            (gains by rows rising key rest own apart more.names number is) (c.loop-position.invariant.keeps.running.0, widened)));
-      };
-      names = part_again c.args.self.now.rows kept more c.loop-position.invariant.names c.add.ensures.names;
-      noted =
-          subst (AreNoted c.args.touched.now (map noted (take (place + 1) come)) more.names) (sym c.in_ok-note.ensures)
-          (subst (λ (cells : List (List ℤ)). AreNoted c.args.touched.now cells more.names (with_number number c.loop-position.touched)) (sym (ap (map noted) (take_next come place key here) ∙ map-append noted (take place come) (key ∷ [])))
-          (noted_more c.args.touched.now c.loop-position.touched (map noted (take place come)) (noted key) kept more number c.add.ensures.names (subst (λ (by : List ℕ). IsNumberOf number (key_at by rows key) more.names) c.loop-position.invariant.by is) c.loop-position.invariant.noted));
-      reads = omega (arith, c.loop-position.invariant.reads, c.in_ok-read.ensures.reads);
+    let yielded = c.loop-key.yielded in
+    let gives = c.into_iter-key-iterator.ensures.into_iter_gives in
+    let steps = c.in-Some.ensures.steps in
+    let key = c.in-Some.key in
+    let left = c.next.new.self in
+    let next : c.args.come.now ≡ yielded ++ key ∷ left = yielded_next yielded gives c.loop-key.yielded_by steps in
+    let own : is_among key (keys rows) ≡ true = next_has yielded gives c.loop-key.yielded_by steps (λ key. is_among key (keys rows) ≡ true) c.requires.come in
+    let keeps = c.loop-key.invariant.keeps (key ∷ left) next in record {
+      small = next_small yielded gives c.loop-key.yielded_by steps;
+      absent = indexed_room c.loop-key.self.by rows c.requires.new_table.rising key left own (apart c.args.come.now yielded left key gives.1.rising next) (groups_of c.loop-key.self.rows) keeps.rows;
+      width =
+          ap length (c.as_slice.ensures.value ∙ c.in_ok-read_key_cells.ensures) ∙ length-map c.loop-key.self.by (cell c.row-row.result.now)
+          ∙ sym (ap (λ (grouped : Grouped). grouped.width) keeps.rows);
     }
 
-pub returns-clause-keeps : goal.returns-clause-keeps
-returns-clause-keeps g c =
-    let end : c.loop-position.position ≡ length c.args.come.now = omega arith in
-    let none : removing (drop c.loop-position.position c.args.come.now) c.args.input.now.new.rows ≡ c.args.input.now.new.rows =
-    ap (λ (ks : List ℕ). removing ks c.args.input.now.new.rows) (ap (λ (n : ℕ). drop n c.args.come.now) end ∙ drop-length c.args.come.now) ∙ filter_all c.args.input.now.new.rows in
-    subst (Keeps c.loop-position.self) none c.loop-position.invariant.keeps
+pub loop-key-preserved : goal.loop-key-preserved
+loop-key-preserved g c =
+    let rows = c.args.input.now.new.rows in
+    let by = c.loop-key.self.by in
+    let aggs = c.loop-key.self.aggs in
+    let kept = c.loop-key.self.rows in
+    let more = c.add.new.self in
+    let number = c.in_ok-number.number in
+    let yielded = c.loop-key.yielded in
+    let gives = c.into_iter-key-iterator.ensures.into_iter_gives in
+    let key = c.in-Some.key in
+    let rising = c.requires.new_table.rising in
+    let own : is_among key (keys rows) ≡ true = next_has yielded gives c.loop-key.yielded_by c.in-Some.ensures.steps (λ key. is_among key (keys rows) ≡ true) c.requires.come in
+    let row : c.row-row.result.now ≡ cells_at key rows = c.row-row.ensures.cells ∙ ap (λ (table : Ticking). cells_at key table.new.rows) c.loop-key.invariant.table in
+    let cells : c.as_slice.result.now ≡ key_at by rows key = c.as_slice.ensures.value ∙ c.in_ok-read_key_cells.ensures ∙ ap (key_cells by) row in
+    let is : IsNumberOf number (key_at by rows key) more.names = subst (λ (cells : List ℤ). IsNumberOf number cells more.names) cells c.in_ok-number.ensures.number in
+    let items = c.loop-key.self.running.items in
+    let all : c.deref_mut.result.now ≡ items = search rules in
+    let new = c.put_all.new.all in
+    let f = with_row number (cells_at key rows) in
+    let gained : new ≡ map f items = c.in_ok-put_all.ensures ∙ ap₂ (λ (row : List ℤ) (old : List Running). map (with_row number row) old) row all in
+    let long : length new ≡ c.loop-key.self.running.len = c.put_all.auto.all ∙ ap length all ∙ sym c.loop-key.self.running.ok.0 in
+    let noted = key_at c.args.self.now.by rows in
+    let width = ap (λ (table : Ticking). table.new.width) c.loop-key.invariant.table in record {
+      table = c.row-row.ensures.same ∙ c.loop-key.invariant.table;
+      by = c.loop-key.invariant.by;
+      aggs = c.loop-key.invariant.aggs;
+      keeps = λ left those.
+          let next : c.args.come.now ≡ yielded ++ key ∷ left = those ∙ append_assoc yielded (key ∷ []) left in
+          let new_to = apart c.args.come.now yielded left key gives.1.rising next in
+          let before = removing (key ∷ left) rows in
+          let keeps = c.loop-key.invariant.keeps (key ∷ left) next in
+          let widened : AllByRecursion (Answers by more.names before) items =
+          every_weaker (Answers by kept.names before) (Answers by more.names before) items
+          (same_answers by kept.names more.names before before (λ column. same_named by column before kept more c.add.ensures.names (ap (λ (grouped : Grouped). grouped.members) keeps.rows))) keeps.running.1 in record {
+            rows =
+                c.in_ok-number.ensures.members ∙ ap (λ (cells : List ℤ). let more : Grouped = record (groups_of kept) { members = with_member (member_of key cells (pos 0)) kept.members } in more) cells
+                ∙ indexed_gains by rows rising key left own new_to (groups_of kept) keeps.rows;
+            running =
+                subst (AnswerAll by more.names aggs (removing left rows)) (sym (with_items_is c.loop-key.self.running new long ∙ gained))
+                (all_changed f (Answers by more.names before) (Answers by more.names (removing left rows)) aggs items (with_agg number (cells_at key rows)) (gains by rows rising key left own new_to more.names number is) (keeps.running.0, widened));
+          };
+      names = part_again c.args.self.now.rows kept more c.loop-key.invariant.names c.add.ensures.names;
+      noted =
+          subst (AreNoted c.args.touched.now (map noted (yielded ++ key ∷ [])) more.names) (sym c.in_ok-note.ensures)
+          (subst (λ (cells : List (List ℤ)). AreNoted c.args.touched.now cells more.names (with_number number c.loop-key.touched)) (sym (map-append noted yielded (key ∷ [])))
+          (noted_more c.args.touched.now c.loop-key.touched (map noted yielded) (noted key) kept more number c.add.ensures.names (subst (λ (by : List ℕ). IsNumberOf number (key_at by rows key) more.names) c.loop-key.invariant.by is) c.loop-key.invariant.noted));
+      reads = reads_next c.args.input.now.new.width c.args.reads.now c.loop-key.reads c.row-row.new.reads yielded key c.loop-key.invariant.reads (omega (arith, c.row-row.ensures.reads, width));
+    }
 
-pub returns-clause-noted : goal.returns-clause-noted
-returns-clause-noted g c =
-    let end : c.loop-position.position ≡ length c.args.come.now = omega arith in
-    subst (λ (keys : List ℕ). AreNoted c.args.touched.now (map (key_at c.args.self.now.by c.args.input.now.new.rows) keys) c.loop-position.self.rows.names c.loop-position.touched)
-    (ap (λ (n : ℕ). take n c.args.come.now) end ∙ take-length c.args.come.now) c.loop-position.invariant.noted
+pub returns : goal.returns
+returns g c =
+    let all : c.loop-key.yielded ≡ c.args.come.now = yielded_all c.loop-key.yielded c.into_iter-key-iterator.ensures.into_iter_gives c.loop-key.yielded_by c.in-None.ensures.steps.0 in record {
+      made = record { by = c.loop-key.invariant.by; aggs = c.loop-key.invariant.aggs };
+      keeps = subst (Keeps c.loop-key.self) (filter_all c.args.input.now.new.rows) (c.loop-key.invariant.keeps [] (sym (append-nil c.loop-key.yielded ∙ all)));
+      names = c.loop-key.invariant.names;
+      noted = subst (λ (keys : List ℕ). AreNoted c.args.touched.now (map (key_at c.args.self.now.by c.args.input.now.new.rows) keys) c.loop-key.self.rows.names c.loop-key.touched) all c.loop-key.invariant.noted;
+      reads = subst (λ (keys : List ℕ). c.loop-key.reads ≤ c.args.reads.now + c.args.input.now.new.width * length keys) all c.loop-key.invariant.reads;
+    }

@@ -1,13 +1,14 @@
-use Rattle.std.proofs.Common.{◌≡◌, ◌+◌, ◌*◌, ◌≤◌, take}
+use Rattle.std.proofs.Common.{◌≡◌, ◌+◌, ◌*◌, ◌≤◌, length}
 use Rattle.tick_model.specs.Updates.{removing}
 use Rattle.agg_by.specs.Kept.{AnswerAll}
 use Rattle.agg_by.proofs.kept.Kept.take_rows.Given as goal
 
-abbrev pub invariant-loop-position : goal.invariant-loop-position
-invariant-loop-position g l = record {
+abbrev pub invariant-loop-key : goal.invariant-loop-key
+invariant-loop-key g l = record {
+  table : l.rows ≡ l.input;
   by : l.self.by ≡ l.fn.self.by;
   aggs : l.self.aggs ≡ l.fn.self.aggs;
   rows : l.self.rows ≡ l.fn.self.rows;
-  running : AnswerAll l.fn.self.by l.fn.self.rows.names l.fn.self.aggs (removing (take l.position l.gone) l.input.old.rows) l.self.running.items;
-  reads : l.reads ≤ l.fn.reads + l.input.old.width * l.position;
+  running : AnswerAll l.fn.self.by l.fn.self.rows.names l.fn.self.aggs (removing l.yielded l.input.old.rows) l.self.running.items;
+  reads : l.reads ≤ l.fn.reads + l.input.old.width * length l.yielded;
 }

@@ -1,57 +1,67 @@
-use Rattle.std.proofs.Common.{◌≡◌, ◌≢◌, [], ap, ap₂, sym, ◌∙◌, subst, arith, rules, ◌||◌, ◌==◌, ℕ, List, ℤ, Option, Some, IfSome, length, map, take}
-use Rattle.std.specs.Prelude.{slice_get}
-use Rattle.std.specs.List.{list_any}
-use Rattle.std.proofs.Math.Seq.{take-length}
+use Rattle.std.proofs.Common.{◌≡◌, ◌≢◌, ap, sym, ◌∙◌, subst, arith, [], IsTrue, ℕ, List, ℤ, Some, length, ◌≤◌, ◌+◌, ◌*◌}
 use Rattle.key_lists.specs.Keys.{is_among}
-use Rattle.key_lists.proofs.Booleans.{or_false}
+use Rattle.row_changes.proofs.Comparing.{reads_next}
 use Rattle.row_groups.specs.Members.{IsNumberOf, group_of, name_at}
-use Rattle.shown_rows.proofs.Walks.{of_place}
+use Rattle.row_set.proofs.Yielded.{next_has, yielded_all}
 use Rattle.tick_model.specs.Agg.{key_cells}
 use Rattle.tick_model.specs.Tables.{cells_at, keys as keys_of}
-use Rattle.agg_by.specs.Steps.{key_at, starts}
-use Rattle.agg_by.specs.Touched.{is_named, starts_numbered}
-use Rattle.agg_by.proofs.Noted.{any_with, named_next, named_none, named_one, starts_none, starts_own}
-use Rattle.agg_by.proofs.Touching.{any_next}
+use Rattle.tick_table.specs.Ticking.{Ticking}
+use Rattle.agg_by.specs.Steps.{key_at}
+use Rattle.agg_by.proofs.Noted.{HaveNoted, noted_alien, noted_first, noted_own}
 use Rattle.agg_by.proofs.touched.TouchedGroups.note_coming.Goals as goal
-use Rattle.agg_by.proofs.touched.TouchedGroups.note_coming.Goals.{in-Some+in_ok-note, in_default}
 
-pub loop-position-preserved : goal.loop-position-preserved
-loop-position-preserved g c =
+pub row-requires : goal.row-requires
+row-requires g c = record {
+  here = subst (λ (table : Ticking). IsTrue (is_among c.in-Some.key (keys_of table.new.rows))) (sym c.loop-key.invariant.table)
+      (next_has c.loop-key.yielded c.into_iter-key-iterator.ensures.into_iter_gives c.loop-key.yielded_by c.in-Some.ensures.steps (λ key. IsTrue (is_among key (keys_of c.args.input.now.new.rows))) c.requires);
+}
+
+pub loop-key-init : goal.loop-key-init
+loop-key-init g c = record {
+  table = c.of-rows.ensures;
+  noted = noted_first (key_at c.args.kept.now.by c.args.input.now.new.rows) c.args.kept.now.rows c.args.self.now;
+  reads = omega arith;
+}
+
+pub loop-key-preserved-in-Continue-branch-2 : goal.loop-key-preserved-in-Continue-branch-2
+loop-key-preserved-in-Continue-branch-2 g c =
+    let rows = c.args.input.now.new.rows in
+    let names = c.args.kept.now.rows.names in
+    let by = c.args.kept.now.by in
+    let key = c.in-Some.key in
+    let number = c.in-Some-find.number in
+    let table = c.loop-key.invariant.table in
+    let cells : c.as_slice.result.now ≡ key_at by rows key = c.as_slice.ensures.value ∙ c.in_ok-read_key_cells.ensures ∙ ap (key_cells by) (c.row.ensures.cells ∙ ap (λ (table : Ticking). cells_at key table.new.rows) table) in
+    let width = ap (λ (table : Ticking). table.new.width) table in record {
+      table = c.row.ensures.same ∙ table;
+      noted =
+          noted_own (key_at by rows) c.args.kept.now.rows c.args.self.now c.loop-key.self c.loop-key.yielded key c.loop-key.invariant.noted number c.note.new.self c.in_ok-note.ensures
+          (subst (λ (cells : List ℤ). IsNumberOf number cells names) cells c.in-Some-find.ensures.found);
+      reads = reads_next c.args.input.now.new.width c.args.reads.now c.loop-key.reads c.row.new.reads c.loop-key.yielded key c.loop-key.invariant.reads (omega (arith, c.row.ensures.reads, width));
+    }
+
+pub loop-key-preserved : goal.loop-key-preserved
+loop-key-preserved g c =
     let rows = c.args.input.now.new.rows in
     let kept = c.args.kept.now.rows in
     let by = c.args.kept.now.by in
-    let keys = c.args.keys.now in
-    let place = c.loop-position.position in
-    let key = c.unwrap-key.result in
-    let here : slice_get keys place ≡ Some key = sym c.get.ensures.key ∙ c.unwrap-key.ensures in
-    let slice : c.deref.result.now ≡ c.read.new.self.key.items = search rules in
-    let cells : c.deref.result.now ≡ key_at by rows key = slice ∙ c.in_ok-read.ensures.key ∙ ap (λ (columns : List ℕ). key_cells columns (cells_at key rows)) c.as_slice.ensures in
-    elim c.match-find.branch [
-      | in-Some+in_ok-note w ↦
-          let number = w.in-Some.number in
-          let found : IsNumberOf number c.deref.result.now kept.names = subst (λ (found : Option ℕ). IfSome found (λ number. IsNumberOf number c.deref.result.now kept.names)) w.in-Some.is c.find.ensures.found in
-          let is : IsNumberOf number (key_at by rows key) kept.names = subst (λ (cells : List ℤ). IsNumberOf number cells kept.names) cells found in record {
-            named = λ other.
-                ap (is_among other) (w.self-is ∙ w.in_ok-note.ensures) ∙ any_with (λ n. n == other) number c.loop-position.self
-                ∙ ap₂ (λ a b. a || b) (c.loop-position.invariant.named other) (sym (named_one number other (key_at by rows key) kept.names is))
-                ∙ named_next (key_at by rows) keys place key other kept.names (is_among other c.args.self.now) here;
-            firsts = λ first.
-                ap (list_any (starts_numbered kept first)) (w.self-is ∙ w.in_ok-note.ensures) ∙ any_with (starts_numbered kept first) number c.loop-position.self
-                ∙ ap₂ (λ a b. a || b) (c.loop-position.invariant.firsts first) (starts_own kept first number (key_at by rows key) is.own)
-                ∙ any_next (starts kept.members first) (key_at by rows) keys place key (list_any (starts_numbered kept first) c.args.self.now) here;
-            reads = omega (arith, c.loop-position.invariant.reads, c.in_ok-read.ensures.reads);
-          }
-      | in_default w ↦
-          let unnamed : (number : ℕ) → name_at number kept.names ≢ Some (key_at by rows key) = subst (λ (cells : List ℤ). (number : ℕ) → name_at number kept.names ≢ Some cells) cells (c.find.ensures.unnamed w.in_default.is) in
-          let empty : group_of (key_at by rows key) kept.members ≡ [] = subst (λ (cells : List ℤ). group_of cells kept.members ≡ []) cells (c.find.ensures.empty w.in_default.is) in record {
-            named = λ other.
-                ap (is_among other) w.self-is ∙ sym (or_false (is_among other c.loop-position.self))
-                ∙ ap₂ (λ a b. a || b) (c.loop-position.invariant.named other) (sym (named_none (key_at by rows key) kept.names unnamed other))
-                ∙ named_next (key_at by rows) keys place key other kept.names (is_among other c.args.self.now) here;
-            firsts = λ first.
-                ap (list_any (starts_numbered kept first)) w.self-is ∙ sym (or_false (list_any (starts_numbered kept first) c.loop-position.self))
-                ∙ ap₂ (λ a b. a || b) (c.loop-position.invariant.firsts first) (sym (starts_none (key_at by rows key) kept.members first empty))
-                ∙ any_next (starts kept.members first) (key_at by rows) keys place key (list_any (starts_numbered kept first) c.args.self.now) here;
-            reads = omega (arith, c.loop-position.invariant.reads, c.in_ok-read.ensures.reads);
-          }
-    ]
+    let key = c.in-Some.key in
+    let table = c.loop-key.invariant.table in
+    let cells : c.as_slice.result.now ≡ key_at by rows key = c.as_slice.ensures.value ∙ c.in_ok-read_key_cells.ensures ∙ ap (key_cells by) (c.row.ensures.cells ∙ ap (λ (table : Ticking). cells_at key table.new.rows) table) in
+    let width = ap (λ (table : Ticking). table.new.width) table in record {
+      table = c.row.ensures.same ∙ table;
+      noted =
+          noted_alien (key_at by rows) kept c.args.self.now c.loop-key.self c.loop-key.yielded key c.loop-key.invariant.noted
+          (subst (λ (cells : List ℤ). (number : ℕ) → name_at number kept.names ≢ Some cells) cells (c.find.ensures.unnamed c.in_default.is))
+          (subst (λ (cells : List ℤ). group_of cells kept.members ≡ []) cells (c.find.ensures.empty c.in_default.is));
+      reads = reads_next c.args.input.now.new.width c.args.reads.now c.loop-key.reads c.row.new.reads c.loop-key.yielded key c.loop-key.invariant.reads (omega (arith, c.row.ensures.reads, width));
+    }
+
+pub returns : goal.returns
+returns g c =
+    let all = yielded_all c.loop-key.yielded c.into_iter-key-iterator.ensures.into_iter_gives c.loop-key.yielded_by c.in-None.ensures.steps.0 in
+    let noted = subst (λ (keys : List ℕ). HaveNoted (key_at c.args.kept.now.by c.args.input.now.new.rows) c.args.kept.now.rows c.args.self.now c.loop-key.self keys) all c.loop-key.invariant.noted in record {
+      named = noted.named;
+      firsts = noted.firsts;
+      reads = subst (λ (keys : List ℕ). c.loop-key.reads ≤ c.args.reads.now + c.args.input.now.new.width * length keys) all c.loop-key.invariant.reads;
+    }
