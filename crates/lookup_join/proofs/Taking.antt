@@ -11,13 +11,13 @@ use Rattle.lookup_join.specs.declared.pick.Pick.TheVariants.{Last}
 use Rattle.lookup_join.specs.Keyed.{key_cells, keyed, time_of}
 use Rattle.lookup_join.specs.Latest.{beats, latest_by, or_later}
 use Rattle.lookup_join.specs.Notes.{Note, Spot, fresh_note, is_noted, note_of, noting, taken_key, with_note}
-use Rattle.lookup_join.specs.Taken.{IsThere, cell_of, gathered, match_before, match_now, modified_pairs, step_notes, taken_cells, touched_spots}
+use Rattle.lookup_join.specs.Taken.{AreMatched, IsThere, cell_of, gathered, match_before, match_now, modified_pairs, step_notes, taken_cells, touched_spots}
 use Rattle.lookup_join.proofs.Gathered.{match_is}
 use Rattle.lookup_join.proofs.Latests.{latest_first}
 use Rattle.lookup_join.proofs.Noting.{quiet}
 use Rattle.lookup_join.proofs.Spans.{latest_every, reach}
 use Rattle.lookup_join.proofs.Stays.{own, stays_whole, time}
-use Rattle.row_groups.specs.Members.{Member, member_of}
+use Rattle.row_groups.specs.Members.{Grouped, Member, member_of}
 use Rattle.tick_model.specs.declared.plan.OnPair.{OnPair}
 use Rattle.tick_model.specs.declared.table.PlainRow.{PlainRow}
 use Rattle.tick_model.specs.declared.table.PlainTable.{PlainTable}
@@ -71,6 +71,14 @@ module _ (on : List OnPair) (pick : Pick) (take : List ℕ) (table : PlainTable)
 
   pub is_there_now : (other : PlainTable) → IsThere other table (match_now (taken_key pick (keyed Right on pick table.rows) cells until))
   is_there_now other = subst (λ o. IsThere other table (match_now o)) (sym key_is) (there_now other chosen (every_chosen (λ row. is_among row.key (keys table.rows) ≡ true) (rows_among table.rows)))
+
+-- what is taken now, where the rows of a join may be read
+module _ {on : List OnPair} {pick : Pick} {take : List ℕ} {left right : Ticking} {index : Grouped} {notes : List Note} (are : AreMatched on pick take left right index notes) (cells : List ℤ) (time : ℤ) where
+  pub now_there : IsThere right.old right.new (match_now (taken_key pick index.members cells time))
+  now_there = subst (λ (index : Grouped). IsThere right.old right.new (match_now (taken_key pick index.members cells time))) (sym are.rows) (is_there_now on pick take right.new are.right_exact.tick.new_table.rising cells time right.old)
+
+  pub now_cells : map (cell_of right.old.rows right.new.rows (match_now (taken_key pick index.members cells time))) take ≡ taken_cells on pick take right.new.rows cells time
+  now_cells = subst (λ (index : Grouped). map (cell_of right.old.rows right.new.rows (match_now (taken_key pick index.members cells time))) take ≡ taken_cells on pick take right.new.rows cells time) (sym are.rows) (taken_now on pick take right.new are.right_exact.tick.new_table.rising cells time right.old.rows)
 
 -- where there is no latest, none passes
 pub latest_none : {X : Type 0} (pick : Pick) (time : X → ℤ) (p : X → Bool) (xs : List X) → latest_by pick time (filter p xs) ≡ None → AllByRecursion (λ x. p x ≡ false) xs

@@ -1,5 +1,5 @@
 -- Walks over keys, notes and pairs: one element more.
-use Rattle.std.proofs.Common.{◌≡◌, refl, ap, ap₂, sym, ◌∙◌, Bool, true, false, cond, ◌||◌, ◌==◌, ℕ, zero, suc, ◌+◌, ◌*◌, ◌<◌, ◌≤◌, arith, List, [], ◌∷◌, ◌++◌, map, take, length, Option, Some, None, ℤ, pos, true≢false}
+use Rattle.std.proofs.Common.{◌≡◌, refl, ap, ap₂, sym, ◌∙◌, subst, Bool, true, false, cond, ◌||◌, ◌==◌, ℕ, zero, suc, ◌+◌, ◌*◌, ◌<◌, ◌≤◌, arith, List, [], ◌∷◌, ◌++◌, map, take, length, Option, Some, None, ℤ, pos, true≢false}
 use Rattle.std.specs.Prelude.{find, flat_map, fold, is_some, option_map, slice_get, slice_index_or, unwrap_or}
 use Rattle.std.specs.List.{AllByRecursion}
 use Rattle.std.proofs.lemmas.Bool.{eqb-true}
@@ -7,9 +7,9 @@ use Rattle.std.proofs.lemmas.Grind.{flat_map-append}
 use Rattle.std.proofs.lemmas.List.{append-nil, length-map, map-append}
 use Rattle.std.proofs.lemmas.List.Sums.{fold-append}
 use Rattle.std.proofs.lemmas.Option.{none-some, same_Some}
-use Rattle.key_lists.specs.Keys.{is_among, IsRising}
-use Rattle.key_lists.proofs.Among.{among-append, among_above}
-use Rattle.key_lists.proofs.Every.{every_weaker, filter_all, map_same}
+use Rattle.key_lists.specs.Keys.{is_among}
+use Rattle.key_lists.proofs.Among.{among-append}
+use Rattle.key_lists.proofs.Every.{every_weaker, map_same}
 use Rattle.lookup_join.specs.declared.keyed.Side.{Side}
 use Rattle.lookup_join.specs.declared.keyed.Side.TheVariants.{Right}
 use Rattle.lookup_join.specs.declared.pick.Pick.{Pick}
@@ -18,10 +18,11 @@ use Rattle.lookup_join.specs.Keyed.{column_of, indexed, key_cells, keyed, member
 use Rattle.lookup_join.specs.Notes.{Note, NoteList, Spot, fresh_note, noting, spot_under, with_note}
 use Rattle.lookup_join.specs.Taken.{spot_at}
 use Rattle.row_groups.specs.Members.{Grouped, Member, keys_of, member_of, member_under}
-use Rattle.shown_rows.proofs.Walks.{below_keys, take_next}
+use Rattle.shown_rows.proofs.Walks.{take_next}
 use Rattle.tick_model.specs.declared.plan.OnPair.{OnPair}
 use Rattle.tick_model.specs.declared.table.PlainRow.{PlainRow}
-use Rattle.tick_model.specs.Tables.{cell, keys}
+use Rattle.tick_model.specs.Tables.{cell, cells_at, keys}
+use Rattle.tick_table.specs.Ticking.{Ticking}
 
 -- a note is what is told of it
 pub note_at : (notes : List Note) (n : ℕ) (cells : List ℤ) (at : ℤ) (before : Option ℕ) → slice_get (map (λ (note : Note). note.cells) notes) n ≡ Some cells → slice_get (map (λ (note : Note). note.at) notes) n ≡ Some at → slice_get (map (λ (note : Note). note.before) notes) n ≡ Some before
@@ -41,16 +42,6 @@ told_next f xs n x told e so_far = ap₂ (λ ys zs. ys ++ zs) so_far (sym (appen
 pub fold_next : {X Y : Type 0} (f : Y → X → Y) (start : Y) (xs : List X) (n : ℕ) (x : X) → slice_get xs n ≡ Some x → fold f start (take (n + 1) xs) ≡ f (fold f start (take n xs)) x
 fold_next f start xs n x e = ap (fold f start) (take_next xs n x e) ∙ fold-append f start (take n xs) (x ∷ [])
 
-pub map_next : {X Y : Type 0} (f : X → Y) (xs : List X) (n : ℕ) (x : X) → slice_get xs n ≡ Some x → map f (take (n + 1) xs) ≡ map f (take n xs) ++ f x ∷ []
-map_next f xs n x e = ap (map f) (take_next xs n x e) ∙ map-append f (take n xs) (x ∷ [])
-
--- one place more is noted
-pub noting_next : {X : Type 0} (pick : Pick) (members : List Member) (start : List Note) (spot : X → Spot) (xs : List X) (n : ℕ) (x : X) → slice_get xs n ≡ Some x
-    → with_note (fresh_note pick members (spot x)) (noting pick members start (map spot (take n xs))) ≡ noting pick members start (map spot (take (n + 1) xs))
-noting_next pick members start spot xs n x e =
-    sym (ap (noting pick members start) (map_next spot xs n x e)
-    ∙ fold-append (λ (notes : List Note) spot. with_note (fresh_note pick members spot) notes) start (map spot (take n xs)) (spot x ∷ []))
-
 -- two places more
 pub noting_two : {X : Type 0} (pick : Pick) (members : List Member) (start : List Note) (first second : X → Spot) (xs : List X) (n : ℕ) (x : X) → slice_get xs n ≡ Some x
     → with_note (fresh_note pick members (second x)) (with_note (fresh_note pick members (first x)) (noting pick members start (flat_map (λ x. first x ∷ second x ∷ []) (take n xs))))
@@ -66,6 +57,25 @@ pub note_put : (pick : Pick) (members : List Member) (first before after : NoteL
 note_put pick members first before after notes own spot b c a =
     a ∙ ap (λ (noted : NoteList). let more : NoteList = record noted { notes = with_note (fresh_note pick members own) noted.notes } in more) b
     ∙ ap (λ (spot : Spot). let more : NoteList = record first { notes = with_note (fresh_note pick members spot) notes } in more) c
+
+-- one place more is noted
+pub noted_next : {X : Type 0} (pick : Pick) (members : List Member) (first before after : NoteList) (place : X → Spot) (some : List X) (x : X) (own : Spot)
+    → before ≡ (record first { notes = noting pick members first.notes (map place some) }) → own ≡ place x → after ≡ (record before { notes = with_note (fresh_note pick members own) before.notes })
+    → after ≡ (record first { notes = noting pick members first.notes (map place (some ++ x ∷ [])) })
+noted_next pick members first before after place some x own b o a =
+    note_put pick members first before after (noting pick members first.notes (map place some)) own (place x) b o a
+    ∙ ap (λ (notes : List Note). let noted : NoteList = record first { notes = notes } in noted)
+    (sym (ap (noting pick members first.notes) (map-append place some (x ∷ [])) ∙ fold-append (λ (notes : List Note) spot. with_note (fresh_note pick members spot) notes) first.notes (map place some) (place x ∷ [])))
+
+-- what a reader of a table gives is of the table
+pub reader_has : (table reader : Ticking) (key : ℕ) → reader ≡ table → is_among key (keys table.new.rows) ≡ true → is_among key (keys reader.new.rows) ≡ true
+reader_has table reader key same there = subst (λ (t : Ticking). is_among key (keys t.new.rows) ≡ true) (sym same) there
+
+pub row_given : (table reader : Ticking) (key : ℕ) {row : List ℤ} → reader ≡ table → row ≡ cells_at key reader.new.rows → row ≡ cells_at key table.new.rows
+row_given table reader key same is = is ∙ ap (λ (t : Ticking). cells_at key t.new.rows) same
+
+pub row_read : {table reader : Ticking} (so_far : ℕ) {more : ℕ} → reader ≡ table → more ≡ so_far + reader.new.width → more ≤ so_far + table.new.width
+row_read so_far same e = omega (arith, e, ap (λ (t : Ticking). t.new.width) same)
 
 -- the row under a key, as the index has it
 pub member_known : (side : Side) (on : List OnPair) (pick : Pick) (rows : List PlainRow) (key : ℕ) → is_among key (keys rows) ≡ true → member_under key (keyed side on pick rows) ≡ Some (member_at side on pick rows key)
@@ -85,16 +95,12 @@ length-key_cells side on cells = length-map on (λ pair. cell cells (column_of s
 pub reads_more : (width so_far more first n : ℕ) → so_far ≤ first + width * n → more ≤ so_far + width → more ≤ first + width * (n + 1)
 reads_more width so_far more first n h e = omega (arith, h, e)
 
--- a key at a place is not among those before it
-pub unseen : (keys : List ℕ) (n key : ℕ) → IsRising keys → slice_get keys n ≡ Some key → is_among key (take n keys) ≡ false
-unseen keys n key rising e = among_above key (take n keys) (below_keys (λ _. true) keys n key (take n keys) rising e (sym (filter_all (take n keys))))
-
 -- one key more among those that came and those that were there
-pub came_next : (key other : ℕ) (came own all : List ℕ) (n : ℕ) → slice_get all n ≡ Some other → is_among key own ≡ (is_among key (take n all) || is_among key came) → ((other == key) || is_among key own) ≡ (is_among key (take (n + 1) all) || is_among key came)
-came_next key other came own all n here so_far =
+pub came_next : (key other : ℕ) (came own some : List ℕ) → is_among key own ≡ (is_among key some || is_among key came) → ((other == key) || is_among key own) ≡ (is_among key (some ++ other ∷ []) || is_among key came)
+came_next key other came own some so_far =
     ap (λ b. (other == key) || b) so_far
-    ∙ swapped (other == key) (is_among key (take n all)) (is_among key came)
-    ∙ ap (λ b. b || is_among key came) (sym (ap (is_among key) (take_next all n other here) ∙ among-append key (take n all) (other ∷ [])))
+    ∙ swapped (other == key) (is_among key some) (is_among key came)
+    ∙ ap (λ b. b || is_among key came) (sym (among-append key some (other ∷ [])))
   where
     swapped : (a b c : Bool) → (a || (b || c)) ≡ ((b || (a || false)) || c)
     swapped true true c = refl

@@ -6,7 +6,6 @@ ghost use Rattle.lookup_join.specs.Matcher.{Stands, matched_ticks, matcher_of, s
 ghost use Rattle.tick_model.specs.Changes.{change_of};
 ghost use Rattle.tick_table.specs.Exact.{IsExact, counted, tick_of};
 
-use crate::keyed::Buffers;
 use crate::lookup::{Outcome, lookup_step};
 use crate::pick::Pick;
 use row_groups::Groups;
@@ -29,8 +28,8 @@ pub struct AsOfOp {
     left: Groups,
     /// Those of the right input.
     right: Groups,
-    /// A row that is read, and its key cells.
-    buffers: Buffers,
+    /// Room for the key cells of a row.
+    buffer: Vec<i64>,
 }
 
 impl Drop for AsOfOp {
@@ -43,7 +42,7 @@ impl Drop for AsOfOp {
             right_width: _,
             left: _,
             right: _,
-            buffers: _,
+            buffer: _,
         } = self;
     }
 }
@@ -91,10 +90,7 @@ impl AsOfOp {
             right_width,
             left: Groups::new(alloc, width),
             right: Groups::new(alloc, width),
-            buffers: Buffers {
-                row: Vec::new(alloc),
-                key: Vec::new(alloc),
-            },
+            buffer: Vec::new(alloc),
         }
     }
 
@@ -125,7 +121,7 @@ impl AsOfOp {
             right_width,
             left: mut left_rows,
             right: mut right_rows,
-            mut buffers,
+            mut buffer,
         } = self;
         let Outcome {
             change,
@@ -140,7 +136,7 @@ impl AsOfOp {
             &mut right_rows,
             left,
             right,
-            &mut buffers,
+            &mut buffer,
             reads,
         )?;
         Ok((
@@ -152,7 +148,7 @@ impl AsOfOp {
                 right_width,
                 left: left_rows,
                 right: right_rows,
-                buffers,
+                buffer,
             },
             change,
         ))

@@ -71,8 +71,7 @@ pub(crate) fn first_duplicate(
     ensures { result ≡ least_fault left.now.members right.now.members None (map (λ note. note.cells) notes.now.notes ++ map (cells_under left.now.members) came.now) }
 {
     let mut least = noted_duplicate(left, right, notes);
-    for position in 0..came.len() {
-        let key = came.get(position).unwrap();
+    for key in came {
         let cells = left.cells_of(key).unwrap();
         least = earlier_of(least, duplicate_in(left, right, cells));
     }

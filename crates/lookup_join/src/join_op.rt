@@ -11,7 +11,6 @@ ghost use Rattle.tick_model.specs.Join.{join_fault};
 ghost use Rattle.tick_table.specs.Exact.{IsExact, counted, tick_of};
 
 use crate::duplicates::{Duplicate, first_duplicate};
-use crate::keyed::Buffers;
 use crate::lookup::{Outcome, lookup_step};
 use crate::notes::Notes;
 use crate::pick::Pick;
@@ -58,8 +57,8 @@ pub struct JoinOp {
     left: Groups,
     /// Those of the right input.
     right: Groups,
-    /// A row that is read, and its key cells.
-    buffers: Buffers,
+    /// Room for the key cells of a row.
+    buffer: Vec<i64>,
 }
 
 impl Drop for JoinOp {
@@ -72,7 +71,7 @@ impl Drop for JoinOp {
             right_width: _,
             left: _,
             right: _,
-            buffers: _,
+            buffer: _,
         } = self;
     }
 }
@@ -121,10 +120,7 @@ impl JoinOp {
             right_width,
             left: Groups::new(alloc, width),
             right: Groups::new(alloc, width),
-            buffers: Buffers {
-                row: Vec::new(alloc),
-                key: Vec::new(alloc),
-            },
+            buffer: Vec::new(alloc),
         }
     }
 
@@ -157,7 +153,7 @@ impl JoinOp {
             right_width,
             left: mut left_rows,
             right: mut right_rows,
-            mut buffers,
+            mut buffer,
         } = self;
         let Outcome {
             change,
@@ -172,7 +168,7 @@ impl JoinOp {
             &mut right_rows,
             left,
             right,
-            &mut buffers,
+            &mut buffer,
             reads,
         )?;
         if let Some(duplicate) = fault_now(choice, &left_rows, &right_rows, &notes, &came) {
@@ -191,7 +187,7 @@ impl JoinOp {
                 right_width,
                 left: left_rows,
                 right: right_rows,
-                buffers,
+                buffer,
             },
             change,
         ))

@@ -5,11 +5,11 @@ ghost use Rattle.std.specs.List.{AllByRecursion};
 ghost use Rattle.std.specs.Option.{option_map_or};
 ghost use Rattle.key_lists.specs.Keys.{IsRising, is_among};
 ghost use Rattle.lookup_join.specs.Taken.{rekeyed_pairs};
-ghost use Rattle.lookup_join.specs.Keyed.{IsRowOf, column_of, indexed, key_cells, rekeys, same_spot, time_at, time_of};
+ghost use Rattle.lookup_join.specs.Keyed.{IsRowOf, column_of, indexed, key_cells, rekeys, same_spot, time_of};
 ghost use Rattle.row_changes.specs.Parts.{AreThere};
 ghost use Rattle.row_groups.specs.Members.{keys_of, member_of, member_under};
 ghost use Rattle.row_set.specs.Sets.{united};
-ghost use Rattle.tick_model.specs.Tables.{cells_at, keys};
+ghost use Rattle.tick_model.specs.Tables.{keys};
 ghost use Rattle.tick_model.specs.Updates.{new_keys};
 ghost use Rattle.tick_table.specs.Exact.{IsExact};
 
@@ -21,7 +21,7 @@ use std::alloc::{AllocError, Global};
 use std::sync::ledger::Ledger;
 use tick_model::cells::cell;
 use tick_model::plan::OnPair;
-use tick_table::{Steps, TickTable};
+use tick_table::{RowsNow, Steps, TickTable};
 
 /// An input of a join.
 #[derive(Clone, Copy, Debug, PartialEq, Eq)]
@@ -40,13 +40,6 @@ impl Side {
             Side::Right => pair.right,
         }
     }
-}
-
-/// Room for a row that is read, and for its key cells.
-#[derive(Drop)]
-pub(crate) struct Buffers {
-    pub row: Vec<i64>,
-    pub key: Vec<i64>,
 }
 
 /// Puts the key cells of the last row of the cells, which begins at `start`, behind it.
@@ -75,29 +68,22 @@ pub(crate) fn time_from(side: Side, pick: Pick, start: usize, cells: &[i64]) -> 
     pick.time(side, &cells[start..])
 }
 
-/// Reads the key cells that a row has now, and gives its time.
-pub(crate) fn read_key<L: Ledger>(
+/// Puts the key cells of a row into a buffer in place of what it held, and gives the row's time.
+pub(crate) fn read_key(
     side: Side,
     on: &[OnPair],
     pick: Pick,
-    input: &TickTable,
-    key: u64,
-    buffers: &mut Buffers,
-    reads: &mut Steps<L>,
+    row: &[i64],
+    buffer: &mut Vec<i64>,
 ) -> Result<i64, AllocError>
-    requires { IsTrue (is_among key (keys input.now.new.rows)) }
-    ensures cells { OnOk result (buffers.new.key.items ≡ key_cells side on.now (cells_at key input.now.new.rows)) }
-    ensures time { IfOk result (λ time. time ≡ time_at side pick input.now.new.rows key) }
-    ensures reads { OnOk result (reads.new ≡ reads.old + input.now.new.width) }
+    ensures cells { OnOk result (buffer.new.items ≡ key_cells side on.now row.now) }
+    ensures time { IfOk result (λ time. time ≡ time_of side pick row.now) }
 {
-    buffers.row.clear();
-    buffers.key.clear();
-    input.row(key, &mut buffers.row, reads)?;
+    buffer.clear();
     for pair in on {
-        let key_cell = cell(&buffers.row, side.column(*pair));
-        buffers.key.push(key_cell)?;
+        buffer.push(cell(row, side.column(*pair)))?;
     }
-    Ok(pick.time(side, &buffers.row))
+    Ok(pick.time(side, row))
 }
 
 /// Whether a row of the index has these key cells and this time.
@@ -120,7 +106,7 @@ pub(crate) fn rekeyed<L: Ledger>(
     index: &Groups,
     input: &TickTable,
     pairs: &KeyPairs,
-    buffers: &mut Buffers,
+    buffer: &mut Vec<i64>,
     reads: &mut Steps<L>,
 ) -> Result<KeyPairs, AllocError>
     requires index { index.now ≡ indexed side on.now pick input.now.old.rows }
@@ -130,10 +116,12 @@ pub(crate) fn rekeyed<L: Ledger>(
     ensures reads { OnOk result (reads.new ≤ reads.old + input.now.new.width * length pairs.now) }
 {
     let mut changed = KeyPairs::new(alloc);
+    let mut rows = RowsNow::of(input);
     for place in 0..pairs.len() {
         let pair = pairs.at(place);
-        let time = read_key(side, on, pick, input, pair.new, buffers, reads)?;
-        if !stands_at(index, pair.old, &buffers.key, time) {
+        let row = rows.row(pair.new, reads);
+        let time = read_key(side, on, pick, row, buffer)?;
+        if !stands_at(index, pair.old, buffer, time) {
             changed = changed.with_last(pair)?;
         }
     }
@@ -148,7 +136,7 @@ fn add_rows<L: Ledger>(
     index: &mut Groups,
     input: &TickTable,
     keys: &RowSet,
-    buffers: &mut Buffers,
+    buffer: &mut Vec<i64>,
     reads: &mut Steps<L>,
 ) -> Result<(), AllocError>
     requires there { AreThere input.now.new keys.now }
@@ -162,10 +150,11 @@ fn add_rows<L: Ledger>(
     ensures keys { OnOk result ((key : ℕ) → is_among key (keys_of index.new.members) ≡ (is_among key keys.now || is_among key (keys_of index.old.members))) }
     ensures reads { OnOk result (reads.new ≤ reads.old + input.now.new.width * length keys.now) }
 {
-    for position in 0..keys.len() {
-        let key = keys.get(position).unwrap();
-        let time = read_key(side, on, pick, input, key, buffers, reads)?;
-        index.add(key, &buffers.key, time)?;
+    let mut rows = RowsNow::of(input);
+    for key in keys {
+        let row = rows.row(key, reads);
+        let time = read_key(side, on, pick, row, buffer)?;
+        index.add(key, buffer, time)?;
     }
     Ok(())
 }
@@ -179,7 +168,7 @@ pub(crate) fn bring_on<L: Ledger>(
     index: &mut Groups,
     input: &TickTable,
     rekeyed: KeyPairs,
-    buffers: &mut Buffers,
+    buffer: &mut Vec<i64>,
     reads: &mut Steps<L>,
 ) -> Result<RowSet, AllocError>
     requires exact { IsExact input.now }
@@ -195,6 +184,6 @@ pub(crate) fn bring_on<L: Ledger>(
     index.remove(&from);
     index.shift(update.shifted())?;
     let came = to.union(update.added())?;
-    add_rows(side, on, pick, index, input, &came, buffers, reads)?;
+    add_rows(side, on, pick, index, input, &came, buffer, reads)?;
     Ok(came)
 }

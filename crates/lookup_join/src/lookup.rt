@@ -10,7 +10,7 @@ ghost use Rattle.tick_model.specs.Changes.{change_of};
 ghost use Rattle.tick_model.specs.Updates.{new_keys};
 ghost use Rattle.tick_table.specs.Exact.{IsExact, counted, tick_of};
 
-use crate::keyed::{Buffers, Side, bring_on, rekeyed};
+use crate::keyed::{Side, bring_on, rekeyed};
 use crate::notes::{Notes, touched_places};
 use crate::pick::Pick;
 use crate::rows::MatchedRows;
@@ -44,7 +44,7 @@ pub(crate) fn lookup_step<L: Ledger>(
     right_rows: &mut Groups,
     left: &TickTable,
     right: &TickTable,
-    buffers: &mut Buffers,
+    buffer: &mut Vec<i64>,
     reads: &mut Steps<L>,
 ) -> Result<Outcome, AllocError>
     requires left_exact { IsExact left.now }
@@ -61,8 +61,8 @@ pub(crate) fn lookup_step<L: Ledger>(
     ensures reads { IfOk result (λ outcome. reads.new ≤ reads.old
         + 4 * (left.now.new.width + right.now.new.width + (left.now.new.width + length take.now)) * (counted left.now.update + counted right.now.update + counted outcome.change.update)) }
 {
-    let notes = bring_right_on(alloc, on, pick, right_rows, right, buffers, reads)?;
-    let came = bring_left_on(alloc, on, pick, left_rows, left, buffers, reads)?;
+    let notes = bring_right_on(alloc, on, pick, right_rows, right, buffer, reads)?;
+    let came = bring_left_on(alloc, on, pick, left_rows, left, buffer, reads)?;
     let rows = MatchedRows {
         left,
         right,
@@ -87,7 +87,7 @@ fn bring_right_on<L: Ledger>(
     pick: Pick,
     index: &mut Groups,
     right: &TickTable,
-    buffers: &mut Buffers,
+    buffer: &mut Vec<i64>,
     reads: &mut Steps<L>,
 ) -> Result<Notes, AllocError>
     requires exact { IsExact right.now }
@@ -97,7 +97,7 @@ fn bring_right_on<L: Ledger>(
     ensures reads { OnOk result (reads.new ≤ reads.old + right.now.new.width * (3 * length right.now.update.modified + 2 * length right.now.update.added)) }
 {
     let modified = KeyPairs::modified(right)?;
-    let notes = touched_places(alloc, on, pick, index, right, &modified, buffers, reads)?;
+    let notes = touched_places(alloc, on, pick, index, right, &modified, buffer, reads)?;
     let changed = rekeyed(
         alloc,
         Side::Right,
@@ -106,10 +106,10 @@ fn bring_right_on<L: Ledger>(
         index,
         right,
         &modified,
-        buffers,
+        buffer,
         reads,
     )?;
-    bring_on(Side::Right, on, pick, index, right, changed, buffers, reads)?;
+    bring_on(Side::Right, on, pick, index, right, changed, buffer, reads)?;
     Ok(notes)
 }
 
@@ -120,7 +120,7 @@ fn bring_left_on<L: Ledger>(
     pick: Pick,
     index: &mut Groups,
     left: &TickTable,
-    buffers: &mut Buffers,
+    buffer: &mut Vec<i64>,
     reads: &mut Steps<L>,
 ) -> Result<RowSet, AllocError>
     requires exact { IsExact left.now }
@@ -138,10 +138,10 @@ fn bring_left_on<L: Ledger>(
         index,
         left,
         &modified,
-        buffers,
+        buffer,
         reads,
     )?;
-    bring_on(Side::Left, on, pick, index, left, changed, buffers, reads)
+    bring_on(Side::Left, on, pick, index, left, changed, buffer, reads)
 }
 
 /// The change of the join. It compares the left rows that are modified, and those for which a note speaks where other

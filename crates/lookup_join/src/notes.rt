@@ -10,7 +10,7 @@ ghost use Rattle.row_groups.specs.Members.{member_under};
 ghost use Rattle.tick_model.specs.Tables.{keys};
 ghost use Rattle.tick_table.specs.Exact.{IsExact};
 
-use crate::keyed::{Buffers, Side, read_key};
+use crate::keyed::{Side, read_key};
 use crate::latest::{latest, latest_key, next_time};
 use crate::pick::Pick;
 use row_groups::Groups;
@@ -20,7 +20,7 @@ use std::alloc::{AllocError, Global};
 use std::marker::Model;
 use std::sync::ledger::Ledger;
 use tick_model::plan::OnPair;
-use tick_table::{Steps, TickTable};
+use tick_table::{RowsNow, Steps, TickTable};
 
 /// What is noted of a place, and its time.
 #[derive(Clone, Copy, PartialEq, Eq)]
@@ -167,8 +167,7 @@ fn note_removed(
     requires width { notes.old.width ≡ index.now.width }
     ensures { OnOk result (notes.new ≡ record notes.old { notes = noting pick index.now.members notes.old.notes (map (λ key. spot_under key index.now.members) removed.now) }) }
 {
-    for position in 0..removed.len() {
-        let key = removed.get(position).unwrap();
+    for key in removed {
         notes.note_old(pick, index, key)?;
     }
     Ok(())
@@ -182,7 +181,7 @@ fn note_modified<L: Ledger>(
     right: &TickTable,
     modified: &KeyPairs,
     notes: &mut Notes,
-    buffers: &mut Buffers,
+    buffer: &mut Vec<i64>,
     reads: &mut Steps<L>,
 ) -> Result<(), AllocError>
     requires index { index.now ≡ indexed Side.Right on.now pick right.now.old.rows }
@@ -195,11 +194,13 @@ fn note_modified<L: Ledger>(
     }) }
     ensures reads { OnOk result (reads.new ≤ reads.old + right.now.new.width * length modified.now) }
 {
+    let mut rows = RowsNow::of(right);
     for place in 0..modified.len() {
         let pair = modified.at(place);
         notes.note_old(pick, index, pair.old)?;
-        let time = read_key(Side::Right, on, pick, right, pair.new, buffers, reads)?;
-        notes.note(pick, index, &buffers.key, time)?;
+        let row = rows.row(pair.new, reads);
+        let time = read_key(Side::Right, on, pick, row, buffer)?;
+        notes.note(pick, index, buffer, time)?;
     }
     Ok(())
 }
@@ -211,7 +212,7 @@ fn note_added<L: Ledger>(
     index: &Groups,
     right: &TickTable,
     notes: &mut Notes,
-    buffers: &mut Buffers,
+    buffer: &mut Vec<i64>,
     reads: &mut Steps<L>,
 ) -> Result<(), AllocError>
     requires exact { IsExact right.now }
@@ -219,11 +220,11 @@ fn note_added<L: Ledger>(
     ensures notes { OnOk result (notes.new ≡ record notes.old { notes = noting pick index.now.members notes.old.notes (map (spot_at on.now pick right.now.new.rows) right.now.update.added) }) }
     ensures reads { OnOk result (reads.new ≤ reads.old + right.now.new.width * length right.now.update.added) }
 {
-    let added = right.update().added();
-    for position in 0..added.len() {
-        let key = added.get(position).unwrap();
-        let time = read_key(Side::Right, on, pick, right, key, buffers, reads)?;
-        notes.note(pick, index, &buffers.key, time)?;
+    let mut rows = RowsNow::of(right);
+    for key in right.update().added() {
+        let row = rows.row(key, reads);
+        let time = read_key(Side::Right, on, pick, row, buffer)?;
+        notes.note(pick, index, buffer, time)?;
     }
     Ok(())
 }
@@ -236,7 +237,7 @@ pub(crate) fn touched_places<L: Ledger>(
     index: &Groups,
     right: &TickTable,
     modified: &KeyPairs,
-    buffers: &mut Buffers,
+    buffer: &mut Vec<i64>,
     reads: &mut Steps<L>,
 ) -> Result<Notes, AllocError>
     requires index { index.now ≡ indexed Side.Right on.now pick right.now.old.rows }
@@ -248,7 +249,7 @@ pub(crate) fn touched_places<L: Ledger>(
 {
     let mut notes = Notes::new(alloc, on.len());
     note_removed(pick, index, right.update().removed(), &mut notes)?;
-    note_modified(on, pick, index, right, modified, &mut notes, buffers, reads)?;
-    note_added(on, pick, index, right, &mut notes, buffers, reads)?;
+    note_modified(on, pick, index, right, modified, &mut notes, buffer, reads)?;
+    note_added(on, pick, index, right, &mut notes, buffer, reads)?;
     Ok(notes)
 }

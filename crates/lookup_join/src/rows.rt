@@ -1,9 +1,10 @@
 //! The rows of a join, before a step and now.
 
-ghost use Rattle.std.specs.Prelude.{◌≡◌};
+ghost use Rattle.std.specs.Prelude.{◌≡◌, ◌+◌, ◌≤◌, ◌++◌, drop, length, vec_len, OnOk};
+ghost use Rattle.lookup_join.specs.Keyed.{key_cells, time_of};
 ghost use Rattle.lookup_join.specs.Latest.{match_of};
 ghost use Rattle.lookup_join.specs.Notes.{taken_key};
-ghost use Rattle.lookup_join.specs.Taken.{match_as_before, match_now, speaks};
+ghost use Rattle.lookup_join.specs.Taken.{AreMatched, match_as_before, match_now, speaks, taken_cells};
 
 use crate::keyed::{Side, put_key_cells, time_from};
 use crate::latest::{latest, latest_key};
@@ -12,10 +13,11 @@ use crate::notes::Notes;
 use crate::pick::Pick;
 use row_changes::Rows;
 use row_groups::Groups;
+use row_set::RowSet;
 use std::alloc::AllocError;
 use std::sync::ledger::Ledger;
 use tick_model::plan::OnPair;
-use tick_table::{Steps, TickTable};
+use tick_table::{RowsNow, Steps, TickTable};
 
 /// The rows of a join, of both inputs: what was taken before the step is noted, or else it is what is taken now.
 #[derive(Drop)]
@@ -57,6 +59,28 @@ impl MatchedRows<'_> {
             _ => self.match_now(cells, time),
         }
     }
+
+    /// Puts the cells that a left row takes now behind it. It is the last row of the cells, and begins at `start`.
+    fn put_taken_now<L: Ledger>(
+        &self,
+        start: usize,
+        cells: &mut Vec<i64>,
+        reads: &mut Steps<L>,
+    ) -> Result<(), AllocError>
+        requires start { start ≤ vec_len cells.old }
+        requires matched { AreMatched self.now.on.now self.now.pick self.now.take.now self.now.left.now self.now.right.now self.now.index.now self.now.notes.now.notes }
+        ensures cells { OnOk result (cells.new.items ≡ cells.old.items
+            ++ taken_cells self.now.on.now self.now.pick self.now.take.now self.now.right.now.new.rows
+            (key_cells Side.Left self.now.on.now (drop start cells.old.items)) (time_of Side.Left self.now.pick (drop start cells.old.items))) }
+        ensures reads { OnOk result (reads.new ≤ reads.old + length self.now.take.now) }
+    {
+        let end = cells.len();
+        let time = time_from(Side::Left, self.pick, start, cells);
+        put_key_cells(Side::Left, self.on, start, cells)?;
+        let taken = self.match_now(&cells[end..], time);
+        cells.truncate(end);
+        taken.put_cells(self.right, self.take, cells, reads)
+    }
 }
 
 impl<L: Ledger> Rows<L> for MatchedRows<'_> {
@@ -91,11 +115,21 @@ impl<L: Ledger> Rows<L> for MatchedRows<'_> {
     fn now(&self, key: u64, cells: &mut Vec<i64>, reads: &mut Steps<L>) -> Result<(), AllocError> {
         let start = cells.len();
         self.left.row(key, cells, reads)?;
-        let end = cells.len();
-        let time = time_from(Side::Left, self.pick, start, cells);
-        put_key_cells(Side::Left, self.on, start, cells)?;
-        let taken = self.match_now(&cells[end..], time);
-        cells.truncate(end);
-        taken.put_cells(self.right, self.take, cells, reads)
+        self.put_taken_now(start, cells, reads)
+    }
+
+    fn all_now(
+        &self,
+        rows: &RowSet,
+        cells: &mut Vec<i64>,
+        reads: &mut Steps<L>,
+    ) -> Result<(), AllocError> {
+        let mut left = RowsNow::of(self.left);
+        for key in rows {
+            let start = cells.len();
+            cells.extend_from_slice(left.row(key, reads))?;
+            self.put_taken_now(start, cells, reads)?;
+        }
+        Ok(())
     }
 }

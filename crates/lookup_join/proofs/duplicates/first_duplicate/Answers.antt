@@ -1,30 +1,38 @@
-use Rattle.std.proofs.Common.{◌≡◌, ap, ap₂, sym, ◌∙◌, None, map, Option, ◌++◌, ◌∷◌, [], take, append_assoc, true, Some}
-use Rattle.std.specs.Prelude.{slice_get}
+use Rattle.std.proofs.Common.{◌≡◌, ap, ap₂, sym, ◌∙◌, None, map, Option, ◌++◌, ◌∷◌, [], append_assoc, true, ℕ, List}
+use Rattle.std.proofs.lemmas.List.{map-append}
 use Rattle.std.proofs.lemmas.List.Sums.{fold-append}
 use Rattle.std.proofs.lemmas.Option.{same_Some}
 use Rattle.key_lists.specs.Keys.{is_among}
 use Rattle.lookup_join.specs.declared.duplicates.Duplicate.{Duplicate}
 use Rattle.lookup_join.specs.Duplicates.{cells_under, earlier, faulty_group, least_fault}
 use Rattle.lookup_join.specs.Notes.{Note}
-use Rattle.lookup_join.proofs.Walks.{map_next, some_of, under_some}
+use Rattle.lookup_join.proofs.Walks.{some_of, under_some}
 use Rattle.row_groups.specs.Members.{keys_of}
-use Rattle.shown_rows.proofs.Walks.{of_place}
+use Rattle.row_set.proofs.Yielded.{next_has, yielded_all}
 use Rattle.lookup_join.proofs.duplicates.first_duplicate.Goals as goal
 
 pub unwrap-cells-requires : goal.unwrap-cells-requires
 unwrap-cells-requires c =
-    let there : is_among c.unwrap-key.result (keys_of c.args.left.now.members) ≡ true = of_place (λ key. is_among key (keys_of c.args.left.now.members) ≡ true) c.loop-position.position c.args.came.now c.unwrap-key.result c.requires (sym c.get.ensures.key ∙ c.unwrap-key.ensures) in
-    some_of _ c.cells_of.result (cells_under c.args.left.now.members c.unwrap-key.result) (c.cells_of.ensures.cells ∙ under_some c.args.left.now.members c.unwrap-key.result there)
+    let left = c.args.left.now.members in
+    let there = next_has c.loop-key.yielded c.into_iter-key-iterator.ensures.into_iter_gives c.loop-key.yielded_by c.in-Some.ensures.steps (λ key. is_among key (keys_of left) ≡ true) c.requires in
+    some_of _ c.cells_of.result (cells_under left c.in-Some.key) (c.cells_of.ensures.cells ∙ under_some left c.in-Some.key there)
 
-pub loop-position-preserved : goal.loop-position-preserved
-loop-position-preserved c =
+pub loop-key-preserved : goal.loop-key-preserved
+loop-key-preserved c =
     let left = c.args.left.now.members in
     let right = c.args.right.now.members in
-    let key = c.unwrap-key.result in
-    let here : slice_get c.args.came.now c.loop-position.position ≡ Some key = sym c.get.ensures.key ∙ c.unwrap-key.ensures in
-    let there : is_among key (keys_of left) ≡ true = of_place (λ key. is_among key (keys_of left) ≡ true) c.loop-position.position c.args.came.now key c.requires here in
+    let key = c.in-Some.key in
+    let yielded = c.loop-key.yielded in
+    let there = next_has yielded c.into_iter-key-iterator.ensures.into_iter_gives c.loop-key.yielded_by c.in-Some.ensures.steps (λ key. is_among key (keys_of left) ≡ true) c.requires in
     let own : c.unwrap-cells.result.now ≡ cells_under left key = same_Some _ _ (rw c.unwrap-cells.ensures at c.cells_of.ensures.cells ∙ under_some left key there) in
     let noted = map (λ (note : Note). note.cells) c.args.notes.now.notes in
-    c.earlier_of-least.ensures ∙ ap₂ earlier c.loop-position.invariant (c.duplicate_in.ensures ∙ ap (faulty_group left right) own)
-    ∙ sym (fold-append (λ (found : Option Duplicate) cells. earlier found (faulty_group left right cells)) None (noted ++ map (cells_under left) (take c.loop-position.position c.args.came.now)) (cells_under left key ∷ []))
-    ∙ ap (least_fault left right None) (append_assoc noted (map (cells_under left) (take c.loop-position.position c.args.came.now)) (cells_under left key ∷ []) ∙ ap (λ cells. noted ++ cells) (sym (map_next (cells_under left) c.args.came.now c.loop-position.position key here)))
+    c.earlier_of-least.ensures ∙ ap₂ earlier c.loop-key.invariant (c.duplicate_in.ensures ∙ ap (faulty_group left right) own)
+    ∙ sym (fold-append (λ (found : Option Duplicate) cells. earlier found (faulty_group left right cells)) None (noted ++ map (cells_under left) yielded) (cells_under left key ∷ []))
+    ∙ ap (least_fault left right None) (append_assoc noted (map (cells_under left) yielded) (cells_under left key ∷ []) ∙ ap (λ cells. noted ++ cells) (sym (map-append (cells_under left) yielded (key ∷ []))))
+
+pub returns : goal.returns
+returns c =
+    let left = c.args.left.now.members in
+    c.loop-key.invariant
+    ∙ ap (λ (keys : List ℕ). least_fault left c.args.right.now.members None (map (λ (note : Note). note.cells) c.args.notes.now.notes ++ map (cells_under left) keys))
+    (yielded_all c.loop-key.yielded c.into_iter-key-iterator.ensures.into_iter_gives c.loop-key.yielded_by c.in-None.ensures.steps.0)

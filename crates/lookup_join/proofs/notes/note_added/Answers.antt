@@ -1,38 +1,52 @@
-use Rattle.std.proofs.Common.{◌≡◌, ap, sym, ◌∙◌, arith, true, ℕ, List, Some, rules, w64, SFits, length}
-use Rattle.std.specs.Prelude.{slice_get}
+use Rattle.std.proofs.Common.{◌≡◌, ap, sym, ◌∙◌, subst, true, map, ◌+◌, ◌*◌, ◌≤◌, ℕ, List, rules, w64, SFits, length}
+use Rattle.std.specs.List.{AllByRecursion}
 use Rattle.std.proofs.lemmas.Int.{to_z-of_z}
 use Rattle.key_lists.specs.Keys.{is_among}
-use Rattle.lookup_join.specs.Keyed.{key_at, time_at}
+use Rattle.lookup_join.specs.Keyed.{key_at, key_cells, time_at, time_of}
 use Rattle.lookup_join.specs.declared.keyed.Side.TheVariants.{Right}
-use Rattle.lookup_join.specs.Notes.{Note, NoteList}
+use Rattle.lookup_join.specs.Notes.{NoteList, noting}
 use Rattle.lookup_join.specs.Taken.{spot_at}
-use Rattle.lookup_join.proofs.Walks.{length-key_cells, note_put, noting_next, reads_more, spot_is}
-use Rattle.shown_rows.proofs.Walks.{of_place}
-use Rattle.tick_model.specs.Tables.{cells_at, keys}
+use Rattle.lookup_join.proofs.Walks.{length-key_cells, noted_next, reader_has, row_given, row_read, spot_is}
+use Rattle.row_changes.proofs.Comparing.{reads_next}
+use Rattle.row_set.proofs.Yielded.{next_has, yielded_all}
+use Rattle.tick_model.specs.Tables.{keys}
 use Rattle.tick_model.specs.Updates.{Update}
 use Rattle.lookup_join.proofs.Stepping.{added_there}
 use Rattle.lookup_join.proofs.notes.note_added.Goals as goal
 
-pub read_key-requires : goal.read_key-requires
-read_key-requires g c =
-    of_place (λ key. is_among key (keys c.args.right.now.new.rows) ≡ true) c.loop-position.position c.args.right.now.update.added c.unwrap-key.result (added_there c.args.right.now c.requires.exact)
-    (ap (λ (ks : List ℕ). slice_get ks c.loop-position.position) (sym (c.added-added.ensures.keys ∙ ap (λ (update : Update). update.added) c.update.ensures)) ∙ sym c.get.ensures.key ∙ c.unwrap-key.ensures)
+pub row-row-requires : goal.row-row-requires
+row-row-requires g c = record {
+  here =
+      reader_has c.args.right.now c.loop-key.rows c.in-Some.key c.loop-key.invariant.rows
+      (next_has c.loop-key.yielded c.into_iter-key-iterator.ensures.into_iter_gives c.loop-key.yielded_by c.in-Some.ensures.steps (λ key. is_among key (keys c.args.right.now.new.rows) ≡ true)
+      (subst (AllByRecursion (λ key. is_among key (keys c.args.right.now.new.rows) ≡ true)) (sym (c.added-key-items.ensures.keys ∙ ap (λ (update : Update). update.added) c.update.ensures)) (added_there c.args.right.now c.requires.exact)));
+}
 
 pub note-requires : goal.note-requires
 note-requires g c =
-    ap length (c.deref.ensures.value ∙ c.in_ok-time.ensures.cells) ∙ length-key_cells Right c.args.on.now (cells_at c.unwrap-key.result c.args.right.now.new.rows) ∙ sym (ap (λ (noted : NoteList). noted.width) c.loop-position.invariant.notes ∙ c.requires.width)
+    ap length (c.deref.ensures.value ∙ c.in_ok-time.ensures.cells) ∙ length-key_cells Right c.args.on.now c.row-row.result.now ∙ sym (ap (λ (noted : NoteList). noted.width) c.loop-key.invariant.notes ∙ c.requires.width)
 
-pub loop-position-preserved : goal.loop-position-preserved
-loop-position-preserved g c =
+pub loop-key-preserved : goal.loop-key-preserved
+loop-key-preserved g c =
     let on = c.args.on.now in
     let right = c.args.right.now in
-    let members = c.args.index.now.members in
-    let key = c.unwrap-key.result in
+    let key = c.in-Some.key in
     let fits : SFits w64 c.in_ok-time.time = search rules in
-    let here : slice_get right.update.added c.loop-position.position ≡ Some key = ap (λ (ks : List ℕ). slice_get ks c.loop-position.position) (sym (c.added-added.ensures.keys ∙ ap (λ (update : Update). update.added) c.update.ensures)) ∙ sym c.get.ensures.key ∙ c.unwrap-key.ensures in record {
+    let row = row_given right c.loop-key.rows key c.loop-key.invariant.rows c.row-row.ensures.cells in record {
+      rows = c.row-row.ensures.same ∙ c.loop-key.invariant.rows;
       notes =
-          note_put c.args.pick members c.args.notes.now c.loop-position.notes c.note.new.self _ _ (spot_at on c.args.pick right.new.rows key) c.loop-position.invariant.notes
-          (spot_is c.deref.result.now (key_at Right on right.new.rows key) _ (time_at Right c.args.pick right.new.rows key) (c.deref.ensures.value ∙ c.in_ok-time.ensures.cells) (to_z-of_z w64 c.in_ok-time.time fits ∙ c.in_ok-time.ensures.time)) c.in_ok-note.ensures
-          ∙ ap (λ (notes : List Note). let noted : NoteList = record c.args.notes.now { notes = notes } in noted) (noting_next c.args.pick members c.args.notes.now.notes (spot_at on c.args.pick right.new.rows) right.update.added c.loop-position.position key here);
-      reads = reads_more right.new.width c.loop-position.reads c.read_key.new.reads c.args.reads.now c.loop-position.position c.loop-position.invariant.reads (omega (arith, c.in_ok-time.ensures.reads));
+          noted_next c.args.pick c.args.index.now.members c.args.notes.now c.loop-key.notes c.note.new.self (spot_at on c.args.pick right.new.rows) c.loop-key.yielded key _ c.loop-key.invariant.notes
+          (spot_is c.deref.result.now (key_at Right on right.new.rows key) _ (time_at Right c.args.pick right.new.rows key) (c.deref.ensures.value ∙ c.in_ok-time.ensures.cells ∙ ap (key_cells Right on) row) (to_z-of_z w64 c.in_ok-time.time fits ∙ c.in_ok-time.ensures.time ∙ ap (time_of Right c.args.pick) row)) c.in_ok-note.ensures;
+      reads = reads_next right.new.width c.args.reads.now c.loop-key.reads c.row-row.new.reads c.loop-key.yielded key c.loop-key.invariant.reads (row_read c.loop-key.reads c.loop-key.invariant.rows c.row-row.ensures.reads);
     }
+
+pub returns-clause-notes : goal.returns-clause-notes
+returns-clause-notes g c =
+    c.loop-key.invariant.notes
+    ∙ ap (λ (keys : List ℕ). let noted : NoteList = record c.args.notes.now { notes = noting c.args.pick c.args.index.now.members c.args.notes.now.notes (map (spot_at c.args.on.now c.args.pick c.args.right.now.new.rows) keys) } in noted)
+    (yielded_all c.loop-key.yielded c.into_iter-key-iterator.ensures.into_iter_gives c.loop-key.yielded_by c.in-None.ensures.steps.0 ∙ c.added-key-items.ensures.keys ∙ ap (λ (update : Update). update.added) c.update.ensures)
+
+pub returns-clause-reads : goal.returns-clause-reads
+returns-clause-reads g c =
+    subst (λ (keys : List ℕ). c.loop-key.reads ≤ c.args.reads.now + c.args.right.now.new.width * length keys)
+    (yielded_all c.loop-key.yielded c.into_iter-key-iterator.ensures.into_iter_gives c.loop-key.yielded_by c.in-None.ensures.steps.0 ∙ c.added-key-items.ensures.keys ∙ ap (λ (update : Update). update.added) c.update.ensures) c.loop-key.invariant.reads

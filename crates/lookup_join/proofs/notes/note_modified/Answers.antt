@@ -1,15 +1,15 @@
-use Rattle.std.proofs.Common.{◌≡◌, ap, sym, ◌∙◌, arith, true, length, List, rules, w64, SFits}
+use Rattle.std.proofs.Common.{◌≡◌, ap, sym, ◌∙◌, true, length, List, rules, w64, SFits}
 use Rattle.std.proofs.lemmas.Int.{to_z-of_z}
 use Rattle.key_lists.specs.Keys.{is_among}
 use Rattle.lookup_join.specs.declared.keyed.Side.TheVariants.{Right}
-use Rattle.lookup_join.specs.Keyed.{key_at, time_at}
+use Rattle.lookup_join.specs.Keyed.{key_at, key_cells, time_at, time_of}
 use Rattle.lookup_join.specs.Notes.{Note, NoteList, spot_under}
 use Rattle.lookup_join.specs.Taken.{spot_at}
-use Rattle.lookup_join.proofs.Walks.{length-key_cells, member_is, note_put, noting_two, reads_more, spot_is, spot_known}
+use Rattle.lookup_join.proofs.Walks.{length-key_cells, member_is, note_put, noting_two, reader_has, reads_more, row_given, row_read, spot_is, spot_known}
 use Rattle.row_groups.specs.Members.{Grouped}
 use Rattle.shown_rows.proofs.Walks.{of_place}
 use Rattle.tick_model.specs.declared.update.KeyPair.{KeyPair}
-use Rattle.tick_model.specs.Tables.{cells_at, keys}
+use Rattle.tick_model.specs.Tables.{keys}
 use Rattle.lookup_join.proofs.notes.note_modified.Goals as goal
 
 pub note_old-requires-clause-here : goal.note_old-requires-clause-here
@@ -20,12 +20,14 @@ note_old-requires-clause-here g c =
 pub note_old-requires-clause-width : goal.note_old-requires-clause-width
 note_old-requires-clause-width g c = ap (λ (noted : NoteList). noted.width) c.loop-place.invariant.notes ∙ c.requires.width ∙ sym (ap (λ (index : Grouped). index.width) c.requires.index)
 
-pub read_key-requires : goal.read_key-requires
-read_key-requires g c = of_place (λ (pair : KeyPair). is_among pair.new (keys c.args.right.now.new.rows) ≡ true) c.loop-place.place c.args.modified.now c.at-pair.result c.requires.now c.at-pair.ensures.pair
+pub row-row-requires : goal.row-row-requires
+row-row-requires g c = record {
+  here = reader_has c.args.right.now c.loop-place.rows c.at-pair.result.new c.loop-place.invariant.rows (of_place (λ (pair : KeyPair). is_among pair.new (keys c.args.right.now.new.rows) ≡ true) c.loop-place.place c.args.modified.now c.at-pair.result c.requires.now c.at-pair.ensures.pair);
+}
 
 pub note-requires : goal.note-requires
 note-requires g c =
-    ap length (c.deref.ensures.value ∙ c.in_ok-time.ensures.cells) ∙ length-key_cells Right c.args.on.now (cells_at c.at-pair.result.new c.args.right.now.new.rows)
+    ap length (c.deref.ensures.value ∙ c.in_ok-time.ensures.cells) ∙ length-key_cells Right c.args.on.now c.row-row.result.now
     ∙ sym (ap (λ (noted : NoteList). noted.width) c.in_ok-note_old.ensures ∙ ap (λ (noted : NoteList). noted.width) c.loop-place.invariant.notes ∙ c.requires.width)
 
 pub loop-place-preserved : goal.loop-place-preserved
@@ -35,13 +37,15 @@ loop-place-preserved g c =
     let members = c.args.index.now.members in
     let pair = c.at-pair.result in
     let fits : SFits w64 c.in_ok-time.time = search rules in
+    let row = row_given right c.loop-place.rows pair.new c.loop-place.invariant.rows c.row-row.ensures.cells in
     let there = of_place (λ (pair : KeyPair). is_among pair.old (keys right.old.rows) ≡ true) c.loop-place.place c.args.modified.now pair c.requires.before c.at-pair.ensures.pair in
     let first = note_put c.args.pick members c.args.notes.now c.loop-place.notes c.note_old.new.self _ (spot_under pair.old members) (spot_at on c.args.pick right.old.rows pair.old) c.loop-place.invariant.notes (spot_known on c.args.pick right.old.rows c.args.index.now pair.old c.requires.index there) c.in_ok-note_old.ensures in
     let second = note_put c.args.pick members c.args.notes.now c.note_old.new.self c.note.new.self _ _ (spot_at on c.args.pick right.new.rows pair.new) first
-    (spot_is c.deref.result.now (key_at Right on right.new.rows pair.new) _ (time_at Right c.args.pick right.new.rows pair.new) (c.deref.ensures.value ∙ c.in_ok-time.ensures.cells) (to_z-of_z w64 c.in_ok-time.time fits ∙ c.in_ok-time.ensures.time)) c.in_ok-note.ensures in record {
+    (spot_is c.deref.result.now (key_at Right on right.new.rows pair.new) _ (time_at Right c.args.pick right.new.rows pair.new) (c.deref.ensures.value ∙ c.in_ok-time.ensures.cells ∙ ap (key_cells Right on) row) (to_z-of_z w64 c.in_ok-time.time fits ∙ c.in_ok-time.ensures.time ∙ ap (time_of Right c.args.pick) row)) c.in_ok-note.ensures in record {
+      rows = c.row-row.ensures.same ∙ c.loop-place.invariant.rows;
       notes =
           second
           ∙ ap (λ (notes : List Note). let noted : NoteList = record c.args.notes.now { notes = notes } in noted)
           (noting_two c.args.pick members c.args.notes.now.notes (λ (pair : KeyPair). spot_at on c.args.pick right.old.rows pair.old) (λ (pair : KeyPair). spot_at on c.args.pick right.new.rows pair.new) c.args.modified.now c.loop-place.place pair c.at-pair.ensures.pair);
-      reads = reads_more right.new.width c.loop-place.reads c.read_key.new.reads c.args.reads.now c.loop-place.place c.loop-place.invariant.reads (omega (arith, c.in_ok-time.ensures.reads));
+      reads = reads_more right.new.width c.loop-place.reads c.row-row.new.reads c.args.reads.now c.loop-place.place c.loop-place.invariant.reads (row_read c.loop-place.reads c.loop-place.invariant.rows c.row-row.ensures.reads);
     }

@@ -1,15 +1,15 @@
-use Rattle.std.proofs.Common.{◌≡◌, refl, ap, ap₂, sym, ◌∙◌, subst, rules, w64, SFits, true, List, ◌++◌, ℤ, map, drop, length}
+use Rattle.std.proofs.Common.{◌≡◌, ap, sym, ◌∙◌, subst, rules, w64, SFits, true, List, ◌++◌, ℤ, map, drop, length}
 use Rattle.std.specs.Prelude.{OnOk}
 use Rattle.std.proofs.lemmas.Int.{to_z-of_z}
 use Rattle.std.proofs.lemmas.List.{take_rest}
 use Rattle.key_lists.specs.Keys.{is_among}
 use Rattle.lookup_join.specs.declared.keyed.Side.TheVariants.{Left}
 use Rattle.lookup_join.specs.declared.matches.Match.{Match}
-use Rattle.lookup_join.specs.Keyed.{key_cells, time_of}
-use Rattle.lookup_join.specs.Taken.{IsThere, cell_of, match_as_before}
-use Rattle.lookup_join.proofs.Reading.{key_behind, row_behind, row_read}
+use Rattle.lookup_join.specs.Keyed.{time_of}
+use Rattle.lookup_join.specs.Taken.{IsThere, cell_of}
+use Rattle.lookup_join.proofs.Reading.{row_behind, taken_behind}
 use Rattle.lookup_join.proofs.Compared.{cells_old, matched_keys}
-use Rattle.tick_model.specs.Tables.{cells_at, keys}
+use Rattle.tick_model.specs.Tables.{cells_at}
 use Rattle.lookup_join.proofs.rows.MatchedRowsRows.before.Goals as goal
 
 pub prev_row-requires : goal.prev_row-requires
@@ -21,22 +21,8 @@ prev_row-requires g c =
 
 pub put_cells-requires-clause-there : goal.put_cells-requires-clause-there
 put_cells-requires-clause-there g c =
-    let rows = c.args.self.now in
-    let ready = c.requires.ready in
-    let left = rows.left.now in
-    let right = rows.right.now in
-    let there : is_among c.args.key (keys left.old.rows) ≡ true = subst (λ ks. is_among c.args.key ks ≡ true) (matched_keys rows.on.now rows.pick rows.take.now left ready.left_exact right ready.right_exact left.old right.old) c.requires.here in
-    let others = c.args.cells.now.items in
-    let read = c.prev_row.new.cells.items in
-    let keyed_cells = c.put_key_cells.new.cells.items in
-    let cells = cells_at c.args.key left.old.rows in
-    let start : c.len-start.result ≡ length others = search rules in
-    let end : c.len-end.result ≡ length read = search rules in
-    let fits : SFits w64 c.time_from-time.result = search rules in
-    let when = to_z-of_z w64 c.time_from-time.result fits ∙ c.time_from-time.ensures ∙ ap (time_of Left rows.pick) (ap (drop c.len-start.result) c.deref.ensures.value ∙ row_read rows.on.now rows.pick others cells read keyed_cells c.len-start.result c.len-end.result start c.in_ok-prev_row.ensures.cells end c.in_ok-put_key_cells.ensures) in
-    let behind = take_rest c.deref-2.result.now c.len-end.result ∙ ap (drop c.len-end.result) c.deref-2.ensures.value ∙ key_behind rows.on.now rows.pick others cells read keyed_cells c.len-start.result c.len-end.result start c.in_ok-prev_row.ensures.cells end c.in_ok-put_key_cells.ensures in
-    let found : c.match_before-taken.result ≡ match_as_before rows.pick rows.index.now.members rows.notes.now.notes (key_cells Left rows.on.now cells) (time_of Left rows.pick cells) = c.match_before-taken.ensures ∙ ap₂ (match_as_before rows.pick rows.index.now.members rows.notes.now.notes) behind when in
-    subst (IsThere right.old right.new) (sym found) (ready.there (key_cells Left rows.on.now cells) (time_of Left rows.pick cells))
+    let right = c.args.self.now.right.now in
+    subst (IsThere right.old right.new) (sym c.match_before-taken.ensures) (c.requires.ready.there _ _)
 
 pub put_cells-requires-clause-take : goal.put_cells-requires-clause-take
 put_cells-requires-clause-take g c = c.requires.ready.within
@@ -47,18 +33,16 @@ returns-clause-cells g c =
     let ready = c.requires.ready in
     let left = rows.left.now in
     let right = rows.right.now in
-    let there : is_among c.args.key (keys left.old.rows) ≡ true = subst (λ ks. is_among c.args.key ks ≡ true) (matched_keys rows.on.now rows.pick rows.take.now left ready.left_exact right ready.right_exact left.old right.old) c.requires.here in
+    let there = subst (λ ks. is_among c.args.key ks ≡ true) (matched_keys rows.on.now rows.pick rows.take.now left ready.left_exact right ready.right_exact left.old right.old) c.requires.here in
     let others = c.args.cells.now.items in
     let read = c.prev_row.new.cells.items in
-    let keyed_cells = c.put_key_cells.new.cells.items in
-    let cells = cells_at c.args.key left.old.rows in
     let start : c.len-start.result ≡ length others = search rules in
     let end : c.len-end.result ≡ length read = search rules in
     let fits : SFits w64 c.time_from-time.result = search rules in
-    let when = to_z-of_z w64 c.time_from-time.result fits ∙ c.time_from-time.ensures ∙ ap (time_of Left rows.pick) (ap (drop c.len-start.result) c.deref.ensures.value ∙ row_read rows.on.now rows.pick others cells read keyed_cells c.len-start.result c.len-end.result start c.in_ok-prev_row.ensures.cells end c.in_ok-put_key_cells.ensures) in
-    let behind = take_rest c.deref-2.result.now c.len-end.result ∙ ap (drop c.len-end.result) c.deref-2.ensures.value ∙ key_behind rows.on.now rows.pick others cells read keyed_cells c.len-start.result c.len-end.result start c.in_ok-prev_row.ensures.cells end c.in_ok-put_key_cells.ensures in
-    let found : c.match_before-taken.result ≡ match_as_before rows.pick rows.index.now.members rows.notes.now.notes (key_cells Left rows.on.now cells) (time_of Left rows.pick cells) = c.match_before-taken.ensures ∙ ap₂ (match_as_before rows.pick rows.index.now.members rows.notes.now.notes) behind when in
-    let taken = ap (λ (m : Match). map (cell_of right.old.rows right.new.rows m) rows.take.now) found ∙ ready.before (key_cells Left rows.on.now cells) (time_of Left rows.pick cells) in
-    let whole = row_behind rows.on.now rows.pick others cells read keyed_cells c.len-start.result c.len-end.result start c.in_ok-prev_row.ensures.cells end c.in_ok-put_key_cells.ensures rows.take.now right.old.rows right.old.rows right.new.rows c.match_before-taken.result c.truncate.new.self.items _ c.truncate.ensures.items taken refl
+    let taken = ap (λ (m : Match). map (cell_of right.old.rows right.new.rows m) rows.take.now) c.match_before-taken.ensures ∙ ready.before _ _ in
+    let whole = taken_behind rows.on.now rows.pick rows.take.now right.old.rows read c.put_key_cells.new.cells.items c.truncate.new.self.items _ _ _ c.len-start.result c.len-end.result end c.in_ok-put_key_cells.ensures c.truncate.ensures.items
+    (take_rest c.deref-2.result.now c.len-end.result ∙ ap (drop c.len-end.result) c.deref-2.ensures.value)
+    (to_z-of_z w64 c.time_from-time.result fits ∙ c.time_from-time.ensures ∙ ap (λ (cells : List ℤ). time_of Left rows.pick (drop c.len-start.result cells)) c.deref.ensures.value) taken
+    ∙ row_behind rows.on.now rows.pick rows.take.now right.old.rows others (cells_at c.args.key left.old.rows) read c.len-start.result start c.in_ok-prev_row.ensures.cells
     ∙ ap (λ (row : List ℤ). others ++ row) (sym (cells_old rows.on.now rows.pick rows.take.now left ready.left_exact right ready.right_exact c.args.key there)) in
     subst (λ (all : List ℤ). OnOk c.put_cells.result (c.put_cells.new.cells.items ≡ all)) whole c.put_cells.ensures.cells

@@ -1,0 +1,31 @@
+use Rattle.std.proofs.Common.{◌≡◌, ap, sym, ◌∙◌, subst, rules, w64, SFits, List, ℤ, map, drop, length}
+use Rattle.std.specs.Prelude.{OnOk}
+use Rattle.std.proofs.lemmas.Int.{to_z-of_z}
+use Rattle.std.proofs.lemmas.List.{take_rest}
+use Rattle.lookup_join.specs.declared.keyed.Side.TheVariants.{Left}
+use Rattle.lookup_join.specs.declared.matches.Match.{Match}
+use Rattle.lookup_join.specs.Keyed.{time_of}
+use Rattle.lookup_join.specs.Taken.{IsThere, cell_of}
+use Rattle.lookup_join.proofs.Taking.{now_cells, now_there}
+use Rattle.lookup_join.proofs.Reading.{taken_behind}
+use Rattle.lookup_join.proofs.rows.MatchedRows.put_taken_now.Goals as goal
+
+pub put_cells-requires-clause-there : goal.put_cells-requires-clause-there
+put_cells-requires-clause-there g c =
+    let right = c.args.self.now.right.now in
+    subst (IsThere right.old right.new) (sym c.match_now-taken.ensures) (now_there c.requires.matched _ _)
+
+pub put_cells-requires-clause-take : goal.put_cells-requires-clause-take
+put_cells-requires-clause-take g c = c.requires.matched.within
+
+pub returns-clause-cells : goal.returns-clause-cells
+returns-clause-cells g c =
+    let rows = c.args.self.now in
+    let right = rows.right.now in
+    let end : c.len-end.result ≡ length c.args.cells.now.items = search rules in
+    let fits : SFits w64 c.time_from-time.result = search rules in
+    let taken = ap (λ (m : Match). map (cell_of right.old.rows right.new.rows m) rows.take.now) c.match_now-taken.ensures ∙ now_cells c.requires.matched _ _ in
+    let whole = taken_behind rows.on.now rows.pick rows.take.now right.new.rows c.args.cells.now.items c.put_key_cells.new.cells.items c.truncate.new.self.items _ _ _ c.args.start c.len-end.result end c.in_ok-put_key_cells.ensures c.truncate.ensures.items
+    (take_rest c.deref-2.result.now c.len-end.result ∙ ap (drop c.len-end.result) c.deref-2.ensures.value)
+    (to_z-of_z w64 c.time_from-time.result fits ∙ c.time_from-time.ensures ∙ ap (λ (cells : List ℤ). time_of Left rows.pick (drop c.args.start cells)) c.deref.ensures.value) taken in
+    subst (λ (all : List ℤ). OnOk c.put_cells.result (c.put_cells.new.cells.items ≡ all)) whole c.put_cells.ensures.cells
