@@ -22,7 +22,7 @@ ghost use Rattle.sort_op.specs.Sorter.{sorted};
 use crate::entry::Entry;
 use crate::order::SortOrder;
 use crate::positions::{keys_of, others, positions_of};
-use crate::reading::{Edits, RowPair, read_edits};
+use crate::reading::{Edits, read_edits};
 use crate::rows::SortedRows;
 use row_changes::{Touched, change_of_touched};
 use row_set::RowSet;
@@ -38,16 +38,11 @@ use tick_table::{Change, Steps, TickTable};
 pub struct SortOp {
     order: SortOrder,
     width: u32,
-    rows: RowPair,
 }
 
 impl Drop for SortOp {
     fn drop(self) {
-        let Self {
-            order: _,
-            width: _,
-            rows: _,
-        } = self;
+        let Self { order: _, width: _ } = self;
     }
 }
 
@@ -81,7 +76,6 @@ impl SortOp {
         SortOp {
             order: SortOrder::new(alloc, by),
             width,
-            rows: RowPair::new(alloc),
         }
     }
 
@@ -100,13 +94,9 @@ impl SortOp {
         ensures change { IfOk result (λ out. out.1 ≡ change_of (sorted self.by (tick_of input.now))) }
         ensures reads { IfOk result (λ out. reads.new ≤ reads.old + 4 * (input.now.new.width + input.now.new.width) * (counted input.now.update + counted out.1.update)) }
     {
-        let SortOp {
-            mut order,
-            width,
-            mut rows,
-        } = self;
-        let change = step_order(alloc, input, &mut order, &mut rows, reads)?;
-        Ok((SortOp { order, width, rows }, change))
+        let SortOp { mut order, width } = self;
+        let change = step_order(alloc, input, &mut order, reads)?;
+        Ok((SortOp { order, width }, change))
     }
 }
 
@@ -125,7 +115,6 @@ fn step_order<L: Ledger>(
     alloc: Global,
     input: &TickTable,
     order: &mut SortOrder,
-    rows: &mut RowPair,
     reads: &mut Steps<L>,
 ) -> Result<Change, AllocError>
     requires exact { IsExact input.now }
@@ -135,7 +124,7 @@ fn step_order<L: Ledger>(
     ensures change { IfOk result (λ change. change ≡ change_of (sorted order.old.by (tick_of input.now))) }
     ensures reads { IfOk result (λ change. reads.new ≤ reads.old + 4 * (input.now.new.width + input.now.new.width) * (counted input.now.update + counted change.update)) }
 {
-    let edits = read_edits(alloc, order.by(), input, rows, reads)?;
+    let edits = read_edits(alloc, order.by(), input, reads)?;
     edited(alloc, input, order, edits, reads)
 }
 

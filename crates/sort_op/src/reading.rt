@@ -1,9 +1,7 @@
 //! Reads the rows that a step touches, as entries of the order.
-ghost use Rattle.std.specs.Prelude.{◌≡◌, ◌+◌, ◌*◌, ◌≤◌, ◌++◌, ◌∷◌, [], filter, if◌then◌else◌, length, not, IfOk, IsTrue, OnOk};
-ghost use Rattle.key_lists.specs.Keys.{is_among};
+ghost use Rattle.std.specs.Prelude.{◌≡◌, ◌+◌, ◌*◌, ◌≤◌, ◌++◌, ◌∷◌, [], filter, if◌then◌else◌, length, not, IfOk, OnOk};
 ghost use Rattle.row_changes.specs.Parts.{AreThere};
 ghost use Rattle.tick_model.specs.Sort.{same_place};
-ghost use Rattle.tick_model.specs.Tables.{cells_at, keys};
 ghost use Rattle.tick_model.specs.Updates.{new_keys, old_keys};
 ghost use Rattle.tick_table.specs.Exact.{IsExact, tick_of};
 ghost use Rattle.sort_op.specs.Reading.{changed_before, changed_now, coming, entries_under, entry_with, leaving, sort_cells_alike};
@@ -18,7 +16,7 @@ use tick_model::cells::cell;
 use tick_model::items::Items;
 use tick_model::plan::SortBy;
 use tick_model::update::KeyPair;
-use tick_table::{Steps, TickTable};
+use tick_table::{RowsBefore, RowsNow, Steps, TickTable};
 
 /// The rows that a step touches, as entries of the order before the step and of the one now.
 #[derive(Drop)]
@@ -33,48 +31,11 @@ pub(crate) struct Edits {
     pub staying_now: Vec<Entry>,
 }
 
-/// A modified row as it was before a step and as it is now. The memory is used again for the next.
-#[derive(Drop)]
-pub(crate) struct RowPair {
-    row_before: Vec<i64>,
-    row_now: Vec<i64>,
-}
-
-impl RowPair {
-    /// No rows.
-    pub(crate) fn new(alloc: Global) -> RowPair {
-        RowPair {
-            row_before: Vec::new(alloc),
-            row_now: Vec::new(alloc),
-        }
-    }
-
-    /// Reads both rows of a pair whole.
-    fn read<L: Ledger>(
-        &mut self,
-        input: &TickTable,
-        pair: KeyPair,
-        reads: &mut Steps<L>,
-    ) -> Result<(), AllocError>
-        requires before { IsTrue (is_among pair.old (keys input.now.old.rows)) }
-        requires now { IsTrue (is_among pair.new (keys input.now.new.rows)) }
-        ensures before { OnOk result (self.new.row_before.items ≡ cells_at pair.old input.now.old.rows) }
-        ensures now { OnOk result (self.new.row_now.items ≡ cells_at pair.new input.now.new.rows) }
-        ensures reads { OnOk result (reads.new ≡ reads.old + input.now.old.width + input.now.new.width) }
-    {
-        self.row_before.clear();
-        self.row_now.clear();
-        input.prev_row(pair.old, &mut self.row_before, reads)?;
-        input.row(pair.new, &mut self.row_now, reads)
-    }
-}
-
 /// Reads the removed and the added rows, and the modified ones before and now.
 pub(crate) fn read_edits<L: Ledger>(
     alloc: Global,
     by: &[SortBy],
     input: &TickTable,
-    rows: &mut RowPair,
     reads: &mut Steps<L>,
 ) -> Result<Edits, AllocError>
     requires exact { IsExact input.now }
@@ -86,13 +47,13 @@ pub(crate) fn read_edits<L: Ledger>(
 {
     let update = input.update();
     let mut edits = Edits {
-        leaving: entries_before(alloc, by, input, update.removed(), rows, reads)?,
-        coming: entries_now(alloc, by, input, update.added(), rows, reads)?,
+        leaving: entries_before(alloc, by, input, update.removed(), reads)?,
+        coming: entries_now(alloc, by, input, update.added(), reads)?,
         staying_before: Vec::new(alloc),
         staying_now: Vec::new(alloc),
     };
     let modified = KeyPairs::modified(input)?;
-    edits.put_pairs(alloc, by, input, &modified, rows, reads)?;
+    edits.put_pairs(alloc, by, input, &modified, reads)?;
     Ok(edits)
 }
 
@@ -102,7 +63,6 @@ fn entries_before<L: Ledger>(
     by: &[SortBy],
     input: &TickTable,
     keys: &RowSet,
-    rows: &mut RowPair,
     reads: &mut Steps<L>,
 ) -> Result<Vec<Entry>, AllocError>
     requires here { AreThere input.now.old keys.now }
@@ -110,10 +70,9 @@ fn entries_before<L: Ledger>(
     ensures reads { OnOk result (reads.new ≤ reads.old + input.now.old.width * length keys.now) }
 {
     let mut entries = Vec::new(alloc);
+    let mut rows = RowsBefore::of(input);
     for key in keys {
-        rows.row_before.clear();
-        input.prev_row(key, &mut rows.row_before, reads)?;
-        entries.push(entry_of(alloc, by, rows.row_before.as_slice(), key)?)?;
+        entries.push(entry_of(alloc, by, rows.row(key, reads), key)?)?;
     }
     Ok(entries)
 }
@@ -124,7 +83,6 @@ fn entries_now<L: Ledger>(
     by: &[SortBy],
     input: &TickTable,
     keys: &RowSet,
-    rows: &mut RowPair,
     reads: &mut Steps<L>,
 ) -> Result<Vec<Entry>, AllocError>
     requires here { AreThere input.now.new keys.now }
@@ -132,10 +90,9 @@ fn entries_now<L: Ledger>(
     ensures reads { OnOk result (reads.new ≤ reads.old + input.now.new.width * length keys.now) }
 {
     let mut entries = Vec::new(alloc);
+    let mut rows = RowsNow::of(input);
     for key in keys {
-        rows.row_now.clear();
-        input.row(key, &mut rows.row_now, reads)?;
-        entries.push(entry_of(alloc, by, rows.row_now.as_slice(), key)?)?;
+        entries.push(entry_of(alloc, by, rows.row(key, reads), key)?)?;
     }
     Ok(entries)
 }
@@ -174,7 +131,6 @@ impl Edits {
         by: &[SortBy],
         input: &TickTable,
         pairs: &KeyPairs,
-        rows: &mut RowPair,
         reads: &mut Steps<L>,
     ) -> Result<(), AllocError>
         requires before { AreThere input.now.old (old_keys pairs.now) }
@@ -189,10 +145,13 @@ impl Edits {
             ≡ self.old.staying_now.items ++ entries_under by.now input.now.new (new_keys (filter (same_place by.now (tick_of input.now)) pairs.now))) }
         ensures reads { OnOk result (reads.new ≡ reads.old + (input.now.old.width + input.now.new.width) * length pairs.now) }
     {
+        let mut rows_before = RowsBefore::of(input);
+        let mut rows_now = RowsNow::of(input);
         for place in 0..pairs.len() {
             let pair = pairs.at(place);
-            rows.read(input, pair, reads)?;
-            self.put_modified(alloc, by, pair, rows)?;
+            let before = rows_before.row(pair.old, reads);
+            let now = rows_now.row(pair.new, reads);
+            self.put_modified(alloc, by, pair, before, now)?;
         }
         Ok(())
     }
@@ -203,16 +162,17 @@ impl Edits {
         alloc: Global,
         by: &[SortBy],
         pair: KeyPair,
-        rows: &RowPair,
+        row_before: &[i64],
+        row_now: &[i64],
     ) -> Result<(), AllocError>
-        ensures leaving { OnOk result (self.new.leaving.items ≡ self.old.leaving.items ++ (if not (sort_cells_alike by.now rows.now.row_before.items rows.now.row_now.items) then entry_with by.now rows.now.row_before.items pair.old ∷ [] else [])) }
-        ensures coming { OnOk result (self.new.coming.items ≡ self.old.coming.items ++ (if not (sort_cells_alike by.now rows.now.row_before.items rows.now.row_now.items) then entry_with by.now rows.now.row_now.items pair.new ∷ [] else [])) }
-        ensures staying_before { OnOk result (self.new.staying_before.items ≡ self.old.staying_before.items ++ (if sort_cells_alike by.now rows.now.row_before.items rows.now.row_now.items then entry_with by.now rows.now.row_before.items pair.old ∷ [] else [])) }
-        ensures staying_now { OnOk result (self.new.staying_now.items ≡ self.old.staying_now.items ++ (if sort_cells_alike by.now rows.now.row_before.items rows.now.row_now.items then entry_with by.now rows.now.row_now.items pair.new ∷ [] else [])) }
+        ensures leaving { OnOk result (self.new.leaving.items ≡ self.old.leaving.items ++ (if not (sort_cells_alike by.now row_before.now row_now.now) then entry_with by.now row_before.now pair.old ∷ [] else [])) }
+        ensures coming { OnOk result (self.new.coming.items ≡ self.old.coming.items ++ (if not (sort_cells_alike by.now row_before.now row_now.now) then entry_with by.now row_now.now pair.new ∷ [] else [])) }
+        ensures staying_before { OnOk result (self.new.staying_before.items ≡ self.old.staying_before.items ++ (if sort_cells_alike by.now row_before.now row_now.now then entry_with by.now row_before.now pair.old ∷ [] else [])) }
+        ensures staying_now { OnOk result (self.new.staying_now.items ≡ self.old.staying_now.items ++ (if sort_cells_alike by.now row_before.now row_now.now then entry_with by.now row_now.now pair.new ∷ [] else [])) }
     {
-        let before = entry_of(alloc, by, rows.row_before.as_slice(), pair.old)?;
-        let now = entry_of(alloc, by, rows.row_now.as_slice(), pair.new)?;
-        if same_sort_cells(by, rows.row_before.as_slice(), rows.row_now.as_slice()) {
+        let before = entry_of(alloc, by, row_before, pair.old)?;
+        let now = entry_of(alloc, by, row_now, pair.new)?;
+        if same_sort_cells(by, row_before, row_now) {
             self.staying_before.push(before)?;
             self.staying_now.push(now)?;
         } else {

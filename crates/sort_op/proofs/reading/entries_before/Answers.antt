@@ -1,26 +1,28 @@
-use Rattle.std.proofs.Common.{◌≡◌, ◌++◌, ◌∙◌, ◌∷◌, [], ap, arith, true, List, ℤ, length-append, subst, ℕ, length, ◌≤◌, ◌+◌, ◌*◌}
+use Rattle.std.proofs.Common.{◌≡◌, ◌++◌, ◌∙◌, ◌∷◌, [], ap, arith, true, List, subst, ℕ, length, ◌≤◌, ◌+◌, ◌*◌}
 use Rattle.key_lists.specs.Keys.{is_among}
 use Rattle.row_set.proofs.Yielded.{next_has, yielded_all}
-use Rattle.tick_model.specs.Tables.{cells_at, keys}
+use Rattle.tick_model.specs.Tables.{keys}
 use Rattle.sort_op.specs.Reading.{entry_with, entries_under}
 use Rattle.sort_op.proofs.ReadRows.{entries_next}
 use Rattle.row_changes.proofs.Comparing.{reads_next}
 use Rattle.sort_op.proofs.reading.entries_before.Goals as goal
 
-pub prev_row-requires : goal.prev_row-requires
-prev_row-requires g c = record {
-  here = next_has c.loop-key.yielded c.into_iter-key-iterator.ensures.into_iter_gives c.loop-key.yielded_by c.in-Some.ensures.steps (λ key. is_among key (keys c.args.input.now.old.rows) ≡ true) c.requires.here;
+pub row-requires : goal.row-requires
+row-requires g c = record {
+  here = rw c.loop-key.invariant.rows (next_has c.loop-key.yielded c.into_iter-key-iterator.ensures.into_iter_gives c.loop-key.yielded_by c.in-Some.ensures.steps (λ key. is_among key (keys c.args.input.now.old.rows) ≡ true) c.requires.here);
 }
 
 pub loop-key-preserved : goal.loop-key-preserved
 loop-key-preserved g c =
     let yielded = c.loop-key.yielded in
-    let key = c.in-Some.key in record {
+    let key = c.in-Some.key in
+    let row = rw c.loop-key.invariant.rows at c.row.ensures in record {
+      rows = row.same;
       entries =
           c.in_ok-push.ensures.items
-          ∙ ap (λ entry. c.loop-key.entries.items ++ entry ∷ []) (c.in_ok-entry_of.ensures ∙ ap (λ cells. entry_with c.args.by.now cells key) (c.as_slice.ensures.value ∙ c.in_ok-prev_row.ensures.cells ∙ ap (λ (cells : List ℤ). cells ++ cells_at key c.args.input.now.old.rows) c.clear.ensures.items))
+          ∙ ap (λ entry. c.loop-key.entries.items ++ entry ∷ []) (c.in_ok-entry_of.ensures ∙ ap (λ cells. entry_with c.args.by.now cells key) row.cells)
           ∙ entries_next c.args.by.now c.args.input.now.old yielded key c.loop-key.entries.items c.loop-key.invariant.entries;
-      reads = reads_next c.args.input.now.old.width c.args.reads.now c.loop-key.reads c.prev_row.new.reads yielded key c.loop-key.invariant.reads (omega (arith, c.in_ok-prev_row.ensures.reads));
+      reads = reads_next c.args.input.now.old.width c.args.reads.now c.loop-key.reads c.row.new.reads yielded key c.loop-key.invariant.reads (omega (arith, row.reads));
     }
 
 pub returns-clause-entries : goal.returns-clause-entries

@@ -7,6 +7,8 @@ use Rattle.sort_op.proofs.reading.Edits.put_pairs.Given as goal
 
 abbrev pub invariant-loop-place : goal.invariant-loop-place
 invariant-loop-place g l = record {
+  rows_before : l.rows_before ≡ l.input;
+  rows_now : l.rows_now ≡ l.input;
   leaving : l.self.leaving.items ≡ l.fn.self.leaving.items ++ entries_under l.by l.input.old (old_keys (filter (λ pair. not (same_place l.by (tick_of l.input) pair)) (take l.place l.pairs)));
   coming : l.self.coming.items ≡ l.fn.self.coming.items ++ entries_under l.by l.input.new (new_keys (filter (λ pair. not (same_place l.by (tick_of l.input) pair)) (take l.place l.pairs)));
   staying_before : l.self.staying_before.items ≡ l.fn.self.staying_before.items ++ entries_under l.by l.input.old (old_keys (filter (same_place l.by (tick_of l.input)) (take l.place l.pairs)));
