@@ -1,5 +1,5 @@
 -- Where entries stand that were put in one behind the other.
-use Rattle.std.proofs.Common.{◌≡◌, refl, ap, ap₂, sym, ◌∙◌, subst, Bool, true, false, ◌||◌, ◌==◌, ℕ, zero, suc, ◌<◌, ◌≤◌, arith, List, [], ◌∷◌, ◌++◌, take, drop, length, get_or, append_assoc, take-append-drop, length-take-le, None, inl, inr}
+use Rattle.std.proofs.Common.{◌≡◌, refl, ap, ap₂, sym, ◌∙◌, subst, Bool, true, false, ◌||◌, ◌==◌, ℕ, zero, suc, ◌<◌, ◌≤◌, arith, List, [], ◌∷◌, ◌++◌, map, take, drop, length, get_or, append_assoc, take-append-drop, length-take-le, None, inl, inr}
 use Rattle.std.specs.Prelude.{insert, slice_get}
 use Rattle.std.specs.Cmp.{IsStrictWeakOrder}
 use Rattle.std.specs.List.{AllByRecursion}
@@ -13,7 +13,7 @@ use Rattle.std.proofs.lemmas.List.MinMax.{ranks_by}
 use Rattle.std.proofs.lemmas.List.Sorted.{list_any-IsPermutation, sorted_far}
 use Rattle.key_lists.specs.Keys.{is_among}
 use Rattle.key_lists.proofs.Among.{among-append}
-use Rattle.key_lists.proofs.Every.{every_both, every_weaker}
+use Rattle.key_lists.proofs.Every.{every, every_both, every_weaker, every-map, map_own}
 use Rattle.key_lists.proofs.Booleans.{or_false, or_true}
 use Rattle.key_lists.proofs.Parts.{every_front, every_back}
 use Rattle.tick_model.specs.declared.plan.SortBy.{SortBy}
@@ -63,19 +63,25 @@ module _ (entry : Entry) (came : List Entry) where
           ]
 
 module _ (by : List SortBy) where
-  -- what a sort by the order backward leaves
-  pub backward_weak : IsStrictWeakOrder (λ a b. comes_before by b a)
-  backward_weak = ranks_by (back_total (entries_total by)) (λ (entry : Entry). entry)
+  -- what a sort by the order backward leaves, of rows by their entries
+  pub rows_weak : {X : Type 0} (f : X → Entry) → IsStrictWeakOrder (λ a b. comes_before by (f b) (f a))
+  rows_weak f = ranks_by (back_total (entries_total by)) f
 
-  falls_at : (xs : List Entry) → ((i j : ℕ) (d : Entry) → i < j → j < length xs → comes_before by (get_or xs i d) (get_or xs j d) ≡ false) → Falls by xs
-  falls_at [] h = tt
-  falls_at (x ∷ xs) h = (
-    recursion_from_All (λ y. comes_before by x y ≡ false) xs (λ k d within. h 0 (suc k) d (omega arith) (omega (arith, within))),
-    falls_at xs (λ i j d less within. h (suc i) (suc j) d (omega (arith, less)) (omega (arith, within))),
+  rows_fall_at : {X : Type 0} (f : X → Entry) (xs : List X) → ((i j : ℕ) (d : X) → i < j → j < length xs → comes_before by (f (get_or xs i d)) (f (get_or xs j d)) ≡ false) → Falls by (map f xs)
+  rows_fall_at f [] h = tt
+  rows_fall_at f (x ∷ xs) h = (
+    every-map (λ y. comes_before by (f x) y ≡ false) f xs (recursion_from_All (λ y. comes_before by (f x) (f y) ≡ false) xs (λ k d within. h 0 (suc k) d (omega arith) (omega (arith, within)))),
+    rows_fall_at f xs (λ i j d less within. h (suc i) (suc j) d (omega (arith, less)) (omega (arith, within))),
   )
 
+  pub rows_fall : {X : Type 0} (f : X → Entry) (xs : List X) → IsSortedBy (λ a b. comes_before by (f b) (f a)) xs → Falls by (map f xs)
+  rows_fall f xs sorted = rows_fall_at f xs (λ i j d less within. sorted_far (λ a b. comes_before by (f b) (f a)) (rows_weak f) xs sorted i j d (omega (arith, less)) within)
+
+  pub backward_weak : IsStrictWeakOrder (λ a b. comes_before by b a)
+  backward_weak = rows_weak (λ (entry : Entry). entry)
+
   pub falls : (xs : List Entry) → IsSortedBy (λ a b. comes_before by b a) xs → Falls by xs
-  falls xs sorted = falls_at xs (λ i j d less within. sorted_far (λ a b. comes_before by b a) backward_weak xs sorted i j d (omega (arith, less)) within)
+  falls xs sorted = subst (Falls by) (map_own (λ (entry : Entry). entry) xs (every (λ entry. entry ≡ entry) xs (λ entry. refl))) (rows_fall (λ (entry : Entry). entry) xs sorted)
 
   falls_back : (xs ys : List Entry) → Falls by (xs ++ ys) → Falls by ys
   falls_back [] ys h = h

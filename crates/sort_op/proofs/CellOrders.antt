@@ -18,7 +18,7 @@ drop-next zero xs = refl
 drop-next (suc i) [] = refl
 drop-next (suc i) (x ∷ xs) = drop-next i xs
 
-head_first : (by : List SortBy) (i : ℕ) (d : SortBy) → i < length by → drop i by ≡ get_or by i d ∷ drop (suc i) by
+pub head_first : (by : List SortBy) (i : ℕ) (d : SortBy) → i < length by → drop i by ≡ get_or by i d ∷ drop (suc i) by
 head_first [] i d lt = absurd (omega arith)
 head_first (first ∷ by) zero d lt = refl
 head_first (first ∷ by) (suc i) d lt = head_first by i d (omega arith)

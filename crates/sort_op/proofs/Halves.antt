@@ -1,7 +1,7 @@
 -- Pairs of which some pass a test: the keys of these and of the others.
 use Rattle.std.proofs.Common.{◌≡◌, refl, ap, ap₂, sym, ◌∙◌, Bool, true, false, not, ◌&&◌, ◌||◌, ℕ, List, map, filter, ◌++◌, true≢false, inl, inr}
 use Rattle.std.specs.List.{AllByRecursion}
-use Rattle.std.proofs.lemmas.Bool.{cases_Bool, not-true}
+use Rattle.std.proofs.lemmas.Bool.{cases_Bool}
 use Rattle.key_lists.specs.Keys.{is_among, IsRising, without}
 use Rattle.key_lists.proofs.Among.{among-append, among-filter, each_among, of_among}
 use Rattle.key_lists.proofs.Every.{every_both, every-append, every-filter, every-map, every_unmapped}
@@ -69,9 +69,3 @@ module _ (f : KeyPair → ℕ) (test : KeyPair → Bool) (pairs : List KeyPair) 
         (every-filter (λ key. is_among key all ≡ true) (λ key. not (is_among key (map f pairs))) all (each_among all))
         (every-map (λ key. is_among key all ≡ true) f (filter (λ pair. not (test pair)) pairs)
         (every-filter (λ (pair : KeyPair). is_among (f pair) all ≡ true) (λ pair. not (test pair)) pairs (every_unmapped (λ key. is_among key all ≡ true) f pairs within)))
-
-    pub left_apart : AllByRecursion (λ key. is_among key (passing f test pairs) ≡ false) (without (map f pairs) all ++ rest f test pairs)
-    left_apart =
-        every_both (λ key. is_among key (without (map f pairs) all ++ rest f test pairs) ≡ true) (λ key. is_among key all ≡ true) (λ key. is_among key (passing f test pairs) ≡ false) (without (map f pairs) all ++ rest f test pairs)
-        (λ key own here. not-true (is_among key (passing f test pairs)) (sym (left_over all key here) ∙ own))
-        (each_among (without (map f pairs) all ++ rest f test pairs)) left_within

@@ -1,32 +1,29 @@
--- Entries without those at some positions.
-use Rattle.std.proofs.Common.{◌≡◌, refl, ap, sym, ◌∙◌, subst, Bool, true, false, cond, not, ◌||◌, ℕ, zero, suc, ◌+◌, ◌<◌, ◌≤◌, arith, List, [], ◌∷◌, drop, length, Some}
-use Rattle.std.specs.Prelude.{filter, remove, slice_get}
+-- Lists without what stands at some positions.
+use Rattle.std.proofs.Common.{◌≡◌, refl, ap, sym, ◌∙◌, subst, Bool, true, false, cond, not, ◌||◌, ℕ, zero, suc, ◌+◌, ◌<◌, ◌≤◌, arith, List, [], ◌∷◌, map, drop, length, Option, Some, None}
+use Rattle.std.specs.Prelude.{filter, option_map, remove, slice_get}
 use Rattle.std.specs.List.{AllByRecursion}
 use Rattle.std.specs.Option.{option_map_or}
 use Rattle.std.proofs.lemmas.Bool.{eq-eqb, ne_eqb}
 use Rattle.std.proofs.lemmas.List.{drop_all}
+use Rattle.std.proofs.lemmas.Option.{slice_get-map}
 use Rattle.key_lists.specs.Keys.{is_among, IsRising}
 use Rattle.key_lists.proofs.Among.{among_below, among_past, each_among}
 use Rattle.key_lists.proofs.Every.{every_weaker}
 use Rattle.key_lists.proofs.Parts.{drop_got, every_got}
 use Rattle.row_set.proofs.Windows.{rising-drop}
-use Rattle.tick_model.specs.declared.plan.SortBy.{SortBy}
-use Rattle.sort_op.specs.declared.entry.Entry.{Entry}
-use Rattle.sort_op.specs.Entries.{is_in, Rises}
-use Rattle.sort_op.specs.Places.{AreFound, left_from}
-use Rattle.sort_op.proofs.EntryPlaces.{place_is}
+use Rattle.sort_op.specs.Places.{AreUnder, left_from}
 use Rattle.sort_op.proofs.Made.{held_within}
 
 -- where none is left out
-left_none : (first : ℕ) (entries : List Entry) → left_from first [] entries ≡ entries
+left_none : {X : Type 0} (first : ℕ) (entries : List X) → left_from first [] entries ≡ entries
 left_none first [] = refl
 left_none first (entry ∷ entries) = ap (λ others. entry ∷ others) (left_none (suc first) entries)
 
-pub left_all : (entries : List Entry) (positions : List ℕ) (n : ℕ) → n ≡ length positions → entries ≡ left_from 0 (drop n positions) entries
+pub left_all : {X : Type 0} (entries : List X) (positions : List ℕ) (n : ℕ) → n ≡ length positions → entries ≡ left_from 0 (drop n positions) entries
 left_all entries positions n is = sym (ap (λ some. left_from 0 some entries) (drop_all n positions (omega (arith, is))) ∙ left_none 0 entries)
 
 -- a position before the first entry leaves none out
-left_past : (first position : ℕ) (later : List ℕ) (entries : List Entry) → position < first → left_from first (position ∷ later) entries ≡ left_from first later entries
+left_past : {X : Type 0} (first position : ℕ) (later : List ℕ) (entries : List X) → position < first → left_from first (position ∷ later) entries ≡ left_from first later entries
 left_past first position later [] past = refl
 left_past first position later (entry ∷ entries) past =
     ap (λ b. cond b (left_from (suc first) (position ∷ later) entries) (entry ∷ left_from (suc first) (position ∷ later) entries)) (among_past first position later past)
@@ -36,7 +33,7 @@ none_here : (first position : ℕ) (later : List ℕ) → first ≤ position →
 none_here first position later le above = among_below first later (every_weaker (λ other. position < other) (λ other. first < other) later (λ other less. omega (arith, less, le)) above)
 
 -- a position before all others leaves one entry more out
-left_one : (entries : List Entry) (at first position : ℕ) (later : List ℕ) → position ≡ first + at → at < length entries → AllByRecursion (λ other. position < other) later
+left_one : {X : Type 0} (entries : List X) (at first position : ℕ) (later : List ℕ) → position ≡ first + at → at < length entries → AllByRecursion (λ other. position < other) later
     → (at < length (left_from first later entries)) × (left_from first (position ∷ later) entries ≡ remove (left_from first later entries) at)
 left_one [] at first position later is within above = absurd (omega (arith, within))
 left_one (entry ∷ entries) zero first position later is within above =
@@ -63,7 +60,7 @@ left_one (entry ∷ entries) (suc at) first position later is within above =
     )
 
 -- what is left out from one place of the positions on
-pub left_more : (entries : List Entry) (positions : List ℕ) (n next position : ℕ) → next ≡ suc n → IsRising positions → AllByRecursion (λ position. position < length entries) positions → slice_get positions n ≡ Some position
+pub left_more : {X : Type 0} (entries : List X) (positions : List ℕ) (n next position : ℕ) → next ≡ suc n → IsRising positions → AllByRecursion (λ position. position < length entries) positions → slice_get positions n ≡ Some position
     → (position < length (left_from 0 (drop next positions) entries)) × (left_from 0 (drop n positions) entries ≡ remove (left_from 0 (drop next positions) entries) position)
 left_more entries positions n next position is rising within at =
     let split = drop_got positions n position at in
@@ -75,24 +72,29 @@ left_more entries positions n next position is rising within at =
     )
 
 -- where the positions are those that pass a test
-left_passed : (p : Entry → Bool) (positions : List ℕ) (first : ℕ) (entries : List Entry) → ((position at : ℕ) → position ≡ first + at → is_among position positions ≡ option_map_or p (slice_get entries at) false) → left_from first positions entries ≡ filter (λ entry. not (p entry)) entries
+left_passed : {X : Type 0} (p : X → Bool) (positions : List ℕ) (first : ℕ) (entries : List X) → ((position at : ℕ) → position ≡ first + at → is_among position positions ≡ option_map_or p (slice_get entries at) false) → left_from first positions entries ≡ filter (λ entry. not (p entry)) entries
 left_passed p positions first [] h = refl
 left_passed p positions first (entry ∷ entries) h =
     ap (λ b. cond b (left_from (suc first) positions entries) (entry ∷ left_from (suc first) positions entries)) (h first 0 (omega arith))
     ∙ turned (p entry) (left_passed p positions (suc first) entries (λ position at is. h position (suc at) (omega (arith, is))))
   where
-    turned : (b : Bool) {xs ys : List Entry} → xs ≡ ys → cond b xs (entry ∷ xs) ≡ cond (not b) (entry ∷ ys) ys
+    turned : (b : Bool) {xs ys : List _} → xs ≡ ys → cond b xs (entry ∷ xs) ≡ cond (not b) (entry ∷ ys) ys
     turned true e = e
     turned false e = ap (λ xs. entry ∷ xs) e
 
-module _ (by : List SortBy) (entries some : List Entry) (rises : Rises by entries) (positions : List ℕ) (found : AreFound entries some positions) where
-  here : (position : ℕ) → is_among position positions ≡ option_map_or (λ entry. is_in entry some) (slice_get entries position) false
-  here position = found position ∙ place_is by entries some position rises
+-- the positions of those whose keys are some
+module _ {X : Type 0} (f : X → ℕ) (xs : List X) (some positions : List ℕ) (under : AreUnder (map f xs) some positions) where
+  pub under_here : (position : ℕ) → is_among position positions ≡ option_map_or (λ x. is_among (f x) some) (slice_get xs position) false
+  under_here position = under position ∙ ap (λ o. option_map_or (λ key. is_among key some) o false) (slice_get-map f xs position) ∙ go (slice_get xs position)
+    where
+      go : (o : Option X) → option_map_or (λ key. is_among key some) (option_map f o) false ≡ option_map_or (λ x. is_among (f x) some) o false
+      go None = refl
+      go (Some x) = refl
 
-  pub found_within : AllByRecursion (λ position. position < length entries) positions
-  found_within =
-      every_weaker (λ position. is_among position positions ≡ true) (λ position. position < length entries) positions
-      (λ position own. held_within (λ entry. is_in entry some) entries position (sym (here position) ∙ own)) (each_among positions)
+  pub under_within : AllByRecursion (λ position. position < length xs) positions
+  under_within =
+      every_weaker (λ position. is_among position positions ≡ true) (λ position. position < length xs) positions
+      (λ position own. held_within (λ x. is_among (f x) some) xs position (sym (under_here position) ∙ own)) (each_among positions)
 
-  pub found_left : left_from 0 positions entries ≡ filter (λ entry. not (is_in entry some)) entries
-  found_left = left_passed (λ entry. is_in entry some) positions 0 entries (λ position at is. here position ∙ ap (λ n. option_map_or (λ entry. is_in entry some) (slice_get entries n) false) (let same : position ≡ at = omega (arith, is) in same))
+  pub under_left : left_from 0 positions xs ≡ filter (λ x. not (is_among (f x) some)) xs
+  under_left = left_passed (λ x. is_among (f x) some) positions 0 xs (λ position at is. under_here position ∙ ap (λ n. option_map_or (λ x. is_among (f x) some) (slice_get xs n) false) (let same : position ≡ at = omega (arith, is) in same))

@@ -14,7 +14,11 @@ pub mod Halves
 pub mod EntryPlaces
 pub mod PlacedPairs
 pub mod Sides
-pub mod ReadRows
+pub mod KeptCells
+pub mod Ranked
+pub mod RankedEdits
+pub mod Entering
+pub mod ModifiedRows
 pub mod SortedChange
 pub mod Stepped
 pub mod StepParts

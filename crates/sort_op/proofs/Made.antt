@@ -20,7 +20,7 @@ first_from (x ∷ xs) zero = refl
 first_from (x ∷ xs) (suc n) = first_from xs n
 
 -- what passes a test at a place is there
-pub held_within : (p : Entry → Bool) (xs : List Entry) (i : ℕ) → option_map_or p (slice_get xs i) false ≡ true → i < length xs
+pub held_within : {X : Type 0} (p : X → Bool) (xs : List X) (i : ℕ) → option_map_or p (slice_get xs i) false ≡ true → i < length xs
 held_within p [] i e = absurd (true≢false (sym e))
 held_within p (x ∷ xs) zero e = omega arith
 held_within p (x ∷ xs) (suc i) e = omega (arith, held_within p xs i e)

@@ -1,11 +1,11 @@
 -- Entries by their keys: which of them are those of rows, under some keys or in order.
-use Rattle.std.proofs.Common.{◌≡◌, refl, ap, ap₂, sym, ◌∙◌, subst, Bool, true, false, cond, ◌&&◌, ◌||◌, ◌==◌, ℕ, ◌<◌, ◌≤◌, arith, List, [], ◌∷◌, ◌++◌, map, filter, length, Option, Some, unwrap_or, true≢false, inl, inr, is_lt}
-use Rattle.std.specs.Prelude.{nat_lt, option_map}
+use Rattle.std.proofs.Common.{◌≡◌, refl, ap, ap₂, sym, ◌∙◌, subst, Bool, true, false, cond, ◌&&◌, ◌||◌, ◌==◌, ℕ, ◌≤◌, arith, List, [], ◌∷◌, map, filter, length, Option, Some, unwrap_or, true≢false, inl, inr, is_lt}
+use Rattle.std.specs.Prelude.{option_map}
 use Rattle.std.specs.List.{AllByRecursion, list_any}
-use Rattle.std.proofs.lemmas.Bool.{and_left, and_parts, and_right, cases_Bool, cases_eq, eqb-false, eqb-true, eq-eqb, ltb-true, ltb-false, ne_eqb, or_cases, or_parts}
+use Rattle.std.proofs.lemmas.Bool.{and_left, and_parts, and_right, cases_Bool, cases_eq, eqb-false, eqb-true, eq-eqb, ne_eqb, or_cases, or_parts}
 use Rattle.std.proofs.lemmas.List.Sums.{length-filter}
 use Rattle.key_lists.specs.Keys.{is_among, IsRising}
-use Rattle.key_lists.proofs.Among.{among-append, among_below, absent-filter}
+use Rattle.key_lists.proofs.Among.{among_below}
 use Rattle.key_lists.proofs.Every.{every_weaker, filter_none, map_map, map_same, any-map}
 use Rattle.key_lists.proofs.Booleans.{or_swap, same_truth, or_true}
 use Rattle.tick_model.specs.declared.plan.SortBy.{SortBy}
@@ -14,9 +14,9 @@ use Rattle.tick_model.specs.declared.table.PlainTable.{PlainTable}
 use Rattle.tick_model.specs.Sort.{in_order, ordered, place, sort_cmp}
 use Rattle.tick_model.specs.Tables.{keys, row_at, same_cells}
 use Rattle.tick_model.proofs.Among.{each_found}
-use Rattle.tick_model.proofs.TableRows.{every-place}
 use Rattle.sort_op.specs.declared.entry.Entry.{Entry}
 use Rattle.sort_op.specs.Entries.{AreDistinct, is_in, is_same, keys_in}
+use Rattle.sort_op.specs.Places.{AreApart}
 use Rattle.sort_op.specs.Reading.{entries_under, entry_under, entry_with}
 use Rattle.sort_op.specs.Sorted.{entries_of, entry_of}
 use Rattle.sort_op.proofs.Comparing.{same_is}
@@ -40,30 +40,12 @@ pub any-ordered : {X : Type 0} (p : X → Bool) (less : X → X → Bool) (xs : 
 any-ordered p less [] = refl
 any-ordered p less (x ∷ xs) = any-place p less x (ordered less xs) ∙ ap (λ b. p x || b) (any-ordered p less xs)
 
--- no key comes twice
-abbrev pub AreApart : List ℕ → Type 0
-AreApart [] = Unit {0}
-AreApart (key ∷ keys) = (is_among key keys ≡ false) × AreApart keys
-
 pub apart_rising : (keys : List ℕ) → IsRising keys → AreApart keys
 apart_rising [] r = tt
 apart_rising (key ∷ keys) r = (among_below key keys r.0, apart_rising keys r.1)
 
-pub apart_append : (xs ys : List ℕ) → AreApart xs → AreApart ys → AllByRecursion (λ x. is_among x ys ≡ false) xs → AreApart (xs ++ ys)
-apart_append [] ys h k out = k
-apart_append (x ∷ xs) ys h k out = (among-append x xs ys ∙ ap₂ (λ a b. a || b) h.0 out.0, apart_append xs ys h.1 k out.1)
-
 pub unequal_flip : (a b : ℕ) → (a == b) ≡ false → (b == a) ≡ false
 unequal_flip a b e = ne_eqb b a (λ same. eqb-false a b e (sym same))
-
-module _ {X : Type 0} (f : X → ℕ) where
-  pub apart-filter : (q : X → Bool) (xs : List X) → AreApart (map f xs) → AreApart (map f (filter q xs))
-  apart-filter q [] h = tt
-  apart-filter q (x ∷ xs) h =
-      elim (q x) as (λ b. AreApart (map f (cond b (x ∷ filter q xs) (filter q xs)))) [
-        | true ↦ (absent-filter f q (f x) xs h.0, apart-filter q xs h.1)
-        | false ↦ apart-filter q xs h.1
-      ]
 
 module _ {X : Type 0} (f : X → ℕ) (less : X → X → Bool) where
   among-place : (key : ℕ) (x : X) (xs : List X) → is_among key (map f (place less x xs)) ≡ ((f x == key) || is_among key (map f xs))
@@ -90,23 +72,6 @@ module _ {X : Type 0} (f : X → ℕ) (less : X → X → Bool) where
   pub apart-ordered : (xs : List X) → AreApart (map f xs) → AreApart (map f (ordered less xs))
   apart-ordered [] h = tt
   apart-ordered (x ∷ xs) h = apart-place x (ordered less xs) (among-ordered (f x) xs ∙ h.0) (apart-ordered xs h.1)
-
--- numbers in order rise where none comes twice
-below_from : (x y : ℕ) → nat_lt y x ≡ false → (y == x) ≡ false → x < y
-below_from x y e other = let most = ltb-false y x e in let unequal = eqb-false y x other in omega (arith, most, unequal)
-
-rising-place : (x : ℕ) (xs : List ℕ) → is_among x xs ≡ false → IsRising xs → IsRising (place (λ a b. nat_lt a b) x xs)
-rising-place x [] out r = (tt, tt)
-rising-place x (y ∷ ys) out r =
-    let parts = or_parts (y == x) (is_among x ys) out in
-    (elim (nat_lt y x) as (λ b. nat_lt y x ≡ b → IsRising (cond b (y ∷ place (λ a b. nat_lt a b) x ys) (x ∷ y ∷ ys))) [
-      | true ↦ λ e. (every-place (λ z. y < z) (λ a b. nat_lt a b) x ys (ltb-true y x e) r.0, rising-place x ys parts.1 r.1)
-      | false ↦ λ e. let less = below_from x y e parts.0 in ((less, every_weaker (λ z. y < z) (λ z. x < z) ys (λ z h. omega (arith, h, less)) r.0), r)
-    ]) refl
-
-pub rising-ordered : (xs : List ℕ) → AreApart xs → IsRising (ordered (λ a b. nat_lt a b) xs)
-rising-ordered [] h = tt
-rising-ordered (x ∷ xs) h = rising-place x (ordered (λ a b. nat_lt a b) xs) (any-ordered (λ other. other == x) (λ a b. nat_lt a b) xs ∙ h.0) (rising-ordered xs h.1)
 
 -- entries that pass a test
 in_filter_step : (b s t n m : Bool) → (s ≡ true → b ≡ t) → n ≡ (t && m) → cond b (s || n) n ≡ (t && (s || m))

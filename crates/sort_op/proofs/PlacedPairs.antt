@@ -20,7 +20,8 @@ use Rattle.tick_model.specs.Tables.{keys, row_at}
 use Rattle.tick_model.specs.Updates.{new_keys, old_keys}
 use Rattle.tick_model.proofs.Among.{each_found}
 use Rattle.sort_op.proofs.KeptPlaces.{place_kept, places_from}
-use Rattle.sort_op.proofs.Members.{AreApart, apart-ordered, apart_rising, unequal_flip}
+use Rattle.sort_op.specs.Places.{AreApart}
+use Rattle.sort_op.proofs.Members.{apart-ordered, apart_rising, unequal_flip}
 
 -- a key that is not among others is unequal to each
 others_unequal : (key : ℕ) (others : List ℕ) → is_among key others ≡ false → AllByRecursion (λ other. (other == key) ≡ false) others

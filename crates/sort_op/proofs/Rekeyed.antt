@@ -10,7 +10,9 @@ use Rattle.std.proofs.lemmas.List.Sorted.{IsStrictWeakOrder-by_number}
 use Rattle.table_update.proofs.StillKeys.{still_key}
 use Rattle.chunk_list.specs.Chunked.{joined, IsChunk}
 use Rattle.chunk_list.proofs.Changing.{joined-changed}
-use Rattle.key_lists.specs.Keys.{IsRising}
+use Rattle.std.proofs.lemmas.Bool.{le-ltb}
+use Rattle.key_lists.specs.Keys.{IsRising, is_among}
+use Rattle.key_lists.proofs.Among.{each_among, of_among}
 use Rattle.key_lists.proofs.Every.{every, every_weaker, every-map, every_unmapped, map_own}
 use Rattle.tick_model.specs.declared.plan.SortBy.{SortBy}
 use Rattle.tick_model.specs.declared.update.ShiftRange.{ShiftRange}
@@ -22,6 +24,7 @@ use Rattle.shift_data.specs.Moves.{IsLawful}
 use Rattle.shift_data.proofs.Lawful.{lawful}
 use Rattle.sort_op.specs.declared.entry.Entry.{Entry}
 use Rattle.sort_op.specs.Cells.{cells_cmp}
+use Rattle.sort_op.proofs.Members.{any-ordered}
 use Rattle.sort_op.specs.Entries.{comes_before, keys_in, rekeyed, rising_keys, IsOrder, IsWhole, Rises}
 
 -- what holds of all in order holds of all
@@ -61,15 +64,24 @@ module _ (shifts : List ShiftRange) where
       every_unmapped (λ key. is_past (2 ^ 62) (moved shifts key) ≡ false) (λ (entry : Entry). entry.key) entries
       (unordered (λ key. is_past (2 ^ 62) (moved shifts key) ≡ false) (λ x y. nat_lt x y) (keys_in entries) (lawful shifts (rising_keys entries) law).inside)
 
+  keep_among : (keys : List ℕ) (entries : List Entry) → IsInOrder (λ x y. nat_lt x y) numbers_weak keys → IsLawful shifts keys → AllByRecursion (λ (entry : Entry). is_among entry.key keys ≡ true) entries
+      → AllByRecursion (λ (a : Entry). AllByRecursion (λ (b : Entry). a.key < b.key → lands a.key < lands b.key) entries) entries
+  keep_among keys entries o law own =
+      let keep = moves_rise lands keys o (lawful shifts keys law).rising in
+      every_weaker (λ (entry : Entry). is_among entry.key keys ≡ true) (λ (a : Entry). AllByRecursion (λ (b : Entry). a.key < b.key → lands a.key < lands b.key) entries) entries
+      (λ a here.
+      every_weaker (λ (entry : Entry). is_among entry.key keys ≡ true) (λ (b : Entry). a.key < b.key → lands a.key < lands b.key) entries
+      (λ b there. of_among (λ y. a.key < y → lands a.key < lands y) b.key keys (of_among (λ x. AllByRecursion (λ y. x < y → lands x < lands y) keys) a.key keys keep here) there) own) own
+
   all_keep : (entries : List Entry) → IsLawful shifts (rising_keys entries) → AllByRecursion (λ (a : Entry). AllByRecursion (λ (b : Entry). a.key < b.key → lands a.key < lands b.key) entries) entries
   all_keep entries law =
-      every_weaker (λ (a : Entry). AllByRecursion (λ y. a.key < y → lands a.key < lands y) (keys_in entries)) (λ (a : Entry). AllByRecursion (λ (b : Entry). a.key < b.key → lands a.key < lands b.key) entries) entries
-      (λ a h. every_unmapped (λ y. a.key < y → lands a.key < lands y) (λ (entry : Entry). entry.key) entries h)
-      (every_unmapped (λ x. AllByRecursion (λ y. x < y → lands x < lands y) (keys_in entries)) (λ (entry : Entry). entry.key) entries
-      (every_weaker (λ x. AllByRecursion (λ y. x < y → lands x < lands y) (rising_keys entries)) (λ x. AllByRecursion (λ y. x < y → lands x < lands y) (keys_in entries)) (keys_in entries)
-      (λ x h. unordered (λ y. x < y → lands x < lands y) (λ x y. nat_lt x y) (keys_in entries) h)
-      (unordered (λ x. AllByRecursion (λ y. x < y → lands x < lands y) (rising_keys entries)) (λ x y. nat_lt x y) (keys_in entries)
-      (moves_rise lands (rising_keys entries) (ordered_in_order (λ x y. nat_lt x y) numbers_weak (keys_in entries)) (lawful shifts (rising_keys entries) law).rising))))
+      keep_among (rising_keys entries) entries (ordered_in_order (λ x y. nat_lt x y) numbers_weak (keys_in entries)) law
+      (every_unmapped (λ key. is_among key (rising_keys entries) ≡ true) (λ (entry : Entry). entry.key) entries
+      (every_weaker (λ key. is_among key (keys_in entries) ≡ true) (λ key. is_among key (rising_keys entries) ≡ true) (keys_in entries) (λ key own. any-ordered (λ other. other == key) (λ x y. nat_lt x y) (keys_in entries) ∙ own) (each_among (keys_in entries))))
+
+  rising_in_order : (keys : List ℕ) → IsRising keys → IsInOrder (λ x y. nat_lt x y) numbers_weak keys
+  rising_in_order [] r = tt
+  rising_in_order (key ∷ keys) r = (every_weaker (λ y. key < y) (λ y. nat_lt y key ≡ false) keys (λ y less. le-ltb y key (omega (arith, less))) r.0, rising_in_order keys r.1)
 
   module _ (by : List SortBy) where
     before_rekeyed : (a b : Entry) → (a.key < b.key → lands a.key < lands b.key) → comes_before by a b ≡ true → comes_before by (rekeyed shifts a) (rekeyed shifts b) ≡ true
@@ -104,6 +116,9 @@ module _ (shifts : List ShiftRange) where
         both : (others : List Entry) → AllByRecursion (λ other. comes_before by entry other ≡ true) others → AllByRecursion (λ (b : Entry). entry.key < b.key → lands entry.key < lands b.key) others → AllByRecursion (λ other. comes_before by (rekeyed shifts entry) (rekeyed shifts other) ≡ true) others
         both [] p q = tt
         both (other ∷ others) p q = (before_rekeyed entry other q.0 p.0, both others p.1 q.1)
+
+    pub rises_moved : (keys : List ℕ) (entries : List Entry) → IsRising keys → IsLawful shifts keys → AllByRecursion (λ (entry : Entry). is_among entry.key keys ≡ true) entries → Rises by entries → Rises by (map (rekeyed shifts) entries)
+    rises_moved keys entries r law own rises = rises_rekeyed entries rises (keep_among keys entries (rising_in_order keys r) law own)
 
   pub order_rekeyed : (by : List SortBy) (old new : List (List Entry)) → IsLawful shifts (rising_keys (joined old)) → new ≡ map (map (rekeyed shifts)) old → AllByRecursion IsChunk new → IsOrder (record { by = by; chunks = old }) → IsOrder (record { by = by; chunks = new })
   order_rekeyed by old new law so sizes h =

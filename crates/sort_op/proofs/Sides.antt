@@ -1,5 +1,5 @@
 -- The positions that a step of a sort touches, before it or now, from the keys of their rows.
-use Rattle.std.proofs.Common.{◌≡◌, refl, ap, sym, ◌∙◌, true, false, not, ◌&&◌, ◌||◌, ◌==◌, ℕ, zero, suc, ◌+◌, arith, List, [], ◌∷◌, Option, Some, None, true≢false, inl, inr}
+use Rattle.std.proofs.Common.{◌≡◌, refl, ap, sym, ◌∙◌, subst, true, false, not, ◌&&◌, ◌||◌, ◌==◌, ℕ, zero, suc, ◌+◌, arith, List, [], ◌∷◌, Option, Some, None, true≢false, inl, inr}
 use Rattle.std.specs.Prelude.{slice_get}
 use Rattle.std.specs.List.{AllByRecursion}
 use Rattle.std.specs.Option.{option_map_or}
@@ -7,7 +7,7 @@ use Rattle.std.proofs.lemmas.Bool.{and_right, cases_Bool, eq-eqb}
 use Rattle.std.proofs.lemmas.Option.{none-some}
 use Rattle.key_lists.specs.Keys.{is_among, IsRising, without}
 use Rattle.key_lists.proofs.Among.{among-filter, each_among}
-use Rattle.key_lists.proofs.Every.{every_weaker}
+use Rattle.key_lists.proofs.Every.{every_weaker, map_map}
 use Rattle.key_lists.proofs.Rising.{rising_same, rising_some}
 use Rattle.key_lists.proofs.Booleans.{and_true, or_true}
 use Rattle.shown_rows.proofs.Walks.{of_place}
@@ -18,10 +18,11 @@ use Rattle.tick_model.specs.declared.table.PlainTable.{PlainTable}
 use Rattle.tick_model.specs.Sort.{in_order, numbered, sort_table}
 use Rattle.tick_model.specs.Tables.{cells_at, keys}
 use Rattle.tick_model.proofs.Among.{rows_among}
-use Rattle.sort_op.specs.Places.{is_place}
-use Rattle.sort_op.specs.Reading.{entries_under}
-use Rattle.sort_op.specs.Sorted.{entries_of}
-use Rattle.sort_op.proofs.EntryPlaces.{place_under}
+use Rattle.sort_op.specs.declared.entry.Entry.{Entry}
+use Rattle.sort_op.specs.Entries.{keys_in}
+use Rattle.sort_op.specs.Places.{AreUnder}
+use Rattle.sort_op.specs.Sorted.{entries_of, entry_of}
+use Rattle.sort_op.proofs.LeftOut.{under_here}
 use Rattle.sort_op.proofs.PlacedCells.{cells_placed, place_within, row_there}
 
 numbered_here : (n i : ℕ) (rows : List PlainRow) (row : PlainRow) → slice_get rows i ≡ Some row → is_among (n + i) (keys (numbered n rows)) ≡ true
@@ -54,17 +55,20 @@ module _ (by : List SortBy) (table : PlainTable) (rising : IsRising (keys table.
   pub cells_here : (i : ℕ) (row : PlainRow) → row_in i ≡ Some row → cells_at i (sort_table by table).rows ≡ cells_at row.key table.rows
   cells_here i row here = cells_placed by table i row rising here
 
-  module _ (positions some : List ℕ) (are : (i : ℕ) → is_among i positions ≡ is_place (entries_of by table.rows) (entries_under by table some) i) where
+  module _ (positions some : List ℕ) (are : AreUnder (keys_in (entries_of by table.rows)) some positions) where
+    under_row : (i : ℕ) → is_among i positions ≡ option_map_or (λ (row : PlainRow). is_among row.key some) (row_in i) false
+    under_row = under_here (λ (row : PlainRow). row.key) (in_order by table.rows) some positions (subst (λ order. AreUnder order some positions) (map_map (λ (entry : Entry). entry.key) (entry_of by) (in_order by table.rows)) are)
+
     pub position_here : (i : ℕ) (row : PlainRow) → row_in i ≡ Some row → is_among i positions ≡ is_among row.key some
     position_here i row here =
-        are i ∙ place_under by table rising some i ∙ ap (λ o. option_map_or (λ (row : PlainRow). is_among row.key some) o false) here
+        under_row i ∙ ap (λ o. option_map_or (λ (row : PlainRow). is_among row.key some) o false) here
 
     module _ (placed kept : List ℕ) (places : (i : ℕ) (row : PlainRow) → row_in i ≡ Some row → is_among i placed ≡ is_among row.key kept) where
       -- the positions of the rows that are not kept
       pub others_are : ((key : ℕ) → is_among key (keys table.rows) ≡ true → is_among key some ≡ not (is_among key kept)) → IsRising positions → IsRising (keys (sort_table by table).rows) → positions ≡ without placed (keys (sort_table by table).rows)
       others_are tell r s =
           rising_same positions (without placed (keys (sort_table by table).rows)) r (rising_some (λ key. not (is_among key placed)) (keys (sort_table by table).rows) s)
-          (λ i. are i ∙ place_under by table rising some i ∙ go i (row_in i) refl ∙ sym (among-filter (λ key. not (is_among key placed)) i (keys (sort_table by table).rows)))
+          (λ i. under_row i ∙ go i (row_in i) refl ∙ sym (among-filter (λ key. not (is_among key placed)) i (keys (sort_table by table).rows)))
         where
           go : (i : ℕ) (o : Option PlainRow) → row_in i ≡ o → option_map_or (λ (row : PlainRow). is_among row.key some) o false ≡ (not (is_among i placed) && is_among i (keys (sort_table by table).rows))
           go i None e = sym (and_right (not (is_among i placed)) (is_among i (keys (sort_table by table).rows)) (sorted_none i e))
@@ -77,7 +81,7 @@ module _ (by : List SortBy) (table : PlainTable) (rising : IsRising (keys table.
       pub within_placed : ((key : ℕ) → is_among key some ≡ true → is_among key kept ≡ true) → AllByRecursion (λ i. is_among i placed ≡ true) positions
       within_placed tell =
           every_weaker (λ i. is_among i positions ≡ true) (λ i. is_among i placed ≡ true) positions
-          (λ i own. go i (row_in i) refl (sym (are i ∙ place_under by table rising some i) ∙ own)) (each_among positions)
+          (λ i own. go i (row_in i) refl (sym (under_row i) ∙ own)) (each_among positions)
         where
           go : (i : ℕ) (o : Option PlainRow) → row_in i ≡ o → option_map_or (λ (row : PlainRow). is_among row.key some) o false ≡ true → is_among i placed ≡ true
           go i None e h = absurd (true≢false (sym h))

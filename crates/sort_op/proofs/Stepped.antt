@@ -1,30 +1,29 @@
 -- What a step of a sort does: what its edits of the order come to, and which positions it touches.
-use Rattle.std.proofs.Common.{◌≡◌, refl, ap, ap₂, sym, ◌∙◌, subst, arith, Bool, true, false, not, ◌&&◌, ◌||◌, ◌==◌, ℕ, ◌^◌, ◌≤◌, List, [], ◌∷◌, ◌++◌, map, filter, length, true≢false, ℤ, inl, inr, Some}
-use Rattle.std.specs.Prelude.{nat_lt, slice_get}
+use Rattle.std.proofs.Common.{◌≡◌, refl, ap, ap₂, sym, ◌∙◌, subst, arith, Bool, true, false, not, ◌&&◌, ◌||◌, ℕ, ◌+◌, ◌^◌, ◌≤◌, List, [], ◌∷◌, ◌++◌, map, filter, length, true≢false, ℤ, Some, is_lt}
+use Rattle.std.specs.Prelude.{slice_get}
 use Rattle.std.specs.List.{AllByRecursion, range_with_len}
 use Rattle.std.specs.Cmp.{signed_Decides}
 use Rattle.std.specs.Cmp.Rules.{signed_items}
 use Rattle.std.specs.Ordering.{int_eq}
-use Rattle.std.proofs.lemmas.Bool.{and_parts, and_right, cases_Bool, not-false, not-true}
+use Rattle.std.proofs.lemmas.Bool.{and_parts, and_right, not-false, not-true}
 use Rattle.std.proofs.lemmas.List.{length-map}
-use Rattle.key_lists.specs.Keys.{is_among, without}
+use Rattle.key_lists.specs.Keys.{IsRising, is_among, without}
 use Rattle.key_lists.proofs.Every.{every, every_both, every_weaker, every-filter, every-map, every_unmapped, filter_in, filter_passes, filter_same, filter_swap, filter-map, map_map, map_same}
-use Rattle.key_lists.proofs.Among.{of_among}
-use Rattle.key_lists.proofs.Rising.{as_filter, rising-filter, rising_same, rising_some}
+use Rattle.key_lists.proofs.Among.{among-append, each_among, of_among}
+use Rattle.key_lists.proofs.Rising.{as_filter, rising-filter}
 use Rattle.row_set.specs.Sets.{IsKeySet}
+use Rattle.row_set.proofs.United.{among-united, length-united, united_rises}
 use Rattle.row_changes.specs.Parts.{AreCompared}
 use Rattle.row_changes.proofs.Comparing.{pairs_of-keys}
-use Rattle.shift_data.specs.Moves.{IsLawful, pairs_of}
+use Rattle.shift_data.specs.Moves.{pairs_of}
 use Rattle.shown_rows.proofs.Named.{named_by}
-use Rattle.shown_rows.proofs.Restricted.{exact_shift, modified_by, modified_new, old_some}
-use Rattle.table_update.proofs.LawfulParts.{lawful_some}
+use Rattle.shown_rows.proofs.Restricted.{modified_by, modified_new}
 use Rattle.tick_model.specs.declared.plan.SortBy.{SortBy}
 use Rattle.tick_model.specs.declared.table.PlainRow.{PlainRow}
 use Rattle.tick_model.specs.declared.table.PlainTable.{PlainTable}
 use Rattle.tick_model.specs.declared.update.KeyPair.{KeyPair}
-use Rattle.tick_model.specs.declared.update.ShiftRange.{ShiftRange}
 use Rattle.tick_model.specs.Shifts.{as_key, moved}
-use Rattle.tick_model.specs.Sort.{in_order, same_place, sort_pairs, sort_table}
+use Rattle.tick_model.specs.Sort.{in_order, same_place, sort_cmp, sort_pairs, sort_table}
 use Rattle.tick_model.specs.Tables.{IsTable, cell, cells_at, keys, same_cells}
 use Rattle.tick_model.specs.Updates.{Update, between, differs, kept_pair, new_keys, old_keys, pairs}
 use Rattle.tick_laws.proofs.ResultCells.{length-filter_most}
@@ -32,16 +31,14 @@ use Rattle.tick_laws.proofs.ResultTables.{length-in_order, table_count}
 use Rattle.tick_table.specs.Exact.{IsExact, tick_of}
 use Rattle.tick_table.specs.Ticking.{Ticking}
 use Rattle.sort_op.specs.declared.entry.Entry.{Entry}
-use Rattle.chunk_list.specs.Chunked.{joined}
-use Rattle.chunk_list.proofs.Changing.{joined-changed}
-use Rattle.sort_op.specs.Entries.{AreDistinct, IsOrder, IsWhole, Order, Rises, entries, is_in, keys_in, rekeyed, rising_keys}
-use Rattle.sort_op.specs.Places.{is_place, other_places}
-use Rattle.sort_op.specs.Reading.{coming, entries_under, entry_under, leaving, modified_pairs, moving_pairs, sort_cells_alike, staying_pairs}
+use Rattle.sort_op.specs.Entries.{AreDistinct, Rises, is_in, keys_in, rekeyed}
+use Rattle.sort_op.specs.Places.{AreApart, AreUnder, other_places}
+use Rattle.sort_op.specs.Reading.{carried, coming, entries_under, entry_under, leaving, modified_pairs, moving_pairs, sort_cells_alike, staying, staying_pairs}
 use Rattle.sort_op.specs.Sorted.{entries_of, entry_of, sort_cells}
 use Rattle.sort_op.specs.Sorter.{sorted}
-use Rattle.sort_op.proofs.Halves.{left_apart, left_over, left_within, rest, some_among}
+use Rattle.sort_op.proofs.Halves.{left_over, left_within, rest, some_among}
 use Rattle.sort_op.proofs.KeptPlaces.{keys-numbered}
-use Rattle.sort_op.proofs.Members.{AreApart, among_same, any-ordered, apart-filter, apart_append, apart_rising, distinct_under, in_filter, in_map_same, in_rows, in_under, is_own, keys_under, rising-ordered}
+use Rattle.sort_op.proofs.Members.{among-ordered, among_same, apart_rising, distinct_under, in_filter, in_map_same, in_rows, in_under, is_own, keys_under}
 use Rattle.sort_op.proofs.PlacedPairs.{IsKept, apart_in_order, each_kept, new_place, old_place}
 use Rattle.sort_op.proofs.Sides.{cells_here, others_are, position_here, within_placed}
 use Rattle.sort_op.proofs.SortedChange.{sorted_tick}
@@ -59,16 +56,22 @@ alike_own [] xs = refl
 alike_own (sort ∷ by) xs = ap₂ (λ a b. a && b) ((signed_Decides (cell xs sort.column) (cell xs sort.column)).1 refl) (alike_own by xs)
 
 -- who stays, from who leaves
-stay_table : (l a s o : Bool) → (a ≡ true → l ≡ not s) → (s ≡ true → a ≡ true) → (not (l && o) && (a && o)) ≡ (s && o)
-stay_table l true s o h k = ap (λ b. not (b && o) && o) (h refl) ∙ go s o
+stay_table : (l a s o : Bool) → (a ≡ true → l ≡ not s) → (s ≡ true → a ≡ true) → (not l && (a && o)) ≡ (s && o)
+stay_table l true s o h k = ap (λ b. not b && o) (h refl) ∙ go s o
   where
-    go : (s o : Bool) → (not (not s && o) && o) ≡ (s && o)
-    go true true = refl
-    go true false = refl
-    go false true = refl
-    go false false = refl
+    go : (s o : Bool) → (not (not s) && o) ≡ (s && o)
+    go true o = refl
+    go false o = refl
 stay_table l false true o h k = absurd (true≢false (sym (k refl)))
-stay_table l false false o h k = and_right (not (l && o)) false refl
+stay_table l false false o h k = and_right (not l) false refl
+
+-- which keys are there, from those that come and those that stay
+all_table : (c k s n : Bool) → (n ≡ true → c ≡ not s) → (s ≡ true → k ≡ true) → (c ≡ true → n ≡ true) → (k ≡ true → n ≡ true) → (c || k) ≡ n
+all_table true k s n h l m o = sym (m refl)
+all_table false true s n h l m o = sym (o refl)
+all_table false false true n h l m o = absurd (true≢false (sym (l refl)))
+all_table false false false true h l m o = absurd (true≢false (sym (h refl)))
+all_table false false false false h l m o = refl
 
 -- who is there, from who stays and who comes
 there_table : (s l a o : Bool) → (a ≡ true → l ≡ not s) → (s ≡ true → a ≡ true) → (l ≡ true → a ≡ true) → ((s && o) || (l && o)) ≡ (a && o)
@@ -84,12 +87,19 @@ there_table false true false o h k m = absurd (true≢false (sym (m refl)))
 there_table false false false o h k m = refl
 
 module _ (by : List SortBy) where
-  pub under_whole : (table : PlainTable) (keys : List ℕ) → AllByRecursion (IsWhole by) (entries_under by table keys)
-  under_whole table keys = every-map (IsWhole by) (entry_under by table) keys (every (λ key. IsWhole by (entry_under by table key)) keys (λ key. length-map by (λ sort. cell (cells_at key table.rows) sort.column)))
-
   -- there are no more entries than keys
   pub few_entries : (table : PlainTable) → IsTable table → length (entries_of by table.rows) ≤ 2 ^ 62
   few_entries table h = let few = table_count table h in omega (arith, few, length-map (in_order by table.rows) (entry_of by), length-in_order by table.rows)
+
+  -- the keys of the entries are those of the rows, none of which comes twice
+  keys_listed : (rows : List PlainRow) → keys_in (entries_of by rows) ≡ keys (in_order by rows)
+  keys_listed rows = map_map (λ (entry : Entry). entry.key) (entry_of by) (in_order by rows)
+
+  pub among_listed : (rows : List PlainRow) (key : ℕ) → is_among key (keys_in (entries_of by rows)) ≡ is_among key (keys rows)
+  among_listed rows key = ap (is_among key) (keys_listed rows) ∙ among-ordered (λ (row : PlainRow). row.key) (λ a b. is_lt (sort_cmp by a b)) key rows
+
+  pub apart_listed : (rows : List PlainRow) → IsRising (keys rows) → AreApart (keys_in (entries_of by rows))
+  apart_listed rows rising = subst AreApart (sym (keys_listed rows)) (apart_in_order by rows rising)
 
   -- the positions but some
   pub other_places_are : (table : PlainTable) (positions : List ℕ) → other_places (length (entries_of by table.rows)) positions ≡ without positions (keys (sort_table by table).rows)
@@ -124,27 +134,35 @@ module _ (by : List SortBy) (t : Ticking) (e : IsExact t) where
   staying_are : staying_pairs by t ≡ filter is_modified stay
   staying_are = filter_swap alike is_modified kept
 
-  -- the keys of the rows that leave the order, and of those that come
-  abbrev leaving_keys : List ℕ
-  leaving_keys = t.update.removed ++ old_keys (moving_pairs by t)
+  leaving_among : (key : ℕ) → is_among key (leaving by t) ≡ is_among key (without (old_keys kept) (keys t.old.rows) ++ rest (λ (pair : KeyPair). pair.old) alike kept)
+  leaving_among key =
+      among-united key t.update.removed (old_keys (moving_pairs by t))
+      ∙ sym (among-append key t.update.removed (old_keys (moving_pairs by t)))
+      ∙ ap (is_among key) (ap₂ (λ xs ys. xs ++ ys) (ap (λ (u : Update). u.removed) e.update) (ap old_keys moving_are))
 
-  abbrev coming_keys : List ℕ
-  coming_keys = t.update.added ++ new_keys (moving_pairs by t)
+  coming_among : (key : ℕ) → is_among key (coming by t) ≡ is_among key (without (new_keys kept) (keys t.new.rows) ++ rest (λ (pair : KeyPair). pair.new) alike kept)
+  coming_among key =
+      among-united key t.update.added (new_keys (moving_pairs by t))
+      ∙ sym (among-append key t.update.added (new_keys (moving_pairs by t)))
+      ∙ ap (is_among key) (ap₂ (λ xs ys. xs ++ ys) (ap (λ (u : Update). u.added) e.update) (ap new_keys moving_are))
 
-  leaving_are : leaving_keys ≡ without (old_keys kept) (keys t.old.rows) ++ rest (λ (pair : KeyPair). pair.old) alike kept
-  leaving_are = ap₂ (λ xs ys. xs ++ ys) (ap (λ (u : Update). u.removed) e.update) (ap old_keys moving_are)
+  leaves : (key : ℕ) → is_among key (keys t.old.rows) ≡ true → is_among key (leaving by t) ≡ not (is_among key (old_keys stay))
+  leaves key here = leaving_among key ∙ left_over (λ (pair : KeyPair). pair.old) alike kept e.tick.rising_old (keys t.old.rows) key here
 
-  coming_are : coming_keys ≡ without (new_keys kept) (keys t.new.rows) ++ rest (λ (pair : KeyPair). pair.new) alike kept
-  coming_are = ap₂ (λ xs ys. xs ++ ys) (ap (λ (u : Update). u.added) e.update) (ap new_keys moving_are)
+  comes : (key : ℕ) → is_among key (keys t.new.rows) ≡ true → is_among key (coming by t) ≡ not (is_among key (new_keys stay))
+  comes key here = coming_among key ∙ left_over (λ (pair : KeyPair). pair.new) alike kept e.tick.rising_new (keys t.new.rows) key here
 
-  leaves : (key : ℕ) → is_among key (keys t.old.rows) ≡ true → is_among key leaving_keys ≡ not (is_among key (old_keys stay))
-  leaves key here = ap (is_among key) leaving_are ∙ left_over (λ (pair : KeyPair). pair.old) alike kept e.tick.rising_old (keys t.old.rows) key here
+  pub leaving_within : AllByRecursion (λ key. is_among key (keys t.old.rows) ≡ true) (leaving by t)
+  leaving_within =
+      every_weaker (λ key. is_among key (leaving by t) ≡ true) (λ key. is_among key (keys t.old.rows) ≡ true) (leaving by t)
+      (λ key own. of_among (λ key. is_among key (keys t.old.rows) ≡ true) key (without (old_keys kept) (keys t.old.rows) ++ rest (λ (pair : KeyPair). pair.old) alike kept) (left_within (λ (pair : KeyPair). pair.old) alike kept e.tick.rising_old (keys t.old.rows) e.tick.of_old) (sym (leaving_among key) ∙ own))
+      (each_among (leaving by t))
 
-  comes : (key : ℕ) → is_among key (keys t.new.rows) ≡ true → is_among key coming_keys ≡ not (is_among key (new_keys stay))
-  comes key here = ap (is_among key) coming_are ∙ left_over (λ (pair : KeyPair). pair.new) alike kept e.tick.rising_new (keys t.new.rows) key here
-
-  coming_within : AllByRecursion (λ key. is_among key (keys t.new.rows) ≡ true) coming_keys
-  coming_within = subst (AllByRecursion (λ key. is_among key (keys t.new.rows) ≡ true)) (sym coming_are) (left_within (λ (pair : KeyPair). pair.new) alike kept e.tick.rising_new (keys t.new.rows) e.tick.of_new)
+  pub coming_within : AllByRecursion (λ key. is_among key (keys t.new.rows) ≡ true) (coming by t)
+  coming_within =
+      every_weaker (λ key. is_among key (coming by t) ≡ true) (λ key. is_among key (keys t.new.rows) ≡ true) (coming by t)
+      (λ key own. of_among (λ key. is_among key (keys t.new.rows) ≡ true) key (without (new_keys kept) (keys t.new.rows) ++ rest (λ (pair : KeyPair). pair.new) alike kept) (left_within (λ (pair : KeyPair). pair.new) alike kept e.tick.rising_new (keys t.new.rows) e.tick.of_new) (sym (coming_among key) ∙ own))
+      (each_among (coming by t))
 
   stay_old : (key : ℕ) → is_among key (old_keys stay) ≡ true → is_among key (keys t.old.rows) ≡ true
   stay_old key here = of_among (λ key. is_among key (keys t.old.rows) ≡ true) key (old_keys kept) e.tick.of_old (some_among (λ (pair : KeyPair). pair.old) alike kept key here)
@@ -161,15 +179,11 @@ module _ (by : List SortBy) (t : Ticking) (e : IsExact t) where
       every-map (λ (pair : KeyPair). land pair.old ≡ pair.new) (kept_pair t.update) (without t.update.removed (keys t.old.rows))
       (every (λ key. land key ≡ land key) (without t.update.removed (keys t.old.rows)) (λ key. refl))
 
-  -- the entries that do not leave
-  abbrev staying : List Entry
-  staying = filter (λ entry. not (is_in entry (leaving by t))) (entries_of by t.old.rows)
-
-  staying_in : (entry : Entry) → is_in entry staying ≡ is_in entry (entries_under by t.old (old_keys stay))
+  staying_in : (entry : Entry) → is_in entry (staying by t) ≡ is_in entry (entries_under by t.old (old_keys stay))
   staying_in entry =
-      in_filter (λ other. not (is_in other (leaving by t))) entry (entries_of by t.old.rows)
-      ∙ ap₂ (λ a b. not a && b) (in_under by t.old entry leaving_keys) (in_rows by t.old e.tick.old_table.rising entry)
-      ∙ stay_table (is_among entry.key leaving_keys) (is_among entry.key (keys t.old.rows)) (is_among entry.key (old_keys stay)) (is_own by t.old entry) (leaves entry.key) (stay_old entry.key)
+      in_filter (λ other. not (is_among other.key (leaving by t))) entry (entries_of by t.old.rows)
+      ∙ ap (λ b. not (is_among entry.key (leaving by t)) && b) (in_rows by t.old e.tick.old_table.rising entry)
+      ∙ stay_table (is_among entry.key (leaving by t)) (is_among entry.key (keys t.old.rows)) (is_among entry.key (old_keys stay)) (is_own by t.old entry) (leaves entry.key) (stay_old entry.key)
       ∙ sym (in_under by t.old entry (old_keys stay))
 
   -- under their keys now they are the entries of the rows that stay
@@ -186,88 +200,55 @@ module _ (by : List SortBy) (t : Ticking) (e : IsExact t) where
       moves pair same is =
           ap₂ (λ (cells : List ℤ) (key : ℕ). let entry : Entry = record { cells = cells; key = key } in entry) (alike_same by (cells_at pair.old t.old.rows) (cells_at pair.new t.new.rows) same) is
 
-  moved_in : (entry : Entry) → is_in entry (map (rekeyed t.update.shifted) staying) ≡ (is_among entry.key (new_keys stay) && is_own by t.new entry)
+  moved_in : (entry : Entry) → is_in entry (carried by t) ≡ (is_among entry.key (new_keys stay) && is_own by t.new entry)
   moved_in entry =
-      in_map_same (rekeyed t.update.shifted) staying (entries_under by t.old (old_keys stay)) staying_in entry
+      in_map_same (rekeyed t.update.shifted) (staying by t) (entries_under by t.old (old_keys stay)) staying_in entry
       ∙ ap (is_in entry) rekeyed_are
       ∙ in_under by t.new entry (new_keys stay)
 
-  keys_apart : AreApart (keys_in staying)
-  keys_apart =
-      apart-filter (λ (entry : Entry). entry.key) (λ entry. not (is_in entry (leaving by t))) (entries_of by t.old.rows)
-      (subst AreApart (sym (map_map (λ (entry : Entry). entry.key) (entry_of by) (in_order by t.old.rows))) (apart_in_order by t.old.rows e.tick.old_table.rising))
+  moved_keys : (key : ℕ) → is_among key (keys_in (carried by t)) ≡ is_among key (new_keys stay)
+  moved_keys key =
+      among_same (carried by t) (entries_under by t.new (new_keys stay)) (λ entry. in_map_same (rekeyed t.update.shifted) (staying by t) (entries_under by t.old (old_keys stay)) staying_in entry ∙ ap (is_in entry) rekeyed_are) key
+      ∙ ap (is_among key) (keys_under by t.new (new_keys stay))
 
-  keys_are : rising_keys staying ≡ old_keys stay
-  keys_are =
-      rising_same (rising_keys staying) (old_keys stay) (rising-ordered (keys_in staying) keys_apart) (rising-filter (λ (pair : KeyPair). pair.old) alike kept e.tick.rising_old)
-      (λ key. any-ordered (λ other. other == key) (λ a b. nat_lt a b) (keys_in staying)
-      ∙ among_same staying (entries_under by t.old (old_keys stay)) staying_in key
-      ∙ ap (is_among key) (keys_under by t.old (old_keys stay)))
-
-  -- the shift keeps the order of the keys that stay
-  pub shift_lawful : IsLawful t.update.shifted (rising_keys staying)
-  shift_lawful =
-      subst (IsLawful t.update.shifted) (sym (keys_are ∙ old_some t e alike))
-      (lawful_some t.update.shifted (λ key. alike (kept_pair t.update key)) (without t.update.removed (keys t.old.rows)) (exact_shift t e))
-
-  pub coming_absent : AllByRecursion (λ entry. is_in entry (map (rekeyed t.update.shifted) staying) ≡ false) (coming by t)
-  coming_absent =
-      every-map (λ entry. is_in entry (map (rekeyed t.update.shifted) staying) ≡ false) (entry_under by t.new) coming_keys
-      (every_weaker (λ key. is_among key (new_keys stay) ≡ false) (λ key. is_in (entry_under by t.new key) (map (rekeyed t.update.shifted) staying) ≡ false) coming_keys
-      (λ key out. moved_in (entry_under by t.new key) ∙ ap (λ b. b && is_own by t.new (entry_under by t.new key)) out)
-      (subst (AllByRecursion (λ key. is_among key (new_keys stay) ≡ false)) (sym coming_are) (left_apart (λ (pair : KeyPair). pair.new) alike kept e.tick.rising_new (keys t.new.rows) e.tick.of_new)))
-
-  coming_apart : AreApart (without (new_keys kept) (keys t.new.rows) ++ rest (λ (pair : KeyPair). pair.new) alike kept)
-  coming_apart =
-      apart_append (without (new_keys kept) (keys t.new.rows)) (rest (λ (pair : KeyPair). pair.new) alike kept)
-      (apart_rising (without (new_keys kept) (keys t.new.rows)) (rising_some (λ key. not (is_among key (new_keys kept))) (keys t.new.rows) e.tick.new_table.rising))
-      (apart_rising (rest (λ (pair : KeyPair). pair.new) alike kept) (rising-filter (λ (pair : KeyPair). pair.new) (λ pair. not (alike pair)) kept e.tick.rising_new))
-      (every_weaker (λ key. not (is_among key (new_keys kept)) ≡ true) (λ key. is_among key (rest (λ (pair : KeyPair). pair.new) alike kept) ≡ false) (without (new_keys kept) (keys t.new.rows))
-      (λ key none. out key (not-true (is_among key (new_keys kept)) none)) (filter_passes (λ key. not (is_among key (new_keys kept))) (keys t.new.rows)))
+  -- no row that stays is one that goes
+  pub gone_apart : AllByRecursion (λ (entry : Entry). is_among entry.key t.update.removed ≡ false) (staying by t)
+  gone_apart =
+      every_weaker (λ (entry : Entry). not (is_among entry.key (leaving by t)) ≡ true) (λ (entry : Entry). is_among entry.key t.update.removed ≡ false) (staying by t)
+      (λ entry out. neither_left (is_among entry.key t.update.removed) (is_among entry.key (old_keys (moving_pairs by t))) (sym (among-united entry.key t.update.removed (old_keys (moving_pairs by t))) ∙ not-true (is_among entry.key (leaving by t)) out))
+      (filter_passes (λ (entry : Entry). not (is_among entry.key (leaving by t))) (entries_of by t.old.rows))
     where
-      out : (key : ℕ) → is_among key (new_keys kept) ≡ false → is_among key (rest (λ (pair : KeyPair). pair.new) alike kept) ≡ false
-      out key none =
-          elim (cases_Bool (is_among key (rest (λ (pair : KeyPair). pair.new) alike kept))) [
-            | inl own ↦ absurd (true≢false (sym (some_among (λ (pair : KeyPair). pair.new) (λ pair. not (alike pair)) kept key own) ∙ none))
-            | inr other ↦ other
-          ]
+      neither_left : (a b : Bool) → (a || b) ≡ false → a ≡ false
+      neither_left true b h = h
+      neither_left false b h = refl
 
-  pub coming_distinct : AreDistinct (coming by t)
-  coming_distinct = distinct_under by t.new coming_keys (subst AreApart (sym coming_are) coming_apart)
+  pub coming_absent : AllByRecursion (λ key. is_among key (keys_in (carried by t)) ≡ false) (coming by t)
+  coming_absent =
+      every_both (λ key. is_among key (coming by t) ≡ true) (λ key. is_among key (keys t.new.rows) ≡ true) (λ key. is_among key (keys_in (carried by t)) ≡ false) (coming by t)
+      (λ key own here. moved_keys key ∙ not-true (is_among key (new_keys stay)) (sym (comes key here) ∙ own)) (each_among (coming by t)) coming_within
+
+  coming_rises : IsRising (coming by t)
+  coming_rises = united_rises t.update.added (new_keys (moving_pairs by t)) (subst (λ pairs. IsRising (new_keys pairs)) (sym moving_are) (rising-filter (λ (pair : KeyPair). pair.new) (λ pair. not (alike pair)) kept e.tick.rising_new))
+
+  pub coming_distinct : AreDistinct (entries_under by t.new (coming by t))
+  coming_distinct = distinct_under by t.new (coming by t) (apart_rising (coming by t) coming_rises)
+
+  -- the keys of the rows now are those that come and those of the rows that are kept
+  pub keys_now : (key : ℕ) → (is_among key (coming by t) || is_among key (new_keys kept)) ≡ is_among key (keys t.new.rows)
+  keys_now key =
+      all_table (is_among key (coming by t)) (is_among key (new_keys kept)) (is_among key (new_keys stay)) (is_among key (keys t.new.rows)) (comes key) (some_among (λ (pair : KeyPair). pair.new) alike kept key)
+      (of_among (λ key. is_among key (keys t.new.rows) ≡ true) key (coming by t) coming_within) (of_among (λ key. is_among key (keys t.new.rows) ≡ true) key (new_keys kept) e.tick.of_new)
 
   -- an entry that stays, under its key now, or comes is that of a row now, and each of these is
-  pub members : (entry : Entry) → (is_in entry (map (rekeyed t.update.shifted) staying) || is_in entry (coming by t)) ≡ is_in entry (entries_of by t.new.rows)
+  pub members : (entry : Entry) → (is_in entry (carried by t) || is_in entry (entries_under by t.new (coming by t))) ≡ is_in entry (entries_of by t.new.rows)
   members entry =
-      ap₂ (λ a b. a || b) (moved_in entry) (in_under by t.new entry coming_keys)
-      ∙ there_table (is_among entry.key (new_keys stay)) (is_among entry.key coming_keys) (is_among entry.key (keys t.new.rows)) (is_own by t.new entry) (comes entry.key) (stay_new entry.key) (of_among (λ key. is_among key (keys t.new.rows) ≡ true) entry.key coming_keys coming_within)
+      ap₂ (λ a b. a || b) (moved_in entry) (in_under by t.new entry (coming by t))
+      ∙ there_table (is_among entry.key (new_keys stay)) (is_among entry.key (coming by t)) (is_among entry.key (keys t.new.rows)) (is_own by t.new entry) (comes entry.key) (stay_new entry.key) (of_among (λ key. is_among key (keys t.new.rows) ≡ true) entry.key (coming by t) coming_within)
       ∙ sym (in_rows by t.new e.tick.new_table.rising entry)
 
   -- the entries after the edits are those of the rows now
-  pub entries_now : (made : List Entry) → Rises by made → ((entry : Entry) → is_in entry made ≡ (is_in entry (map (rekeyed t.update.shifted) staying) || is_in entry (coming by t))) → made ≡ entries_of by t.new.rows
+  pub entries_now : (made : List Entry) → Rises by made → ((entry : Entry) → is_in entry made ≡ (is_in entry (carried by t) || is_in entry (entries_under by t.new (coming by t)))) → made ≡ entries_of by t.new.rows
   entries_now made rises are = one_list by made (entries_of by t.new.rows) rises (sorted_rises by t.new.rows e.tick.new_table.rising) (λ entry. are entry ∙ members entry)
-
-  -- the order as it is edited
-  pub left_is : (left before after : List Entry) → left ≡ leaving by t → before ≡ entries_of by t.old.rows → after ≡ filter (λ entry. not (is_in entry left)) before → after ≡ staying
-  left_is left before after l b a = a ∙ ap₂ (λ (left entries : List Entry). filter (λ entry. not (is_in entry left)) entries) l b
-
-  pub rekeyed_is : (shifts : List ShiftRange) (old new : Order) → shifts ≡ t.update.shifted → entries old ≡ staying → new.chunks ≡ map (map (rekeyed shifts)) old.chunks → entries new ≡ map (rekeyed t.update.shifted) staying
-  rekeyed_is shifts old new s o chunks = ap joined chunks ∙ joined-changed (rekeyed shifts) old.chunks ∙ ap₂ (λ (shifts : List ShiftRange) (entries : List Entry). map (rekeyed shifts) entries) s o
-
-  pub coming_out : (old came : List Entry) → old ≡ map (rekeyed t.update.shifted) staying → came ≡ coming by t → AllByRecursion (λ entry. is_in entry old ≡ false) came
-  coming_out old came o c =
-      subst (λ (entries : List Entry). AllByRecursion (λ entry. is_in entry entries ≡ false) came) (sym o)
-      (subst (AllByRecursion (λ entry. is_in entry (map (rekeyed t.update.shifted) staying) ≡ false)) (sym c) coming_absent)
-
-  pub leaving_whole : AllByRecursion (IsWhole by) (leaving by t)
-  leaving_whole = under_whole by t.old leaving_keys
-
-  pub coming_whole : AllByRecursion (IsWhole by) (coming by t)
-  coming_whole = under_whole by t.new coming_keys
-
-  pub brought : (old came : List Entry) (new : Order) → old ≡ map (rekeyed t.update.shifted) staying → came ≡ coming by t → IsOrder new → new.by ≡ by → ((entry : Entry) → is_in entry (entries new) ≡ (is_in entry old || is_in entry came)) → entries new ≡ entries_of by t.new.rows
-  brought old came new o c order is are =
-      entries_now (entries new) (subst (λ by. Rises by (entries new)) is order.rising)
-      (λ entry. are entry ∙ ap₂ (λ (old came : List Entry). is_in entry old || is_in entry came) o c)
 
   -- the pairs of positions
   abbrev placed : List KeyPair
@@ -285,14 +266,14 @@ module _ (by : List SortBy) (t : Ticking) (e : IsExact t) where
   new_places : (i : ℕ) (row : PlainRow) → slice_get (in_order by t.new.rows) i ≡ Some row → is_among i (new_keys placed) ≡ is_among row.key (new_keys stay)
   new_places = new_place by t.old.rows t.new.rows e.tick.old_table.rising e.tick.new_table.rising stay of_new land (every-filter (λ (pair : KeyPair). land pair.old ≡ pair.new) alike kept lands) of_old
 
-  -- the positions of the entries that leave are those of the rows that go, and likewise of those that come
-  pub removed_is : (positions : List ℕ) → IsKeySet positions → ((position : ℕ) → is_among position positions ≡ is_place (entries_of by t.old.rows) (leaving by t) position) → positions ≡ (between (sorted by (tick_of t))).removed
+  -- the positions of the rows that leave are those of the rows that go, and likewise of those that come
+  pub removed_is : (positions : List ℕ) → IsKeySet positions → AreUnder (keys_in (entries_of by t.old.rows)) (leaving by t) positions → positions ≡ (between (sorted by (tick_of t))).removed
   removed_is positions set are =
-      others_are by t.old e.tick.old_table.rising positions leaving_keys are (old_keys placed) (old_keys stay) old_places leaves set.rising (sorted_tick by t e).old_table.rising
+      others_are by t.old e.tick.old_table.rising positions (leaving by t) are (old_keys placed) (old_keys stay) old_places leaves set.rising (sorted_tick by t e).old_table.rising
 
-  pub added_is : (positions : List ℕ) → IsKeySet positions → ((position : ℕ) → is_among position positions ≡ is_place (entries_of by t.new.rows) (coming by t) position) → positions ≡ (between (sorted by (tick_of t))).added
+  pub added_is : (positions : List ℕ) → IsKeySet positions → AreUnder (keys_in (entries_of by t.new.rows)) (coming by t) positions → positions ≡ (between (sorted by (tick_of t))).added
   added_is positions set are =
-      others_are by t.new e.tick.new_table.rising positions coming_keys are (new_keys placed) (new_keys stay) new_places comes set.rising (sorted_tick by t e).new_table.rising
+      others_are by t.new e.tick.new_table.rising positions (coming by t) are (new_keys placed) (new_keys stay) new_places comes set.rising (sorted_tick by t e).new_table.rising
 
   -- the keys of the rows that stay and are modified
   abbrev old_modified : List ℕ
@@ -318,17 +299,33 @@ module _ (by : List SortBy) (t : Ticking) (e : IsExact t) where
       (subst (λ pairs. AllByRecursion (λ pair. is_among pair.new (new_keys pairs) ≡ is_modified pair) stay) (sym staying_are) (named_by (λ (pair : KeyPair). pair.new) is_modified stay (rising-filter (λ (pair : KeyPair). pair.new) alike kept e.tick.rising_new)))
       (every-filter (λ pair. is_modified pair ≡ differs t.old t.new pair) alike kept (modified_by t e)))
 
-  -- no more rows are compared than are modified
-  pub few_compared : length (entries_under by t.new new_modified) ≤ length t.update.modified
+  -- no more rows are compared than are modified, nor do more move
+  pub few_compared : length new_modified ≤ length t.update.modified
   few_compared =
-      let entries_count : length (entries_under by t.new new_modified) ≡ length (staying_pairs by t) = length-map new_modified (entry_under by t.new) ∙ length-map (staying_pairs by t) (λ (pair : KeyPair). pair.new) in
+      let entries_count : length new_modified ≡ length (staying_pairs by t) = length-map (staying_pairs by t) (λ (pair : KeyPair). pair.new) in
       let most : length (staying_pairs by t) ≤ length (modified_pairs t) = length-filter_most alike (modified_pairs t) in
       let modified_count : length t.update.modified ≡ length (modified_pairs t) = ap length (modified_new t e) ∙ length-map (modified_pairs t) (λ (pair : KeyPair). pair.new) in
       omega (arith, entries_count, most, modified_count)
 
+  pub few_coming : length (coming by t) ≤ length t.update.added + length t.update.modified
+  few_coming =
+      let all = length-united t.update.added (new_keys (moving_pairs by t)) in
+      let moving_count : length (new_keys (moving_pairs by t)) ≡ length (moving_pairs by t) = length-map (moving_pairs by t) (λ (pair : KeyPair). pair.new) in
+      let most : length (moving_pairs by t) ≤ length (modified_pairs t) = length-filter_most (λ pair. not (alike pair)) (modified_pairs t) in
+      let modified_count : length t.update.modified ≡ length (modified_pairs t) = ap length (modified_new t e) ∙ length-map (modified_pairs t) (λ (pair : KeyPair). pair.new) in
+      omega (arith, all, moving_count, most, modified_count)
+
+  -- the rows that are compared are there
+  pub compared_old : AllByRecursion (λ key. is_among key (keys t.old.rows) ≡ true) old_modified
+  compared_old =
+      every_weaker (λ key. is_among key old_modified ≡ true) (λ key. is_among key (keys t.old.rows) ≡ true) old_modified (λ key own. stay_old key (modified_stay_old key own)) (each_among old_modified)
+
+  pub compared_new : AllByRecursion (λ key. is_among key (keys t.new.rows) ≡ true) new_modified
+  compared_new =
+      every_weaker (λ key. is_among key new_modified ≡ true) (λ key. is_among key (keys t.new.rows) ≡ true) new_modified (λ key own. stay_new key (modified_stay_new key own)) (each_among new_modified)
+
   module _ (before now : List ℕ) (set_before : IsKeySet before) (set_now : IsKeySet now)
-      (are_before : (position : ℕ) → is_among position before ≡ is_place (entries_of by t.old.rows) (entries_under by t.old old_modified) position)
-      (are_now : (position : ℕ) → is_among position now ≡ is_place (entries_of by t.new.rows) (entries_under by t.new new_modified) position) where
+      (are_before : AreUnder (keys_in (entries_of by t.old.rows)) old_modified before) (are_now : AreUnder (keys_in (entries_of by t.new.rows)) new_modified now) where
     abbrev IsPlaced : KeyPair → Type 0
     IsPlaced pair = (is_among pair.old before ≡ is_among pair.new now) × (is_among pair.new now ≡ differs (sort_table by t.old) (sort_table by t.new) pair)
 

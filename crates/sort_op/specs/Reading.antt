@@ -5,13 +5,14 @@
 --     modified_pairs input      the pairs of the rows that are modified
 --     staying_pairs by input      those of equal sort cells before and now
 --     moving_pairs by input      the others
---     leaving by input      the entries that leave the order: those of the rows that go, and of those whose sort cells change
---     coming by input      the entries that come
---     changed_before by input, changed_now by input      the entries of the rows that are modified and stay, before and now
-use Rattle.std.specs.Prelude.{ℕ, ◌++◌, Bool, List, filter, map, not, ℤ}
+--     leaving by input      the old keys of the rows that leave the order: those that go, and those whose sort cells change
+--     coming by input      the keys of those that come
+--     carried by input      the entries of the rows that stay, under their keys now
+use Rattle.std.specs.Prelude.{ℕ, Bool, List, filter, map, not, ℤ}
 use Rattle.std.specs.List.{list_all}
 use Rattle.std.specs.Ordering.{int_eq}
 use Rattle.key_lists.specs.Keys.{is_among}
+use Rattle.row_set.specs.Sets.{united}
 use Rattle.tick_model.specs.declared.plan.SortBy.{SortBy}
 use Rattle.tick_model.specs.declared.table.PlainTable.{PlainTable}
 use Rattle.tick_model.specs.declared.update.KeyPair.{KeyPair}
@@ -21,7 +22,8 @@ use Rattle.tick_model.specs.Updates.{new_keys, old_keys, pairs}
 use Rattle.tick_table.specs.Exact.{tick_of}
 use Rattle.tick_table.specs.Ticking.{Ticking}
 use Rattle.sort_op.specs.declared.entry.Entry.{Entry}
-use Rattle.sort_op.specs.Sorted.{sort_cells}
+use Rattle.sort_op.specs.Entries.{rekeyed}
+use Rattle.sort_op.specs.Sorted.{entries_of, sort_cells}
 
 abbrev pub entry_with : List SortBy → List ℤ → ℕ → Entry
 entry_with by cells key = record { cells = sort_cells by cells; key = key }
@@ -45,14 +47,15 @@ staying_pairs by input = filter (same_place by (tick_of input)) (modified_pairs 
 abbrev pub moving_pairs : List SortBy → Ticking → List KeyPair
 moving_pairs by input = filter (λ pair. not (same_place by (tick_of input) pair)) (modified_pairs input)
 
-abbrev pub leaving : List SortBy → Ticking → List Entry
-leaving by input = entries_under by input.old (input.update.removed ++ old_keys (moving_pairs by input))
+abbrev pub leaving : List SortBy → Ticking → List ℕ
+leaving by input = united input.update.removed (old_keys (moving_pairs by input))
 
-abbrev pub coming : List SortBy → Ticking → List Entry
-coming by input = entries_under by input.new (input.update.added ++ new_keys (moving_pairs by input))
+abbrev pub coming : List SortBy → Ticking → List ℕ
+coming by input = united input.update.added (new_keys (moving_pairs by input))
 
-abbrev pub changed_before : List SortBy → Ticking → List Entry
-changed_before by input = entries_under by input.old (old_keys (staying_pairs by input))
+-- of the entries before the step those that stay in the order, and the same under their keys now
+abbrev pub staying : List SortBy → Ticking → List Entry
+staying by input = filter (λ entry. not (is_among entry.key (leaving by input))) (entries_of by input.old.rows)
 
-abbrev pub changed_now : List SortBy → Ticking → List Entry
-changed_now by input = entries_under by input.new (new_keys (staying_pairs by input))
+abbrev pub carried : List SortBy → Ticking → List Entry
+carried by input = map (rekeyed input.update.shifted) (staying by input)

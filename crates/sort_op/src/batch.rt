@@ -1,13 +1,11 @@
 //! Many entries at once.
-ghost use Rattle.std.specs.Prelude.{◌≡◌, ◌<◌, ◌||◌, false, filter, length, not, IfOk, IsPermutation, OnOk};
+ghost use Rattle.std.specs.Prelude.{◌≡◌, ◌||◌, false, filter, not, IsPermutation, OnOk};
 ghost use Rattle.std.specs.List.{AllByRecursion};
 ghost use Rattle.sort_op.specs.declared.entry.Entry.{Entry};
 ghost use Rattle.sort_op.specs.Entries.{AreDistinct, Falls, IsOrder, IsWhole, entries, is_in};
-ghost use Rattle.sort_op.specs.Places.{AreFound, left_from};
 
 use crate::entry::Entry;
 use crate::order::SortOrder;
-use row_set::RowSet;
 use std::alloc::AllocError;
 use tick_model::plan::SortBy;
 
@@ -28,51 +26,19 @@ impl SortOrder {
     /// Puts entries in that are not there, no two of which are the same. They come in the order in which they stand, so that
     /// many cost a sort, and then each is put in behind the one before it. After a refusal, which comes where memory runs
     /// out, some of them may be there.
-    pub fn insert_all(&mut self, coming: Vec<Entry>) -> Result<(), AllocError>
+    pub fn insert_all(&mut self, mut coming: Vec<Entry>) -> Result<(), AllocError>
         requires whole { AllByRecursion (IsWhole self.old.by) coming.items }
         requires absent { AllByRecursion (λ entry. is_in entry (entries self.old) ≡ false) coming.items }
         requires distinct { AreDistinct coming.items }
         ensures entries { OnOk result ((entry : Entry) → is_in entry (entries self.new) ≡ (is_in entry (entries self.old) || is_in entry coming.items)) }
-        ensures by { self.new.by ≡ self.old.by }
-        ensures order { IsOrder self.new }
-    {
-        self.insert_found(coming)?;
-        Ok(())
-    }
-
-    /// The same, and gives the positions at which the entries stand then: each is put in behind the one before it, so that
-    /// the position of none moves any more.
-    pub(crate) fn insert_found(&mut self, mut coming: Vec<Entry>) -> Result<Vec<u64>, AllocError>
-        requires whole { AllByRecursion (IsWhole self.old.by) coming.items }
-        requires absent { AllByRecursion (λ entry. is_in entry (entries self.old) ≡ false) coming.items }
-        requires distinct { AreDistinct coming.items }
-        ensures entries { OnOk result ((entry : Entry) → is_in entry (entries self.new) ≡ (is_in entry (entries self.old) || is_in entry coming.items)) }
-        ensures positions { IfOk result (λ positions. AreFound (entries self.new) coming.items positions.items) }
         ensures by { self.new.by ≡ self.old.by }
         ensures order { IsOrder self.new }
     {
         sort_backward(self.by(), &mut coming);
-        let mut positions = Vec::with_capacity(*coming.allocator(), coming.len())?;
         while let Some(entry) = coming.pop() {
-            positions.push(self.insert(entry)?)?;
+            self.insert(entry)?;
         }
-        Ok(positions)
-    }
-
-    /// Takes out the entries at these positions, the last one first, so that no other of them moves. It takes no memory.
-    pub(crate) fn remove_found(&mut self, positions: &RowSet)
-        requires { AllByRecursion (λ position. position < length (entries self.old)) positions.now }
-        ensures entries { entries self.new ≡ left_from 0 positions.now (entries self.old) }
-        ensures by { self.new.by ≡ self.old.by }
-        ensures order { IsOrder self.new }
-    {
-        let _count = self.len();
-        let mut place = positions.len();
-        while place > 0 {
-            place -= 1;
-            let position = positions.get(place).unwrap();
-            self.remove_at(position as usize);
-        }
+        Ok(())
     }
 }
 

@@ -46,7 +46,7 @@ fn compare_cells(by: &[SortBy], cells: &[i64], others: &[i64]) -> Ordering
     ensures { result ≡ cells_cmp by.now cells.now others.now }
 {
     for (place, sort) in by.iter().enumerate() {
-        let order = compare_column(sort, place, cells, others);
+        let order = compare_column(sort, cell_at(cells, place), cell_at(others, place));
         if order != Ordering::Equal {
             return order;
         }
@@ -54,12 +54,10 @@ fn compare_cells(by: &[SortBy], cells: &[i64], others: &[i64]) -> Ordering
     Ordering::Equal
 }
 
-/// How sort cells stand to others in the sort column at a place.
-fn compare_column(sort: &SortBy, place: usize, cells: &[i64], others: &[i64]) -> Ordering
-    ensures { result ≡ column_cmp sort.now (cell cells.now place) (cell others.now place) }
+/// How a cell in a sort column stands to another.
+pub(crate) fn compare_column(sort: &SortBy, cell: i64, other: i64) -> Ordering
+    ensures { result ≡ column_cmp sort.now cell other }
 {
-    let cell = cell_at(cells, place);
-    let other = cell_at(others, place);
     if sort.descending {
         other.cmp(&cell)
     } else {

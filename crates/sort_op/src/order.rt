@@ -124,20 +124,8 @@ impl SortOrder {
         if !self.holds(position, entry) {
             return None;
         }
-        self.remove_at(position);
-        Some(position as u64)
-    }
-
-    /// Takes the entry at a position out. It takes no memory.
-    pub(crate) fn remove_at(&mut self, position: usize)
-        requires { position < length (entries self.old) }
-        ensures entries { entries self.new ≡ remove (entries self.old) position }
-        ensures chunks { IsReplaced 0 1 self.old.chunks self.new.chunks }
-        ensures by { self.new.by ≡ self.old.by }
-        ensures order { IsOrder self.new }
-    {
-        let _ = &self.by;
         let _ = self.entries.remove(position);
+        Some(position as u64)
     }
 
     /// The position of an entry, or else, as an error, how many stand before it. It is found by two binary searches.

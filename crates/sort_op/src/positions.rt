@@ -1,63 +1,47 @@
 //! Positions in an order, as sets of keys of the rows that a sort shows.
-ghost use Rattle.std.specs.Prelude.{◌≡◌, ◌^◌, ◌≤◌, ◌++◌, [], length, IfOk, OnOk};
-ghost use Rattle.std.specs.List.{AllByRecursion, cons_option, range_with_len};
+ghost use Rattle.std.specs.Prelude.{◌≡◌, ◌^◌, ◌≤◌, length, IfOk, IsTrue};
+ghost use Rattle.std.specs.List.{AllByRecursion, range_with_len};
+ghost use Rattle.key_lists.specs.Keys.{is_among};
 ghost use Rattle.row_set.specs.Sets.{IsKeySet};
-ghost use Rattle.sort_op.specs.Entries.{IsWhole, entries, place_of};
-ghost use Rattle.sort_op.specs.Places.{AreFound, key_at, keys_at, other_places};
+ghost use Rattle.sort_op.specs.Entries.{keys_in};
+ghost use Rattle.sort_op.specs.Places.{AreApart, AreUnder, keys_at, other_places};
+ghost use Rattle.sort_op.specs.Ranks.{listed};
 
-use crate::entry::Entry;
-use crate::order::SortOrder;
+use crate::row_order::RowOrder;
 use row_set::RowSet;
 use std::alloc::{AllocError, Global};
 
-/// The positions of those of the entries that are in the order. It searches for each of them.
+/// The positions of the rows under these keys. It searches for each of them.
 pub(crate) fn positions_of(
     alloc: Global,
-    order: &SortOrder,
-    some: &[Entry],
+    order: &RowOrder,
+    keys: &RowSet,
 ) -> Result<RowSet, AllocError>
-    requires whole { AllByRecursion (IsWhole order.now.by) some.now }
-    requires few { length (entries order.now) ≤ 2 ^ 62 }
-    ensures places { IfOk result (λ positions. AreFound (entries order.now) some.now positions) }
+    requires here { AllByRecursion (λ key. IsTrue (is_among key (keys_in (listed order.now)))) keys.now }
+    requires apart { AreApart (keys_in (listed order.now)) }
+    requires few { length (listed order.now) ≤ 2 ^ 62 }
+    ensures places { IfOk result (λ positions. AreUnder (keys_in (listed order.now)) keys.now positions) }
     ensures set { IfOk result (λ positions. IsKeySet positions) }
-    ensures no_more { IfOk result (λ positions. length positions ≤ length some.now) }
+    ensures no_more { IfOk result (λ positions. length positions ≤ length keys.now) }
 {
-    let mut found = Vec::with_capacity(alloc, some.len())?;
-    for entry in some {
-        put_position(order, entry, &mut found)?;
+    let mut found = Vec::new(alloc);
+    for key in keys {
+        found.push(order.position_of(key))?;
     }
     RowSet::from_keys(alloc, found)
 }
 
-/// Puts the position of an entry behind others, if it is in the order.
-fn put_position(order: &SortOrder, entry: &Entry, found: &mut Vec<u64>) -> Result<(), AllocError>
-    requires whole { IsWhole order.now.by entry.now }
-    ensures found { OnOk result (found.new.items ≡ found.old.items ++ cons_option (place_of entry.now (entries order.now)) []) }
-{
-    match order.position(entry) {
-        Ok(position) => Ok(found.push(position)?),
-        Err(_) => Ok(()),
-    }
-}
-
-/// The key of the entry at a position, or 0 past the end.
-pub(crate) fn key_of(order: &SortOrder, position: u64) -> u64
-    ensures { result ≡ key_at (entries order.now) position }
-{
-    order.get(position).map_or(0, |entry| entry.key)
-}
-
-/// The keys of the entries at these positions.
+/// The keys of the rows at these positions.
 pub(crate) fn keys_of(
     alloc: Global,
-    order: &SortOrder,
+    order: &RowOrder,
     positions: &RowSet,
 ) -> Result<Vec<u64>, AllocError>
-    ensures { IfOk result (λ keys. keys.items ≡ keys_at (entries order.now) positions.now) }
+    ensures { IfOk result (λ keys. keys.items ≡ keys_at (listed order.now) positions.now) }
 {
     positions
         .iter()
-        .map(|position| key_of(order, position))
+        .map(|position| order.key_at(position))
         .collect(alloc)
 }
 

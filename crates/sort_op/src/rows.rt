@@ -3,11 +3,10 @@ ghost use Rattle.std.specs.Prelude.{◌≡◌, ◌+◌, ◌≤◌, ◌++◌, IsT
 ghost use Rattle.key_lists.specs.Keys.{IsRising, is_among};
 ghost use Rattle.tick_model.specs.Sort.{sort_table};
 ghost use Rattle.tick_model.specs.Tables.{cells_at, keys};
-ghost use Rattle.sort_op.specs.Entries.{entries};
+ghost use Rattle.sort_op.specs.Ranks.{listed};
 ghost use Rattle.sort_op.specs.Sorted.{entries_of};
 
-use crate::order::SortOrder;
-use crate::positions::key_of;
+use crate::row_order::RowOrder;
 use row_changes::Rows;
 use row_set::RowSet;
 use shift_data::ShiftData;
@@ -20,7 +19,7 @@ use tick_table::{Steps, TickTable};
 #[derive(Drop)]
 pub(crate) struct SortedRows<'a> {
     pub input: &'a TickTable,
-    pub order: &'a SortOrder,
+    pub order: &'a RowOrder,
     /// The old positions of the rows that go or may differ.
     pub touched: RowSet,
     /// The old keys of these rows, position by position.
@@ -39,11 +38,11 @@ impl SortedRows<'_> {
     ) -> Result<(), AllocError>
         requires here { IsTrue (is_among position (keys (sort_table self.now.order.now.by self.now.input.now.new).rows)) }
         requires rising { IsRising (keys self.now.input.now.new.rows) }
-        requires order { entries self.now.order.now ≡ entries_of self.now.order.now.by self.now.input.now.new.rows }
+        requires order { listed self.now.order.now ≡ entries_of self.now.order.now.by self.now.input.now.new.rows }
         ensures cells { OnOk result (cells.new.items ≡ cells.old.items ++ cells_at position (sort_table self.now.order.now.by self.now.input.now.new).rows) }
         ensures reads { OnOk result (reads.new ≤ reads.old + self.now.input.now.new.width) }
     {
-        let key = key_of(self.order, position);
+        let key = self.order.key_at(position);
         self.input.row(key, cells, reads)
     }
 }
@@ -58,7 +57,7 @@ impl<L: Ledger> Rows<L> for SortedRows<'_> {
 
     ghost row_reads = { λ rows. rows.input.now.new.width };
 
-    ghost ready = { λ rows. IsReady rows.order.now rows.input.now rows.touched rows.touched_keys.items rows.shifted };
+    ghost ready = { λ rows. IsReady rows.order.now.by (listed rows.order.now) rows.input.now rows.touched rows.touched_keys.items rows.shifted };
 
     fn before(
         &self,

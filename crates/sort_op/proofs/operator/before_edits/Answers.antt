@@ -1,13 +1,12 @@
-use Rattle.std.proofs.Common.{◌∙◌, ap, subst, sym, List}
-use Rattle.key_lists.specs.Keys.{is_among}
+use Rattle.std.proofs.Common.{subst, sym}
 use Rattle.row_set.specs.Sets.{IsKeySet}
-use Rattle.sort_op.specs.declared.entry.Entry.{Entry}
-use Rattle.sort_op.specs.Entries.{entries}
-use Rattle.sort_op.specs.Places.{is_place}
+use Rattle.sort_op.specs.Entries.{keys_in}
+use Rattle.sort_op.specs.Places.{AreUnder}
+use Rattle.sort_op.specs.Ranks.{listed}
 use Rattle.sort_op.proofs.operator.before_edits.Goals as goal
 
 pub returns-clause-crossing : goal.returns-clause-crossing
-returns-clause-crossing c = λ position. ap (is_among position) c.in_ok-places.ensures.crossing ∙ c.in_ok-crossing.ensures.places position ∙ ap (λ (some : List Entry). is_place (entries c.args.order.now) some position) c.deref.ensures.value
+returns-clause-crossing c = subst (AreUnder (keys_in (listed c.args.order.now)) c.args.edits.now.leaving) (sym c.in_ok-places.ensures.crossing) c.in_ok-crossing.ensures.places
 
 pub returns-clause-crossing_set : goal.returns-clause-crossing_set
 returns-clause-crossing_set c = subst IsKeySet (sym c.in_ok-places.ensures.crossing) c.in_ok-crossing.ensures.set

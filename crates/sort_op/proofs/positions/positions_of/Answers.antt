@@ -1,34 +1,58 @@
-use Rattle.std.proofs.Common.{◌≡◌, ◌∙◌, ◌<◌, ◌≤◌, ◌^◌, ℕ, ap, arith, length, refl, subst, sym}
-use Rattle.std.specs.Prelude.{filter_map}
+use Rattle.std.proofs.Common.{◌≡◌, ◌∙◌, ◌<◌, ◌≤◌, ◌^◌, ◌++◌, ◌∷◌, [], ap, arith, length, length-append, subst, sym, true, List, ℕ}
 use Rattle.std.specs.List.{AllByRecursion}
-use Rattle.std.proofs.lemmas.Option.{slice_get_read}
+use Rattle.std.proofs.lemmas.List.{length-map}
+use Rattle.std.proofs.lemmas.Option.{slice_get_within}
 use Rattle.std.proofs.lemmas.Result.{IfOk-weaker}
 use Rattle.key_lists.specs.Keys.{is_among}
-use Rattle.sort_op.specs.Entries.{entries, place_of}
-use Rattle.sort_op.specs.Places.{is_place}
-use Rattle.sort_op.proofs.PlacesFound.{found_all, found_next, found_places, length-filter_map_most, places_small}
+use Rattle.key_lists.proofs.Every.{every-append}
+use Rattle.row_set.proofs.Yielded.{next_has, yielded_all}
+use Rattle.sort_op.specs.declared.entry.Entry.{Entry}
+use Rattle.sort_op.specs.Entries.{keys_in}
+use Rattle.sort_op.specs.Places.{AreUnder}
+use Rattle.sort_op.specs.Ranks.{listed}
+use Rattle.sort_op.proofs.Ranked.{under_more, under_none}
 use Rattle.sort_op.proofs.positions.positions_of.Goals as goal
 
-pub loop-entry-preserved : goal.loop-entry-preserved
-loop-entry-preserved c =
-    c.in_ok-put_position.ensures.found
-    ∙ found_next (entries c.args.order.now) c.args.some.now c.loop-entry.entry-index c.entry-item.result c.loop-entry.found.items (slice_get_read c.args.some.now (length c.args.some.now) c.loop-entry.entry-index c.entry-item.result refl c.loop-entry-test.true c.entry-item.is) c.loop-entry.invariant
+pub loop-key-init : goal.loop-key-init
+loop-key-init c =
+    let none = c.new-found.ensures.items in
+    record {
+      places = subst (AreUnder (keys_in (listed c.args.order.now)) []) (sym none) (under_none (keys_in (listed c.args.order.now)));
+      small = subst (AllByRecursion (λ position. position < 2 ^ 62)) (sym none) tt;
+      count = let count : length c.new-found.result.items ≡ 0 = ap length none in omega (arith, count);
+    }
+
+pub position_of-requires : goal.position_of-requires
+position_of-requires c = next_has c.loop-key.yielded c.into_iter-key-iterator.ensures.into_iter_gives c.loop-key.yielded_by c.in-Some.ensures.steps (λ key. is_among key (keys_in (listed c.args.order.now)) ≡ true) c.requires.here
+
+pub loop-key-preserved : goal.loop-key-preserved
+loop-key-preserved c =
+    let order = keys_in (listed c.args.order.now) in
+    let yielded = c.loop-key.yielded in
+    let key = c.in-Some.key in
+    let position = c.position_of.result in
+    let within = slice_get_within order position key c.position_of.ensures in
+    let few : length order ≡ length (listed c.args.order.now) = length-map (listed c.args.order.now) (λ (entry : Entry). entry.key) in
+    record {
+      places = subst (AreUnder order (yielded ++ key ∷ [])) (sym c.in_ok-push.ensures.items) (under_more order yielded c.loop-key.found.items key position c.requires.apart c.position_of.ensures c.loop-key.invariant.places);
+      small = subst (AllByRecursion (λ position. position < 2 ^ 62)) (sym c.in_ok-push.ensures.items) (every-append (λ position. position < 2 ^ 62) c.loop-key.found.items (position ∷ []) c.loop-key.invariant.small (omega (arith, within, few, c.requires.few), tt));
+      count =
+          let more : length c.push.new.self.items ≡ length (c.loop-key.found.items ++ position ∷ []) = ap length c.in_ok-push.ensures.items in
+          omega (arith, more, length-append c.loop-key.found.items (position ∷ []), length-append yielded (key ∷ []), c.loop-key.invariant.count);
+    }
 
 pub from_keys-requires : goal.from_keys-requires
-from_keys-requires c =
-    record { small = subst (AllByRecursion (λ key. key < 2 ^ 62)) (sym (found_all (entries c.args.order.now) c.args.some.now c.loop-entry.found.items c.loop-entry.entry-index c.loop-entry.invariant c.loop-entry-test.false)) (places_small (entries c.args.order.now) c.args.some.now (2 ^ 62) c.requires.few) }
+from_keys-requires c = record { small = c.loop-key.invariant.small }
 
 pub returns-clause-places : goal.returns-clause-places
 returns-clause-places c =
-    IfOk-weaker c.from_keys.result (λ set. (key : ℕ) → is_among key set ≡ is_among key c.loop-entry.found.items) (λ positions. (position : ℕ) → is_among position positions ≡ is_place (entries c.args.order.now) c.args.some.now position)
-    (λ set are position. are position ∙ ap (is_among position) (found_all (entries c.args.order.now) c.args.some.now c.loop-entry.found.items c.loop-entry.entry-index c.loop-entry.invariant c.loop-entry-test.false) ∙ found_places (entries c.args.order.now) c.args.some.now position)
-    c.from_keys.ensures.keys
+    let order = keys_in (listed c.args.order.now) in
+    let all = yielded_all c.loop-key.yielded c.into_iter-key-iterator.ensures.into_iter_gives c.loop-key.yielded_by c.in-None.ensures.steps.0 in
+    IfOk-weaker c.from_keys.result (λ set. (key : ℕ) → is_among key set ≡ is_among key c.loop-key.found.items) (AreUnder order c.args.keys.now)
+    (λ set are position. are position ∙ subst (λ (some : List ℕ). AreUnder order some c.loop-key.found.items) all c.loop-key.invariant.places position) c.from_keys.ensures.keys
 
 pub returns-clause-no_more : goal.returns-clause-no_more
 returns-clause-no_more c =
-    IfOk-weaker c.from_keys.result (λ set. length set ≤ length c.loop-entry.found.items) (λ positions. length positions ≤ length c.args.some.now)
-    (λ set few.
-    let found : length c.loop-entry.found.items ≡ length (filter_map (λ entry. place_of entry (entries c.args.order.now)) c.args.some.now) = ap length (found_all (entries c.args.order.now) c.args.some.now c.loop-entry.found.items c.loop-entry.entry-index c.loop-entry.invariant c.loop-entry-test.false) in
-    let most = length-filter_map_most (λ entry. place_of entry (entries c.args.order.now)) c.args.some.now in
-    omega (arith, few, found, most))
-    c.from_keys.ensures.no_more
+    let all : length c.loop-key.yielded ≡ length c.args.keys.now = ap length (yielded_all c.loop-key.yielded c.into_iter-key-iterator.ensures.into_iter_gives c.loop-key.yielded_by c.in-None.ensures.steps.0) in
+    IfOk-weaker c.from_keys.result (λ set. length set ≤ length c.loop-key.found.items) (λ positions. length positions ≤ length c.args.keys.now)
+    (λ set few. omega (arith, few, all, c.loop-key.invariant.count)) c.from_keys.ensures.no_more

@@ -1,7 +1,13 @@
-use Rattle.std.proofs.Common.{◌≡◌, take}
-use Rattle.std.specs.Prelude.{filter_map}
-use Rattle.sort_op.specs.Entries.{entries, place_of}
+use Rattle.std.proofs.Common.{◌^◌, ◌<◌, ◌≤◌, length}
+use Rattle.std.specs.List.{AllByRecursion}
+use Rattle.sort_op.specs.Entries.{keys_in}
+use Rattle.sort_op.specs.Places.{AreUnder}
+use Rattle.sort_op.specs.Ranks.{listed}
 use Rattle.sort_op.proofs.positions.positions_of.Given as goal
 
-abbrev pub invariant-loop-entry : goal.invariant-loop-entry
-invariant-loop-entry l = l.found.items ≡ filter_map (λ entry. place_of entry (entries l.order)) (take l.entry-index l.some)
+abbrev pub invariant-loop-key : goal.invariant-loop-key
+invariant-loop-key l = record {
+  places : AreUnder (keys_in (listed l.order)) l.yielded l.found.items;
+  small : AllByRecursion (λ position. position < 2 ^ 62) l.found.items;
+  count : length l.found.items ≤ length l.yielded;
+}
