@@ -1,4 +1,4 @@
-use Rattle.std.proofs.Common.{◌≡◌, ap, ap₂, sym, ◌∙◌, subst, true, arith, ◌+◌, ◌*◌, ◌≤◌, List, ℕ, length}
+use Rattle.std.proofs.Common.{◌≡◌, ap, ap₂, sym, ◌∙◌, subst, ◌+◌, ◌*◌, ◌≤◌, List, ℕ, length}
 use Rattle.std.specs.List.{AllByRecursion, list_any}
 use Rattle.row_groups.specs.Members.{groups_of}
 use Rattle.tick_laws.specs.Checked.{keys_after}

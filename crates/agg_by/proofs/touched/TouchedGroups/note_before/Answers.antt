@@ -1,4 +1,4 @@
-use Rattle.std.proofs.Common.{◌≡◌, refl, sym, subst, true, ◌++◌, List, ℤ, map}
+use Rattle.std.proofs.Common.{◌≡◌, refl, sym, subst, true, List, ℤ, map}
 use Rattle.std.specs.List.{AllByRecursion, list_any}
 use Rattle.std.proofs.lemmas.Result.{on_ok_weaker}
 use Rattle.std.proofs.lemmas.List.Folds.{list_any-append}
