@@ -12,6 +12,7 @@ pub mod ReadChanges
 pub mod ReadColumns
 pub mod ReadFields
 pub mod ReadRows
+pub mod RecordsBack
 pub mod RowsBack
 pub mod RowsUnder
 pub mod RunsBack

@@ -142,10 +142,10 @@ parts_same removed added modified cs shifted cells change a b c d e f =
     ∙ ap (λ x. change_from own.removed own.added own.modified own.shifted x cells) e
     ∙ ap (λ x. change_from own.removed own.added own.modified own.shifted own.columns x) f
 
-rows_whole : (columns : List ColumnSpec) (texts : List (List ℕ)) (rows : List PlainRow) → AllByRecursion (IsToldRow columns texts) rows → AllByRecursion (λ row. length row.cells ≡ length columns) rows
+pub rows_whole : (columns : List ColumnSpec) (texts : List (List ℕ)) (rows : List PlainRow) → AllByRecursion (IsToldRow columns texts) rows → AllByRecursion (λ row. length row.cells ≡ length columns) rows
 rows_whole columns texts rows h = every_weaker (IsToldRow columns texts) (λ (row : PlainRow). length row.cells ≡ length columns) rows (λ row told. length-fit_columns (length texts) columns row.cells told.fit) h
 
-count_cells : (width : ℕ) (rows : List PlainRow) → AllByRecursion (λ row. length row.cells ≡ width) rows → length (cells_of rows) ≡ width * length (keys rows)
+pub count_cells : (width : ℕ) (rows : List PlainRow) → AllByRecursion (λ row. length row.cells ≡ width) rows → length (cells_of rows) ≡ width * length (keys rows)
 count_cells width [] h = omega arith
 count_cells width (row ∷ rows) h = omega (arith, length-append row.cells (cells_of rows), h.0, count_cells width rows h.1)
 

@@ -1,6 +1,6 @@
 -- The record of the modified columns, read back.
-use Rattle.std.proofs.Common.{◌≡◌, refl, ap, sym, ◌∙◌, Bool, true, false, true≢false, cond, ℕ, ◌+◌, ◌<◌, ◌≤◌, arith, List, [], ◌∷◌, ◌++◌, length, map, get_or}
-use Rattle.std.specs.Prelude.{nat_eq, Option, Some, None, Result, MatchResult, nat_lt, Ok, Err}
+use Rattle.std.proofs.Common.{◌≡◌, refl, ap, sym, ◌∙◌, true, false, true≢false, cond, ℕ, ◌<◌, arith, List, [], ◌∷◌, ◌++◌, length, map, get_or}
+use Rattle.std.specs.Prelude.{nat_eq, Option, Some, None, Result, nat_lt, Ok, Err}
 use Rattle.std.specs.Cmp.Lexicographic.{pointwise, bytes_decides}
 use Rattle.std.specs.List.{position_or_len}
 use Rattle.std.proofs.lemmas.Bool.{lt-ltb}
@@ -14,32 +14,32 @@ use Rattle.update_text.specs.declared.printed.PrintedFault.{PrintedFault}
 use Rattle.update_text.specs.Reading.{Gives, has_comma, has_tag, next_fields}
 use Rattle.update_text.proofs.Apart.{names_apart}
 use Rattle.update_text.proofs.Backwards.{place_same}
-use Rattle.update_text.proofs.ReadRows.{tagged_here, tagged_text}
+use Rattle.update_text.proofs.ReadRows.{tagged_text}
 
-abbrev blank : ColumnSpec
+abbrev pub blank : ColumnSpec
 blank = record { name = []; kind = Long }
 
-name_at : (columns : List ColumnSpec) (k : ℕ) → k < length columns → column_name columns k ≡ (get_or columns k blank).name
+pub name_at : (columns : List ColumnSpec) (k : ℕ) → k < length columns → column_name columns k ≡ (get_or columns k blank).name
 name_at columns k less = get_or-map (λ (spec : ColumnSpec). spec.name) columns k blank [] less
 
--- the place of a column's name is its own
-pub place_found : (columns : List ColumnSpec) (place : ℕ) (name : List ℕ) → are_distinct (map (λ column. column.name) columns) ≡ true → place < length columns → name ≡ column_name columns place →
-    cond (nat_lt (position_or_len (λ column. pointwise nat_eq column.name name) columns) (length columns)) (Some (position_or_len (λ column. pointwise nat_eq column.name name) columns)) None ≡ Some place
-place_found columns place name distinct less named =
-    let found = position_or_len_is (λ (column : ColumnSpec). pointwise nat_eq column.name name) columns place blank (omega arith) below (λ _. (bytes_decides (get_or columns place blank).name name).1 (sym (name_at columns place less) ∙ sym named)) in
-    ap (λ n. let o : Option ℕ = cond (nat_lt n (length columns)) (Some n) None in o) found
-    ∙ ap (λ b. let o : Option ℕ = cond b (Some place) None in o) (lt-ltb place (length columns) less)
+-- the place of a name is its own
+pub place_found : {X : Type 0} (name_of : X → List ℕ) (xs : List X) (d : X) (place : ℕ) (name : List ℕ) → are_distinct (map name_of xs) ≡ true → place < length xs → name ≡ name_of (get_or xs place d) →
+    cond (nat_lt (position_or_len (λ x. pointwise nat_eq (name_of x) name) xs) (length xs)) (Some (position_or_len (λ x. pointwise nat_eq (name_of x) name) xs)) None ≡ Some place
+place_found name_of xs d place name distinct less named =
+    let found = position_or_len_is (λ x. pointwise nat_eq (name_of x) name) xs place d (omega arith) below (λ _. (bytes_decides (name_of (get_or xs place d)) name).1 (sym named)) in
+    ap (λ n. let o : Option ℕ = cond (nat_lt n (length xs)) (Some n) None in o) found
+    ∙ ap (λ b. let o : Option ℕ = cond b (Some place) None in o) (lt-ltb place (length xs) less)
   where
-    names : List (List ℕ)
-    names = map (λ (column : ColumnSpec). column.name) columns
+    named_at : (k : ℕ) → k < length xs → get_or (map name_of xs) k [] ≡ name_of (get_or xs k d)
+    named_at k within = get_or-map name_of xs k d [] within
 
-    below : (k : ℕ) → k < place → pointwise nat_eq (get_or columns k blank).name name ≡ false
+    below : (k : ℕ) → k < place → pointwise nat_eq (name_of (get_or xs k d)) name ≡ false
     below k before =
-        (elim (pointwise nat_eq (get_or columns k blank).name name) as (λ b. pointwise nat_eq (get_or columns k blank).name name ≡ b → b ≡ false) [
+        (elim (pointwise nat_eq (name_of (get_or xs k d)) name) as (λ b. pointwise nat_eq (name_of (get_or xs k d)) name ≡ b → b ≡ false) [
           | true ↦ λ e.
-              let count : length names ≡ length columns = length-map columns (λ (column : ColumnSpec). column.name) in
-              let own : k < length columns = omega arith in
-              let same : k ≡ place = place_same names k place [] (names_apart names distinct) (omega arith) (omega arith) (name_at columns k own ∙ (bytes_decides (get_or columns k blank).name name).0 e ∙ named) in
+              let count : length (map name_of xs) ≡ length xs = length-map xs name_of in
+              let own : k < length xs = omega arith in
+              let same : k ≡ place = place_same (map name_of xs) k place [] (names_apart (map name_of xs) distinct) (omega arith) (omega arith) (named_at k own ∙ (bytes_decides (name_of (get_or xs k d)) name).0 e ∙ named ∙ sym (named_at place less)) in
               absurd (omega arith)
           | false ↦ λ e. refl
         ]) refl

@@ -2,16 +2,22 @@
 --     AreWordsOf shown words table      the words are those of a table with these columns
 --     rows_told count size words      so many rows, each of so many words
 --     snapshot_shown caller call step shown texts rows      the records of a snapshot
-use Rattle.std.specs.Prelude.{◌≡◌, ℕ, zero, suc, List, [], ◌∷◌, codes, map, take, drop, length}
+--     snapshot_text shown texts snapshot      their text
+--     IsSnapshot columns texts snapshot      rows of these columns under rising keys, at a step of 64 bits
+use Rattle.std.specs.Prelude.{◌≡◌, ℕ, ◌^◌, ◌<◌, zero, suc, List, [], ◌∷◌, codes, map, take, drop, length}
 use Rattle.std.specs.Fmt.{decimal}
 use Rattle.std.specs.Int.{w64, cast_signed}
 use Rattle.std.specs.List.{AllByRecursion}
+use Rattle.key_lists.specs.Keys.{IsRising}
+use Rattle.tick_model.specs.declared.plan.ColumnSpec.{ColumnSpec}
 use Rattle.tick_model.specs.declared.table.PlainRow.{PlainRow}
 use Rattle.tick_model.specs.declared.table.PlainTable.{PlainTable}
-use Rattle.tick_model.specs.Tables.{HasCells}
-use Rattle.tick_model.specs.Texts.{snapshot_of}
+use Rattle.tick_model.specs.Tables.{HasCells, keys}
+use Rattle.tick_model.specs.Texts.{records_text, snapshot_of}
 use Rattle.tick_model.specs.Words.{words}
+use Rattle.update_text.specs.declared.printed.Snapshot.{Snapshot}
 use Rattle.update_text.specs.declared.shown.Shown.{Shown}
+use Rattle.update_text.specs.Reading.{IsToldRow}
 
 -- the words are those of this table, whose rows have a cell for each column, and whose cells are numbers of 64 bits
 pub record AreWordsOf (shown : Shown) (told : List ℕ) (table : PlainTable) : Type 0 where
@@ -35,3 +41,13 @@ snap_record caller call step name = codes "snap" ∷ decimal caller ∷ decimal 
 -- a snapshot's records, of these rows
 abbrev pub snapshot_shown : ℕ → ℕ → ℕ → Shown → List (List ℕ) → List PlainRow → List (List (List ℕ))
 snapshot_shown caller call step shown texts rows = snapshot_of caller call step shown.name shown.columns texts rows
+
+abbrev pub snapshot_text : Shown → List (List ℕ) → Snapshot → List ℕ
+snapshot_text shown texts snapshot = records_text (snapshot_shown snapshot.caller snapshot.call snapshot.step shown texts snapshot.rows)
+
+pub record IsSnapshot (columns : List ColumnSpec) (texts : List (List ℕ)) (snapshot : Snapshot) : Type 0 where
+  pub caller : snapshot.caller < 2 ^ 32
+  pub call : snapshot.call < 2 ^ 32
+  pub step : snapshot.step < 2 ^ 64
+  pub rising : IsRising (keys snapshot.rows)
+  pub rows : AllByRecursion (IsToldRow columns texts) snapshot.rows

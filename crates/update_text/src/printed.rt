@@ -4,6 +4,8 @@ ghost use Rattle.update_text.specs.declared.printed.PrintedFault.TheVariants.{Me
 
 use std::alloc::{AllocError, AllocFailed};
 use thiserror::Error;
+use tick_model::items::Items;
+use tick_model::table::PlainRow;
 use tick_table::Change;
 
 /// A change and the step at which it was printed.
@@ -13,14 +15,23 @@ pub struct Printed {
     pub change: Change,
 }
 
-/// Why no change was read back from a text.
+/// A snapshot: whose it is, the step at which it was taken, and the rows of its table. Callers and calls are numbered from 0.
+#[derive(Drop)]
+pub struct Snapshot {
+    pub caller: u32,
+    pub call: u32,
+    pub step: u64,
+    pub rows: Items<PlainRow>,
+}
+
+/// Why nothing was read back from a text.
 #[derive(Clone, Copy, Debug, PartialEq, Eq, Error)]
 pub enum PrintedFault {
     /// Memory ran out.
     #[error("out of memory")]
     Memory,
-    /// The text is not that of a change.
-    #[error("the text is not that of a change")]
+    /// The text is not what is printed.
+    #[error("the text is not what is printed")]
     NotPrinted,
 }
 

@@ -131,7 +131,7 @@ pub(crate) fn read_line_end(bytes: &[u8]) -> Result<&[u8], PrintedFault>
 }
 
 /// The number that a field tells.
-fn number_of(field: &[u8]) -> Result<u64, PrintedFault>
+pub(crate) fn number_of(field: &[u8]) -> Result<u64, PrintedFault>
     ensures { (number : ℕ) → number < 2 ^ 64 → field.now ≡ decimal number → Gives result (λ read. read ≡ number) }
 {
     match str::from_utf8(field) {

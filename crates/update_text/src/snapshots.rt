@@ -19,7 +19,7 @@ use tick_model::name::Name;
 use tick_model::plan::{ColumnSpec, Kind};
 
 /// Appends the first record of a snapshot.
-fn push_head(
+pub(crate) fn push_head(
     text: &mut Vec<u8>,
     caller: u32,
     call: u32,
