@@ -74,7 +74,7 @@ module _ (run : Run) (h : IsLawfulRun run) (watch : Watch) (w : IsWatch run watc
   node_width : (step : ℕ) → IsReached run step → (at step).width ≡ length columns
   node_width step r = (bounded_at run h step r.batches watch.node w.node ((reached_tables run h step r).each watch.node w.node)).width_is
 
-  column_count : length asked.columns ≡ length columns
+  pub column_count : length asked.columns ≡ length columns
   column_count = length-range_with_len 0 (length columns)
 
   pub asked_is : (step width : ℕ) (table : PlainTable) → IsReached run step → width ≡ table.width → table ≡ at step → slice_with watch width ≡ asked
@@ -93,7 +93,7 @@ module _ (run : Run) (h : IsLawfulRun run) (watch : Watch) (w : IsWatch run watc
       }
 
   -- what the messages tell
-  fits : (step : ℕ) → IsReached run step → HasColumns columns (length run.texts) (shown (at step))
+  pub fits : (step : ℕ) → IsReached run step → HasColumns columns (length run.texts) (shown (at step))
   fits step r =
       slice_fits columns (length run.texts) watch.first watch.count (at step).rows
       (node_fits run h step r.batches watch.node w.node ((reached_tables run h step r).each watch.node w.node))

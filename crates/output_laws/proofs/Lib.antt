@@ -1,0 +1,3 @@
+pub mod VerdictEntries
+pub mod WatchedEntries
+pub mod WrittenEntries
