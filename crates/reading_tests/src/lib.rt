@@ -1,4 +1,4 @@
-//! Tests with ample memory of the public calls of `tick_model` (the evaluator, and whether a plan is lawful and fits), `script_lines`, `script_reader`, `feed_reader`, `update_text`, `command_words` and `made_run`.
+//! Tests with ample memory of the public calls of `tick_model` (the evaluator, and whether a plan is lawful and fits), `script_lines`, `script_reader`, `feed_reader`, `update_text`, `run_output`, `command_words` and `made_run`.
 
 #![tactic(auto)]
 
@@ -10,6 +10,8 @@ mod evaluated;
 mod feed_reader_calls;
 #[cfg(test)]
 mod made_run_calls;
+#[cfg(test)]
+mod run_output_calls;
 #[cfg(test)]
 mod script_lines_calls;
 #[cfg(test)]

@@ -12,7 +12,10 @@ use tick_model::name::Name;
 use tick_model::plan::{ColumnSpec, Kind};
 use tick_model::table::PlainRow;
 use tick_model::update::ShiftRange;
-use update_text::{PrintedFault, Shown, WriteFault, read_update, write_added, write_fields};
+use update_text::{
+    PrintedFault, Shown, WriteFault, read_first_fields, read_number, read_record, read_snapshot,
+    read_update, write_added, write_fields,
+};
 
 /// A sink that takes one byte at a time, and fails where it is full.
 #[derive(Drop)]
@@ -44,7 +47,7 @@ fn name(alloc: Global, text: &str) -> Result<Name, AllocError>
 }
 
 /// The table `big` of a text column `sym` and a number column `qty`.
-fn big(alloc: Global) -> Result<Shown, AllocError>
+pub(crate) fn big(alloc: Global) -> Result<Shown, AllocError>
     ensures two { IfOk result (λ shown. length shown.columns ≡ 2) }
     ensures distinct { IfOk result (λ shown. are_distinct (map (λ column. column.name) shown.columns) ≡ true) }
 {
@@ -130,7 +133,7 @@ fn a_prefix_is_written_before_a_failure(rt: HostRuntime) -> Result<(), Fail> {
 }
 
 /// Three texts in byte order.
-fn symbols(alloc: Global) -> Result<Items<Name>, AllocError>
+pub(crate) fn symbols(alloc: Global) -> Result<Items<Name>, AllocError>
     ensures { IfOk result (λ texts. AreTexts texts) }
 {
     let first = name(alloc, "AAPL")?;
@@ -177,5 +180,37 @@ fn other_texts_are_refused(rt: HostRuntime) -> Result<(), Fail> {
         let read = read_update(rt.alloc(), text.as_bytes(), &shown, &texts);
         assert!(rt; matches!(read, Err(PrintedFault::NotPrinted)));
     }
+    Ok(())
+}
+
+#[test]
+fn a_record_is_read_back(rt: HostRuntime) -> Result<(), Fail> {
+    let text = b"fault,3,read,\"a\"\",\nb\"\n";
+    let fields = read_record(rt.alloc(), text)?;
+    assert_eq!(rt; fields.len(), 4);
+    let name = fields.as_slice().last().map(|field| field.as_slice());
+    assert_eq!(rt; name, Some(b"a\",\nb".as_slice()));
+    let first = read_first_fields(rt.alloc(), b"done,7\ndone,8\n")?;
+    assert_eq!(rt; first.len(), 2);
+    assert_eq!(rt; read_number(b"70")?, 70);
+    assert!(rt; matches!(read_number(b"070"), Err(PrintedFault::NotPrinted)));
+    Ok(())
+}
+
+#[test]
+fn a_snapshot_is_read_back(rt: HostRuntime) -> Result<(), Fail> {
+    let shown = big(rt.alloc())?;
+    let texts = symbols(rt.alloc())?;
+    let text = b"snap,2,1,7,big\nw,3,IBM,5\nw,4,,\n";
+    let snapshot = read_snapshot(rt.alloc(), text, &shown, &texts)?;
+    assert_eq!(rt; snapshot.caller, 2);
+    assert_eq!(rt; snapshot.call, 1);
+    assert_eq!(rt; snapshot.step, 7);
+    assert_eq!(rt; snapshot.rows.len(), 2);
+    let last = snapshot.rows.as_slice().last();
+    assert!(rt; matches!(last, Some(row) if row.key == 4));
+    let falling = b"snap,2,1,7,big\nw,4,IBM,5\nw,3,,\n";
+    let read = read_snapshot(rt.alloc(), falling, &shown, &texts);
+    assert!(rt; matches!(read, Err(PrintedFault::NotPrinted)));
     Ok(())
 }
