@@ -1,10 +1,10 @@
 //! The edges of the nodes that a seat has: shares are delivered and taken.
 
-ghost use Rattle.std.specs.Prelude.{◌≡◌, ◌<◌, ◌+◌, length};
+ghost use Rattle.std.specs.Prelude.{◌≡◌, ◌<◌, ◌+◌, IsTrue, length};
 ghost use Rattle.graph_words.specs.declared.table.Mark.TheVariants.{Unmarked, Taken, Delivered};
 ghost use Rattle.graph_words.specs.Marks.{at};
 ghost use Rattle.graph_words.specs.Rule.{IsTagged, tags};
-ghost use Rattle.graph_words.specs.Views.{mark_out, mark_in, gets, IsUntouched};
+ghost use Rattle.graph_words.specs.Views.{mark_out, mark_in, gets, InputsDelivered, IsUntouched};
 ghost use Rattle.graph_words.specs.Seats.{IsSeatOf, AtEdge, Has};
 
 use crate::claims::{ClaimSeat, Claims};
@@ -17,7 +17,7 @@ impl<W: Tagged, H: Tagged> Claims<W, H> {
     /// and of the step of the claims.
     ///
     /// True exactly where it was the last input edge of the node `to` that was not delivered. Then the seat has that node,
-    /// and has touched nothing of it.
+    /// and has touched nothing of it. So it is true for a seat that has delivered each input edge of that node.
     pub fn deliver(&self, seat: &mut ClaimSeat<W, H>, edge: u32, share: H) -> bool
         requires of { IsSeatOf self.now seat.old }
         requires edge { edge < length self.now.plan.edges.items }
@@ -27,6 +27,7 @@ impl<W: Tagged, H: Tagged> Claims<W, H> {
         ensures of { IsSeatOf self.now seat.new }
         ensures view { AtEdge self.now.plan edge (λ x. seat.new.view ≡ gets result x.to (mark_out seat.old.view edge Delivered)) }
         ensures fresh { AtEdge self.now.plan edge (λ x. (at seat.old.view.nodes x.to ≡ Unmarked) × IsUntouched self.now.plan seat.old.view x.to) }
+        ensures last { AtEdge self.now.plan edge (λ x. InputsDelivered self.now.plan seat.new.view x.to → IsTrue result) }
     {
         let table = &self.table.shared;
         let to = self.edges[edge as usize].to as usize;
