@@ -1,14 +1,50 @@
--- What the rule says of the seats' views alone.
-use Rattle.std.specs.Prelude.{◌≡◌, ◌≢◌, ℕ, ◌<◌, List}
+-- What the rule says of the words, the slots and the seats' views, sentence by sentence.
+--     node_seen, out_seen, in_seen      the mark that a seat has of a node or of an edge
+--     awaited key s n      how many input edges of the node are not delivered
+--     IsWaiting, IsOnOffer, IsReady      the three ways in which a node can stand
+use Rattle.std.specs.Prelude.{◌≡◌, ◌≢◌, ◌⊎◌, ℕ, suc, ◌+◌, ◌<◌, ◌==◌, List, [], ◌∷◌, slice_index, Some}
 use mathlib.Core.Option.{some}
 use lib.ListN.{get_elem?}
+use Rattle.atomic_table.specs.Table.{State}
+use Rattle.graph_words.specs.declared.graph.Edge.{Edge}
 use Rattle.graph_words.specs.declared.graph.Plan.{Plan}
+use Rattle.graph_words.specs.declared.table.Mark.{Mark}
+use Rattle.graph_words.specs.declared.table.Slot.{Slot}
 use Rattle.graph_words.specs.declared.table.View.{View}
 use Rattle.graph_words.specs.declared.table.Mark.TheVariants.{Unmarked, Delivered}
-use Rattle.graph_words.specs.Marks.{at}
+use Rattle.graph_words.specs.Marks.{at, either_mark, when, inputs, IsHadMark}
+use Rattle.graph_words.specs.Rule.{EdgeState, EdgeHome, Home, MarkHome, OFFERED, OldWork, Tags, in_mark, out_mark}
 use Rattle.graph_words.specs.Seats.{AtEdge, Has}
 
+-- 1 where the mark is not that of a delivered edge
+abbrev pub owes : Mark → ℕ
+owes Delivered = 0
+owes m = 1
+
 module _ {W : Type 0} where
+  -- the mark that a seat has of the number, in one of its lists, and `Unmarked` where none has
+  abbrev pub seen : (View W → List Mark) → List (View W) → ℕ → Mark
+  seen list [] n = Unmarked
+  seen list (v ∷ vs) n = either_mark (at (list v) n) (seen list vs n)
+
+  abbrev pub node_seen : List (View W) → ℕ → Mark
+  node_seen views n = seen (λ v. v.nodes) views n
+
+  abbrev pub out_seen : List (View W) → ℕ → Mark
+  out_seen views e = seen (λ v. v.outs) views e
+
+  abbrev pub in_seen : List (View W) → ℕ → Mark
+  in_seen views e = seen (λ v. v.ins) views e
+
+  -- how many of the edges, which are numbered from i on, go to the node and stand in no view as delivered
+  abbrev pub awaited_from : List (View W) → ℕ → ℕ → List Edge → ℕ
+  awaited_from views n i [] = 0
+  awaited_from views n i (x ∷ xs) = when (x.to == n) (owes (out_seen views i)) + awaited_from views n (suc i) xs
+
+  -- what holds of the view of each seat
+  abbrev pub OfEach : List (View W) → (View W → Type 0) → Type 0
+  OfEach views P = (id : ℕ) (v : View W) → get_elem? views id ≡ some v → P v
+
   -- some seat has delivered the edge
   abbrev pub IsDelivered : List (View W) → ℕ → Type 0
   IsDelivered views e = (id : ℕ) × (v : View W) × (get_elem? views id ≡ some v) × (at v.outs e ≡ Delivered)
@@ -29,6 +65,45 @@ module _ {W : Type 0} where
   abbrev pub IsDeliveredByFrom : Plan W → List (View W) → Type 0
   IsDeliveredByFrom key views = (e i : ℕ) (v : View W) → get_elem? views i ≡ some v → AtEdge key e (λ x. at v.outs e ≡ Delivered → Has v x.from)
 
+  -- a seat that has a node has a part, and it has the plan exactly where it has a part
+  abbrev pub IsSharedInParts : Plan W → List (View W) → Type 0
+  IsSharedInParts key views = OfEach views (λ v. ((n : ℕ) → n < key.nodes → Has v n → 0 < v.parts) × (0 < v.parts → v.plan ≡ Some key) × ((k : Plan W) → v.plan ≡ Some k → 0 < v.parts))
+
   -- where a seat has all parts, no other seat has a node
   abbrev pub IsAloneWithAllParts : Plan W → List (View W) → Type 0
   IsAloneWithAllParts key views = (n i j : ℕ) (v w : View W) → n < key.nodes → i ≢ j → get_elem? views i ≡ some v → get_elem? views j ≡ some w → v.parts ≡ 1024 → at w.nodes n ≡ Unmarked
+
+module _ {W H : Type 0} (key : Plan W) (s : State (Slot W H) (View W)) where
+  abbrev pub awaited : ℕ → ℕ
+  awaited n = awaited_from s.views n 0 key.edges.items
+
+  -- no seat has the node, and an input edge is not delivered
+  pub record IsWaiting (n : ℕ) : Type 0 where
+    pub word : slice_index s.words n ≡ awaited n
+    pub input : 0 < awaited n
+    pub free : node_seen s.views n ≡ Unmarked
+
+  -- no seat has the node, which has input edges, and all of them are delivered
+  pub record IsOnOffer (n : ℕ) : Type 0 where
+    pub word : slice_index s.words n ≡ OFFERED
+    pub input : 0 < inputs n key.edges.items
+    pub none : awaited n ≡ 0
+    pub free : node_seen s.views n ≡ Unmarked
+
+  -- a seat has the node, and each input edge is delivered
+  pub record IsReady (n : ℕ) : Type 0 where
+    pub word : slice_index s.words n ≡ 0
+    pub none : awaited n ≡ 0
+    pub had : IsHadMark (node_seen s.views n)
+
+  abbrev pub IsInOneState : Type 0
+  IsInOneState = (n : ℕ) → n < key.nodes → IsWaiting n ⊎ (IsOnOffer n ⊎ IsReady n)
+
+module _ {R W H : Type 0} (tw : Tags R W) (th : Tags R H) (key : Plan W) (s : State (Slot W H) (View W)) where
+  -- The slot of a node that no seat has is there, with the work of the step before. Else the mark that a seat has of the node tells what is in it.
+  abbrev pub WorksLie : Type 0
+  WorksLie = (n : ℕ) → n < key.nodes → (node_seen s.views n ≡ Unmarked → Home tw th key (OldWork tw th key n) (get_elem? s.homes n)) × (IsHadMark (node_seen s.views n) → MarkHome tw th key n (node_seen s.views n) (get_elem? s.homes n))
+
+  -- the marks that seats have of an edge, as an output edge and as an input edge, and its slot are those of one state of the edge
+  abbrev pub SharesLie : Type 0
+  SharesLie = (e : ℕ) → AtEdge key e (λ x. (state : EdgeState) × (out_seen s.views e ≡ out_mark state) × (in_seen s.views e ≡ in_mark state) × EdgeHome tw th key x.from state (get_elem? s.homes (key.nodes + e)))

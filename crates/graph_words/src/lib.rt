@@ -26,6 +26,7 @@ mod table;
 pub use claims::{ClaimSeat, Claims};
 pub use graph::{Edge, Tagged};
 pub use laws::{
-    all_parts_are_alone, deliveries_stand_once, nodes_are_had_after_inputs, nodes_are_had_once,
-    parts_stay_together,
+    all_parts_are_alone, deliveries_stand_once, marks_go_with_nodes, nodes_are_had_after_inputs,
+    nodes_are_had_once, nodes_wait_or_are_ready, parts_stay_together, shares_lie_in_slots,
+    works_lie_in_slots,
 };

@@ -1,4 +1,4 @@
-use Rattle.std.proofs.Common.{rules, ◌∙◌, sym, ap, arith}
+use Rattle.std.proofs.Common.{arith}
 use Rattle.graph_words.proofs.Claiming.{seat_looks}
 use Rattle.graph_words.proofs.claims.Claims.look.Goals as goal
 
