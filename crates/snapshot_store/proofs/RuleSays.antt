@@ -1,8 +1,10 @@
 -- The sentences of the rule.
 use Rattle.std.proofs.Common.{◌+◌, ◌-◌, subst, sym, ◌∙◌, arith}
 use Rattle.tick_model.specs.declared.feed.Run.{Run}
+use Rattle.snapshot_store.specs.declared.writers.Phase.TheVariants.{Idle, Begun, Stopped, Left}
+use Rattle.snapshot_store.specs.Models.{words_of}
 use Rattle.snapshot_store.specs.Rule.{IsDoing, KeepsRule, Stored}
-use Rattle.snapshot_store.specs.Sentences.{Board, clock, HasOneTurn, HoldsBoth, HoldsOne, IsFloorOfWriter, IsPastLooks, IsStill, IsTrueToSteps, KeepsLimits}
+use Rattle.snapshot_store.specs.Sentences.{Board, clock, HasOneTurn, HoldsBoth, HoldsOne, IsClockOfWriter, IsFloorOfWriter, IsPastLooks, IsStill, IsTrueToSteps, IsTurnOfWriter, IsWithinRows, KeepsLimits}
 
 pub past_looks : (run : Run) (board : Board) → KeepsRule run board → IsPastLooks board
 past_looks run board r = (r.started, λ seat view at. let k = r.each_seat seat view at in (k.below_clock, k.looks_below))
@@ -12,6 +14,19 @@ floor_of_writer run board r seat view at step stored is =
     let k = r.each_seat seat view at in
     let does = subst (IsDoing run (clock board) r.writer r.stored seat view.turn view.floor) is k.does in
     (does.1, does.2)
+
+-- the floor of a writer is the clock, in each phase
+pub clock_of_writer : (run : Run) (board : Board) → KeepsRule run board → IsClockOfWriter board
+clock_of_writer run board r seat view at step Idle is = sym (floor_of_writer run board r seat view at step 0 is.2).0 ∙ is.0
+clock_of_writer run board r seat view at step (Begun tables) is = sym (floor_of_writer run board r seat view at step (words_of is.3.0 (step + 1) tables) is.3.2).0 ∙ is.0
+clock_of_writer run board r seat view at step Stopped is = sym (floor_of_writer run board r seat view at step is.2.0 is.2.1).0 ∙ is.0
+clock_of_writer run board r seat view at step Left is = sym (floor_of_writer run board r seat view at step is.2.0 is.2.1).0 ∙ is.0
+
+pub turn_of_writer : (run : Run) (board : Board) → KeepsRule run board → IsTurnOfWriter board
+turn_of_writer run board r seat view at step Idle is under = absurd under
+turn_of_writer run board r seat view at step (Begun tables) is under = (is.1, ((r.each_seat seat view at).has_turn is.1).0)
+turn_of_writer run board r seat view at step Stopped is under = (is.1, ((r.each_seat seat view at).has_turn is.1).0)
+turn_of_writer run board r seat view at step Left is under = absurd under
 
 pub holds_both : (run : Run) (board : Board) → KeepsRule run board → HoldsBoth run board
 holds_both run board r step e = (r.live step (omega arith) (omega arith), λ some. r.live (step - 1) (omega arith) (omega arith))
@@ -30,6 +45,12 @@ true_to_steps run board r seat view at number first words is =
     let k = r.each_seat seat view at in
     let does = subst (IsDoing run (clock board) r.writer r.stored seat view.turn view.floor) is k.does in
     does.5
+
+pub within_rows : (run : Run) (board : Board) → KeepsRule run board → IsWithinRows run board
+within_rows run board r seat view at number first words is =
+    let k = r.each_seat seat view at in
+    let does = subst (IsDoing run (clock board) r.writer r.stored seat view.turn view.floor) is k.does in
+    (does.3, does.4)
 
 pub keeps_limits : (run : Run) (board : Board) → KeepsRule run board → KeepsLimits run board
 keeps_limits run board r = r.counted

@@ -1,5 +1,5 @@
 -- What the rule says, sentence by sentence.
-use Rattle.std.specs.Prelude.{◌≡◌, ℕ, ◌+◌, ◌-◌, ◌*◌, ◌<◌, ◌≤◌, List, true, slice_index}
+use Rattle.std.specs.Prelude.{◌≡◌, ℕ, ◌+◌, ◌-◌, ◌*◌, ◌<◌, ◌≤◌, List, true, length, slice_index}
 use mathlib.Core.Option.{some}
 use lib.ListN.{get_elem?}
 use Rattle.std.specs.List.{All}
@@ -8,7 +8,10 @@ use Rattle.tick_model.specs.Clock.{idle, updating, completed}
 use Rattle.tick_model.specs.declared.feed.Run.{Run}
 use Rattle.snapshot_store.specs.declared.board.View.{View}
 use Rattle.snapshot_store.specs.declared.board.Doing.TheVariants.{Looked, Reading, Writing}
-use Rattle.snapshot_store.specs.Lines.{count, limit, spot, line_of}
+use Rattle.snapshot_store.specs.declared.writers.Phase.{Phase}
+use Rattle.snapshot_store.specs.declared.writers.Phase.TheVariants.{Idle, Begun, Stopped}
+use Rattle.snapshot_store.specs.Lines.{count, limit, width, spot, line_of}
+use Rattle.snapshot_store.specs.Models.{IsAt}
 use Rattle.snapshot_store.specs.Rule.{Holds, Stored}
 use Rattle.snapshot_store.specs.Views.{Begins}
 
@@ -33,6 +36,23 @@ IsPastLooks board = (0 < clock board) × OfEach board (λ view. (view.floor ≤ 
 abbrev pub IsFloorOfWriter : Board → Type 0
 IsFloorOfWriter board = OfEach board (λ view. (step stored : ℕ) → view.doing ≡ Writing step stored → (view.floor ≡ clock board) × (completed (clock board) ≡ step))
 
+-- what the clock is while the writer may do this next, and that a step is under way
+abbrev pub clock_at : ℕ → Phase → ℕ
+clock_at step Idle = idle step
+clock_at step phase = updating (step + 1)
+
+abbrev pub IsUnderWay : Phase → Type 0
+IsUnderWay (Begun tables) = Unit {0}
+IsUnderWay Stopped = Unit {0}
+IsUnderWay phase = ⊥
+
+-- what holds of the view of a writer, after whatever call
+abbrev pub OfWriter : Board → (View → ℕ → Phase → Type 0) → Type 0
+OfWriter board P = OfEach board (λ view. (step : ℕ) (phase : Phase) → IsAt view step phase → P view step phase)
+
+abbrev pub IsClockOfWriter : Board → Type 0
+IsClockOfWriter board = OfWriter board (λ view step phase. clock board ≡ clock_at step phase)
+
 -- when idle after a step, its bank holds it, and the other one holds the step before
 abbrev pub HoldsBoth : Run → Board → Type 0
 HoldsBoth run board = (step : ℕ) → clock board ≡ idle step → Holds run board.words step × (1 ≤ step → Holds run board.words (step - 1))
@@ -45,6 +65,10 @@ HoldsOne run board = (step : ℕ) → clock board ≡ updating (step + 1) → Ho
 abbrev pub IsTrueToSteps : Run → Board → Type 0
 IsTrueToSteps run board = OfEach board (λ view. (number first : ℕ) (words : List ℕ) → view.doing ≡ Reading number first words → clock board < 2 * completed first + 4 → Begins words (line_of run (completed first) number))
 
+-- a reading has no more words than its count of rows tells
+abbrev pub IsWithinRows : Run → Board → Type 0
+IsWithinRows run board = OfEach board (λ view. (number first : ℕ) (words : List ℕ) → view.doing ≡ Reading number first words → (number < count run) × (length words ≤ 1 + slice_index words 0 * (1 + width run number)))
+
 abbrev pub KeepsLimits : Run → Board → Type 0
 KeepsLimits run board = (bank p : ℕ) → bank < 2 → p < count run → slice_index board.words (spot run bank p 0) ≤ limit run p
 
@@ -52,6 +76,10 @@ KeepsLimits run board = (bank p : ℕ) → bank < 2 → p < count run → slice_
 abbrev pub HasOneTurn : Board → Type 0
 HasOneTurn board = (turn board ≡ 1 → (seat : ℕ) × (view : View) × (get_elem? board.views seat ≡ some view) × (view.turn ≡ true))
     × ((i j : ℕ) (v w : View) → get_elem? board.views i ≡ some v → get_elem? board.views j ≡ some w → v.turn ≡ true → w.turn ≡ true → (turn board ≡ 1) × (i ≡ j))
+
+-- the writer has the turn while a step is under way
+abbrev pub IsTurnOfWriter : Board → Type 0
+IsTurnOfWriter board = OfWriter board (λ view step phase. IsUnderWay phase → (view.turn ≡ true) × (turn board ≡ 1))
 
 -- the clock does not move past a look of a seat that has the turn
 abbrev pub IsStill : Board → Type 0

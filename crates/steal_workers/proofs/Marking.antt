@@ -11,7 +11,7 @@ use Rattle.crossbeam_deque.proofs.Lists.{at_map, at_set, at_snoc, set_again, set
 use Rattle.steal_workers.specs.declared.hand.Hand.{Hand}
 use Rattle.steal_workers.specs.declared.own.Own.{Own}
 use Rattle.steal_workers.specs.declared.raid.Raid.{Raid}
-use Rattle.steal_workers.specs.Deques.{IsRested, IsSameDeque}
+use Rattle.steal_workers.specs.Deques.{IsRested, IsSameDeque, IsTallied}
 use Rattle.steal_workers.specs.Hands.{AllEmpty, AllRested, hand_mark, hand_marks, raid_mark}
 use Rattle.steal_workers.specs.Musters.{HandMark, IsCrewed, RaidMark, idle_on, nothing, passes_at, passes_in, passes_of, passes_out}
 use Rattle.steal_workers.proofs.Tallies.{nothing_left}
@@ -128,7 +128,7 @@ pub raid_here : (h : Hand) (k : ℕ) (r r' : Raid) → get_elem? h.raids.items k
 raid_here h k r r' there = set_here h.raids.items k r' (below_of h.raids.items k r there)
 
 -- what is empty under the rule
-pub rested_empty : (hands : List Hand) → AllRested hands → AllEmpty hands
+pub rested_empty : (hands : List Hand) → AllRested hands → AllEmpty IsTallied hands
 rested_empty hands rested k h at =
     let whole = rested k h at in
     nothing_left h.own.deque.end.pass.id (worker_view h.own.deque) (ap (λ v. v.parts) whole) (ap (λ v. length v.pushed) whole ∙ sym (ap (λ v. length v.taken) whole))

@@ -8,7 +8,7 @@ use lib.ListN.{get_elem?}
 use Rattle.crossbeam_deque.specs.Tasks.{Pushes, Takes, Pops, Finds, Forks, Merges, Learns}
 use Rattle.crossbeam_deque.proofs.Lists.{at_set, at_snoc}
 use Rattle.steal_workers.specs.declared.deques.Log.{Log}
-use Rattle.steal_workers.specs.Deques.{AllBlank, IsBlank, IsEven, IsIdle, IsTakenOnce, IsTallied, log, total, weigh}
+use Rattle.steal_workers.specs.Deques.{AllBlank, AllIdle, IsBalanced, IsBlank, IsEven, IsIdle, IsTakenOnce, IsTallied, log, total, weigh}
 
 total_set : (f : Log → ℕ) (logs : List Log) (port : ℕ) (v w : Log) → get_elem? logs port ≡ some v → total f (set logs port w) + f v ≡ total f logs + f w
 total_set f [] port v w there = absurd (some-ne-none v (sym there))
@@ -34,9 +34,6 @@ weigh_length (x ∷ xs) = let rest = weigh_length xs in omega (arith, rest)
 
 abbrev parts_of : Log → ℕ
 parts_of v = v.parts
-
-abbrev AllIdle : List Log → Type 0
-AllIdle logs = (port : ℕ) (v : Log) → get_elem? logs port ≡ some v → IsIdle v
 
 -- where no log has parts, none has anything
 total_none : (f : Log → ℕ) (logs : List Log) → ((v : Log) → v.pushed ≡ [] → v.taken ≡ [] → f v ≡ 0) → AllIdle logs → total parts_of logs ≡ 0 → total f logs ≡ 0
@@ -209,8 +206,11 @@ begins = record {
     begun zero v there none = let all : 1024 ≡ v.parts = ap parts_of (some-injective (log 1024 [] []) v there) in absurd (omega (arith, all, none))
     begun (suc port) v there none = absurd (some-ne-none v (sym there))
 
+pub balanced : (items : List ℕ) (logs : List Log) → IsTallied items logs → IsBalanced items logs
+balanced items logs kept n = kept.balance (λ m. cond (m == n) 1 0)
+
 pub taken_once : (items : List ℕ) (logs : List Log) → IsTallied items logs → IsTakenOnce logs
-taken_once items logs kept n = let sum = kept.balance (λ m. cond (m == n) 1 0) in omega (arith, sum)
+taken_once items logs kept n = let sum = balanced items logs kept n in omega (arith, sum)
 
 -- beside a log with all parts no other has any
 alone : (logs : List Log) (port j : ℕ) (v u : Log) → total parts_of logs ≡ v.parts → get_elem? logs port ≡ some v → get_elem? logs j ≡ some u → j ≢ port → u.parts ≡ 0

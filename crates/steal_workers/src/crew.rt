@@ -8,6 +8,7 @@ ghost use Rattle.steal_workers.specs.Holdings.{AllBack, IsFor, IsGoneOn, IsHeld,
 ghost use Rattle.steal_workers.specs.Hands.{AllEmpty, AllRested, hand_marks};
 ghost use Rattle.steal_workers.specs.Musters.{IsCrewed, nothing};
 
+use crate::deques::{Log, Tally};
 use crate::hand::{Hand, offer_all, pass_on};
 use crate::muster::{arm, rest};
 use crate::progress::Progress;
@@ -16,6 +17,7 @@ use crate::ready::Ready;
 use crate::rest::work_rest;
 use crate::team::work_together;
 use crate::work::NodeWork;
+use crossbeam_deque::protocol::Protocol;
 use graph_words::{ClaimSeat, Claims, Tagged};
 use std::alloc::{AllocError, Global};
 use std::mem;
@@ -86,7 +88,7 @@ impl Crew {
         ensures size { self.new.size ≡ self.old.size }
         ensures hands { vec_len self.new.hands ≡ vec_len self.old.hands }
         ensures begun { AllRested self.old.hands.items }
-        ensures empty { AllEmpty self.new.hands.items }
+        ensures empty { AllEmpty ⟦<Tally as Protocol<u32, Log>>⟧.holds self.new.hands.items }
         ensures rested { AllRested self.new.hands.items }
         ensures of { IfOk result (λ worked. IsSeatOf claims.now worked) }
         ensures all { IfOk result (λ worked. AllBack claims.now.plan worked.view) }

@@ -4,7 +4,7 @@ ghost use Rattle.std.specs.Prelude.{◌≡◌, [], ℕ, List};
 ghost use lib.ListN.{get_elem?};
 ghost use mathlib.Core.Option.{some};
 ghost use Rattle.steal_workers.specs.declared.deques.Log.{Log};
-ghost use Rattle.steal_workers.specs.Deques.{AllBlank, IsTakenOnce, IsTallied, log};
+ghost use Rattle.steal_workers.specs.Deques.{AllBlank, AllIdle, IsBalanced, IsTakenOnce, log, total};
 
 use crossbeam_deque::protocol::{Join, Lesson, Outcome, Protocol, Split};
 use crossbeam_deque::{Stealer, Worker};
@@ -113,12 +113,20 @@ pub type Deque = Worker<u32, Global, Log, Tally>;
 /// The end of a deque at which any hand takes numbers.
 pub type Thief = Stealer<u32, Global, Log, Tally>;
 
-/// Each number is taken at most as often as it is pushed.
+/// The parts of all logs are 1,024 together, and a log without parts has nothing.
+pub fn parts_of_logs_stay_together()
+    ensures all { (items : List ℕ) (logs : List Log) → ⟦<Tally as Protocol<u32, Log>>⟧.holds items logs → total (λ v. v.parts) logs ≡ 1024 }
+    ensures idle { (items : List ℕ) (logs : List Log) → ⟦<Tally as Protocol<u32, Log>>⟧.holds items logs → AllIdle logs }
+{}
+
+/// The numbers that were pushed are those that were taken and those that are there, each as often. So each is taken at most as
+/// often as it is pushed.
 pub fn numbers_are_taken_once()
-    ensures { (items : List ℕ) (logs : List Log) → IsTallied items logs → IsTakenOnce logs }
+    ensures balance { (items : List ℕ) (logs : List Log) → ⟦<Tally as Protocol<u32, Log>>⟧.holds items logs → IsBalanced items logs }
+    ensures once { (items : List ℕ) (logs : List Log) → ⟦<Tally as Protocol<u32, Log>>⟧.holds items logs → IsTakenOnce logs }
 {}
 
 /// Where a log that begins a run has all parts, the deque has no number, and nothing was pushed or taken.
 pub fn runs_begin_with_nothing()
-    ensures { (items : List ℕ) (logs : List Log) (port : ℕ) → IsTallied items logs → get_elem? logs port ≡ some (log 1024 [] []) → (items ≡ []) × AllBlank logs }
+    ensures { (items : List ℕ) (logs : List Log) (port : ℕ) → ⟦<Tally as Protocol<u32, Log>>⟧.holds items logs → get_elem? logs port ≡ some (log 1024 [] []) → (items ≡ []) × AllBlank logs }
 {}

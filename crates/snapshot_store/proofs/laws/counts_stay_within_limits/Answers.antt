@@ -2,4 +2,4 @@ use Rattle.snapshot_store.proofs.RuleSays.{keeps_limits}
 use Rattle.snapshot_store.proofs.laws.counts_stay_within_limits.Goals as goal
 
 pub returns : goal.returns
-returns c = keeps_limits
+returns c = λ key. keeps_limits key.value
