@@ -110,13 +110,14 @@ impl<W: Tagged, H: Tagged> Play<Slot<W, H>, View<W>> for LiftIn {
     ghost then = { lifts_in (tags W.run W.node W.step) (tags H.run H.node H.step) };
 }
 
-/// Tells how a seat's marks stand to the edges.
+/// Tells how a seat's marks stand to the edges, and that the rule holds.
 pub struct Look;
 
-impl<W, H> Play<Slot<W, H>, View<W>> for Look {
+impl<W: Tagged, H: Tagged> Play<Slot<W, H>, View<W>> for Look {
+    ghost use Rattle.graph_words.specs.Rule.{tags};
     ghost use Rattle.graph_words.specs.Plays.{looks};
 
-    ghost then = { looks };
+    ghost then = { looks (tags W.run W.node W.step) (tags H.run H.node H.step) };
 }
 
 /// How a view is split, and how two are joined.

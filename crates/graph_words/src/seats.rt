@@ -1,20 +1,27 @@
 //! Seats are split and joined, and looked at.
 
-ghost use Rattle.std.specs.Prelude.{◌≡◌, ◌<◌};
+ghost use Rattle.std.specs.Prelude.{◌≡◌, ◌<◌, ℕ};
+ghost use Rattle.atomic_table.specs.Table.{Seen, State};
+ghost use Rattle.graph_words.specs.declared.table.Slot.{Slot};
+ghost use Rattle.graph_words.specs.declared.table.View.{View};
 ghost use Rattle.graph_words.specs.Views.{less_one, one_part, both_views};
 ghost use Rattle.graph_words.specs.Seats.{IsMarkedByFrom, IsSeatOf, IsUpward};
 
 use crate::claims::{ClaimSeat, Claims};
-use crate::graph::Tagged;
-use crate::plays::{Look, Parting};
+use crate::graph::{Plan, Tagged};
+use crate::plays::{ClaimRule, Look, Parting};
+use crate::table::{Slot, View};
+use atomic_table::TableRule;
 
 impl<W: Tagged, H: Tagged> Claims<W, H> {
-    /// Tells how a seat's marks stand to the edges, whatever steps were made. It changes nothing.
+    /// Tells how a seat's marks stand to the edges, whatever steps were made, and that the rule of the claims' table holds of
+    /// a state in which the seat has its view. So the laws do. It changes nothing.
     pub fn look(&self, seat: &mut ClaimSeat<W, H>)
         requires of { IsSeatOf self.now seat.old }
         ensures same { seat.new ≡ seat.old }
         ensures upward { IsUpward self.now.plan }
         ensures marks { IsMarkedByFrom self.now.plan seat.old.view }
+        ensures met { (id : ℕ) × (s : State (Slot W H) (View W)) × Seen (⟦<ClaimRule as TableRule<Slot<W, H>, View<W>, Plan<W>>>⟧.holds self.now.plan) id seat.old.view s }
     {
         self.table.shared.load::<Look>(&mut seat.seat, 0);
     }
