@@ -1,7 +1,7 @@
 -- What the rule says of the words, the slots and the seats' views, sentence by sentence.
 --     node_seen, out_seen, in_seen      the mark that a seat has of a node or of an edge
 --     awaited key s n      how many input edges of the node are not delivered
---     IsWaiting, IsOnOffer, IsReady      the three ways in which a node can stand
+--     IsWaiting, IsOnOffer, IsHadBySeat      the three ways in which a node can stand
 use Rattle.std.specs.Prelude.{◌≡◌, ◌≢◌, ◌⊎◌, ℕ, suc, ◌+◌, ◌<◌, ◌==◌, List, [], ◌∷◌, slice_index, Some}
 use mathlib.Core.Option.{some}
 use lib.ListN.{get_elem?}
@@ -91,13 +91,13 @@ module _ {W H : Type 0} (key : Plan W) (s : State (Slot W H) (View W)) where
     pub free : node_seen s.views n ≡ Unmarked
 
   -- a seat has the node, and each input edge is delivered
-  pub record IsReady (n : ℕ) : Type 0 where
+  pub record IsHadBySeat (n : ℕ) : Type 0 where
     pub word : slice_index s.words n ≡ 0
     pub none : awaited n ≡ 0
     pub had : IsHadMark (node_seen s.views n)
 
   abbrev pub IsInOneState : Type 0
-  IsInOneState = (n : ℕ) → n < key.nodes → IsWaiting n ⊎ (IsOnOffer n ⊎ IsReady n)
+  IsInOneState = (n : ℕ) → n < key.nodes → IsWaiting n ⊎ (IsOnOffer n ⊎ IsHadBySeat n)
 
 module _ {R W H : Type 0} (tw : Tags R W) (th : Tags R H) (key : Plan W) (s : State (Slot W H) (View W)) where
   -- The slot of a node that no seat has is there, with the work of the step before. Else the mark that a seat has of the node tells what is in it.
