@@ -97,7 +97,7 @@ module _ (run : Run) where
         keeps,
         tt,
         unmoved s r 0 id me.1 v w at refl record { names = k.names; below_clock = le_refl c; looks_below = All-push (λ (l : ℕ). l ≤ c) v.looks c k.looks_below (le_refl c); has_turn = k.has_turn; does = tt },
-        (refl, (refl, refl, refl, k.below_clock, r.started, refl, refl), refl),
+        (refl, (refl, refl, refl, k.below_clock, r.started, refl, refl), refl, λ named is. (s, subst (λ z. KeepsRule z s) (sym (k.names named is)) r, refl)),
       )
 
   abbrev looked_value : ℕ → Doing → ℕ

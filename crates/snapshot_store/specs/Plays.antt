@@ -1,11 +1,12 @@
 -- What each step on a word tells the seat that makes it. None changes what the seat holds.
-use Rattle.std.specs.Prelude.{◌≡◌, ◌≢◌, ℕ, ◌+◌, ◌*◌, ◌%◌, ◌<◌, ◌≤◌, List, [], ◌∷◌, ◌++◌, true, false, Some}
-use Rattle.atomic_table.specs.Table.{Me, Step}
+use Rattle.std.specs.Prelude.{◌≡◌, ◌≢◌, ℕ, ◌+◌, ◌*◌, ◌%◌, ◌<◌, ◌≤◌, List, [], ◌∷◌, ◌++◌, true, false, slice_index, Some}
+use Rattle.atomic_table.specs.Table.{Me, State, Step}
 use Rattle.tick_model.specs.Clock.{completed}
 use Rattle.tick_model.specs.declared.feed.Run.{Run}
 use Rattle.snapshot_store.specs.declared.board.View.{View}
 use Rattle.snapshot_store.specs.declared.board.Doing.TheVariants.{Rest, Looked, Reading, Writing}
 use Rattle.snapshot_store.specs.Lines.{count, limit, spot, line_of, IsWhole}
+use Rattle.snapshot_store.specs.Rule.{KeepsRule}
 use Rattle.snapshot_store.specs.Views.{IsLook, IsTick, IsSameSight, IsSameBut, Begins}
 
 -- what a step tells: of the step, the seat before it, the word that it found, and the seat after it
@@ -16,9 +17,10 @@ Plays = Step (Unit {0}) → Me (Unit {0}) View → ℕ → Me (Unit {0}) View �
 abbrev pub looks_first : Plays
 looks_first st me found me' = (me'.1 ≡ me.1) × IsLook me.0 found me'.0 × (me'.0.doing ≡ Looked found)
 
--- a look of its own
+-- a look of its own, at words that the rule holds of
 abbrev pub looks_once : Plays
 looks_once st me found me' = (me'.1 ≡ me.1) × IsLook me.0 found me'.0 × (me'.0.doing ≡ Rest)
+    × ((run : Run) → me.0.run ≡ Some run → (board : State (Unit {0}) View) × KeepsRule run board × (slice_index board.words 0 ≡ found))
 
 -- the count of rows of a table is read
 abbrev pub counts_rows : Plays

@@ -1,15 +1,21 @@
 //! Notes, which tell callers what the writer has completed.
 
 ghost use Rattle.std.specs.Prelude.{◌≡◌, ℕ, ◌≤◌, ◌++◌, [], ◌∷◌};
-ghost use Rattle.snapshot_store.specs.Looks.{NeverFalls, latest};
+ghost use Rattle.std.specs.declared.snapshot.Snapshot.{Snapshot};
+ghost use Rattle.tick_model.specs.declared.feed.Run.{Run};
+ghost use Rattle.snapshot_store.specs.Looks.{NeverFalls, last_or, latest};
 ghost use Rattle.snapshot_store.specs.Models.{IsOf};
+ghost use Rattle.snapshot_store.specs.Sentences.{Board, clock};
 
-use crate::board::Place;
+use crate::board::{Place, View};
 use crate::callers::Caller;
-use crate::plays::{LookOnce, Parting};
+use crate::plays::{BankRule, LookOnce, Parting};
 use crate::store::Store;
 use crate::writers::Writer;
+use atomic_table::TableRule;
 use std::marker::Model;
+use std::snapshot::Snapshot;
+use tick_model::feed::Run;
 
 /// That a step is completed, to be told to a caller.
 #[derive(Drop)]
@@ -57,7 +63,8 @@ impl Store {
         }
     }
 
-    /// The caller looks at the clock, and has seen the step of the note from then on.
+    /// The caller looks at the clock, and has seen the step of the note from then on. The look is the clock of words that the
+    /// rule of the store holds of, so that the laws do.
     pub fn learn(&self, caller: &mut Caller, note: Note)
         requires own { IsOf self.now caller.old.table caller.old.run }
         requires note { IsOf self.now note.table note.run }
@@ -65,6 +72,7 @@ impl Store {
         ensures look { (found : ℕ) × (caller.new.looks ≡ caller.old.looks ++ found ∷ []) }
         ensures rises { NeverFalls 1 caller.new.looks }
         ensures told { note.step ≤ latest caller.new.looks }
+        ensures met { (key : Snapshot Run) × (board : Board) × (key.value ≡ self.now.run) × ⟦<BankRule as TableRule<(), View, Snapshot<Run>>>⟧.holds key board × (last_or 1 caller.new.looks ≡ clock board) }
     {
         let Note { place, step: _ } = note;
         self.board

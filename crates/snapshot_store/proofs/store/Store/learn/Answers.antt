@@ -1,4 +1,4 @@
-use Rattle.std.proofs.Common.{◌≡◌, ℕ, ◌≤◌, max, List, [], ◌∷◌, ◌++◌, ap, ◌∙◌, sym, subst, arith}
+use Rattle.std.proofs.Common.{◌≡◌, ℕ, ◌≤◌, max, List, [], ◌∷◌, ◌++◌, ap, ◌∙◌, sym, subst, arith, Some}
 use Rattle.snapshot_store.specs.Looks.{last_or, NeverFalls}
 use Rattle.snapshot_store.proofs.Keeps.{meets, learns}
 use Rattle.snapshot_store.proofs.Calls.{last_more, never_falls_more}
@@ -50,3 +50,10 @@ returns-clause-rises c = rises c
 
 pub returns-clause-told : goal.returns-clause-told
 returns-clause-told c = let f = floors c in let n = c.note.invariant.completed_is in let s = ap (λ z. z.step) c.note.view_is in let l = last_is c in omega arith
+
+pub returns-clause-met : goal.returns-clause-met
+returns-clause-met c =
+    let key = c.self.inside.board.shared.key in
+    let run_is : key.value ≡ c.args.self.now.run = ap (λ z. z.run) c.self.view_is in
+    let met = c.load-caller-inside.ensures.2.3 key.value (ap (λ x. x.0.run) c.join_seat.ensures.2 ∙ (ap (λ z. z.run) c.caller.view_is ∙ (c.requires.own.1 ∙ ap Some (sym run_is)))) in
+    (key, met.0, run_is, met.1, last_is c ∙ sym met.2)
