@@ -1,5 +1,5 @@
 -- Where entries stand that were put in one behind the other.
-use Rattle.std.proofs.Common.{◌≡◌, refl, ap, ap₂, sym, ◌∙◌, subst, Bool, true, false, ◌||◌, ◌==◌, ℕ, zero, suc, ◌<◌, ◌≤◌, arith, List, [], ◌∷◌, ◌++◌, map, take, drop, length, get_or, append_assoc, take-append-drop, length-take-le, None, inl, inr}
+use Rattle.std.proofs.Common.{◌≡◌, refl, ap, ap₂, sym, ◌∙◌, subst, true, false, ◌||◌, ◌==◌, ℕ, zero, suc, ◌<◌, ◌≤◌, arith, List, [], ◌∷◌, ◌++◌, map, take, drop, length, get_or, append_assoc, take-append-drop, length-take-le, Option, Some, None, inl, inr}
 use Rattle.std.specs.Prelude.{insert, slice_get}
 use Rattle.std.specs.Cmp.{IsStrictWeakOrder}
 use Rattle.std.specs.List.{AllByRecursion}
@@ -10,7 +10,7 @@ use Rattle.std.proofs.lemmas.Cmp.{back_total}
 use Rattle.std.proofs.lemmas.List.{append-nil}
 use Rattle.std.proofs.lemmas.List.Elements.{recursion_from_All}
 use Rattle.std.proofs.lemmas.List.MinMax.{ranks_by}
-use Rattle.std.proofs.lemmas.List.Sorted.{list_any-IsPermutation, sorted_far}
+use Rattle.std.proofs.lemmas.List.Sorted.{sorted_far}
 use Rattle.key_lists.specs.Keys.{is_among}
 use Rattle.key_lists.proofs.Among.{among-append}
 use Rattle.key_lists.proofs.Every.{every, every_both, every_weaker, every-map, map_own}
@@ -19,19 +19,14 @@ use Rattle.key_lists.proofs.Parts.{every_front, every_back}
 use Rattle.tick_model.specs.declared.plan.SortBy.{SortBy}
 use Rattle.sort_op.specs.declared.entry.Entry.{Entry}
 use Rattle.sort_op.specs.Entries.{comes_before, is_in, is_same, place_of, AreDistinct, Falls, IsWhole, Rises}
-use Rattle.sort_op.specs.Places.{AreFound, is_place}
+use Rattle.sort_op.specs.Places.{AreFound, is_one}
 use Rattle.sort_op.proofs.Batched.{same_flip}
 use Rattle.sort_op.proofs.Comparing.{before_trans, behind, entries_total, is_same_own, other_before}
-use Rattle.sort_op.proofs.EntryPlaces.{place_is}
-use Rattle.sort_op.proofs.Inserted.{others_than_first}
+use Rattle.sort_op.proofs.Inserted.{in_permuted, others_than_first}
 use Rattle.sort_op.proofs.Rises.{rises_back}
 use Rattle.sort_op.proofs.Searches.{each_other}
 
--- the entry at a place is one of some
-abbrev is_one : List Entry → List Entry → ℕ → Bool
-is_one some entries at = option_map_or (λ entry. is_in entry some) (slice_get entries at) false
-
-none_one : (some entries : List Entry) (at : ℕ) → AllByRecursion (λ entry. is_in entry some ≡ false) entries → is_one some entries at ≡ false
+none_one : (some entries : List Entry) (at : ℕ) → AllByRecursion (λ entry. is_in entry some ≡ false) entries → is_one entries some at ≡ false
 none_one some [] at h = refl
 none_one some (entry ∷ entries) zero h = h.0
 none_one some (entry ∷ entries) (suc at) h = none_one some entries at h.1
@@ -46,14 +41,14 @@ module _ (entry : Entry) (came : List Entry) where
 
   -- one entry more among others of which it is none
   one_more : (front back : List Entry) (at : ℕ) → AllByRecursion (λ other. is_same entry other ≡ false) front → AllByRecursion (λ other. is_same entry other ≡ false) back → AllByRecursion (λ other. is_in other came ≡ false) back
-      → is_one (entry ∷ came) (front ++ entry ∷ back) at ≡ (is_one came (front ++ back) at || (length front == at))
-  one_more [] back zero f b none = ap (λ t. t || is_in entry came) (is_same_own entry) ∙ sym (or_true (is_one came back 0))
+      → is_one (front ++ entry ∷ back) (entry ∷ came) at ≡ (is_one (front ++ back) came at || (length front == at))
+  one_more [] back zero f b none = ap (λ t. t || is_in entry came) (is_same_own entry) ∙ sym (or_true (is_one back came 0))
   one_more [] back (suc at) f b none =
       none_one (entry ∷ came) back at (every_both (λ other. is_same entry other ≡ false) (λ other. is_in other came ≡ false) (λ other. is_in other (entry ∷ came) ≡ false) back (λ other e h. other_of other e ∙ h) b none)
       ∙ sym (ap₂ (λ a b. a || b) (none_one came back (suc at) none) (ne_eqb 0 (suc at) (λ e. omega (arith, e))))
   one_more (other ∷ front) back zero f b none =
       other_of other f.0 ∙ sym (ap (λ t. is_in other came || t) (ne_eqb (suc (length front)) 0 (λ e. omega (arith, e))) ∙ or_false (is_in other came))
-  one_more (other ∷ front) back (suc at) f b none = one_more front back at f.1 b none ∙ ap (λ t. is_one came (front ++ back) at || t) (later (length front) at)
+  one_more (other ∷ front) back (suc at) f b none = one_more front back at f.1 b none ∙ ap (λ t. is_one (front ++ back) came at || t) (later (length front) at)
     where
       later : (m n : ℕ) → (m == n) ≡ (suc m == suc n)
       later m n =
@@ -93,17 +88,16 @@ module _ (by : List SortBy) where
     pub split : all ≡ rest ++ came
     pub found : AreFound now came positions
 
-  pub one_arrived : (all rest old now : List Entry) (entry : Entry) (place : ℕ) (positions : List ℕ) → Falls by all → AreDistinct all → AllByRecursion (IsWhole by) all → Rises by old → Rises by now → place_of entry old ≡ None → place ≤ length old → now ≡ insert old place entry
+  pub one_arrived : (all rest old now : List Entry) (entry : Entry) (place : ℕ) (positions : List ℕ) → Falls by all → AreDistinct all → AllByRecursion (IsWhole by) all → Rises by now → place_of entry old ≡ None → place ≤ length old → now ≡ insert old place entry
       → HaveArrived all (rest ++ entry ∷ []) old positions → HaveArrived all rest now (positions ++ place ∷ [])
-  one_arrived all rest old now entry place positions falls distinct whole rises rises_now absent within is h = record {
+  one_arrived all rest old now entry place positions falls distinct whole rises_now absent within is h = record {
     came = entry ∷ h.came;
     split = apart;
     found = λ at.
         among-append at positions (place ∷ [])
-        ∙ ap₂ (λ a b. a || b) (h.found at ∙ place_is by old h.came at rises ∙ ap (λ xs. is_one h.came xs at) (sym parts)) (or_false (place == at) ∙ ap (λ n. n == at) (sym (length-take-le place old within)))
+        ∙ ap₂ (λ a b. a || b) (h.found at ∙ ap (λ xs. is_one xs h.came at) (sym parts)) (or_false (place == at) ∙ ap (λ n. n == at) (sym (length-take-le place old within)))
         ∙ sym (one_more entry h.came (take place old) (drop place old) at front back none)
-        ∙ ap (λ xs. is_one (entry ∷ h.came) xs at) (sym is)
-        ∙ sym (place_is by now (entry ∷ h.came) at rises_now);
+        ∙ ap (λ xs. is_one xs (entry ∷ h.came) at) (sym is);
   }
     where
       apart : all ≡ rest ++ entry ∷ h.came
@@ -138,10 +132,15 @@ module _ (by : List SortBy) where
           (rises_back by (take place old) (entry ∷ drop place old) (subst (Rises by) is rises_now)).0
 
   pub none_arrived : (all now : List Entry) (positions : List ℕ) → positions ≡ [] → HaveArrived all all now positions
-  none_arrived all now positions is = record { came = []; split = sym (append-nil all); found = λ at. ap (is_among at) is }
+  none_arrived all now positions is = record { came = []; split = sym (append-nil all); found = λ at. ap (is_among at) is ∙ none (slice_get now at) }
+    where
+      none : (o : Option Entry) → false ≡ option_map_or (λ entry. is_in entry []) o false
+      none None = refl
+      none (Some entry) = refl
 
   pub all_arrived : (some all now : List Entry) (positions : List ℕ) → IsPermutation some all → HaveArrived all [] now positions → AreFound now some positions
-  all_arrived some all now positions same h at =
-      h.found at
-      ∙ ap (λ came. is_place now came at) (sym h.split)
-      ∙ sym (list_any-IsPermutation (λ entry. option_map_or (λ place. place == at) (place_of entry now) false) some all same)
+  all_arrived some all now positions same h at = h.found at ∙ ap (λ came. is_one now came at) (sym h.split) ∙ turned (slice_get now at)
+    where
+      turned : (o : Option Entry) → option_map_or (λ entry. is_in entry all) o false ≡ option_map_or (λ entry. is_in entry some) o false
+      turned None = refl
+      turned (Some entry) = in_permuted some all same entry

@@ -23,10 +23,6 @@ use Rattle.sort_op.proofs.Comparing.{same_is}
 use Rattle.sort_op.proofs.Inserted.{in_none}
 use Rattle.sort_op.proofs.SortedRows.{own_in}
 
-pub any_as : {X : Type 0} (p q : X → Bool) (xs : List X) → ((x : X) → p x ≡ q x) → list_any p xs ≡ list_any q xs
-any_as p q [] h = refl
-any_as p q (x ∷ xs) h = ap₂ (λ a b. a || b) (h x) (any_as p q xs h)
-
 any-place : {X : Type 0} (p : X → Bool) (less : X → X → Bool) (x : X) (xs : List X) → list_any p (place less x xs) ≡ (p x || list_any p xs)
 any-place p less x [] = refl
 any-place p less x (y ∷ ys) =

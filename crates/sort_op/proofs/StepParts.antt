@@ -29,7 +29,7 @@ use Rattle.tick_table.specs.Ticking.{Ticking}
 use Rattle.sort_op.specs.declared.entry.Entry.{Entry}
 use Rattle.sort_op.specs.declared.row_order.Row.{Row}
 use Rattle.sort_op.specs.Entries.{AreDistinct, Rises, is_in, keys_in, rekeyed}
-use Rattle.sort_op.specs.Places.{AreApart, AreFound, AreUnder, is_place, left_from, other_places}
+use Rattle.sort_op.specs.Places.{AreApart, AreFound, AreUnder, is_one, left_from, other_places}
 use Rattle.sort_op.specs.Ranks.{IsSettled, Ranking, arrived, entry_in, listed}
 use Rattle.sort_op.specs.Reading.{carried, coming, entries_under, entry_under, leaving, staying, staying_pairs}
 use Rattle.sort_op.specs.Sorted.{entries_of, entry_of}
@@ -189,7 +189,7 @@ module _ (by : List SortBy) (t : Ticking) (e : IsExact t) where
   pub arrived_under : (now some : List Entry) (positions : List ℕ) → now ≡ entries_of by t.new.rows → some ≡ entries_under by t.new (coming by t) → AreFound now some positions → AreUnder (keys_in now) (coming by t) positions
   arrived_under now some positions o s found position =
       found position
-      ∙ ap₂ (λ (now some : List Entry). is_place now some position) o s
+      ∙ ap₂ (λ (now some : List Entry). is_one now some position) o s
       ∙ place_under by t.new e.tick.new_table.rising (coming by t) position
       ∙ turned (slice_get (in_order by t.new.rows) position)
       ∙ ap (λ o. option_map_or (λ key. is_among key (coming by t)) o false) (sym (ap (λ keys. slice_get keys position) (ap keys_in o ∙ map_map (λ (entry : Entry). entry.key) (entry_of by) (in_order by t.new.rows)) ∙ slice_get-map (λ (row : PlainRow). row.key) (in_order by t.new.rows) position))

@@ -113,18 +113,25 @@ impl RowOrder {
         }
     }
 
-    /// How many rows stand before one. A binary search by the sort cells finds this, and where rows of the same cells stand
-    /// before it, one more.
+    /// How many rows stand before one by their sort cells: a binary search that looks at no key.
+    fn count_cells_before(&self, row: Row) -> usize
+        ensures within { result ≤ length (listed self.now) }
+        ensures before { AllByRecursion (λ entry. comes_before self.now.by entry (arrived self.now row) ≡ true) (take result (listed self.now)) }
+        ensures ranking { IsRanking self.now }
+    {
+        let by = self.by.as_slice();
+        let cells = &self.cells;
+        self.rows
+            .partition_point(|handle| cells.are_before(by, *handle, row.handle))
+    }
+
+    /// How many rows stand before one. Where rows of the same cells do, one more search finds how many.
     fn count_before(&self, row: Row) -> usize
         ensures within { result ≤ length (listed self.now) }
         ensures before { AllByRecursion (λ entry. comes_before self.now.by entry (arrived self.now row) ≡ true) (take result (listed self.now)) }
         ensures others { AllByRecursion (λ entry. comes_before self.now.by entry (arrived self.now row) ≡ false) (drop result (listed self.now)) }
     {
-        let by = self.by.as_slice();
-        let cells = &self.cells;
-        let mut low = self
-            .rows
-            .partition_point(|handle| cells.are_before(by, *handle, row.handle));
+        let mut low = self.count_cells_before(row);
         if !self.stands_before(low, row) {
             return low;
         }

@@ -90,7 +90,7 @@ loop-row-preserved c =
           subst (HaveArrived first.by all (map entry rest) new) (sym c.in_ok-push.ensures.items)
           (one_arrived first.by all (map entry rest) old new (entry row) place c.loop-row.positions.items back
           (distinct_permuted (map entry c.args.rows.items) all (IsPermutation-map entry c.args.rows.items c.sort_backward.new.rows.items c.sort_backward.ensures.permutation) c.requires.distinct) whole
-          c.loop-row.invariant.rises rises_now (place_out (entry row) old (last_has (λ x. is_in x old ≡ false) (map entry rest) (entry row) out)) c.in_ok-insert.ensures.within more
+          rises_now (place_out (entry row) old (last_has (λ x. is_in x old ≡ false) (map entry rest) (entry row) out)) c.in_ok-insert.ensures.within more
           (subst (λ items. HaveArrived first.by all items old c.loop-row.positions.items) split c.loop-row.invariant.arrived));
     }
 
