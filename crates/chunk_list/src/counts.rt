@@ -150,13 +150,21 @@ impl Counts {
         sum_of(&self.blocks[..block]) + sum_of(&self.each[block * BLOCK_LEN..index])
     }
 
-    /// Where a sum stands: the number into which it goes.
+    /// Where a sum stands: the number into which it goes. That it is the last one is seen without a look at the others.
     pub fn find(&self, position: usize) -> Place
         requires { position < sum self.now }
         ensures index { result.index < length self.now }
         ensures offset { result.offset < slice_index self.now result.index }
         ensures position { sum (take result.index self.now) + result.offset ≡ position }
     {
+        let last = self.each.len() - 1;
+        let before_last = self.total - self.each[last];
+        if position >= before_last {
+            return Place {
+                index: last,
+                offset: position - before_last,
+            };
+        }
         let block = find_in(&self.blocks, position);
         let start = block.index * BLOCK_LEN;
         let place = find_in(&self.each[start..], block.offset);

@@ -125,17 +125,21 @@ impl RowOrder {
             .partition_point(|handle| cells.are_before(by, *handle, row.handle))
     }
 
-    /// How many rows stand before one. Where rows of the same cells do, one more search finds how many.
+    /// How many rows stand before one. Where the last one does, no other is looked at; and where rows of the same cells do, one
+    /// more search finds how many.
     fn count_before(&self, row: Row) -> usize
         ensures within { result ≤ length (listed self.now) }
         ensures before { AllByRecursion (λ entry. comes_before self.now.by entry (arrived self.now row) ≡ true) (take result (listed self.now)) }
         ensures others { AllByRecursion (λ entry. comes_before self.now.by entry (arrived self.now row) ≡ false) (drop result (listed self.now)) }
     {
+        let mut high = self.rows.len();
+        if self.stands_before(high.saturating_sub(1), row) {
+            return high;
+        }
         let mut low = self.count_cells_before(row);
         if !self.stands_before(low, row) {
             return low;
         }
-        let mut high = self.rows.len();
         while low < high {
             let middle = low + (high - low) / 2;
             if self.stands_before(middle, row) {
