@@ -3,7 +3,7 @@ use Rattle.std.proofs.Common.{◌≡◌, ap, ap₂, sym, ◌∙◌, subst, ℕ, 
 use Rattle.std.specs.List.{AllByRecursion}
 use Rattle.std.proofs.Math.Seq.{take-append-add, drop-append-add}
 use Rattle.std.proofs.lemmas.Bool.{cases_lt}
-use Rattle.std.proofs.lemmas.List.{get_or_default, get_or-take, drop-drop}
+use Rattle.std.proofs.lemmas.List.{get_or_default, get_or-take, drop_at}
 use Rattle.key_lists.specs.Keys.{without}
 use Rattle.key_lists.proofs.Every.{every_weaker, every-append}
 use Rattle.row_set.specs.declared.ranges.Range.{Range}
@@ -128,15 +128,10 @@ put_out first last from to start end moved all new head tail left right h le sma
     ∙ ap (λ rest. take start moved ++ rest) (sym (append_assoc left right (drop (end + (to - from)) moved)))
     ∙ ap₂ (λ xs ys. xs ++ ((left ++ right) ++ ys)) (front_same start end moved all around ∙ ap (λ n. take n all) here) (back_same start end (to - from) moved all around ∙ ap (λ n. drop n all) whole))
 
--- the gap behind which a range has been put
-pub rest_after : (start end newer count : ℕ) (moved placed left : List Range) → newer ≤ length placed → take newer placed ++ drop end placed ≡ take start moved ++ (left ++ drop end moved) → take newer placed ≡ take start moved ++ left → drop (end + count) placed ≡ drop (end + count) moved
-rest_after start end newer count moved placed left within same front =
-    let whole : take newer placed ++ drop end placed ≡ take newer placed ++ drop end moved = same ∙ sym (append_assoc (take start moved) left (drop end moved)) ∙ ap (λ xs. xs ++ drop end moved) (sym front) in
-    sym (back_of newer end count placed within)
-    ∙ ap (drop (newer + count)) whole
-    ∙ ap (λ n. drop (n + count) (take newer placed ++ drop end moved)) (sym (length-take-le newer placed within))
-    ∙ drop-append-add (take newer placed) (drop end moved) count
-    ∙ drop-drop count end moved
+-- what stands behind a gap, of what stands around it
+pub rest_of : (start end : ℕ) (placed front rest : List Range) → start ≤ length placed → take start placed ≡ front → take start placed ++ drop end placed ≡ front ++ rest → drop end placed ≡ rest
+rest_of start end placed front rest within here whole =
+    sym (drop_at (take start placed) (drop end placed) start (length-take-le start placed within)) ∙ ap (drop start) whole ∙ drop_at front rest start (ap length (sym here) ∙ length-take-le start placed within)
 
 -- the edge that is left ends before the keys that go
 pub left_ends_before : (first : ℕ) (range : Range) → AllByRecursion (λ edge. edge.last < first) (left_edge first range)

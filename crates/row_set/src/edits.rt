@@ -7,7 +7,7 @@ ghost use Rattle.row_set.specs.Ranges.{AreApart, AreStarts, IsStored, keys_befor
 ghost use Rattle.row_set.specs.Sets.{united};
 
 use crate::ranges::{BLOCK, Range};
-use crate::search::{count_in, keys_before_block, meeting};
+use crate::search::{count_in, keys_before_block};
 use std::alloc::AllocError;
 
 /// Makes room for some more ranges and the starts of their blocks.
@@ -166,51 +166,4 @@ pub(crate) fn append_keys(ranges: &mut Vec<Range>, starts: &mut Vec<u64>, first:
     }
     let _ = ranges.push(Range { first, last });
     count_rest(starts, ranges);
-}
-
-/// Adds every key from `first` to `last`. The ranges before the index that it gives stay.
-pub(crate) fn insert_keys(ranges: &mut Vec<Range>, first: u64, last: u64) -> usize
-    requires apart { AreApart 0 ranges.old.items }
-    requires order { first ≤ last }
-    requires small { last < 2 ^ 62 }
-    requires room { vec_len ranges.old < vec_capacity ranges.old }
-    ensures apart { AreApart 0 ranges.new.items }
-    ensures keys { keys_of ranges.new.items ≡ united (keys_from first last) (keys_of ranges.old.items) }
-    ensures within { result ≤ vec_len ranges.new }
-    ensures before { take result ranges.new.items ≡ take result ranges.old.items }
-    ensures growth { vec_len ranges.new ≤ vec_len ranges.old + 1 }
-    ensures capacity { vec_capacity ranges.old ≤ vec_capacity ranges.new }
-{
-    let (from, to) = meeting(ranges, first.saturating_sub(1), last + 1);
-    let joined = joined(&ranges[from..to], first, last);
-    splice(ranges, from, to, &[joined]);
-    from
-}
-
-/// Removes every key from `first` to `last`. The ranges before the index that it gives stay.
-pub(crate) fn remove_keys(ranges: &mut Vec<Range>, first: u64, last: u64) -> usize
-    requires apart { AreApart 0 ranges.old.items }
-    requires order { first ≤ last }
-    requires small { last < 2 ^ 62 }
-    requires room { vec_len ranges.old < vec_capacity ranges.old }
-    ensures apart { AreApart 0 ranges.new.items }
-    ensures keys { keys_of ranges.new.items ≡ without (keys_from first last) (keys_of ranges.old.items) }
-    ensures within { result ≤ vec_len ranges.new }
-    ensures before { take result ranges.new.items ≡ take result ranges.old.items }
-    ensures growth { vec_len ranges.new ≤ vec_len ranges.old + 1 }
-    ensures capacity { vec_capacity ranges.old ≤ vec_capacity ranges.new }
-{
-    let (from, to) = meeting(ranges, first, last);
-    if from == to {
-        return ranges.len();
-    }
-    let left = left_edge(ranges[from], first);
-    let right = right_edge(ranges[to - 1], last);
-    match (left, right) {
-        (Some(left), Some(right)) => splice(ranges, from, to, &[left, right]),
-        (Some(left), None) => splice(ranges, from, to, &[left]),
-        (None, Some(right)) => splice(ranges, from, to, &[right]),
-        (None, None) => splice(ranges, from, to, &[]),
-    }
-    from
 }

@@ -34,8 +34,37 @@ pub(crate) fn open_gap(ranges: &mut Vec<Range>, index: usize, size: usize) -> Ga
     }
 }
 
-/// Moves a gap on over the next ranges.
-pub(crate) fn pass(ranges: &mut [Range], gap: Gap, count: usize) -> Gap
+/// Opens a gap of this size where an empty one and the next ranges, which are to go, have not the places that are wanted.
+/// There is room for it.
+pub(crate) fn with_places(
+    ranges: &mut Vec<Range>,
+    gap: Gap,
+    count: usize,
+    wanted: usize,
+    size: usize,
+) -> Gap
+    requires gap { IsGap gap ranges.old.items }
+    requires some { 0 < size }
+    requires within { gap.end + count ≤ vec_len ranges.old }
+    requires few { wanted ≤ count + 1 }
+    requires room { vec_len ranges.old + gap.start + size ≤ vec_capacity ranges.old + gap.end }
+    ensures gap { IsGap result ranges.new.items }
+    ensures same { around result ranges.new.items ≡ around gap ranges.old.items }
+    ensures before { take gap.start ranges.new.items ≡ take gap.start ranges.old.items }
+    ensures start { result.start ≡ gap.start }
+    ensures places { result.start + wanted ≤ result.end + count }
+    ensures len { vec_len ranges.new + gap.end ≡ vec_len ranges.old + result.end }
+    ensures capacity { vec_capacity ranges.old ≤ vec_capacity ranges.new }
+{
+    if wanted <= gap.end - gap.start + count {
+        gap
+    } else {
+        open_gap(ranges, gap.start, size)
+    }
+}
+
+/// Moves the next ranges over a gap.
+fn carry(ranges: &mut [Range], gap: Gap, count: usize) -> Gap
     requires gap { IsGap gap ranges.old }
     requires within { gap.end + count ≤ length ranges.old }
     ensures gap { IsGap result ranges.new }
@@ -52,16 +81,38 @@ pub(crate) fn pass(ranges: &mut [Range], gap: Gap, count: usize) -> Gap
     }
 }
 
+/// Moves a gap on over the next ranges. They stay where they are if it is empty.
+pub(crate) fn pass(ranges: &mut Vec<Range>, gap: Gap, count: usize) -> Gap
+    requires gap { IsGap gap ranges.old.items }
+    requires within { gap.end + count ≤ vec_len ranges.old }
+    ensures gap { IsGap result ranges.new.items }
+    ensures same { around result ranges.new.items ≡ around gap ranges.old.items }
+    ensures before { take gap.start ranges.new.items ≡ take gap.start ranges.old.items }
+    ensures start { result.start ≡ gap.start + count }
+    ensures end { result.end ≡ gap.end + count }
+    ensures len { vec_len ranges.new ≡ vec_len ranges.old }
+    ensures capacity { vec_capacity ranges.old ≤ vec_capacity ranges.new }
+{
+    if gap.start < gap.end {
+        return carry(ranges, gap, count);
+    }
+    Gap {
+        start: gap.start + count,
+        end: gap.end + count,
+    }
+}
+
 /// Puts a range, if there is one, before a gap.
-pub(crate) fn put_before(ranges: &mut [Range], gap: Gap, range: Option<Range>) -> Gap
-    requires gap { IsGap gap ranges.old }
-    requires room { gap.start < gap.end }
-    ensures gap { IsGap result ranges.new }
-    ensures added { around result ranges.new ≡ take gap.start ranges.old ++ (listed range ++ drop gap.end ranges.old) }
-    ensures before { take result.start ranges.new ≡ take gap.start ranges.old ++ listed range }
+pub(crate) fn put_before(ranges: &mut Vec<Range>, gap: Gap, range: Option<Range>) -> Gap
+    requires gap { IsGap gap ranges.old.items }
+    requires room { gap.start + length (listed range) ≤ gap.end }
+    ensures gap { IsGap result ranges.new.items }
+    ensures added { around result ranges.new.items ≡ take gap.start ranges.old.items ++ (listed range ++ drop gap.end ranges.old.items) }
+    ensures before { take result.start ranges.new.items ≡ take gap.start ranges.old.items ++ listed range }
     ensures start { result.start ≡ gap.start + length (listed range) }
     ensures end { result.end ≡ gap.end }
-    ensures len { length ranges.new ≡ length ranges.old }
+    ensures len { vec_len ranges.new ≡ vec_len ranges.old }
+    ensures capacity { vec_capacity ranges.old ≤ vec_capacity ranges.new }
 {
     match range {
         None => gap,
@@ -76,16 +127,22 @@ pub(crate) fn put_before(ranges: &mut [Range], gap: Gap, range: Option<Range>) -
 }
 
 /// Puts a range, if there is one, in the place of the next ranges after a gap.
-pub(crate) fn put_after(ranges: &mut [Range], gap: Gap, count: usize, range: Option<Range>) -> Gap
-    requires gap { IsGap gap ranges.old }
-    requires within { gap.end + count ≤ length ranges.old }
+pub(crate) fn put_after(
+    ranges: &mut Vec<Range>,
+    gap: Gap,
+    count: usize,
+    range: Option<Range>,
+) -> Gap
+    requires gap { IsGap gap ranges.old.items }
+    requires within { gap.end + count ≤ vec_len ranges.old }
     requires room { gap.start < gap.end + count }
-    ensures gap { IsGap result ranges.new }
-    ensures replaced { around result ranges.new ≡ take gap.start ranges.old ++ (listed range ++ drop (gap.end + count) ranges.old) }
-    ensures before { take gap.start ranges.new ≡ take gap.start ranges.old }
+    ensures gap { IsGap result ranges.new.items }
+    ensures replaced { around result ranges.new.items ≡ take gap.start ranges.old.items ++ (listed range ++ drop (gap.end + count) ranges.old.items) }
+    ensures before { take gap.start ranges.new.items ≡ take gap.start ranges.old.items }
     ensures start { result.start ≡ gap.start }
     ensures end { result.end + length (listed range) ≡ gap.end + count }
-    ensures len { length ranges.new ≡ length ranges.old }
+    ensures len { vec_len ranges.new ≡ vec_len ranges.old }
+    ensures capacity { vec_capacity ranges.old ≤ vec_capacity ranges.new }
 {
     let end = gap.end + count;
     match range {
@@ -100,5 +157,16 @@ pub(crate) fn put_after(ranges: &mut [Range], gap: Gap, count: usize, range: Opt
                 end: end - 1,
             }
         }
+    }
+}
+
+/// How many there are of two ranges.
+pub(crate) fn count_given(left: Option<Range>, right: Option<Range>) -> usize
+    ensures { result ≡ length (listed left) + length (listed right) }
+{
+    match (left, right) {
+        (Some(_), Some(_)) => 2,
+        (None, None) => 0,
+        _ => 1,
     }
 }

@@ -8,7 +8,7 @@ ghost use Rattle.row_set.specs.Moves.{IsKey, moved_key, moved_keys};
 ghost use Rattle.row_set.specs.Sets.{IsKeySet, count_below, common, found, last_key, united};
 
 use crate::algebra::{Choice, KEYS_END, rest_from, stretch_from};
-use crate::edits::{append_keys, insert_keys, make_room, recount, remove_keys};
+use crate::edits::{append_keys, make_room, recount};
 use crate::iter::Keys;
 use crate::ranges::{BLOCK, Range};
 use crate::search::{self, all_end_before};
@@ -197,7 +197,7 @@ impl RowSet {
             append_keys(&mut self.ranges, &mut self.starts, first, last);
             return Ok(());
         }
-        let from = insert_keys(&mut self.ranges, first, last);
+        let from = insert_ranges(&mut self.ranges, &[Range { first, last }]);
         recount(&mut self.starts, &self.ranges, from);
         Ok(())
     }
@@ -210,7 +210,7 @@ impl RowSet {
         ensures err { OnErr result (self.new ≡ self.old) }
     {
         make_room(&mut self.ranges, &mut self.starts, 1)?;
-        let from = remove_keys(&mut self.ranges, first, last);
+        let from = remove_ranges(&mut self.ranges, &[Range { first, last }]);
         recount(&mut self.starts, &self.ranges, from);
         Ok(())
     }

@@ -23,7 +23,7 @@ pub(crate) fn ended_before(ranges: &[Range], key: u64) -> usize
 }
 
 /// How many of the ranges end before the key. Where that is none or one, this is seen at once.
-fn few_ended_before(ranges: &[Range], key: u64) -> usize
+pub(crate) fn few_ended_before(ranges: &[Range], key: u64) -> usize
     requires { AreApart 0 ranges.now }
     ensures within { result ≤ length ranges.now }
     ensures ended { AllByRecursion (λ range. range.last < key) (take result ranges.now) }

@@ -6,69 +6,73 @@ ghost use Rattle.row_set.specs.Gaps.{ArePassed, IsGap, around};
 ghost use Rattle.row_set.specs.Ranges.{AreApart, keys_from, keys_of};
 ghost use Rattle.row_set.specs.Sets.{united};
 
-use crate::edits::{cut, insert_keys, joined, left_edge, remove_keys, right_edge};
-use crate::gaps::{Gap, open_gap, pass, put_after, put_before};
+use crate::edits::{cut, joined, left_edge, right_edge};
+use crate::gaps::{Gap, count_given, pass, put_after, put_before, with_places};
 use crate::ranges::Range;
-use crate::search::{ended_before, meeting};
+use crate::search::{few_ended_before, meeting};
 
-/// Opens a gap with a place for each of the others, past the ranges that end before them. There is room for it.
-fn open_for(ranges: &mut Vec<Range>, others: &[Range]) -> Gap
-    requires apart { AreApart 0 ranges.old.items }
-    requires room { vec_len ranges.old + length others.now ≤ vec_capacity ranges.old }
-    ensures gap { IsGap result ranges.new.items }
-    ensures same { around result ranges.new.items ≡ ranges.old.items }
-    ensures passed { ArePassed (take result.start ranges.new.items) others.now }
-    ensures before { take result.start ranges.new.items ≡ take result.start ranges.old.items }
-    ensures size { result.end ≡ result.start + length others.now }
-    ensures len { vec_len ranges.new ≡ vec_len ranges.old + length others.now }
-    ensures capacity { vec_capacity ranges.old ≤ vec_capacity ranges.new }
+/// An empty gap past the ranges that end before the others.
+fn gap_for(ranges: &[Range], others: &[Range]) -> Gap
+    requires { AreApart 0 ranges.now }
+    ensures gap { IsGap result ranges.now }
+    ensures same { around result ranges.now ≡ ranges.now }
+    ensures passed { ArePassed (take result.start ranges.now) others.now }
+    ensures empty { result.end ≡ result.start }
 {
     let index = match others {
         [] => ranges.len(),
-        [range, ..] => ended_before(ranges, range.first.saturating_sub(1)),
+        [range, ..] => few_ended_before(ranges, range.first.saturating_sub(1)),
     };
-    open_gap(ranges, index, others.len())
+    Gap {
+        start: index,
+        end: index,
+    }
 }
 
-/// Adds every key from `first` to `last`, which the gap has come to, and moves the gap on to them.
-fn insert_next(ranges: &mut [Range], gap: Gap, first: u64, last: u64) -> Gap
-    requires gap { IsGap gap ranges.old }
-    requires room { gap.start < gap.end }
-    requires apart { AreApart 0 (around gap ranges.old) }
-    requires passed { AllByRecursion (λ range. range.last + 2 ≤ first) (take gap.start ranges.old) }
+/// Adds every key from `first` to `last`, which the gap has come to, and moves the gap on to them. Where an empty gap must
+/// have a place, so many are opened.
+fn insert_next(ranges: &mut Vec<Range>, gap: Gap, first: u64, last: u64, size: usize) -> Gap
+    requires gap { IsGap gap ranges.old.items }
+    requires some { 0 < size }
+    requires room { vec_len ranges.old + gap.start + size ≤ vec_capacity ranges.old + gap.end }
+    requires apart { AreApart 0 (around gap ranges.old.items) }
+    requires passed { AllByRecursion (λ range. range.last + 2 ≤ first) (take gap.start ranges.old.items) }
     requires order { first ≤ last }
     requires small { last < 2 ^ 62 }
-    ensures gap { IsGap result ranges.new }
-    ensures apart { AreApart 0 (around result ranges.new) }
-    ensures keys { keys_of (around result ranges.new) ≡ united (keys_from first last) (keys_of (around gap ranges.old)) }
-    ensures passed { AllByRecursion (λ range. range.last + 2 ≤ first) (take result.start ranges.new) }
-    ensures before { take gap.start ranges.new ≡ take gap.start ranges.old }
+    ensures gap { IsGap result ranges.new.items }
+    ensures apart { AreApart 0 (around result ranges.new.items) }
+    ensures keys { keys_of (around result ranges.new.items) ≡ united (keys_from first last) (keys_of (around gap ranges.old.items)) }
+    ensures passed { AllByRecursion (λ range. range.last + 2 ≤ first) (take result.start ranges.new.items) }
+    ensures before { take gap.start ranges.new.items ≡ take gap.start ranges.old.items }
     ensures start { gap.start ≤ result.start }
-    ensures size { gap.end + result.start ≤ result.end + gap.start + 1 }
-    ensures len { length ranges.new ≡ length ranges.old }
+    ensures growth { vec_len ranges.new + result.start + gap.end ≤ vec_len ranges.old + gap.start + result.end + 1 }
+    ensures capacity { vec_capacity ranges.old ≤ vec_capacity ranges.new }
 {
     let (from, to) = meeting(&ranges[gap.end..], first.saturating_sub(1), last + 1);
     let range = joined(&ranges[gap.end + from..gap.end + to], first, last);
     let gap = pass(ranges, gap, from);
+    let gap = with_places(ranges, gap, to - from, 1, size);
     put_after(ranges, gap, to - from, Some(range))
 }
 
-/// Removes every key from `first` to `last`, which the gap has come to, and moves the gap on to where they were.
-fn remove_next(ranges: &mut [Range], gap: Gap, first: u64, last: u64) -> Gap
-    requires gap { IsGap gap ranges.old }
-    requires room { gap.start < gap.end }
-    requires apart { AreApart 0 (around gap ranges.old) }
-    requires passed { AllByRecursion (λ range. range.last + 2 ≤ first) (take gap.start ranges.old) }
+/// Removes every key from `first` to `last`, which the gap has come to, and moves the gap on to where they were. Where an
+/// empty gap must have a place, so many are opened.
+fn remove_next(ranges: &mut Vec<Range>, gap: Gap, first: u64, last: u64, size: usize) -> Gap
+    requires gap { IsGap gap ranges.old.items }
+    requires some { 0 < size }
+    requires room { vec_len ranges.old + gap.start + size ≤ vec_capacity ranges.old + gap.end }
+    requires apart { AreApart 0 (around gap ranges.old.items) }
+    requires passed { AllByRecursion (λ range. range.last + 2 ≤ first) (take gap.start ranges.old.items) }
     requires order { first ≤ last }
     requires small { last < 2 ^ 62 }
-    ensures gap { IsGap result ranges.new }
-    ensures apart { AreApart 0 (around result ranges.new) }
-    ensures keys { keys_of (around result ranges.new) ≡ without (keys_from first last) (keys_of (around gap ranges.old)) }
-    ensures passed { AllByRecursion (λ range. range.last < first) (take result.start ranges.new) }
-    ensures before { take gap.start ranges.new ≡ take gap.start ranges.old }
+    ensures gap { IsGap result ranges.new.items }
+    ensures apart { AreApart 0 (around result ranges.new.items) }
+    ensures keys { keys_of (around result ranges.new.items) ≡ without (keys_from first last) (keys_of (around gap ranges.old.items)) }
+    ensures passed { AllByRecursion (λ range. range.last < first) (take result.start ranges.new.items) }
+    ensures before { take gap.start ranges.new.items ≡ take gap.start ranges.old.items }
     ensures start { gap.start ≤ result.start }
-    ensures size { gap.end + result.start ≤ result.end + gap.start + 1 }
-    ensures len { length ranges.new ≡ length ranges.old }
+    ensures growth { vec_len ranges.new + result.start + gap.end ≤ vec_len ranges.old + gap.start + result.end + 1 }
+    ensures capacity { vec_capacity ranges.old ≤ vec_capacity ranges.new }
 {
     let (from, to) = meeting(&ranges[gap.end..], first, last);
     let gap = pass(ranges, gap, from);
@@ -77,48 +81,55 @@ fn remove_next(ranges: &mut [Range], gap: Gap, first: u64, last: u64) -> Gap
     }
     let left = left_edge(ranges[gap.end], first);
     let right = right_edge(ranges[gap.end + (to - from) - 1], last);
-    let gap = put_before(ranges, gap, left);
-    put_after(ranges, gap, to - from, right)
+    let edges = count_given(left, right);
+    let gap = with_places(ranges, gap, to - from, edges, size);
+    let gap = put_after(ranges, gap, to - from, right);
+    put_before(ranges, gap, left)
 }
 
-/// Adds every key of other ranges, which the gap has not passed yet. It has a place for each of them.
-fn insert_each(ranges: &mut [Range], gap: Gap, others: &[Range]) -> Gap
-    requires gap { IsGap gap ranges.old }
-    requires room { gap.start + length others.now ≤ gap.end }
-    requires apart { AreApart 0 (around gap ranges.old) }
+/// Adds every key of other ranges, which an empty gap has not passed yet. There is room for each of them.
+fn insert_each(ranges: &mut Vec<Range>, gap: Gap, others: &[Range]) -> Gap
+    requires gap { IsGap gap ranges.old.items }
+    requires empty { gap.end ≡ gap.start }
+    requires room { vec_len ranges.old + length others.now ≤ vec_capacity ranges.old }
+    requires apart { AreApart 0 (around gap ranges.old.items) }
     requires others_apart { AreApart 0 others.now }
-    requires passed { ArePassed (take gap.start ranges.old) others.now }
-    ensures gap { IsGap result ranges.new }
-    ensures apart { AreApart 0 (around result ranges.new) }
-    ensures keys { keys_of (around result ranges.new) ≡ united (keys_of others.now) (keys_of (around gap ranges.old)) }
-    ensures before { take gap.start ranges.new ≡ take gap.start ranges.old }
+    requires passed { ArePassed (take gap.start ranges.old.items) others.now }
+    ensures gap { IsGap result ranges.new.items }
+    ensures apart { AreApart 0 (around result ranges.new.items) }
+    ensures keys { keys_of (around result ranges.new.items) ≡ united (keys_of others.now) (keys_of (around gap ranges.old.items)) }
+    ensures before { take gap.start ranges.new.items ≡ take gap.start ranges.old.items }
     ensures start { gap.start ≤ result.start }
-    ensures len { length ranges.new ≡ length ranges.old }
+    ensures growth { vec_len ranges.new + result.start ≤ vec_len ranges.old + length others.now + result.end }
+    ensures capacity { vec_capacity ranges.old ≤ vec_capacity ranges.new }
 {
     let mut at = gap;
-    for range in others {
-        at = insert_next(ranges, at, range.first, range.last);
+    for (index, range) in others.iter().enumerate() {
+        at = insert_next(ranges, at, range.first, range.last, others.len() - index);
     }
     at
 }
 
-/// Removes every key of other ranges, which the gap has not passed yet. It has a place for each of them.
-fn remove_each(ranges: &mut [Range], gap: Gap, others: &[Range]) -> Gap
-    requires gap { IsGap gap ranges.old }
-    requires room { gap.start + length others.now ≤ gap.end }
-    requires apart { AreApart 0 (around gap ranges.old) }
+/// Removes every key of other ranges, which an empty gap has not passed yet. There is room for one more range for each of
+/// them.
+fn remove_each(ranges: &mut Vec<Range>, gap: Gap, others: &[Range]) -> Gap
+    requires gap { IsGap gap ranges.old.items }
+    requires empty { gap.end ≡ gap.start }
+    requires room { vec_len ranges.old + length others.now ≤ vec_capacity ranges.old }
+    requires apart { AreApart 0 (around gap ranges.old.items) }
     requires others_apart { AreApart 0 others.now }
-    requires passed { ArePassed (take gap.start ranges.old) others.now }
-    ensures gap { IsGap result ranges.new }
-    ensures apart { AreApart 0 (around result ranges.new) }
-    ensures keys { keys_of (around result ranges.new) ≡ without (keys_of others.now) (keys_of (around gap ranges.old)) }
-    ensures before { take gap.start ranges.new ≡ take gap.start ranges.old }
+    requires passed { ArePassed (take gap.start ranges.old.items) others.now }
+    ensures gap { IsGap result ranges.new.items }
+    ensures apart { AreApart 0 (around result ranges.new.items) }
+    ensures keys { keys_of (around result ranges.new.items) ≡ without (keys_of others.now) (keys_of (around gap ranges.old.items)) }
+    ensures before { take gap.start ranges.new.items ≡ take gap.start ranges.old.items }
     ensures start { gap.start ≤ result.start }
-    ensures len { length ranges.new ≡ length ranges.old }
+    ensures growth { vec_len ranges.new + result.start ≤ vec_len ranges.old + length others.now + result.end }
+    ensures capacity { vec_capacity ranges.old ≤ vec_capacity ranges.new }
 {
     let mut at = gap;
-    for range in others {
-        at = remove_next(ranges, at, range.first, range.last);
+    for (index, range) in others.iter().enumerate() {
+        at = remove_next(ranges, at, range.first, range.last, others.len() - index);
     }
     at
 }
@@ -135,10 +146,7 @@ pub(crate) fn insert_ranges(ranges: &mut Vec<Range>, others: &[Range]) -> usize
     ensures growth { vec_len ranges.new ≤ vec_len ranges.old + length others.now }
     ensures capacity { vec_capacity ranges.old ≤ vec_capacity ranges.new }
 {
-    if let [range] = others {
-        return insert_keys(ranges, range.first, range.last);
-    }
-    let gap = open_for(ranges, others);
+    let gap = gap_for(ranges, others);
     let left = insert_each(ranges, gap, others);
     cut(ranges, left.start, left.end);
     gap.start
@@ -173,10 +181,7 @@ fn remove_met(ranges: &mut Vec<Range>, others: &[Range]) -> usize
     ensures growth { vec_len ranges.new ≤ vec_len ranges.old + length others.now }
     ensures capacity { vec_capacity ranges.old ≤ vec_capacity ranges.new }
 {
-    if let [range] = others {
-        return remove_keys(ranges, range.first, range.last);
-    }
-    let gap = open_for(ranges, others);
+    let gap = gap_for(ranges, others);
     let left = remove_each(ranges, gap, others);
     cut(ranges, left.start, left.end);
     gap.start

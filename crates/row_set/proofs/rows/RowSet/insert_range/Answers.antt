@@ -5,6 +5,6 @@ use Rattle.row_set.proofs.rows.RowSet.insert_range.Goals as goal
 
 pub recount-requires-clause-before : goal.recount-requires-clause-before
 recount-requires-clause-before c =
-    let new = c.insert_keys-from.new.ranges.items in
-    subst (λ those. (block : ℕ) → block ≤ length c.make_room.new.starts.items → 16 * block < c.insert_keys-from.result → start_of c.make_room.new.starts.items block ≡ keys_before (16 * block) those) (sym c.deref-2.ensures.value)
-    (kept_starts c.insert_keys-from.result c.self.inside.ranges.items new c.self.inside.starts.items c.make_room.new.starts.items c.self.invariant c.make_room.ensures.starts (c.insert_keys-from.ensures.before ∙ ap (take c.insert_keys-from.result) c.make_room.ensures.ranges))
+    let new = c.insert_ranges-from.new.ranges.items in
+    subst (λ those. (block : ℕ) → block ≤ length c.make_room.new.starts.items → 16 * block < c.insert_ranges-from.result → start_of c.make_room.new.starts.items block ≡ keys_before (16 * block) those) (sym c.deref-2.ensures.value)
+    (kept_starts c.insert_ranges-from.result c.self.inside.ranges.items new c.self.inside.starts.items c.make_room.new.starts.items c.self.invariant c.make_room.ensures.starts (c.insert_ranges-from.ensures.before ∙ ap (take c.insert_ranges-from.result) c.make_room.ensures.ranges))
