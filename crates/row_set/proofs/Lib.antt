@@ -1,6 +1,7 @@
 pub mod Apart
 pub mod Batches
 pub mod Behind
+pub mod Clipped
 pub mod Coming
 pub mod Counts
 pub mod Edges

@@ -12,13 +12,13 @@ use Rattle.key_lists.proofs.Rising.{rising_same, rising-append}
 use Rattle.key_lists.proofs.Parts.{every-take, every-drop}
 use Rattle.row_set.specs.declared.ranges.Range.{Range}
 use Rattle.row_set.specs.Ranges.{keys_before, keys_in, keys_of, holds, IsRangeFrom, AreApart, Meets}
-use Rattle.row_set.specs.Moves.{moved_key, as_key, moved_keys, IsKey, moved_range, Lands}
+use Rattle.row_set.specs.Moves.{moved_key, as_key, moved_keys, IsKey, Lands, Shifts, clip, moved_range, shift}
 use Rattle.row_set.proofs.Held.{among-in, among-keys, each_key, holds-true, keys_of-append, length-keys_in}
 use Rattle.row_set.proofs.Apart.{apart-drop, apart-take, apart_weaker, apart-append, each_range, keys_rise, apart_back, apart_seam}
 use Rattle.row_set.proofs.Counts.{blank}
 use Rattle.row_set.proofs.Middles.{span, IsMet, met, three_parts, before_head, after_tail, middle_last}
 use Rattle.row_set.proofs.Edges.{left_edge, right_edge, edges_hold, left_apart, right_apart, left_is_not, right_is_not}
-use Rattle.row_set.proofs.Shifted.{after, any_clip, before, clip, clip_apart, clip_within, clipped_move, halves, length-slice, shift, shifts_clipped, pos-as_key}
+use Rattle.row_set.proofs.Shifted.{after, any_clip, before, clip_apart, clip_within, clipped_move, halves, length-slice, shifts_clipped, pos-as_key}
 
 abbrev move : ℕ → ℕ → ℤ → ℕ → ℕ
 move first last delta key = as_key (moved_key first last delta key)

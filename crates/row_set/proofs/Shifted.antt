@@ -8,7 +8,7 @@ use Rattle.key_lists.proofs.Every.{all_from, map_same, map_map}
 use Rattle.key_lists.proofs.Booleans.{and_false}
 use Rattle.row_set.specs.declared.ranges.Range.{Range}
 use Rattle.row_set.specs.Ranges.{keys_in, keys_of, holds, IsRangeFrom, AreApart}
-use Rattle.row_set.specs.Moves.{moved_key, as_key, IsKey, moved_range, Lands}
+use Rattle.row_set.specs.Moves.{moved_key, as_key, IsKey, Lands, Shifts, clip, moved_range, shift}
 use Rattle.row_set.proofs.Held.{each_between, holds-true, holds_before, holds_after}
 use Rattle.row_set.proofs.Apart.{apart_weaker}
 use Rattle.row_set.proofs.Counts.{blank}
@@ -34,17 +34,6 @@ moved_row delta first zero there e = refl
 moved_row delta first (suc count) there e =
     let next : pos (there + 1) ≡ pos (first + 1) +ℤ delta = omega (arith, ints, e) in
     ap₂ (λ key keys. key ∷ keys) (ap as_key (sym e)) (moved_row delta (first + 1) count (there + 1) next)
-
--- the part of a range that moves, before and after
-abbrev pub clip : ℕ → ℕ → Range → Range
-clip first last range = span (max range.first first) (min range.last last)
-
-abbrev pub shift : ℤ → Range → Range
-shift delta range = span (as_key (pos range.first +ℤ delta)) (as_key (pos range.last +ℤ delta))
-
-pub record Shifts (delta : ℤ) (range : Range) : Type 0 where
-  pub first_key : IsKey (pos range.first +ℤ delta)
-  pub last_key : IsKey (pos range.last +ℤ delta)
 
 shifted_keys : (delta : ℤ) (range : Range) → Shifts delta range → range.first ≤ range.last → map (λ key. as_key (pos key +ℤ delta)) (keys_in range) ≡ keys_in (shift delta range)
 shifted_keys delta range h le =
@@ -150,12 +139,12 @@ slice_at from to index ranges le lt =
 pub length-slice : (from to : ℕ) (ranges : List Range) → from ≤ to → to ≤ length ranges → length (slice_range ranges from to) ≡ to - from
 length-slice from to ranges le within = length-take-le (to - from) (drop from ranges) (omega (arith, length-drop from ranges))
 
-pub lands_at : (delta : ℤ) (first last from to index : ℕ) (ranges : List Range) → AllByRecursion (Lands first last delta) (slice_range ranges from to) → from ≤ index → index < to → to ≤ length ranges → Lands first last delta (get_or ranges index blank)
-lands_at delta first last from to index ranges h le lt within =
-    subst (λ (range : Range). Lands first last delta range) (slice_at from to index ranges le lt)
-    (all_from (Lands first last delta) (slice_range ranges from to) h (index - from) blank (omega (arith, length-slice from to ranges (omega arith) within)))
+pub shifts_at : (delta : ℤ) (from to index : ℕ) (ranges : List Range) → AllByRecursion (Shifts delta) (slice_range ranges from to) → from ≤ index → index < to → to ≤ length ranges → Shifts delta (get_or ranges index blank)
+shifts_at delta from to index ranges h le lt within =
+    subst (λ (range : Range). Shifts delta range) (slice_at from to index ranges le lt)
+    (all_from (Shifts delta) (slice_range ranges from to) h (index - from) blank (omega (arith, length-slice from to ranges (omega arith) within)))
 
-pub moved_at : (delta : ℤ) (first last from to index : ℕ) (ranges : List Range) → from ≤ index → index < to → to ≤ length ranges → get_or (map (moved_range first last delta) (slice_range ranges from to)) (index - from) blank ≡ moved_range first last delta (get_or ranges index blank)
-moved_at delta first last from to index ranges le lt within =
-    get_or-map (moved_range first last delta) (slice_range ranges from to) (index - from) blank blank (omega (arith, length-slice from to ranges (omega arith) within))
-    ∙ ap (moved_range first last delta) (slice_at from to index ranges le lt)
+pub shifted_at : (delta : ℤ) (from to index : ℕ) (ranges : List Range) → from ≤ index → index < to → to ≤ length ranges → get_or (map (shift delta) (slice_range ranges from to)) (index - from) blank ≡ shift delta (get_or ranges index blank)
+shifted_at delta from to index ranges le lt within =
+    get_or-map (shift delta) (slice_range ranges from to) (index - from) blank blank (omega (arith, length-slice from to ranges (omega arith) within))
+    ∙ ap (shift delta) (slice_at from to index ranges le lt)

@@ -3,7 +3,7 @@ ghost use Rattle.std.specs.Prelude.{◌≡◌, ℕ, pos, ◌+ℤ◌, ◌+◌, �
 ghost use Rattle.std.specs.Bool.{OnFalse};
 ghost use Rattle.std.specs.List.{AllByRecursion};
 ghost use Rattle.key_lists.specs.Keys.{IsRising};
-ghost use Rattle.row_set.specs.Moves.{IsKey, Lands, moved_key, moved_keys, moved_range};
+ghost use Rattle.row_set.specs.Moves.{IsKey, Lands, Shifts, clip, moved_key, moved_keys, moved_range, shift};
 ghost use Rattle.row_set.specs.Ranges.{AreApart, Meets, keys_before, keys_of};
 
 use crate::edits::splice;
@@ -19,24 +19,61 @@ fn moved(key: u64, delta: i64) -> u64
     (key as i64 + delta) as u64
 }
 
+/// Leaves out what the ranges from `from` up to `to` have before `first` and after `last`: of the first and the last of them.
+fn clip_ranges(ranges: &mut Vec<Range>, from: usize, to: usize, first: u64, last: u64)
+    requires apart { AreApart 0 ranges.old.items }
+    requires met { Meets first last ranges.old.items from to }
+    requires some { from < to }
+    requires order { first ≤ last }
+    ensures items { ranges.new.items ≡ take from ranges.old.items
+        ++ (map (clip first last) (slice_range ranges.old.items from to) ++ drop to ranges.old.items) }
+    ensures len { vec_len ranges.new ≡ vec_len ranges.old }
+    ensures capacity { vec_capacity ranges.old ≤ vec_capacity ranges.new }
+{
+    let head = ranges[from];
+    ranges[from] = Range {
+        first: head.first.max(first),
+        last: head.last,
+    };
+    let tail = ranges[to - 1];
+    ranges[to - 1] = Range {
+        first: tail.first,
+        last: tail.last.min(last),
+    };
+}
+
+/// Moves the ranges from `from` up to `to`.
+fn shift_ranges(ranges: &mut Vec<Range>, from: usize, to: usize, delta: i64)
+    requires order { from ≤ to }
+    requires within { to ≤ vec_len ranges.old }
+    requires apart { AreApart 0 (slice_range ranges.old.items from to) }
+    requires lands { AllByRecursion (Shifts delta) (slice_range ranges.old.items from to) }
+    ensures items { ranges.new.items ≡ take from ranges.old.items
+        ++ (map (shift delta) (slice_range ranges.old.items from to) ++ drop to ranges.old.items) }
+    ensures capacity { vec_capacity ranges.old ≤ vec_capacity ranges.new }
+{
+    for index in from..to {
+        let range = ranges[index];
+        ranges[index] = Range {
+            first: moved(range.first, delta),
+            last: moved(range.last, delta),
+        };
+    }
+}
+
 /// Moves what the ranges from `from` up to `to` have from `first` to `last`, and leaves out the rest of them.
 fn move_ranges(ranges: &mut Vec<Range>, from: usize, to: usize, first: u64, last: u64, delta: i64)
     requires apart { AreApart 0 ranges.old.items }
     requires met { Meets first last ranges.old.items from to }
-    requires small { last < 2 ^ 62 }
+    requires some { from < to }
     requires order { first ≤ last }
     requires lands { AllByRecursion (Lands first last delta) (slice_range ranges.old.items from to) }
     ensures items { ranges.new.items ≡ take from ranges.old.items
         ++ (map (moved_range first last delta) (slice_range ranges.old.items from to) ++ drop to ranges.old.items) }
     ensures capacity { vec_capacity ranges.old ≤ vec_capacity ranges.new }
 {
-    for index in from..to {
-        let range = ranges[index];
-        ranges[index] = Range {
-            first: moved(range.first.max(first), delta),
-            last: moved(range.last.min(last), delta),
-        };
-    }
+    clip_ranges(ranges, from, to, first, last);
+    shift_ranges(ranges, from, to, delta);
 }
 
 /// Puts a range at an index, if it is wanted, and says how many ranges it has put there.

@@ -1,9 +1,0 @@
-use Rattle.std.proofs.Common.{◌-◌, ◌≤◌, map, slice_range, vec_capacity}
-use Rattle.row_set.specs.Moves.{moved_range}
-use Rattle.row_set.proofs.Spliced.{IsSplicing}
-use Rattle.row_set.proofs.shifts.move_ranges.Given as goal
-
-abbrev pub invariant-loop-index : goal.invariant-loop-index
-invariant-loop-index l =
-    IsSplicing l.fn.ranges.items l.from l.to (map (moved_range l.first l.last l.delta) (slice_range l.fn.ranges.items l.from l.to)) (l.index - l.from) l.index l.ranges.items
-    × (vec_capacity l.fn.ranges ≤ vec_capacity l.ranges)
