@@ -1,6 +1,6 @@
 //! The table itself: what it is made of, what it answers and how a change is applied.
 
-ghost use Rattle.std.specs.Prelude.{◌++◌, ◌≡◌, ◌+◌, ◌*◌, ◌^◌, ◌<◌, ◌≤◌, IsTrue, None, false, length, slice_index, IfOk, OnOk};
+ghost use Rattle.std.specs.Prelude.{◌++◌, ◌≡◌, ◌+◌, ◌*◌, ◌^◌, ◌<◌, ◌≤◌, IsTrue, None, false, length, slice_index, IfOk, OnErr, OnOk};
 ghost use Rattle.key_lists.specs.Keys.{is_among};
 ghost use Rattle.table_update.specs.Kept.{old_modified};
 ghost use Rattle.tick_model.specs.Changes.{change_of, changed, told_keys};
@@ -139,7 +139,7 @@ impl TickTable {
         self.row_before(key)[column as usize]
     }
 
-    /// Puts the cells of a row now behind others. Each is one read.
+    /// Puts the cells of a row now behind others. Each is one read. After a refusal none was read, and the others are as before.
     pub fn row<L: Ledger>(
         &self,
         key: u64,
@@ -150,6 +150,8 @@ impl TickTable {
         ensures cells { OnOk result (cells.new.items ≡ cells.old.items ++ cells_at key self.now.new.rows) }
         ensures whole { length (cells_at key self.now.new.rows) ≡ self.now.new.width }
         ensures reads { OnOk result (reads.new ≡ reads.old + self.now.new.width) }
+        ensures refused { OnErr result (cells.new.items ≡ cells.old.items) }
+        ensures unread { OnErr result (reads.new ≡ reads.old) }
     {
         let row = self.row_now(key);
         cells.extend_from_slice(row)?;
@@ -157,7 +159,8 @@ impl TickTable {
         Ok(())
     }
 
-    /// Puts the cells that a row had before the step behind others. Each is one read.
+    /// Puts the cells that a row had before the step behind others. Each is one read. After a refusal none was read, and the others
+    /// are as before.
     pub fn prev_row<L: Ledger>(
         &self,
         key: u64,
@@ -168,6 +171,8 @@ impl TickTable {
         ensures cells { OnOk result (cells.new.items ≡ cells.old.items ++ cells_at key self.now.old.rows) }
         ensures whole { length (cells_at key self.now.old.rows) ≡ self.now.old.width }
         ensures reads { OnOk result (reads.new ≡ reads.old + self.now.old.width) }
+        ensures refused { OnErr result (cells.new.items ≡ cells.old.items) }
+        ensures unread { OnErr result (reads.new ≡ reads.old) }
     {
         let row = self.row_before(key);
         cells.extend_from_slice(row)?;
