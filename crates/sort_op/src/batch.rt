@@ -1,5 +1,5 @@
 //! Many entries at once.
-ghost use Rattle.std.specs.Prelude.{◌≡◌, ◌||◌, false, filter, not, IsPermutation, OnOk};
+ghost use Rattle.std.specs.Prelude.{◌≡◌, ◌||◌, false, filter, not, IsPermutation, IsTrue, OnOk};
 ghost use Rattle.std.specs.List.{AllByRecursion};
 ghost use Rattle.sort_op.specs.declared.entry.Entry.{Entry};
 ghost use Rattle.sort_op.specs.Entries.{AreDistinct, Falls, IsOrder, IsWhole, entries, is_in};
@@ -25,12 +25,14 @@ impl SortOrder {
 
     /// Puts entries in that are not there, no two of which are the same. They come in the order in which they stand, so that
     /// many cost a sort, and then each is put in behind the one before it. After a refusal, which comes where memory runs
-    /// out, some of them may be there.
+    /// out, all entries are there that were, and of those that come some may be.
     pub fn insert_all(&mut self, mut coming: Vec<Entry>) -> Result<(), AllocError>
         requires whole { AllByRecursion (IsWhole self.old.by) coming.items }
         requires absent { AllByRecursion (λ entry. is_in entry (entries self.old) ≡ false) coming.items }
         requires distinct { AreDistinct coming.items }
         ensures entries { OnOk result ((entry : Entry) → is_in entry (entries self.new) ≡ (is_in entry (entries self.old) || is_in entry coming.items)) }
+        ensures stay { (entry : Entry) → IsTrue (is_in entry (entries self.old)) → IsTrue (is_in entry (entries self.new)) }
+        ensures no_others { (entry : Entry) → IsTrue (is_in entry (entries self.new)) → IsTrue (is_in entry (entries self.old) || is_in entry coming.items) }
         ensures by { self.new.by ≡ self.old.by }
         ensures order { IsOrder self.new }
     {
