@@ -1,5 +1,5 @@
 -- Which left rows a step may change, and how many these are.
-use Rattle.std.proofs.Common.{◌≡◌, refl, ap, ap₂, sym, ◌∙◌, subst, Bool, true, false, not, cond, ◌&&◌, ◌||◌, ℕ, ◌+◌, ◌<◌, ◌≤◌, ◌==◌, ◌^◌, drop, List, ◌++◌, filter, length, ℤ, true≢false}
+use Rattle.std.proofs.Common.{◌≡◌, refl, ap, ap₂, sym, ◌∙◌, subst, Bool, true, false, not, cond, ◌&&◌, ◌||◌, ℕ, ◌+◌, ◌<◌, ◌≤◌, ◌==◌, ◌^◌, drop, List, ◌++◌, filter, length, ℤ, [], ◌∷◌, true≢false}
 use Rattle.std.specs.Cmp.Rules.{signed_items}
 use Rattle.std.specs.List.{AllByRecursion}
 use Rattle.std.proofs.lemmas.Bool.{and_parts, not-false, or_parts}
@@ -8,13 +8,13 @@ use Rattle.key_lists.specs.Keys.{is_among, IsRising, without}
 use Rattle.key_lists.proofs.Among.{among-filter, each_among, of_among}
 use Rattle.key_lists.proofs.Every.{every_both, every_weaker, every-filter, every-map, every_unmapped}
 use Rattle.key_lists.proofs.Rising.{rising-filter, rising_some}
-use Rattle.lookup_join.specs.declared.keyed.Side.TheVariants.{Left, Right}
+use Rattle.lookup_join.specs.declared.keyed.Side.TheVariants.{Left}
 use Rattle.lookup_join.specs.declared.pick.Pick.{Pick}
 use Rattle.lookup_join.specs.declared.pick.Pick.TheVariants.{First, Last, Latest}
-use Rattle.lookup_join.specs.Keyed.{key_cells, keyed, time_of}
+use Rattle.lookup_join.specs.Keyed.{key_cells, time_of}
 use Rattle.lookup_join.specs.Notes.{Note}
 use Rattle.lookup_join.specs.Matched.{matched_table}
-use Rattle.lookup_join.specs.Taken.{step_notes, turned_members}
+use Rattle.lookup_join.specs.Taken.{step_notes, turned_keys}
 use Rattle.lookup_join.proofs.Counts.{length-among_two}
 use Rattle.lookup_join.proofs.Gathered.{matched_cells, matched_rows}
 use Rattle.lookup_join.proofs.Taking.{notes_own}
@@ -36,7 +36,7 @@ use Rattle.tick_model.specs.declared.table.PlainRow.{PlainRow}
 use Rattle.tick_model.specs.declared.table.PlainTable.{PlainTable}
 use Rattle.tick_model.specs.declared.update.KeyPair.{KeyPair}
 use Rattle.tick_model.specs.Tables.{IsRow, IsTable, cells_at, keys, same_cells}
-use Rattle.tick_model.specs.Updates.{Update, differs, new_keys, pairs}
+use Rattle.tick_model.specs.Updates.{Update, differs, new_keys, old_keys, pairs}
 use Rattle.tick_table.specs.Exact.{IsExact, tick_of}
 use Rattle.tick_table.specs.Ticking.{Ticking}
 
@@ -50,8 +50,8 @@ module _ (on : List OnPair) (pick : Pick) (take : List ℕ) (l : Ticking) (left_
   abbrev notes : List Note
   notes = step_notes on pick r
 
-  abbrev pub turned : List ℕ
-  turned = turned_members pick take (keyed Left on pick l.new.rows) (keyed Right on pick r.new.rows) notes r.old.rows r.new.rows notes
+  abbrev turned : List ℕ
+  turned = turned_keys on pick take l r
 
   abbrev Held : Note → Type 0
   Held = IsHeld on pick take l left_exact r right_exact
@@ -121,6 +121,24 @@ module _ (on : List OnPair) (pick : Pick) (take : List ℕ) (l : Ticking) (left_
       every_weaker (λ key. is_among key turned ≡ true) (λ key. key < 2 ^ 62) turned (λ key among. of_among (λ key. key < 2 ^ 62) key (keys l.new.rows) (every-map (λ key. key < 2 ^ 62) (λ (row : PlainRow). row.key) l.new.rows (every_weaker (IsRow l.new.width) (λ row. row.key < 2 ^ 62) l.new.rows (λ row is. is.key) left_exact.tick.new_table.rows)) (turned_there key among))
       (each_among turned)
 
+  added_is : (key : ℕ) → is_among key l.update.added ≡ (not (is_among key (new_keys (kept l left_exact))) && is_among key (keys l.new.rows))
+  added_is key = ap (λ (update : Update). is_among key update.added) left_exact.update ∙ among-filter (λ key. not (is_among key (new_keys (kept l left_exact)))) key (keys l.new.rows)
+
+  -- where there were no left rows, those that are told came
+  pub told_came : keys l.old.rows ≡ [] → (key : ℕ) → is_among key l.update.added ≡ false → is_among key turned ≡ false
+  told_came none key absent = by (is_among key turned) refl
+    where
+      no_pair : (pairs : List KeyPair) → AllByRecursion (λ key. is_among key [] ≡ true) (old_keys pairs) → new_keys pairs ≡ []
+      no_pair [] h = refl
+      no_pair (pair ∷ pairs) h = absurd (true≢false (sym h.0))
+
+      none_stay : new_keys (kept l left_exact) ≡ []
+      none_stay = no_pair (kept l left_exact) (subst (λ ks. AllByRecursion (λ key. is_among key ks ≡ true) (old_keys (kept l left_exact))) none left_exact.tick.of_old)
+
+      by : (b : Bool) → is_among key turned ≡ b → is_among key turned ≡ false
+      by false is = is
+      by true is = absurd (true≢false (sym (added_is key ∙ ap₂ (λ ks b. not (is_among key ks) && b) none_stay (turned_there key is)) ∙ absent))
+
   pub matched_keys : (left right : PlainTable) → keys (matched_table on pick take left right).rows ≡ keys left.rows
   matched_keys left right = ap keys (matched_rows on pick take left right) ∙ keys-made (matched_cells on pick take right.rows) left.rows
 
@@ -142,14 +160,15 @@ module _ (on : List OnPair) (pick : Pick) (take : List ℕ) (l : Ticking) (left_
   }
 
   -- the rows that are compared: those that are modified or told, but for the added ones
-  module _ (set compared : List ℕ) (is_set : (key : ℕ) → is_among key set ≡ is_among key turned) (are : compared ≡ without l.update.added (united set l.update.modified)) where
+  module _ (set compared : List ℕ) (is_set : (key : ℕ) → is_among key l.update.added ≡ false → is_among key set ≡ is_among key turned) (are : compared ≡ without l.update.added (united set l.update.modified)) where
     compared_is : (key : ℕ) → is_among key compared ≡ (not (is_among key l.update.added) && (is_among key turned || is_among key l.update.modified))
     compared_is key =
         ap (is_among key) are ∙ among-filter (λ key. not (is_among key l.update.added)) key (united set l.update.modified)
-        ∙ ap (λ b. not (is_among key l.update.added) && b) (among-united key set l.update.modified ∙ ap (λ b. b || is_among key l.update.modified) (is_set key))
-
-    added_is : (key : ℕ) → is_among key l.update.added ≡ (not (is_among key (new_keys (kept l left_exact))) && is_among key (keys l.new.rows))
-    added_is key = ap (λ (update : Update). is_among key update.added) left_exact.update ∙ among-filter (λ key. not (is_among key (new_keys (kept l left_exact)))) key (keys l.new.rows)
+        ∙ ap (λ b. not (is_among key l.update.added) && b) (among-united key set l.update.modified) ∙ by (is_among key l.update.added) refl
+      where
+        by : (b : Bool) → is_among key l.update.added ≡ b → (not (is_among key l.update.added) && (is_among key set || is_among key l.update.modified)) ≡ (not (is_among key l.update.added) && (is_among key turned || is_among key l.update.modified))
+        by true came = ap (λ b. not b && (is_among key set || is_among key l.update.modified)) came ∙ sym (ap (λ b. not b && (is_among key turned || is_among key l.update.modified)) came)
+        by false absent = ap (λ b. not (is_among key l.update.added) && (b || is_among key l.update.modified)) (is_set key absent)
 
     modified_rises : IsRising l.update.modified
     modified_rises = subst IsRising (sym (modified_new l left_exact)) (rising-filter (λ (pair : KeyPair). pair.new) (is_modified l left_exact) (kept l left_exact) left_exact.tick.rising_new)

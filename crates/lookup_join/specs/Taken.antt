@@ -7,11 +7,12 @@
 --     speaks now noted      whether a note of this time tells what was taken
 --     match_as_before pick members notes cells at      the right row that was taken before the step
 --     turned_note pick take left right notes old new note      the left rows for which a note speaks, where they take other cells now
+--     turned_keys on pick take left right      the left rows for which the notes of a step speak so
 use Rattle.std.specs.Prelude.{◌≡◌, ℕ, ◌<◌, Bool, true, ◌&&◌, List, [], ◌∷◌, ◌++◌, Option, Some, None, filter, flat_map, int_le, map, option_map, ℤ, if◌then◌else◌, IsTrue}
 use Rattle.std.specs.List.{AllByRecursion}
 use Rattle.key_lists.specs.Keys.{is_among}
 use Rattle.lookup_join.specs.declared.keyed.Side.{Side}
-use Rattle.lookup_join.specs.declared.keyed.Side.TheVariants.{Right}
+use Rattle.lookup_join.specs.declared.keyed.Side.TheVariants.{Left, Right}
 use Rattle.lookup_join.specs.declared.matches.Match.{Match}
 use Rattle.lookup_join.specs.declared.matches.Match.TheVariants.{Before, Now, Nothing}
 use Rattle.lookup_join.specs.declared.pick.Pick.{Pick}
@@ -113,3 +114,6 @@ rekeyed_pairs side on pick input = filter (rekeys side on pick input.old input.n
 -- what is noted in a step of the right input
 abbrev pub step_notes : List OnPair → Pick → Ticking → List Note
 step_notes on pick right = noting pick (keyed Right on pick right.old.rows) [] (touched_spots on pick right.old.rows right.new.rows right.update (modified_pairs right))
+
+abbrev pub turned_keys : List OnPair → Pick → List ℕ → Ticking → Ticking → List ℕ
+turned_keys on pick take left right = turned_members pick take (keyed Left on pick left.new.rows) (keyed Right on pick right.new.rows) (step_notes on pick right) right.old.rows right.new.rows (step_notes on pick right)

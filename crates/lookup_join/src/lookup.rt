@@ -1,10 +1,11 @@
 //! A step of a join, whatever it picks: what it brings on, and the change that it makes.
 
-ghost use Rattle.std.specs.Prelude.{◌≡◌, ◌+◌, ◌*◌, ◌<◌, ◌≤◌, length, IfOk, OnOk};
+ghost use Rattle.std.specs.Prelude.{◌≡◌, ℕ, ◌+◌, ◌*◌, ◌<◌, ◌≤◌, false, length, IfOk, OnOk};
 ghost use Rattle.std.specs.List.{AllByRecursion};
+ghost use Rattle.key_lists.specs.Keys.{is_among};
 ghost use Rattle.lookup_join.specs.Keyed.{indexed};
 ghost use Rattle.lookup_join.specs.Matched.{matched_tick};
-ghost use Rattle.lookup_join.specs.Taken.{AreMatched, rekeyed_pairs, step_notes};
+ghost use Rattle.lookup_join.specs.Taken.{AreMatched, rekeyed_pairs, step_notes, turned_keys};
 ghost use Rattle.row_set.specs.Sets.{united};
 ghost use Rattle.tick_model.specs.Changes.{change_of};
 ghost use Rattle.tick_model.specs.Updates.{new_keys};
@@ -144,6 +145,29 @@ fn bring_left_on<L: Ledger>(
     bring_on(Side::Left, on, pick, index, left, changed, buffer, reads)
 }
 
+/// The keys of the left rows for which a note speaks where other cells are taken now. Rows that came may be among them or not:
+/// where all did, no note is looked at.
+fn turned_set<L: Ledger>(
+    alloc: Global,
+    rows: &MatchedRows<'_>,
+    left_rows: &Groups,
+    reads: &mut Steps<L>,
+) -> Result<RowSet, AllocError>
+    requires left_rows { left_rows.now ≡ indexed Side.Left rows.now.on.now rows.now.pick rows.now.left.now.new.rows }
+    requires matched { AreMatched rows.now.on.now rows.now.pick rows.now.take.now rows.now.left.now rows.now.right.now rows.now.index.now rows.now.notes.now.notes }
+    requires notes { rows.now.notes.now.notes ≡ step_notes rows.now.on.now rows.now.pick rows.now.right.now }
+    ensures keys { IfOk result (λ set. (key : ℕ) → is_among key rows.now.left.now.update.added ≡ false → is_among key set ≡ is_among key (turned_keys rows.now.on.now rows.now.pick rows.now.take.now rows.now.left.now rows.now.right.now)) }
+    ensures reads { OnOk result (reads.new ≤ reads.old + 2 * length rows.now.take.now * length rows.now.notes.now.notes) }
+{
+    if rows.left.prev_rows().is_empty() {
+        return Ok(RowSet::new(alloc));
+    }
+    let turned = turned_rows(
+        alloc, rows.pick, rows.take, left_rows, rows.index, rows.right, rows.notes, reads,
+    )?;
+    RowSet::from_keys(alloc, turned)
+}
+
 /// The change of the join. It compares the left rows that are modified, and those for which a note speaks where other
 /// cells are taken now.
 fn matched_change<L: Ledger>(
@@ -161,11 +185,8 @@ fn matched_change<L: Ledger>(
         + 2 * length rows.now.take.now * length rows.now.notes.now.notes
         + (rows.now.left.now.new.width + length rows.now.take.now) * (2 * (length rows.now.left.now.update.modified + length change.update.modified) + length rows.now.left.now.update.added)) }
 {
-    let turned = turned_rows(
-        alloc, rows.pick, rows.take, left_rows, rows.index, rows.right, rows.notes, reads,
-    )?;
+    let set = turned_set(alloc, rows, left_rows, reads)?;
     let update = rows.left.update();
-    let set = RowSet::from_keys(alloc, turned)?;
     let touched = set.union(update.modified())?;
     let now = touched.minus(update.added())?;
     let before = update

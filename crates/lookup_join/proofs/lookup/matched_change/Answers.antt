@@ -1,15 +1,9 @@
-use Rattle.std.proofs.Common.{◌≡◌, ap, ap₂, sym, ◌∙◌, subst, ◌+◌, ◌*◌, ◌≤◌, ◌<◌, ◌^◌, arith, ℕ, List, length}
+use Rattle.std.proofs.Common.{◌≡◌, ap, ap₂, sym, ◌∙◌, subst, ◌+◌, ◌*◌, ◌≤◌, arith, ℕ, List, length}
 use Rattle.std.specs.Prelude.{IfOk, Result, Ok, Err}
-use Rattle.std.specs.List.{AllByRecursion}
-use Rattle.key_lists.specs.Keys.{is_among, without}
-use Rattle.lookup_join.specs.declared.pick.Pick.{Pick}
+use Rattle.key_lists.specs.Keys.{without}
 use Rattle.lookup_join.specs.Matched.{matched_table}
-use Rattle.lookup_join.specs.Notes.{Note}
-use Rattle.lookup_join.specs.Taken.{IsFrom, step_notes, turned_members}
-use Rattle.lookup_join.proofs.Before.{notes_from}
-use Rattle.lookup_join.proofs.Compared.{are_compared, are_mapped, compared_few, turned, turned_small}
+use Rattle.lookup_join.proofs.Compared.{are_compared, are_mapped, compared_few}
 use Rattle.row_changes.specs.Parts.{AreCompared}
-use Rattle.row_groups.specs.Members.{Grouped, Member}
 use Rattle.row_set.specs.Sets.{united}
 use Rattle.shift_data.specs.Moves.{IsLawful, unapplied}
 use Rattle.shown_rows.proofs.Restricted.{exact_shift}
@@ -17,7 +11,6 @@ use Rattle.tick_model.specs.Changes.{Change}
 use Rattle.tick_model.specs.declared.update.ShiftRange.{ShiftRange}
 use Rattle.tick_model.specs.Tables.{keys}
 use Rattle.tick_model.specs.Updates.{Update, pairs}
-use Rattle.tick_model.specs.declared.table.PlainRow.{PlainRow}
 use Rattle.std.proofs.Math.Nat.{mul-le-mul_left}
 use Rattle.lookup_join.proofs.lookup.matched_change.Goals as goal
 
@@ -25,38 +18,12 @@ IfOk_both : {X E : Type 0} (r : Result X E) (P Q R : X → Type 0) → ((x : X) 
 IfOk_both (Ok x) P Q R f p q = f x p q
 IfOk_both (Err e) P Q R f p q = tt
 
-turned_same : (pick : Pick) (take : List ℕ) (left left' right right' : List Member) (old new : List PlainRow) (notes notes' : List Note) → left ≡ left' → right ≡ right' → notes ≡ notes' → turned_members pick take left right notes old new notes ≡ turned_members pick take left' right' notes' old new notes'
-turned_same pick take left left' right right' old new notes notes' l r n =
-    ap₂ (λ left right. turned_members pick take left right notes old new notes) l r ∙ ap (λ notes. turned_members pick take left' right' notes old new notes) n
-
 reads_within : (row first second last modified added out taken notes compared : ℕ) → second ≤ first + 2 * taken * notes → last ≤ second + row * (2 * compared + added) → compared ≤ modified + out → last ≤ first + 2 * taken * notes + row * (2 * (modified + out) + added)
 reads_within row first second last modified added out taken notes compared h k m =
     omega (arith, h, k, mul-le-mul_left row more)
   where
     more : 2 * compared + added ≤ 2 * (modified + out) + added
     more = omega (arith, m)
-
-pub turned_rows-requires-clause-take : goal.turned_rows-requires-clause-take
-turned_rows-requires-clause-take g c = c.requires.matched.within
-
-pub turned_rows-requires-clause-there : goal.turned_rows-requires-clause-there
-turned_rows-requires-clause-there g c =
-    let rows = c.args.rows.now in
-    let right = rows.right.now in
-    subst (λ (notes : List Note). AllByRecursion (IsFrom rows.pick rows.index.now.members right.old right.new) notes) (sym c.requires.notes)
-    (subst (λ (members : List Member). AllByRecursion (IsFrom rows.pick members right.old right.new) (step_notes rows.on.now rows.pick right)) (sym (ap (λ (index : Grouped). index.members) c.requires.matched.rows))
-    (notes_from rows.on.now rows.pick right c.requires.matched.right_exact))
-
-pub from_keys-requires : goal.from_keys-requires
-from_keys-requires g c =
-    let rows = c.args.rows.now in
-    let left = rows.left.now in
-    let right = rows.right.now in
-    let e = c.requires.matched.left_exact in
-    let f = c.requires.matched.right_exact in
-    let turned_are : c.in_ok-turned.turned.items ≡ turned rows.on.now rows.pick rows.take.now left e right f =
-    c.in_ok-turned.ensures.keys ∙ turned_same _ _ _ _ _ _ _ _ _ _ (ap (λ (index : Grouped). index.members) c.requires.left_rows) (ap (λ (index : Grouped). index.members) c.requires.matched.rows) c.requires.notes in
-    record { small = subst (AllByRecursion (λ key. key < 2 ^ 62)) (sym turned_are) (turned_small rows.on.now rows.pick rows.take.now left e right f) }
 
 pub unapply_without-requires : goal.unapply_without-requires
 unapply_without-requires g c =
@@ -77,9 +44,7 @@ mapped-requires-clause-compared g c =
     let right = rows.right.now in
     let e = c.requires.matched.left_exact in
     let f = c.requires.matched.right_exact in
-    let turned_are : c.in_ok-turned.turned.items ≡ turned rows.on.now rows.pick rows.take.now left e right f =
-    c.in_ok-turned.ensures.keys ∙ turned_same _ _ _ _ _ _ _ _ _ _ (ap (λ (index : Grouped). index.members) c.requires.left_rows) (ap (λ (index : Grouped). index.members) c.requires.matched.rows) c.requires.notes in
-    let set_is : (key : ℕ) → is_among key c.in_ok-set.set ≡ is_among key (turned rows.on.now rows.pick rows.take.now left e right f) = λ key. c.in_ok-set.ensures.keys key ∙ ap (is_among key) turned_are in
+    let set_is = c.in_ok-set.ensures.keys in
     let now_are : c.in_ok-now.now ≡ without left.update.added (united c.in_ok-set.set left.update.modified) =
     c.in_ok-now.ensures ∙ ap₂ without (c.added.ensures.keys ∙ ap (λ (update : Update). update.added) c.update-update.ensures) (c.in_ok-touched.ensures ∙ ap (united c.in_ok-set.set) (c.modified.ensures.keys ∙ ap (λ (update : Update). update.modified) c.update-update.ensures)) in
     let before_are : c.in_ok-before.before ≡ unapplied left.update.shifted (without left.update.removed (keys left.old.rows)) c.in_ok-now.now =
@@ -95,13 +60,11 @@ returns-clause-reads g c =
     let right = rows.right.now in
     let e = c.requires.matched.left_exact in
     let f = c.requires.matched.right_exact in
-    let turned_are : c.in_ok-turned.turned.items ≡ turned rows.on.now rows.pick rows.take.now left e right f =
-    c.in_ok-turned.ensures.keys ∙ turned_same _ _ _ _ _ _ _ _ _ _ (ap (λ (index : Grouped). index.members) c.requires.left_rows) (ap (λ (index : Grouped). index.members) c.requires.matched.rows) c.requires.notes in
-    let set_is : (key : ℕ) → is_among key c.in_ok-set.set ≡ is_among key (turned rows.on.now rows.pick rows.take.now left e right f) = λ key. c.in_ok-set.ensures.keys key ∙ ap (is_among key) turned_are in
+    let set_is = c.in_ok-set.ensures.keys in
     let now_are : c.in_ok-now.now ≡ without left.update.added (united c.in_ok-set.set left.update.modified) =
     c.in_ok-now.ensures ∙ ap₂ without (c.added.ensures.keys ∙ ap (λ (update : Update). update.added) c.update-update.ensures) (c.in_ok-touched.ensures ∙ ap (united c.in_ok-set.set) (c.modified.ensures.keys ∙ ap (λ (update : Update). update.modified) c.update-update.ensures)) in
     let few = compared_few rows.on.now rows.pick rows.take.now left e right f c.in_ok-set.set c.in_ok-now.now set_is now_are in
     IfOk_both c.mapped.result _ _ _ (λ (change : Change) is reads.
-    reads_within (left.new.width + length rows.take.now) c.args.reads.now c.turned_rows.new.reads c.mapped.new.reads (length left.update.modified) (length left.update.added) (length change.update.modified) (length rows.take.now) (length rows.notes.now.notes) (length c.in_ok-now.now)
-    c.in_ok-turned.ensures.reads reads (subst (λ n. length c.in_ok-now.now ≤ length left.update.modified + n) (sym (ap (λ (change : Change). length change.update.modified) is)) few))
+    reads_within (left.new.width + length rows.take.now) c.args.reads.now c.turned_set.new.reads c.mapped.new.reads (length left.update.modified) (length left.update.added) (length change.update.modified) (length rows.take.now) (length rows.notes.now.notes) (length c.in_ok-now.now)
+    c.in_ok-set.ensures.reads reads (subst (λ n. length c.in_ok-now.now ≤ length left.update.modified + n) (sym (ap (λ (change : Change). length change.update.modified) is)) few))
     c.mapped.ensures.change c.mapped.ensures.reads

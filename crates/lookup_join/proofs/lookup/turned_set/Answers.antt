@@ -1,0 +1,43 @@
+use Rattle.std.proofs.Common.{◌≡◌, ap, ap₂, sym, ◌∙◌, subst, ◌<◌, ◌^◌, ◌==◌, ℕ, List, [], length}
+use Rattle.std.specs.List.{AllByRecursion}
+use Rattle.std.proofs.lemmas.Bool.{eqb-true}
+use Rattle.std.proofs.lemmas.List.{nil_from_length}
+use Rattle.key_lists.specs.Keys.{is_among}
+use Rattle.lookup_join.specs.declared.pick.Pick.{Pick}
+use Rattle.lookup_join.specs.Notes.{Note}
+use Rattle.lookup_join.specs.Taken.{IsFrom, step_notes, turned_keys, turned_members}
+use Rattle.lookup_join.proofs.Before.{notes_from}
+use Rattle.lookup_join.proofs.Compared.{told_came, turned_small}
+use Rattle.row_groups.specs.Members.{Grouped, Member}
+use Rattle.tick_model.specs.declared.table.PlainRow.{PlainRow}
+use Rattle.tick_model.specs.Tables.{keys}
+use Rattle.lookup_join.proofs.lookup.turned_set.Goals as goal
+
+turned_same : (pick : Pick) (take : List ℕ) (left left' right right' : List Member) (old new : List PlainRow) (notes notes' : List Note) → left ≡ left' → right ≡ right' → notes ≡ notes' → turned_members pick take left right notes old new notes ≡ turned_members pick take left' right' notes' old new notes'
+turned_same pick take left left' right right' old new notes notes' l r n =
+    ap₂ (λ left right. turned_members pick take left right notes old new notes) l r ∙ ap (λ notes. turned_members pick take left' right' notes old new notes) n
+
+pub turned_rows-requires-clause-take : goal.turned_rows-requires-clause-take
+turned_rows-requires-clause-take g c = c.requires.matched.within
+
+pub turned_rows-requires-clause-there : goal.turned_rows-requires-clause-there
+turned_rows-requires-clause-there g c =
+    let rows = c.args.rows.now in
+    let right = rows.right.now in
+    subst (λ (notes : List Note). AllByRecursion (IsFrom rows.pick rows.index.now.members right.old right.new) notes) (sym c.requires.notes)
+    (subst (λ (members : List Member). AllByRecursion (IsFrom rows.pick members right.old right.new) (step_notes rows.on.now rows.pick right)) (sym (ap (λ (index : Grouped). index.members) c.requires.matched.rows))
+    (notes_from rows.on.now rows.pick right c.requires.matched.right_exact))
+
+pub from_keys-requires : goal.from_keys-requires
+from_keys-requires g c =
+    let rows = c.args.rows.now in
+    let turned_are : c.in_ok-turned.turned.items ≡ turned_keys rows.on.now rows.pick rows.take.now rows.left.now rows.right.now =
+    c.in_ok-turned.ensures.keys ∙ turned_same _ _ _ _ _ _ _ _ _ _ (ap (λ (index : Grouped). index.members) c.requires.left_rows) (ap (λ (index : Grouped). index.members) c.requires.matched.rows) c.requires.notes in
+    record { small = subst (AllByRecursion (λ key. key < 2 ^ 62)) (sym turned_are) (turned_small rows.on.now rows.pick rows.take.now rows.left.now c.requires.matched.left_exact rows.right.now c.requires.matched.right_exact) }
+
+pub returns-then-is_empty-clause-keys : goal.returns-then-is_empty-clause-keys
+returns-then-is_empty-clause-keys g c = λ key absent.
+    let rows = c.args.rows.now in
+    let before = keys rows.left.now.old.rows in
+    let none : before ≡ [] = nil_from_length before (eqb-true (length before) 0 (sym (c.if-is_empty.ensures.empty ∙ ap (λ ks. length ks == 0) c.prev_rows.ensures.keys))) in
+    ap (is_among key) c.new.ensures ∙ sym (told_came rows.on.now rows.pick rows.take.now rows.left.now c.requires.matched.left_exact rows.right.now c.requires.matched.right_exact none key absent)
