@@ -1,10 +1,11 @@
 -- What an operator is, and for which tables it stands.
---     Operating      the operator of the plan, the widths of its inputs, and what it keeps
+--     Operating      the operator of the plan, the widths of its inputs, what it keeps, and how many cells it read in each of its steps
+--     idled operator      it has taken one step more, in which it read nothing
 --     IsMadeOf op running      what runs is made of this operator of the plan
 --     widths_of running, row_width running      the widths of its inputs and of its own table
 --     StandsFor operator tables      what it keeps is that of these tables, one for each input
 --     result_width op widths      the width of the table that an operator makes of inputs of these widths
-use Rattle.std.specs.Prelude.{◌≡◌, ℕ, ◌+◌, ◌≤◌, List, [], ◌∷◌, length, replicate, slice_index}
+use Rattle.std.specs.Prelude.{◌≡◌, ℕ, ◌+◌, ◌≤◌, List, [], ◌∷◌, ◌++◌, length, replicate, slice_index}
 use Rattle.tick_model.specs.declared.plan.Op.{Op}
 use Rattle.tick_model.specs.declared.plan.Op.TheVariants.{Source, Keep, View as Viewing, Join as Joining, Agg as Aggregating, Merge as Merging, Sort as Sorting, Head as Heading, Tail as Tailing, AsOf as Matching}
 use Rattle.tick_model.specs.declared.table.PlainTable.{PlainTable}
@@ -25,6 +26,10 @@ pub record Operating : Type 0 where
   pub op : Op
   pub widths : List ℕ
   pub kept : Running
+  pub reads : List ℕ
+
+abbrev pub idled : Operating → Operating
+idled operator = record { op = operator.op; widths = operator.widths; kept = operator.kept; reads = operator.reads ++ 0 ∷ [] }
 
 abbrev pub IsMadeOf : Op → Running → Type 0
 IsMadeOf Source running = ⊥

@@ -6,6 +6,7 @@
 #![tactic(auto)]
 
 mod copies;
+mod counts;
 mod fault;
 pub mod laws;
 mod making;

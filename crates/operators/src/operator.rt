@@ -1,11 +1,11 @@
 //! One type for every operator of a plan.
 
-ghost use Rattle.std.specs.Prelude.{◌≡◌, ℕ, ◌+◌, ◌*◌, ◌≤◌, None, length, map, sum, IfErr, IfOk, OnOk};
+ghost use Rattle.std.specs.Prelude.{◌≡◌, ℕ, ◌+◌, ◌-◌, ◌*◌, ◌≤◌, ◌++◌, ◌∷◌, [], None, length, map, sum, IfErr, IfOk, OnOk};
 ghost use Rattle.std.specs.List.{AllByRecursion};
 ghost use Rattle.merge_op.specs.Merged.{counted_in, news, olds, tables};
 ghost use Rattle.operators.specs.Inputs.{AreTables, AreTicks, HasKeys, IsCause};
 ghost use Rattle.operators.specs.Making.{CanBeMade};
-ghost use Rattle.operators.specs.Operating.{StandsFor, result_width};
+ghost use Rattle.operators.specs.Operating.{StandsFor, idled, result_width};
 ghost use Rattle.tick_laws.specs.Operated.{operated};
 ghost use Rattle.tick_model.specs.Changes.{change_of};
 ghost use Rattle.tick_model.specs.Evaluation.{fault_of, inputs_of};
@@ -14,8 +14,10 @@ ghost use Rattle.tick_model.specs.declared.table.PlainTable.{PlainTable};
 ghost use Rattle.tick_table.specs.Exact.{IsExact, counted, tick_of};
 ghost use Rattle.tick_table.specs.Ticking.{no_rows};
 
+use crate::counts::{Counted, Idle, StepCount};
 use crate::fault::StepFault;
 use crate::running::Running;
+use boxcar::tag::Tag;
 use std::alloc::{AllocError, Global};
 use std::marker::Model;
 use std::snapshot::Snapshot;
@@ -28,12 +30,18 @@ pub struct Operator {
     /// What it was made of. It takes no bytes.
     op: Snapshot<Op>,
     running: Running,
+    /// How many cells it read in each of its steps. It takes no bytes.
+    reads: Tag,
 }
 
 // Written out, so that a crate which lets an operator go does not prove anew how each part of it is let go.
 impl Drop for Operator {
     fn drop(self) {
-        let Self { op: _, running: _ } = self;
+        let Self {
+            op: _,
+            running: _,
+            reads: _,
+        } = self;
     }
 }
 
@@ -47,7 +55,7 @@ impl Model for Operator {
 
     ghost coded = { Prim.hlevel (codes, op_type.the_row.coded, running_type.the_row.coded) };
 
-    ghost view = { λ operator. record { op = operator.op.value; widths = widths_of operator.running; kept = operator.running } };
+    ghost view = { λ operator. record { op = operator.op.value; widths = widths_of operator.running; kept = operator.running; reads = operator.reads.numbers } };
 
     ghost invariant = { λ operator. IsMadeOf operator.op.value operator.running };
 }
@@ -60,11 +68,13 @@ impl Operator {
         ensures op { IfOk result (λ operator. operator.op ≡ op.now) }
         ensures widths { IfOk result (λ operator. operator.widths ≡ widths.now) }
         ensures stands { IfOk result (λ operator. StandsFor operator (map no_rows widths.now)) }
+        ensures steps { IfOk result (λ operator. operator.reads ≡ []) }
     {
         let running = Running::new(alloc, op, widths)?;
         Ok(Operator {
             op: Snapshot::of(op),
             running,
+            reads: Tag::empty(),
         })
     }
 
@@ -90,9 +100,24 @@ impl Operator {
         ensures change { IfOk result (λ out. (tick : ℕ → Tick) → AreTicks self.op tick (tables inputs.now) → out.1 ≡ change_of (operated self.op tick)) }
         ensures reads { IfOk result (λ out. reads.new ≤ reads.old
             + 4 * (sum self.widths + result_width self.op self.widths) * (counted_in (tables inputs.now) + counted out.1.update)) }
+        ensures steps { IfOk result (λ out. out.0.reads ≡ self.reads ++ (reads.new - reads.old) ∷ []) }
     {
-        let Operator { op, running } = self;
+        let Operator {
+            op,
+            running,
+            reads: before,
+        } = self;
+        let start = Snapshot::of(reads);
         let (running, change) = running.step(alloc, inputs, reads)?;
-        Ok((Operator { op, running }, change))
+        let end = Snapshot::of(reads);
+        let reads = Tag::of::<StepCount<L>, Counted>(&StepCount { before, start, end });
+        Ok((Operator { op, running, reads }, change))
+    }
+
+    /// The operator takes a step in which no input changes: it reads nothing, and is as before.
+    pub fn idle(&mut self)
+        ensures { self.new ≡ idled self.old }
+    {
+        self.reads = Tag::of::<Tag, Idle>(&self.reads);
     }
 }

@@ -5,7 +5,6 @@ pub mod Examples
 pub mod Faults
 pub mod Graphs
 pub mod Holdings
-pub mod Reads
 pub mod Stands
 pub mod Steps
 pub mod Stops

@@ -4,22 +4,25 @@
 --     Stays run step node      the node has a table, which the step does not change
 --     IsHanded run step node table      this is the node's table at the step, or it has none
 --     AreHanded shares tables      these are the tables that they hand on, or one of them has none
---     IsReady run tables node operator table      the operator is the node's, and stands for its inputs' tables; the table is the node's own
+--     most_reads run step node      how many cells a step of the node may read: four for each column of its inputs and of its own table, and each row that these touch, where a modified row counts twice
+--     all_defined shares      whether each share has a table
+--     HasStepped run steps node reads      its operator has taken so many steps, one for each step of the run, and read these numbers of cells in them, none of which is above the most of its step
+--     IsReady run tables steps node operator table      the operator is the node's, has taken so many steps, and stands for its inputs' tables; the table is the node's own
 --     IsKept run step node state      what is kept of the node is of this step
-use Rattle.std.specs.Prelude.{◌≡◌, ℕ, Bool, true, false, List, map, Option, Some, None}
+use Rattle.std.specs.Prelude.{◌≡◌, ℕ, ◌+◌, ◌*◌, ◌<◌, ◌≤◌, Bool, true, false, List, length, map, slice_index, sum, Option, Some, None}
 use Rattle.std.specs.Arc.{arc_value}
 use Rattle.std.specs.List.{AllByRecursion, list_all}
 use Rattle.std.specs.declared.alloc.Global.{Global}
 use Rattle.std.specs.declared.sync.Arc.{Arc}
-use Rattle.merge_op.specs.Merged.{tables}
-use Rattle.operators.specs.Operating.{Operating, StandsFor}
+use Rattle.merge_op.specs.Merged.{counted_in, tables}
+use Rattle.operators.specs.Operating.{Operating, StandsFor, result_width}
 use Rattle.operators.specs.Planned.{input_widths}
 use Rattle.tick_model.specs.declared.feed.Run.{Run}
 use Rattle.tick_model.specs.declared.table.PlainTable.{PlainTable}
 use Rattle.tick_model.specs.Changes.{is_empty}
 use Rattle.tick_model.specs.Evaluation.{Fault, NoInput, has_table, inputs_of, outcome_at, table_at}
 use Rattle.tick_model.specs.States.{state, tick}
-use Rattle.tick_table.specs.Exact.{ticking}
+use Rattle.tick_table.specs.Exact.{counted, ticking}
 use Rattle.tick_table.specs.Ticking.{Ticking}
 use Rattle.update_graph.specs.declared.work.State.{State}
 use Rattle.update_graph.specs.declared.work.State.TheVariants.{Source, Defined, Failed, Undefined}
@@ -42,14 +45,28 @@ abbrev pub AreHanded : List Tag → Option (List (Arc Ticking Global)) → Type 
 AreHanded shares (Some all) = AllByRecursion (λ share. is_defined share.run share.step share.node ≡ true) shares × (tables all ≡ map (λ share. shown share.run share.step share.node) shares)
 AreHanded shares None = list_all (λ share. is_defined share.run share.step share.node) shares ≡ false
 
-pub record IsReady (run : Run) (tables : ℕ → PlainTable) (node : ℕ) (operator : Operating) (table : Arc Ticking Global) : Type 0 where
+abbrev pub most_reads : Run → ℕ → ℕ → ℕ
+most_reads run step node =
+    let op = op_at run node in
+    let widths = input_widths run.plan op in
+    4 * (sum widths + result_width op widths) * (counted_in (map (shown run step) (inputs_of op)) + counted (shown run step node).update)
+
+abbrev pub all_defined : List Tag → Bool
+all_defined = list_all (λ share. is_defined share.run share.step share.node)
+
+pub record HasStepped (run : Run) (steps node : ℕ) (reads : List ℕ) : Type 0 where
+  pub each : length reads ≡ steps
+  pub within : (step : ℕ) → step < steps → slice_index reads step ≤ most_reads run step node
+
+pub record IsReady (run : Run) (tables : ℕ → PlainTable) (steps node : ℕ) (operator : Operating) (table : Arc Ticking Global) : Type 0 where
   pub op : operator.op ≡ op_at run node
   pub widths : operator.widths ≡ input_widths run.plan (op_at run node)
   pub stands : StandsFor operator (map tables (inputs_of (op_at run node)))
   pub own : (arc_value {X = Ticking} table).new ≡ tables node
+  pub stepped : HasStepped run steps node operator.reads
 
 abbrev pub IsKept : Run → ℕ → ℕ → State → Type 0
 IsKept run step node Source = (is_operator run node ≡ false) × (is_defined run step node ≡ true)
-IsKept run step node (Defined ready) = (is_defined run step node ≡ true) × IsReady run (table_at (state run step)) node ready.value.operator ready.value.table × (arc_value {X = Ticking} ready.value.table ≡ shown run step node)
+IsKept run step node (Defined ready) = (is_defined run step node ≡ true) × IsReady run (table_at (state run step)) (step + 1) node ready.value.operator ready.value.table × (arc_value {X = Ticking} ready.value.table ≡ shown run step node)
 IsKept run step node (Failed fault) = outcome_at (state run step) node ≡ Fault fault
 IsKept run step node Undefined = outcome_at (state run step) node ≡ NoInput

@@ -1,6 +1,6 @@
 //! The graph itself: its start, its cycle and what it answers.
 
-ghost use Rattle.std.specs.Prelude.{◌≡◌, ◌+◌, ◌<◌, ◌≤◌, None, Some, ℕ, IfErr, IfOk, OnOk, length, map, option_map};
+ghost use Rattle.std.specs.Prelude.{◌≡◌, ◌+◌, ◌<◌, ◌≤◌, None, Some, ℕ, IfErr, IfOk, OnOk, length, map, option_map, true};
 ghost use Rattle.std.specs.Arc.{arc_value};
 ghost use Rattle.merge_op.specs.Merged.{tables};
 ghost use Rattle.tick_laws.specs.Reached.{IsReached};
@@ -16,9 +16,10 @@ ghost use Rattle.tick_table.specs.Ticking.{Ticking};
 ghost use Rattle.update_graph.specs.Edges.{edges_of};
 ghost use Rattle.update_graph.specs.Entered.{IsEntered};
 ghost use Rattle.update_graph.specs.Graphs.{RanOnce, nodes_shown, sources_shown};
+ghost use Rattle.update_graph.specs.Stands.{HasStepped};
 ghost use Rattle.update_graph.specs.Stops.{IsStop};
 ghost use Rattle.update_graph.specs.Sweeps.{IsSwept};
-ghost use Rattle.update_graph.specs.Tags.{tags};
+ghost use Rattle.update_graph.specs.Tags.{is_operator, op_at, tags};
 
 use crate::crew_step::crew_step;
 use crate::edges::Edges;
@@ -29,6 +30,7 @@ use crate::sources::{changed_sources, opened_sources, referred};
 use crate::stop::{Stop, refused};
 use crate::sweep::{Sweep, swept};
 use crate::work::Work;
+use operators::Operator;
 use source_changes::SourceKeys;
 use std::alloc::{AllocError, Global};
 use std::marker::{Brand, Model};
@@ -407,6 +409,18 @@ impl Graph {
     {
         let tables = self.tables.as_slice();
         &tables[node as usize]
+    }
+
+    /// The operator of a node. It has taken one step for each step of the run, from the opening to now, and no step read more
+    /// cells than the rows allow that it touches.
+    pub fn operator(&self, node: u32) -> &Operator
+        requires node { node < length self.now.run.plan.nodes }
+        requires operator { is_operator self.now.run node ≡ true }
+        ensures op { result.now.op ≡ op_at self.now.run node }
+        ensures stepped { HasStepped self.now.run (self.now.step + 1) node result.now.reads }
+    {
+        let works = self.works.as_slice();
+        works[node as usize].operator()
     }
 
     /// The nodes with an operator that were worked for the step.

@@ -60,7 +60,7 @@ fn fresh(alloc: Global, run: &Run, node: u32, op: &Op) -> Result<Ready, AllocErr
     requires node { node < length run.now.plan.nodes }
     requires operator { is_operator run.now node ≡ true }
     requires op { op.now ≡ op_at run.now node }
-    ensures { IfOk result (λ ready. IsReady run.now (empty_at run.now.plan) node ready.operator ready.table) }
+    ensures { IfOk result (λ ready. IsReady run.now (empty_at run.now.plan) 0 node ready.operator ready.table) }
 {
     let widths = widths_of(alloc, run, op)?;
     let own = TickTable::new(alloc, width_of(run, node))?;

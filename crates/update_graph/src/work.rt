@@ -4,6 +4,7 @@ ghost use Rattle.std.specs.Prelude.{◌≡◌, ◌+◌, ◌<◌, ◌≤◌, IfOk
 ghost use Rattle.std.specs.Arc.{arc_value};
 ghost use Rattle.std.specs.List.{AllByRecursion};
 ghost use Rattle.merge_op.specs.Merged.{tables};
+ghost use Rattle.operators.specs.Operating.{idled};
 ghost use Rattle.tick_laws.specs.Reached.{table_before};
 ghost use Rattle.tick_model.specs.Evaluation.{Fault, fault_of, inputs_of, outcome_at, table_at};
 ghost use Rattle.tick_model.specs.Sources.{unchanged};
@@ -13,8 +14,7 @@ ghost use Rattle.tick_table.specs.Exact.{IsExact, ticking};
 ghost use Rattle.tick_table.specs.Ticking.{Ticking};
 ghost use Rattle.update_graph.specs.Entered.{IsEntered};
 ghost use Rattle.update_graph.specs.Faults.{fault_in};
-ghost use Rattle.update_graph.specs.Reads.{all_defined, most_reads};
-ghost use Rattle.update_graph.specs.Stands.{IsKept, IsReady, Stays, is_defined, shown};
+ghost use Rattle.update_graph.specs.Stands.{HasStepped, IsKept, IsReady, Stays, all_defined, is_defined, most_reads, shown};
 ghost use Rattle.update_graph.specs.Tags.{is_operator, op_at, tag};
 
 use crate::shares::{Share, shares_stay, tables_of};
@@ -117,7 +117,7 @@ impl Work {
         Work::new(run, node, step, State::Source)
     }
 
-    /// What is kept of a node with an operator at the next step, and what it hands on. Its operator steps once, or not at all
+    /// What is kept of a node with an operator at the next step, and what it hands on. Its operator steps once, or does nothing
     /// where no input changes or one has no table. After a refusal the work is given up.
     pub fn advance<L: Ledger>(
         self,
@@ -157,7 +157,7 @@ impl Work {
         }
     }
 
-    /// What is kept of a node none of whose inputs changes in the next step, and what it hands on. Its operator takes no step.
+    /// What is kept of a node none of whose inputs changes in the next step, and what it hands on. Its operator does nothing.
     pub(crate) fn stay(self, alloc: Global, run: &Run) -> Result<(Work, Share), AllocError>
         requires run { self.run ≡ run.now }
         requires entered { IsEntered run.now (self.step + 1) }
@@ -196,6 +196,21 @@ impl Work {
         Ok(Share::new(run, self.node, self.step, table))
     }
 
+    /// The operator of a node that has a table.
+    pub(crate) fn operator(&self) -> &Operator
+        requires operator { is_operator self.now.run self.now.node ≡ true }
+        requires defined { is_defined self.now.run self.now.step self.now.node ≡ true }
+        ensures op { result.now.op ≡ op_at self.now.run self.now.node }
+        ensures stepped { HasStepped self.now.run (self.now.step + 1) self.now.node result.now.reads }
+    {
+        match &self.state {
+            State::Source => unreachable!(),
+            State::Defined(ready) => &ready.operator,
+            State::Failed(_) => unreachable!(),
+            State::Undefined => unreachable!(),
+        }
+    }
+
     /// Why the node has no table although its inputs have theirs.
     pub(crate) fn fault(&self) -> Option<NodeFault>
         ensures { result ≡ fault_in (outcome_at (state_of self.now.run self.now.step) self.now.node) }
@@ -231,7 +246,7 @@ fn with_table(
     ready: Ready,
 ) -> Result<(Work, Share), AllocError>
     requires defined { is_defined run.now step node ≡ true }
-    requires ready { IsReady run.now (table_at (state_of run.now step)) node ready.operator ready.table }
+    requires ready { IsReady run.now (table_at (state_of run.now step)) (step + 1) node ready.operator ready.table }
     requires table { arc_value {X = Ticking} ready.table ≡ shown run.now step node }
     ensures work { IfOk result (λ out. out.0 ≡ tag run.now step node) }
     ensures share { IfOk result (λ out. out.1 ≡ tag run.now step node) }
@@ -243,7 +258,7 @@ fn with_table(
 /// A node that has a table, with its operator where it lies.
 fn holding(run: &Run, node: u32, step: u64, ready: Box<Ready>) -> Result<(Work, Share), AllocError>
     requires defined { is_defined run.now step node ≡ true }
-    requires ready { IsReady run.now (table_at (state_of run.now step)) node ready.value.operator ready.value.table }
+    requires ready { IsReady run.now (table_at (state_of run.now step)) (step + 1) node ready.value.operator ready.value.table }
     requires table { arc_value {X = Ticking} ready.value.table ≡ shown run.now step node }
     ensures work { IfOk result (λ out. out.0 ≡ tag run.now step node) }
     ensures share { IfOk result (λ out. out.1 ≡ tag run.now step node) }
@@ -270,7 +285,17 @@ fn rest(alloc: Global, ready: Box<Ready>) -> Result<Box<Ready>, AllocError>
     Ok(resting)
 }
 
-/// A node none of whose inputs changes in a step: its operator stays as it is, and its table, too.
+/// What a node keeps, whose operator takes a step in which it does nothing.
+fn idle(ready: Box<Ready>) -> Box<Ready>
+    ensures operator { result.value.operator ≡ idled ready.value.operator }
+    ensures table { result.value.table ≡ ready.value.table }
+{
+    let mut ready = ready;
+    ready.operator.idle();
+    ready
+}
+
+/// A node none of whose inputs changes in a step: its operator does nothing, and its table stays as it is.
 fn stayed(
     alloc: Global,
     run: &Run,
@@ -282,13 +307,13 @@ fn stayed(
     requires node { node < length run.now.plan.nodes }
     requires operator { is_operator run.now node ≡ true }
     requires clear { fault_of (op_at run.now node) (table_before run.now step) ≡ None }
-    requires ready { IsReady run.now (table_before run.now step) node ready.value.operator ready.value.table }
+    requires ready { IsReady run.now (table_before run.now step) step node ready.value.operator ready.value.table }
     requires exact { IsExact (arc_value {X = Ticking} ready.value.table) }
     requires inputs { AllByRecursion (Stays run.now step) (inputs_of (op_at run.now node)) }
     ensures work { IfOk result (λ out. out.0 ≡ tag run.now step node) }
     ensures share { IfOk result (λ out. out.1 ≡ tag run.now step node) }
 {
-    let ready = rest(alloc, ready)?;
+    let ready = rest(alloc, idle(ready))?;
     holding(run, node, step, ready)
 }
 
@@ -305,7 +330,7 @@ pub(crate) fn worked<L: Ledger>(
     requires entered { IsEntered run.now step }
     requires node { node < length run.now.plan.nodes }
     requires operator { is_operator run.now node ≡ true }
-    requires ready { IsReady run.now (table_before run.now step) node ready.operator ready.table }
+    requires ready { IsReady run.now (table_before run.now step) step node ready.operator ready.table }
     requires shares { shares ≡ map (tag run.now step) (inputs_of (op_at run.now node)) }
     ensures work { IfOk result (λ out. out.0 ≡ tag run.now step node) }
     ensures share { IfOk result (λ out. out.1 ≡ tag run.now step node) }
@@ -356,7 +381,7 @@ fn stepped<L: Ledger>(
     requires entered { IsEntered run.now step }
     requires node { node < length run.now.plan.nodes }
     requires operator { is_operator run.now node ≡ true }
-    requires ready { IsReady run.now (table_before run.now step) node ready.operator ready.table }
+    requires ready { IsReady run.now (table_before run.now step) step node ready.operator ready.table }
     requires defined { AllByRecursion (λ input. is_defined run.now step input ≡ true) (inputs_of (op_at run.now node)) }
     requires inputs { tables inputs.now ≡ map (shown run.now step) (inputs_of (op_at run.now node)) }
     ensures work { IfOk result (λ out. out.0 ≡ tag run.now step node) }

@@ -1,4 +1,4 @@
-use Rattle.std.proofs.Common.{◌≡◌, ap, sym, ◌∙◌, subst, ◌<◌, arith, length, map}
+use Rattle.std.proofs.Common.{◌≡◌, refl, ap, sym, ◌∙◌, subst, ◌<◌, arith, [], length, map}
 use Rattle.std.specs.List.{AllByRecursion}
 use Rattle.std.proofs.lemmas.List.{length-map}
 use Rattle.std.proofs.lemmas.Bool.{not-true}
@@ -10,6 +10,7 @@ use Rattle.tick_model.specs.declared.plan.Op.{Op}
 use Rattle.tick_model.specs.Evaluation.{inputs_of, is_source}
 use Rattle.tick_model.specs.Plans.{columns_at}
 use Rattle.tick_table.specs.Ticking.{Ticking, no_rows}
+use Rattle.update_graph.specs.Stands.{HasStepped}
 use Rattle.update_graph.specs.Tags.{node_at}
 use Rattle.update_graph.proofs.EnteredTicks.{lesser}
 use Rattle.update_graph.proofs.OperatorLaws.{begin_inputs, begin_own, can_be_made}
@@ -40,5 +41,6 @@ returns-in-Ok c =
       op = ok_is (λ (operator : Operating). operator.op ≡ c.args.op.now) c.in-Ok.is c.new-3.ensures.op ∙ c.requires.op;
       widths = ok_is (λ (operator : Operating). operator.widths ≡ c.deref.result.now) c.in-Ok.is c.new-3.ensures.widths ∙ widths;
       stands = subst (StandsFor c.in-Ok.operator) (ap (map no_rows) widths ∙ sym (begin_inputs run c.requires.lawful c.args.node c.requires.node)) stands;
+      stepped = subst (HasStepped run 0 c.args.node) (sym (ok_is (λ (operator : Operating). operator.reads ≡ []) c.in-Ok.is c.new-3.ensures.steps)) (record { each = refl; within = λ step below. absurd (omega (arith, below)) });
       own = ap (λ (t : Ticking). t.new) (c.in_ok-table.ensures.ok ∙ c.in_ok-own.ensures) ∙ ap no_rows c.width_of.ensures.width ∙ sym (begin_own run c.args.node c.requires.node);
     }

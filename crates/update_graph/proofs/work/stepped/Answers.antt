@@ -1,4 +1,4 @@
-use Rattle.std.proofs.Common.{ap, sym, ◌∙◌, subst, true≢false}
+use Rattle.std.proofs.Common.{ap, sym, ◌∙◌, subst, ◌+◌, ◌-◌, arith, true≢false}
 use Rattle.std.proofs.lemmas.Bool.{not-true}
 use Rattle.std.proofs.lemmas.Result.{on_ok_weaker}
 use Rattle.merge_op.specs.Merged.{news, tables}
@@ -7,9 +7,10 @@ use Rattle.operators.specs.Operating.{StandsFor}
 use Rattle.tick_model.specs.Evaluation.{fault_of, is_source}
 use Rattle.tick_model.specs.States.{tick}
 use Rattle.tick_table.specs.Ticking.{Ticking}
+use Rattle.update_graph.specs.Stands.{HasStepped}
 use Rattle.update_graph.specs.Tags.{node_at}
 use Rattle.update_graph.proofs.Changing.{change_fits, change_lawful}
-use Rattle.update_graph.proofs.Counting.{always, counted_reads}
+use Rattle.update_graph.proofs.Counting.{always, counted_reads, stepped_once}
 use Rattle.update_graph.proofs.StepInputs.{exact_are, has, keys_are, news_are, no_fault, olds_are, own_change, own_fault, own_tick, rows_are, widths_are}
 use Rattle.update_graph.proofs.work.stepped.Goals as goal
 
@@ -83,6 +84,9 @@ with_table-requires-clause-ready g c =
       widths = c.in-Ok.ensures.widths ∙ c.requires.ready.widths;
       stands = subst (StandsFor c.in-Ok.operator) (news_are run c.args.step c.requires.entered n c.requires.node is c.requires.defined all c.requires.inputs) c.in-Ok.ensures.stands;
       own = ap (λ (t : Ticking). t.new) (c.in_ok-table-in-Ok.ensures (tick run c.args.step n) t.is_tick (c.requires.ready.own ∙ sym t.old_is) own) ∙ t.new_is;
+      stepped = subst (HasStepped run (c.args.step + 1) n) (sym c.in-Ok.ensures.steps)
+          (stepped_once run c.args.step n (c.step.new.reads - c.args.reads.now) c.args.ready.operator.reads c.requires.ready.stepped
+          (let few = counted_reads run c.args.step n c.args.reads.now c.step.new.reads c.args.ready.operator.op c.args.ready.operator.widths all c.in-Ok.change c.requires.ready.op c.requires.ready.widths c.requires.inputs own c.in-Ok.ensures.reads in omega (arith, few)));
     }
 
 pub without_step-requires : goal.without_step-requires

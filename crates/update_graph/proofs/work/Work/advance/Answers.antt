@@ -23,9 +23,9 @@ worked-requires-clause-ready g c =
     let o = c.in-Defined.ready.value.operator in
     let t = c.in-Defined.ready.value.table in
     let kept = subst (λ kept. IsKept i.run.value i.step i.node kept) c.in-Defined.is c.self.invariant in
-    subst (λ (ready : Ready). IsReady c.args.run.now (table_before c.args.run.now (i.step + 1)) i.node ready.operator ready.table) (sym c.into_inner-ready.ensures)
-    (subst (λ m. IsReady c.args.run.now (table_before c.args.run.now m) i.node o t) (sym (add-one i.step))
-    (subst (λ run. IsReady run (table_at (state run i.step)) i.node o t) (ap (λ (tag : Tag). tag.run) c.self.view_is ∙ c.requires.run) kept.1))
+    subst (λ (ready : Ready). IsReady c.args.run.now (table_before c.args.run.now (i.step + 1)) (i.step + 1) i.node ready.operator ready.table) (sym c.into_inner-ready.ensures)
+    (subst (λ m. IsReady c.args.run.now (table_before c.args.run.now m) (i.step + 1) i.node o t) (sym (add-one i.step))
+    (subst (λ run. IsReady run (table_at (state run i.step)) (i.step + 1) i.node o t) (ap (λ (tag : Tag). tag.run) c.self.view_is ∙ c.requires.run) kept.1))
 
 pub unreachable-requires-in-Failed : goal.unreachable-requires-in-Failed
 unreachable-requires-in-Failed g c =

@@ -16,8 +16,8 @@ stayed-requires-clause-ready c =
     let o = c.in-Defined.ready.value.operator in
     let t = c.in-Defined.ready.value.table in
     let kept = subst (λ kept. IsKept i.run.value i.step i.node kept) c.in-Defined.is c.self.invariant in
-    subst (λ m. IsReady c.args.run.now (table_before c.args.run.now m) i.node o t) (sym (add-one i.step))
-    (subst (λ run. IsReady run (table_at (state run i.step)) i.node o t) (ap (λ (tag : Tag). tag.run) c.self.view_is ∙ c.requires.run) kept.1)
+    subst (λ m. IsReady c.args.run.now (table_before c.args.run.now m) (i.step + 1) i.node o t) (sym (add-one i.step))
+    (subst (λ run. IsReady run (table_at (state run i.step)) (i.step + 1) i.node o t) (ap (λ (tag : Tag). tag.run) c.self.view_is ∙ c.requires.run) kept.1)
 
 pub stayed-requires-clause-clear : goal.stayed-requires-clause-clear
 stayed-requires-clause-clear c =
