@@ -5,6 +5,7 @@ ghost use Rattle.key_lists.specs.Keys.{is_among};
 ghost use Rattle.tick_model.specs.Tables.{keys as keys_of};
 
 use crate::fault::Fault;
+use new_counts::new_count;
 use row_set::RowSet;
 use std::alloc::{AllocError, Global};
 use std::io::Print;
@@ -24,7 +25,7 @@ fn read_counted<L: Ledger>(
     requires some { 0 < blank.parts }
     requires here { IsTrue (is_among key (keys_of table.now.new.rows)) }
 {
-    let mut reads = Steps::<L>::new(blank);
+    let mut reads = Steps::<L>::new(blank, new_count());
     let mut cells = Vec::new(alloc);
     table.row(key, &mut cells, &mut reads)?;
     Ok(cells)

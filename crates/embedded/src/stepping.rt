@@ -7,6 +7,7 @@ ghost use Rattle.tick_model.specs.States.{state};
 
 use crate::fault::Fault;
 use crate::rows::print_rows;
+use new_counts::new_count;
 use std::alloc::{AllocError, Global};
 use std::io::Print;
 use std::marker::Brand;
@@ -70,7 +71,7 @@ fn opened<L: Ledger>(alloc: Global, run: &Run, node: u32, blank: Blank) -> Resul
         return Err(Fault::NoTable);
     }
     let slice = first_rows(alloc)?;
-    let mut reads = Steps::<L>::new(blank);
+    let mut reads = Steps::<L>::new(blank, new_count());
     let (viewport, message) = Viewport::start(alloc, slice, table, &mut reads)?;
     let mirror = Mirror::new(alloc, 2)?.apply(message)?;
     Ok(Stepping {
@@ -110,7 +111,7 @@ fn advanced<R: Threads + Sync, L: Ledger>(
     let _step = graph.step();
     let table = graph.table(node);
     let passed = viewport.pass(table)?;
-    let mut reads = Steps::<L>::new(blank);
+    let mut reads = Steps::<L>::new(blank, new_count());
     let (viewport, message) = passed.message(table, &mut reads)?;
     let mirror = mirror.apply(message)?;
     Ok(Stepping {

@@ -6,6 +6,7 @@ ghost use Rattle.tick_model.specs.Tables.{IsTable, keys};
 ghost use Rattle.tick_model.specs.Words.{words as words_of_table};
 ghost use Rattle.snapshot_store.specs.Rows.{words_at};
 
+use new_counts::new_count;
 use std::marker::Brand;
 use std::sync::ledger::{Blank, Ledger};
 use tick_table::{Steps, TickTable};
@@ -34,7 +35,7 @@ fn copy_counting<L: Ledger>(table: &TickTable, words: &mut Vec<u64>, blank: Blan
     ensures words { words.new.items ≡ words_of_table table.now.new }
     ensures room { vec_capacity words.new ≡ vec_capacity words.old }
 {
-    let mut reads = Steps::<L>::new(blank);
+    let mut reads = Steps::<L>::new(blank, new_count());
     let rows = table.rows();
     words.clear();
     words.push_reserved(rows.len());

@@ -2,6 +2,7 @@
 
 ghost use Rattle.std.specs.Prelude.{◌≡◌, ◌+◌, ◌<◌};
 
+use new_counts::NewCount;
 use std::marker::Model;
 use std::sync::ledger::{Blank, Book, Ledger, Share};
 
@@ -23,8 +24,8 @@ impl<L: Ledger> Model for Steps<L> {
 }
 
 impl<L: Ledger> Steps<L> {
-    /// A counter that has counted nothing, of a blank for its ledger.
-    pub fn new(blank: Blank) -> Steps<L>
+    /// A counter that has counted nothing, of a blank for its ledger. Only a crate that lists `new_counts` has the leave.
+    pub fn new(blank: Blank, _leave: NewCount) -> Steps<L>
         requires name { blank.name ≡ L.name }
         requires parts { blank.parts ≡ L.parts }
         requires some { 0 < blank.parts }

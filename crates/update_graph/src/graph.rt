@@ -30,6 +30,7 @@ use crate::sources::{changed_sources, opened_sources, referred};
 use crate::stop::{Stop, refused};
 use crate::sweep::{Sweep, swept};
 use crate::work::Work;
+use new_counts::new_count;
 use operators::Operator;
 use source_changes::SourceKeys;
 use std::alloc::{AllocError, Global};
@@ -117,7 +118,7 @@ fn changes_of<L: Ledger>(
 {
     let batch = &run.batches.as_slice()[step as usize];
     let known = referred(alloc, sources)?;
-    let mut reads = Steps::<L>::new(blank);
+    let mut reads = Steps::<L>::new(blank, new_count());
     match keys.changes(alloc, &run.plan, batch, &known, &mut reads) {
         Ok(changes) => Ok(changes),
         Err(fault) => Err(refused(step + 1, fault)),

@@ -9,6 +9,7 @@ ghost use Rattle.update_graph.specs.Tags.{tag, tags};
 
 use crate::sweep::{Sweep, inputs_stay, shares_for};
 use crate::work::Work;
+use new_counts::new_count;
 use std::alloc::{AllocError, Global};
 use std::sync::ledger::{Blank, Ledger};
 use tick_io::Gate;
@@ -75,7 +76,7 @@ pub(crate) fn advance_all<G: Gate, L: Ledger>(
     requires works { works.items ≡ tags run.now (step - 1) (length run.now.plan.nodes) }
     ensures { IfOk result (IsSwept run.now step (length run.now.plan.nodes)) }
 {
-    let mut reads = Steps::<L>::new(blank);
+    let mut reads = Steps::<L>::new(blank, new_count());
     let mut sweep = Sweep::new(alloc);
     for work in works {
         advance_node(

@@ -17,6 +17,7 @@ ghost use Rattle.update_graph.specs.Tags.{is_operator, op_at};
 use crate::edges::inputs_of;
 use crate::sweep::{Sweep, shares_for};
 use crate::work::{Ready, worked};
+use new_counts::new_count;
 use operators::Operator;
 use std::alloc::{AllocError, Global};
 use std::sync::Arc;
@@ -110,7 +111,7 @@ pub(crate) fn open_all<L: Ledger>(
     requires sources { tables sources.now ≡ sources_shown run.now 0 }
     ensures { IfOk result (IsSwept run.now 0 (length run.now.plan.nodes)) }
 {
-    let mut reads = Steps::<L>::new(blank);
+    let mut reads = Steps::<L>::new(blank, new_count());
     let mut sweep = Sweep::new(alloc);
     for _ in 0..run.plan.nodes.len() {
         open_node(alloc, run, sources, &mut sweep, &mut reads)?;

@@ -21,6 +21,7 @@ use crate::edges::Edges;
 use crate::shares::Share;
 use crate::work::Work;
 use crate::worker::{StepClaims, StepSeat, begin_node, settle_node};
+use new_counts::new_count;
 use std::alloc::{AllocError, Global};
 use std::marker::{Brand, Model};
 use std::sync::ledger::{Blank, Ledger};
@@ -135,7 +136,7 @@ fn advanced_by<L: Ledger>(
     ensures work { IfOk result (λ out. out.0 ≡ tag run.now (work.step + 1) work.node) }
     ensures share { IfOk result (λ out. out.1 ≡ tag run.now (work.step + 1) work.node) }
 {
-    let mut reads = Steps::<L>::new(blank);
+    let mut reads = Steps::<L>::new(blank, new_count());
     work.advance(alloc, run, shares, &mut reads)
 }
 

@@ -6,6 +6,7 @@ ghost use Rattle.tick_model.specs.Changes.{told_keys};
 ghost use Rattle.tick_model.specs.Tables.{cells_at, keys as row_keys};
 ghost use Rattle.update_text.specs.Told.{cells_under};
 
+use new_counts::new_count;
 use row_set::RowSet;
 use std::alloc::{AllocError, Global};
 use std::marker::Brand;
@@ -57,7 +58,7 @@ fn counted_cells<L: Ledger>(
     requires here { AllByRecursion (λ key. is_among key (row_keys table.now.new.rows) ≡ true) (told_keys table.now.update) }
     ensures { IfOk result (λ cells. cells.items ≡ cells_under table.now.new.rows (told_keys table.now.update)) }
 {
-    let mut reads = Steps::<L>::new(blank);
+    let mut reads = Steps::<L>::new(blank, new_count());
     let update = table.update();
     let rows = update.added().len().saturating_add(update.modified().len()) as usize;
     let width = table.width() as usize;

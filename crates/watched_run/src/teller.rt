@@ -16,6 +16,7 @@ ghost use Rattle.watched_run.specs.Standing.{IsTeller};
 
 use crate::told::tell;
 use crate::watch::{Watch, slice_of};
+use new_counts::new_count;
 use replay::{Outcome, PrintedNode, printed_node};
 use std::alloc::{AllocError, Global};
 use std::sync::ledger::{Blank, Ledger};
@@ -66,7 +67,7 @@ impl Teller {
         let width = table.width();
         let printed = printed_node(alloc, run, watch.node)?;
         let slice = slice_of(alloc, watch, width)?;
-        let mut reads = Steps::<L>::new(blank);
+        let mut reads = Steps::<L>::new(blank, new_count());
         let (viewport, message) = Viewport::start(alloc, slice, table, &mut reads)?;
         let empty = Mirror::new(alloc, width)?;
         let mirror = tell(alloc, out, 0, &printed.shown, &run.texts, empty, message)?;
@@ -150,7 +151,7 @@ impl Teller {
             since,
         } = self;
         let step = last + since as u64;
-        let mut reads = Steps::<L>::new(blank);
+        let mut reads = Steps::<L>::new(blank, new_count());
         let (viewport, message) = viewport.message(table, &mut reads)?;
         let mirror = tell(
             alloc,
