@@ -13,7 +13,7 @@ mod inputs;
 mod memory;
 mod sink;
 
-pub use gate::{Gate, OpenGate};
+pub use gate::{Gate, Inside, OpenGate};
 pub use host::{HostInputs, StdSink};
 pub use inputs::{Inputs, LoadFault};
 pub use memory::{MemoryInputs, MemorySink, SteadySink, VoidSink};

@@ -8,7 +8,7 @@ use Rattle.operators.below.merge_op.proofs.merging.MergeOp.TheSendSync as merge
 use Rattle.operators.below.lookup_join.proofs.join_op.JoinOp.TheSendSync as join
 use Rattle.operators.below.row_set.proofs.rows.RowSet.TheSendSync as row_set
 use Rattle.operators.below.sort_op.proofs.operator.SortOp.TheSendSync as sort
-use Rattle.operators.below.boxcar.proofs.Sent.{tag_send}
+use Rattle.boxcar.proofs.Sent.{tag_send}
 use Rattle.operators.specs.contracts.operator.Operator as operator
 use Rattle.std.proofs.Crossing as crossing
 use Rattle.std.proofs.MapsCrossing as maps

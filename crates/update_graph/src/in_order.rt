@@ -41,18 +41,17 @@ fn advance_node<G: Gate, L: Ledger>(
         drop(work);
         return sweep.put_source(run, step, sources);
     }
-    let number = sweep.works.len() as u32;
     if inputs_stay(run, step, &node.op, &sweep.shares) {
-        gate.enter(number);
-        let stayed = work.stay(alloc, run);
-        gate.leave(number);
+        let inside = gate.admit(work.node());
+        let stayed = work.stay(alloc, run, &inside);
+        gate.dismiss(inside);
         let (work, share) = stayed?;
         return sweep.put(run, step, work, share);
     }
     let shares = shares_for(alloc, run, step, &node.op, &sweep.shares)?;
-    gate.enter(number);
-    let worked = work.advance(alloc, run, shares, reads);
-    gate.leave(number);
+    let inside = gate.admit(work.node());
+    let worked = work.advance_inside(alloc, run, shares, reads, &inside);
+    gate.dismiss(inside);
     let (work, share) = worked?;
     sweep.put(run, step, work, share)
 }

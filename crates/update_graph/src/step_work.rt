@@ -26,7 +26,7 @@ use std::alloc::{AllocError, Global};
 use std::marker::{Brand, Model};
 use std::sync::ledger::{Blank, Ledger};
 use steal_workers::{NodeWork, Ready};
-use tick_io::Gate;
+use tick_io::{Gate, Inside};
 use tick_model::feed::Run;
 use tick_model::items::Items;
 use tick_table::Steps;
@@ -123,8 +123,10 @@ fn advanced_by<L: Ledger>(
     run: &Run,
     work: Work,
     shares: Items<Share>,
+    inside: &Inside,
     blank: Blank,
 ) -> Result<(Work, Share), AllocError>
+    requires inside { inside.now.node ≡ work.node }
     requires name { blank.name ≡ L.name }
     requires parts { blank.parts ≡ L.parts }
     requires some { 0 < blank.parts }
@@ -137,7 +139,7 @@ fn advanced_by<L: Ledger>(
     ensures share { IfOk result (λ out. out.1 ≡ tag run.now (work.step + 1) work.node) }
 {
     let mut reads = Steps::<L>::new(blank, new_count());
-    work.advance(alloc, run, shares, &mut reads)
+    work.advance_inside(alloc, run, shares, &mut reads, inside)
 }
 
 /// The same, with a counter of its own.
@@ -146,7 +148,9 @@ fn advanced(
     run: &Run,
     work: Work,
     shares: Items<Share>,
+    inside: &Inside,
 ) -> Result<(Work, Share), AllocError>
+    requires inside { inside.now.node ≡ work.node }
     requires run { work.run ≡ run.now }
     requires entered { IsEntered run.now (work.step + 1) }
     requires node { work.node < length run.now.plan.nodes }
@@ -156,7 +160,7 @@ fn advanced(
     ensures share { IfOk result (λ out. out.1 ≡ tag run.now (work.step + 1) work.node) }
 {
     let blank = Blank::new(1);
-    advanced_by::<Brand>(alloc, run, work, shares, blank)
+    advanced_by::<Brand>(alloc, run, work, shares, inside, blank)
 }
 
 /// What the hands of a crew work the nodes of a step by. A contract sees the run, the step and the edges.
@@ -224,9 +228,9 @@ impl<'s, U: HasRun, G: Gate> NodeWork<Work, Share> for StepWork<'s, U, G> {
         let run = self.run.run();
         claims.look(seat);
         let (work, shares) = begin_node(self.alloc, run, claims, seat, self.edges, node)?;
-        self.gate.enter(node);
-        let worked = advanced(self.alloc, run, work, shares);
-        self.gate.leave(node);
+        let inside = self.gate.admit(work.node());
+        let worked = advanced(self.alloc, run, work, shares, &inside);
+        self.gate.dismiss(inside);
         let share = settle_node(run, claims, seat, node, worked)?;
         hand_all(claims, seat, run, self.edges, node, &share, ready)?;
         Ok(())

@@ -25,6 +25,7 @@ use std::alloc::{AllocError, Global};
 use std::marker::Model;
 use std::snapshot::Snapshot;
 use std::sync::ledger::Ledger;
+use tick_io::{Gate, Inside, OpenGate};
 use tick_model::feed::Run;
 use tick_model::items::Items;
 use tick_model::table::NodeFault;
@@ -117,8 +118,16 @@ impl Work {
         Work::new(run, node, step, State::Source)
     }
 
+    /// The node.
+    pub(crate) fn node(&self) -> u32
+        ensures { result ≡ self.now.node }
+    {
+        self.node
+    }
+
     /// What is kept of a node with an operator at the next step, and what it hands on. Its operator steps once, or does nothing
-    /// where no input changes or one has no table. After a refusal the work is given up.
+    /// where no input changes or one has no table. A graph advances its nodes inside the gate of its cycle; this call is inside a gate
+    /// that holds up nothing. After a refusal the work is given up.
     pub fn advance<L: Ledger>(
         self,
         alloc: Global,
@@ -136,9 +145,36 @@ impl Work {
         ensures reads { OnOk result (is_defined run.now (self.step + 1) self.node ≡ true → reads.new ≤ reads.old + most_reads run.now (self.step + 1) self.node) }
         ensures none { OnOk result (all_defined shares ≡ false → reads.new ≡ reads.old) }
     {
+        let gate = OpenGate;
+        let inside = gate.admit(self.node);
+        let advanced = self.advance_inside(alloc, run, shares, reads, &inside);
+        gate.dismiss(inside);
+        advanced
+    }
+
+    /// The same, where a gate was entered for the node and is not left yet.
+    pub(crate) fn advance_inside<L: Ledger>(
+        self,
+        alloc: Global,
+        run: &Run,
+        shares: Items<Share>,
+        reads: &mut Steps<L>,
+        inside: &Inside,
+    ) -> Result<(Work, Share), AllocError>
+        requires inside { inside.now.node ≡ self.node }
+        requires run { self.run ≡ run.now }
+        requires entered { IsEntered run.now (self.step + 1) }
+        requires node { self.node < length run.now.plan.nodes }
+        requires operator { is_operator run.now self.node ≡ true }
+        requires shares { shares ≡ map (tag run.now (self.step + 1)) (inputs_of (op_at run.now self.node)) }
+        ensures work { IfOk result (λ out. out.0 ≡ tag run.now (self.step + 1) self.node) }
+        ensures share { IfOk result (λ out. out.1 ≡ tag run.now (self.step + 1) self.node) }
+        ensures reads { OnOk result (is_defined run.now (self.step + 1) self.node ≡ true → reads.new ≤ reads.old + most_reads run.now (self.step + 1) self.node) }
+        ensures none { OnOk result (all_defined shares ≡ false → reads.new ≡ reads.old) }
+    {
         if shares_stay(shares.as_slice()) {
             drop(shares);
-            return self.stay(alloc, run);
+            return self.stay(alloc, run, inside);
         }
         let Work {
             run: _,
@@ -158,7 +194,13 @@ impl Work {
     }
 
     /// What is kept of a node none of whose inputs changes in the next step, and what it hands on. Its operator does nothing.
-    pub(crate) fn stay(self, alloc: Global, run: &Run) -> Result<(Work, Share), AllocError>
+    pub(crate) fn stay(
+        self,
+        alloc: Global,
+        run: &Run,
+        inside: &Inside,
+    ) -> Result<(Work, Share), AllocError>
+        requires inside { inside.now.node ≡ self.node }
         requires run { self.run ≡ run.now }
         requires entered { IsEntered run.now (self.step + 1) }
         requires node { self.node < length run.now.plan.nodes }
@@ -167,6 +209,7 @@ impl Work {
         ensures work { IfOk result (λ out. out.0 ≡ tag run.now (self.step + 1) self.node) }
         ensures share { IfOk result (λ out. out.1 ≡ tag run.now (self.step + 1) self.node) }
     {
+        let _ = inside;
         let Work {
             run: _,
             node,

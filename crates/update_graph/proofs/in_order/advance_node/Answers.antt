@@ -32,25 +32,25 @@ shares_for-requires-clause-inputs g c =
     subst (λ (own : Node). AllByRecursion (λ input. input < length c.deref-2.result.now) (inputs_of own.op)) (sym node)
     (subst (λ m. AllByRecursion (λ input. input < m) (inputs_of (get_or run.plan.nodes n no_node).op)) (sym handed) (lesser run c.requires.entered.lawful n c.requires.node))
 
-pub advance-worked-requires-clause-run : goal.advance-worked-requires-clause-run
-advance-worked-requires-clause-run g c = old_run c.args.run.now c.args.step (length c.args.sweep.now.works.items) c.requires.later c.args.work c.requires.work
+pub advance_inside-worked-requires-clause-run : goal.advance_inside-worked-requires-clause-run
+advance_inside-worked-requires-clause-run g c = old_run c.args.run.now c.args.step (length c.args.sweep.now.works.items) c.requires.later c.args.work c.requires.work
 
-pub advance-worked-requires-clause-entered : goal.advance-worked-requires-clause-entered
-advance-worked-requires-clause-entered g c = old_entered c.args.run.now c.args.step (length c.args.sweep.now.works.items) c.requires.later c.args.work c.requires.work c.requires.entered
+pub advance_inside-worked-requires-clause-entered : goal.advance_inside-worked-requires-clause-entered
+advance_inside-worked-requires-clause-entered g c = old_entered c.args.run.now c.args.step (length c.args.sweep.now.works.items) c.requires.later c.args.work c.requires.work c.requires.entered
 
-pub advance-worked-requires-clause-node : goal.advance-worked-requires-clause-node
-advance-worked-requires-clause-node g c = old_within c.args.run.now c.args.step (length c.args.sweep.now.works.items) c.requires.later c.args.work c.requires.work c.requires.node
+pub advance_inside-worked-requires-clause-node : goal.advance_inside-worked-requires-clause-node
+advance_inside-worked-requires-clause-node g c = old_within c.args.run.now c.args.step (length c.args.sweep.now.works.items) c.requires.later c.args.work c.requires.work c.requires.node
 
-pub advance-worked-requires-clause-operator : goal.advance-worked-requires-clause-operator
-advance-worked-requires-clause-operator g c =
+pub advance_inside-worked-requires-clause-operator : goal.advance_inside-worked-requires-clause-operator
+advance_inside-worked-requires-clause-operator g c =
     let run = c.args.run.now in
     let n = length c.args.sweep.now.works.items in
     let count = c.len.ensures ∙ c.args.sweep.now.works.ok.0 in
     let there = c.index-as_slice-len.is ∙ ap (λ all. get_or all c.len.result c.index-as_slice-len.result) c.as_slice.ensures ∙ ap (λ k. get_or run.plan.nodes k c.index-as_slice-len.result) count in
     old_operator run c.args.step n c.requires.later c.args.work c.requires.work (operator_is run n c.index-as_slice-len.result false c.requires.node there (sym c.if-is_source.false ∙ c.is_source.ensures))
 
-pub advance-worked-requires-clause-shares : goal.advance-worked-requires-clause-shares
-advance-worked-requires-clause-shares g c =
+pub advance_inside-worked-requires-clause-shares : goal.advance_inside-worked-requires-clause-shares
+advance_inside-worked-requires-clause-shares g c =
     let run = c.args.run.now in
     let n = length c.args.sweep.now.works.items in
     let count = c.len.ensures ∙ c.args.sweep.now.works.ok.0 in
@@ -76,11 +76,11 @@ put-requires-2-clause-work g c =
     let run = c.args.run.now in
     let work = c.args.work in
     advanced run c.args.step (length c.args.sweep.now.works.items) c.requires.later work c.requires.work c.in_ok-work-2.work
-    (subst (λ found. IfOk found (λ (out : Tag × Tag). out.0 ≡ tag run (work.step + 1) work.node)) c.in_ok-work-2.was c.advance-worked.ensures.work)
+    (subst (λ found. IfOk found (λ (out : Tag × Tag). out.0 ≡ tag run (work.step + 1) work.node)) c.in_ok-work-2.was c.advance_inside-worked.ensures.work)
 
 pub put-requires-2-clause-share : goal.put-requires-2-clause-share
 put-requires-2-clause-share g c =
     let run = c.args.run.now in
     let work = c.args.work in
     advanced run c.args.step (length c.args.sweep.now.works.items) c.requires.later work c.requires.work c.in_ok-work-2.share
-    (subst (λ found. IfOk found (λ (out : Tag × Tag). out.1 ≡ tag run (work.step + 1) work.node)) c.in_ok-work-2.was c.advance-worked.ensures.share)
+    (subst (λ found. IfOk found (λ (out : Tag × Tag). out.1 ≡ tag run (work.step + 1) work.node)) c.in_ok-work-2.was c.advance_inside-worked.ensures.share)

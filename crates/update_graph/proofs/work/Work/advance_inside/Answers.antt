@@ -8,7 +8,7 @@ use Rattle.update_graph.specs.Stands.{IsKept, IsReady, Stays, is_defined}
 use Rattle.update_graph.specs.Tags.{Tag, op_at, tag}
 use Rattle.update_graph.specs.declared.work.Ready.{Ready}
 use Rattle.update_graph.proofs.EnteredTicks.{all_before}
-use Rattle.update_graph.proofs.work.Work.advance.Goals as goal
+use Rattle.update_graph.proofs.work.Work.advance_inside.Goals as goal
 
 pub stay-requires-clause-inputs : goal.stay-requires-clause-inputs
 stay-requires-clause-inputs g c =
