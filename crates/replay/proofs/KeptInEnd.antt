@@ -15,7 +15,7 @@ use Rattle.tick_model.specs.declared.feed.Run.{Run}
 use Rattle.tick_model.specs.Choices.{IsCalls}
 use Rattle.replay.specs.declared.readers.KeptSnapshot.{KeptSnapshot}
 use Rattle.replay.specs.declared.readers.Reader.{Reader}
-use Rattle.replay.specs.Snapshots.{AreLast, AreTried, EachReader, HasEnded, HasKept, IsLastOf, IsReader, IsTaking, steps_of, table_number}
+use Rattle.replay.specs.Snapshots.{AreLast, AreTaking, AreTried, EachReader, HasEnded, HasKept, IsLastOf, IsReader, IsTaking, steps_of, table_number}
 
 -- a caller that has kept nothing
 pub record IsNewReader (store : StoreModel) (reader : Reader) : Type 0 where
@@ -63,7 +63,7 @@ of_each P [] each = tt
 of_each P (reader ∷ others) each = (each 0 reader (omega arith), of_each P others (λ i d less. each (suc i) d (omega (arith, less))))
 
 pub all_taking : (store : StoreModel) (attempts snaps step : ℕ) (readers : List Reader) → EachReader (λ i. HasEnded store attempts i snaps step) readers
-    → AllByRecursion (AllByRecursion (λ (kept : KeptSnapshot). IsTaking attempts kept.taken)) (map (λ (reader : Reader). reader.kept) readers)
+    → AreTaking attempts (map (λ (reader : Reader). reader.kept) readers)
 all_taking store attempts snaps step readers each = of_each (AllByRecursion (λ (kept : KeptSnapshot). IsTaking attempts kept.taken)) readers
     (λ i d less. each_taking store.run attempts i 0 [] _ _ (each i d less).is.tried)
 

@@ -32,6 +32,14 @@ pub callers_all : (tables : List Published) (callers : ℕ) → 0 < length table
 callers_all [] callers some = absurd (omega (arith, some))
 callers_all (table ∷ tables) callers some = refl
 
+-- the text of what was kept is that of its steps
+pub kept_text : (run : Run) (callers : ℕ) (all : List (List KeptSnapshot)) → length all ≡ callers_of run.plan.published callers → callers_text run 0 all ≡ snapshots_text run (all_steps all)
+kept_text run callers all count = go run.plan.published refl count
+  where
+    go : (tables : List Published) → run.plan.published ≡ tables → length all ≡ callers_of tables callers → callers_text run 0 all ≡ snapshots_text run (all_steps all)
+    go [] is none = ap (callers_text run 0) (nil_from_length all none) ∙ sym (ap (λ (tables : List Published). records_text (some_published tables (callers_records run 0 (all_steps all)))) is)
+    go (table ∷ tables) is some = sym (ap (λ (tables : List Published). records_text (some_published tables (callers_records run 0 (all_steps all)))) is)
+
 module _ (run : Run) (knobs : Knobs) (last : ℕ) where
   -- a choice with the text of what was kept
   record IsMade (all : List (List KeptSnapshot)) : Type 0 where
@@ -52,7 +60,7 @@ module _ (run : Run) (knobs : Knobs) (last : ℕ) where
       go (table ∷ tables) is some = record {
         choice = all_steps all;
         lawful = choice_kept run knobs.callers knobs.snaps last all some ends;
-        text = sym (ap (λ (tables : List Published). records_text (some_published tables (callers_records run 0 (all_steps all)))) is);
+        text = kept_text run knobs.callers all count;
       }
 
   module _ (all : List (List KeptSnapshot)) (count : length all ≡ callers_of run.plan.published knobs.callers) (ends : AreLast run knobs.snaps last 0 all) (old new : Option (List ℕ)) where

@@ -58,11 +58,14 @@ module _ (run : Run) (knobs : Knobs) where
       go (Some last) is = ap (λ text. text ++ snapshots_text run choice) (text_whole run ∙ ap (updates_until run) is)
 
   module _ (old new : Option (List ℕ)) where
+    pub all_text : kept_words run knobs ≤ most_words → (choice : List (List ℕ)) → new ≡ append_known old (rest_from run 0 (good run) choice) → new ≡ append_known old (text_until run (last_written run knobs) choice)
+    all_text few choice written = written ∙ ap (append_known old) (rest_is_all choice ∙ ap (λ last. text_until run last choice) (sym (few_written few)))
+
     pub wrote_whole : kept_words run knobs ≤ most_words → WritesRest run knobs 0 old new → WritesWhole run knobs old new
     wrote_whole few rest = record {
       choice = rest.choice;
       lawful = subst (λ last. IsLawfulChoice knobs last rest.choice) (sym (few_written few)) rest.lawful;
-      written = rest.written ∙ ap (append_known old) (rest_is_all rest.choice ∙ ap (λ last. text_until run last rest.choice) (sym (few_written few)));
+      written = all_text few rest.choice rest.written;
     }
 
     pub wrote_some : kept_words run knobs ≤ most_words → WritesSome run knobs 0 old new → WritesPrefix run knobs old new
@@ -72,11 +75,14 @@ module _ (run : Run) (knobs : Knobs) where
       written = subst (AppendsPrefix old new) (rest_is_all rest.choice ∙ ap (λ last. text_until run last rest.choice) (sym (few_written few))) rest.written;
     }
 
+  pub no_text : (old : Option (List ℕ)) → most_words < kept_words run knobs → old ≡ append_known old (text_until run (last_written run knobs) [])
+  no_text old many = sym (ap (λ last. append_known old (text_until run last [])) (many_written many) ∙ nothing_appended old)
+
   pub wrote_none : (old : Option (List ℕ)) → most_words < kept_words run knobs → WritesWhole run knobs old old
   wrote_none old many = record {
     choice = [];
     lawful = subst (λ last. IsLawfulChoice knobs last []) (sym (many_written many)) refl;
-    written = sym (ap (λ last. append_known old (text_until run last [])) (many_written many) ∙ nothing_appended old);
+    written = no_text old many;
   }
 
   pub wrote_no_prefix : (old : Option (List ℕ)) → most_words < kept_words run knobs → WritesPrefix run knobs old old
@@ -115,12 +121,16 @@ module _ (run : Run) (knobs : Knobs) where
 
   -- after the updates, the snapshots
   module _ (step last : ℕ) (is : good run ≡ Some last) (old mid new : Option (List ℕ)) (written : mid ≡ append_known old (text_from run step)) where
+    pub text_after_updates : (choice : List (List ℕ)) → new ≡ append_known mid (snapshots_text run choice) → new ≡ append_known old (rest_from run step (good run) choice)
+    text_after_updates choice more =
+        more ∙ ap (λ known. append_known known (snapshots_text run choice)) written ∙ append_known-append_known old (text_from run step) (snapshots_text run choice)
+        ∙ ap (λ (l : Option ℕ). append_known old (rest_from run step l choice)) (sym is)
+
     pub all_after_updates : AddsWhole run knobs last mid new → WritesRest run knobs step old new
     all_after_updates more = record {
       choice = more.choice;
       lawful = subst (λ (l : Option ℕ). IsLawfulChoice knobs l more.choice) (sym is) more.lawful;
-      written = more.written ∙ ap (λ known. append_known known (snapshots_text run more.choice)) written ∙ append_known-append_known old (text_from run step) (snapshots_text run more.choice)
-          ∙ ap (λ (l : Option ℕ). append_known old (rest_from run step l more.choice)) (sym is);
+      written = text_after_updates more.choice more.written;
     }
 
     pub some_after_updates : AddsPrefix run knobs last mid new → WritesSome run knobs step old new
@@ -141,13 +151,17 @@ module _ (run : Run) (knobs : Knobs) where
         sym (append_assoc (records_text (step_records run 0)) (text_from run 1) (snapshots_text run choice))
         ∙ ap (λ text. text ++ snapshots_text run choice) (sym (step_comes run 0 (omega arith) (good_before_next run 0 good_is)))
 
+    pub text_after_opening : (choice : List (List ℕ)) → new ≡ append_known mid (rest_from run 1 (good run) choice) → new ≡ append_known old (rest_from run 0 (good run) choice)
+    text_after_opening choice rest =
+        rest ∙ ap (λ known. append_known known (rest_from run 1 (good run) choice)) written
+        ∙ append_known-append_known old (records_text (step_records run 0)) (rest_from run 1 (good run) choice)
+        ∙ ap (append_known old) (opening_splits (good run) refl choice)
+
     pub all_after_opening : WritesRest run knobs 1 mid new → WritesRest run knobs 0 old new
     all_after_opening rest = record {
       choice = rest.choice;
       lawful = rest.lawful;
-      written = rest.written ∙ ap (λ known. append_known known (rest_from run 1 (good run) rest.choice)) written
-          ∙ append_known-append_known old (records_text (step_records run 0)) (rest_from run 1 (good run) rest.choice)
-          ∙ ap (append_known old) (opening_splits (good run) refl rest.choice);
+      written = text_after_opening rest.choice rest.written;
     }
 
     pub some_after_opening : WritesSome run knobs 1 mid new → WritesSome run knobs 0 old new
@@ -159,11 +173,12 @@ module _ (run : Run) (knobs : Knobs) where
     }
 
   -- where the opening is spoiled nothing is written
+  none_good_at : (outcome : Outcome) → IsCause run 0 outcome → good run ≡ None
+  none_good_at outcome cause = none_good run (cause_spoils run 0 outcome (omega arith) (λ k below. absurd (omega (arith, below))) cause)
+
+  pub no_text_at_opening : (outcome : Outcome) (old : Option (List ℕ)) → IsCause run 0 outcome → old ≡ append_known old (rest_from run 0 (good run) [])
+  no_text_at_opening outcome old cause = sym (ap (λ (l : Option ℕ). append_known old (rest_from run 0 l [])) (none_good_at outcome cause) ∙ nothing_appended old)
+
   pub none_at_opening : (outcome : Outcome) (old : Option (List ℕ)) → IsCause run 0 outcome → WritesRest run knobs 0 old old
   none_at_opening outcome old cause =
-      let none = none_good run (cause_spoils run 0 outcome (omega arith) (λ k below. absurd (omega (arith, below))) cause) in
-      record {
-        choice = [];
-        lawful = subst (λ (l : Option ℕ). IsLawfulChoice knobs l []) (sym none) refl;
-        written = sym (ap (λ (l : Option ℕ). append_known old (rest_from run 0 l [])) none ∙ nothing_appended old);
-      }
+      record { choice = []; lawful = subst (λ (l : Option ℕ). IsLawfulChoice knobs l []) (sym (none_good_at outcome cause)) refl; written = no_text_at_opening outcome old cause }

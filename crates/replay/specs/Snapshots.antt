@@ -6,6 +6,7 @@
 --     HasEnded store attempts caller snaps step reader      so it is after the last call too, whose snapshot is not older than this step
 --     AreLast run snaps last caller all      what all have kept in the end: each caller's steps never fall, and end with the last good step
 --     IsTaking attempts taken      no more attempts were made than may be, and the turn was taken only after all of them
+--     AreTaking attempts all      so each snapshot was taken that is kept
 --     EachReader P readers      what holds of each, with its number
 use Rattle.std.specs.Prelude.{◌≡◌, ℕ, ◌+◌, ◌%◌, ◌<◌, ◌≤◌, ◌++◌, List, [], ◌∷◌, true, false, length, map, slice_index, slice_index_or}
 use Rattle.std.specs.List.{AllByRecursion}
@@ -66,6 +67,9 @@ pub record IsTaking (attempts : ℕ) (taken : Taken) : Type 0 where
   pub few : taken.tries ≤ attempts
   pub locked : taken.locked ≡ true → taken.tries ≡ attempts
   pub unlocked : taken.locked ≡ false → 0 < taken.tries
+
+abbrev pub AreTaking : ℕ → List (List KeptSnapshot) → Type 0
+AreTaking attempts = AllByRecursion (AllByRecursion (λ kept. IsTaking attempts kept.taken))
 
 -- without a published table there is nothing to call for
 abbrev pub callers_of : List Published → ℕ → ℕ

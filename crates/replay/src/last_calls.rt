@@ -1,10 +1,9 @@
 //! The last call of each caller, after the feed.
 ghost use Rattle.std.specs.Prelude.{◌≡◌, ◌+◌, ◌<◌, ◌≤◌, IfOk, OnOk, length, map};
-ghost use Rattle.std.specs.List.{AllByRecursion};
 ghost use Rattle.snapshot_store.specs.Lines.{count};
 ghost use Rattle.snapshot_store.specs.Models.{IsOf};
 ghost use Rattle.tick_laws.specs.Reached.{IsReached};
-ghost use Rattle.replay.specs.Snapshots.{AreLast, EachReader, HasEnded, HasRead, IsTaking};
+ghost use Rattle.replay.specs.Snapshots.{AreLast, AreTaking, EachReader, HasEnded, HasRead};
 
 use crate::Knobs;
 use crate::opening::Publication;
@@ -124,7 +123,7 @@ pub(crate) fn last_snapshots<R: Wait>(
     requires few_snaps { knobs.now.snaps ≤ 64 }
     ensures count { IfOk result (λ all. length all ≡ length publication.readers.items) }
     ensures last { IfOk result (λ all. AreLast publication.store.run knobs.now.snaps publication.writer.step 0 all) }
-    ensures tried { IfOk result (AllByRecursion (AllByRecursion (λ kept. IsTaking knobs.now.attempts kept.taken))) }
+    ensures tried { IfOk result (AreTaking knobs.now.attempts) }
 {
     let Publication {
         store,

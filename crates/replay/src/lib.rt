@@ -26,6 +26,7 @@ mod writing;
 
 pub use hands::Hands;
 pub use limits::check_limits;
-pub use outcome::{Knobs, Outcome};
+pub use outcome::{Knobs, Outcome, Ran};
 pub use printed::{PrintedNode, printed_node};
-pub use run::run_feed;
+pub use readers::KeptSnapshot;
+pub use run::{replay_feed, run_feed};

@@ -4,6 +4,7 @@ ghost use Rattle.replay.specs.Outcomes.{IsTold};
 ghost use Rattle.replay.specs.declared.outcome.Outcome.TheVariants.{Memory};
 ghost use Rattle.replay.specs.Stopped.{outcome_of_stop, outcome_of_write};
 
+use crate::readers::KeptSnapshot;
 use std::alloc::AllocError;
 use tick_model::items::Items;
 use tick_model::table::NodeFault;
@@ -60,6 +61,14 @@ pub enum Outcome {
     },
     /// The sink failed.
     Write,
+}
+
+/// A run that has ended: what it ends with, and the snapshots that were taken beside it, by caller and then by call. There are none where
+/// the run was cut off before its last calls.
+#[derive(Drop)]
+pub struct Ran {
+    pub outcome: Outcome,
+    pub snapshots: Items<Items<KeptSnapshot>>,
 }
 
 impl Outcome {

@@ -12,8 +12,8 @@ use tick_model::items::Items;
 
 /// A snapshot that is kept: how it was taken, and the words of the table.
 #[derive(Drop)]
-pub(crate) struct KeptSnapshot {
-    pub(crate) taken: Taken,
+pub struct KeptSnapshot {
+    pub taken: Taken,
     pub(crate) words: Items<u64>,
 }
 

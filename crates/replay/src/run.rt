@@ -1,27 +1,31 @@
 //! The run itself.
+ghost use Rattle.std.specs.Io.KnownBytes.{append_known};
 ghost use Rattle.std.specs.Prelude.{◌≡◌, ◌≤◌, ◌<◌, length};
 ghost use Rattle.snapshot_store.specs.Lines.{count};
 ghost use Rattle.snapshot_store.specs.Models.{IsOf};
 ghost use Rattle.tick_io.specs.Counts.{Rose};
 ghost use Rattle.tick_model.specs.LawfulRuns.{IsLawfulRun};
+ghost use Rattle.tick_model.specs.Spoiled.{good};
+ghost use Rattle.tick_model.specs.Texts.{snapshots_text};
 ghost use Rattle.replay.specs.Kept.{kept_words as words_kept, most_words};
 ghost use Rattle.replay.specs.Opened.{IsOpened};
-ghost use Rattle.replay.specs.Outcomes.{IsComplete, IsEnd, IsTold, IsVerdict, WritesPrefix, WritesWhole};
-ghost use Rattle.replay.specs.Snapshots.{EachReader, HasRead, callers_of};
+ghost use Rattle.replay.specs.Outcomes.{IsComplete, IsEnd, IsTold, IsVerdict, WritesPrefix, WritesWhole, last_written, text_until};
+ghost use Rattle.replay.specs.Snapshots.{AreTaking, EachReader, HasRead, all_steps, callers_of};
 ghost use Rattle.replay.specs.Standing.{IsLast};
-ghost use Rattle.replay.specs.Wholes.{AddsPrefix, AddsWhole, HasEndedFrom};
+ghost use Rattle.replay.specs.Wholes.{AddsPrefix, AddsWhole, HasEndedFrom, rest_from};
 
 use crate::beside::run_beside;
 use crate::kept::{MOST_WORDS, kept_words};
 use crate::last_calls::last_snapshots;
 use crate::opening::{Opened, Publication, open_run};
 use crate::snapshots::write_snapshots;
-use crate::{Knobs, Outcome};
+use crate::{Knobs, Outcome, Ran};
 use std::alloc::{AllocError, Global};
 use std::sync::Wait;
 use std::thread::Threads;
 use tick_io::{Gate, Sink};
 use tick_model::feed::Run;
+use tick_model::items::Items;
 
 /// Ends a run: each caller makes its last call, and what the callers have kept is written.
 fn ended<R: Wait, S: Sink>(
@@ -32,7 +36,7 @@ fn ended<R: Wait, S: Sink>(
     publication: Publication,
     outcome: Outcome,
     out: &mut S,
-) -> Outcome
+) -> Ran
     requires lawful { IsLawfulRun run.now }
     requires few_callers { knobs.now.callers ≤ 16 }
     requires few_snaps { knobs.now.snaps ≤ 64 }
@@ -42,21 +46,34 @@ fn ended<R: Wait, S: Sink>(
     requires read { EachReader (λ number. HasRead publication.store knobs.now.attempts number knobs.now.snaps) publication.readers.items }
     requires told { IsTold outcome }
     requires last { IsLast run.now publication.writer.step }
-    ensures same { IsTold result → result ≡ outcome }
-    ensures whole { IsTold result → AddsWhole run.now knobs.now publication.writer.step (S.bytes out.old) (S.bytes out.new) }
+    ensures same { IsTold result.outcome → result.outcome ≡ outcome }
+    ensures whole { IsTold result.outcome → AddsWhole run.now knobs.now publication.writer.step (S.bytes out.old) (S.bytes out.new) }
     ensures prefix { AddsPrefix run.now knobs.now publication.writer.step (S.bytes out.old) (S.bytes out.new) }
-    ensures failed { result ≡ Outcome.Write → Rose (S.failures out.old) (S.failures out.new) }
+    ensures kept { IsTold result.outcome → S.bytes out.new ≡ append_known (S.bytes out.old) (snapshots_text run.now (all_steps result.snapshots)) }
+    ensures tried { AreTaking knobs.now.attempts result.snapshots }
+    ensures failed { result.outcome ≡ Outcome.Write → Rose (S.failures out.old) (S.failures out.new) }
     ensures never_falls { S.failures out.old ≤ S.failures out.new }
-    ensures steady { IsTold result → S.failures out.new ≡ S.failures out.old }
+    ensures steady { IsTold result.outcome → S.failures out.new ≡ S.failures out.old }
 {
     let published = run.plan.published.len() as u32;
     let all = match last_snapshots(rt, alloc, knobs, published, publication) {
         Ok(all) => all,
-        Err(AllocError) => return Outcome::Memory,
+        Err(AllocError) => {
+            return Ran {
+                outcome: Outcome::Memory,
+                snapshots: Items::new(alloc),
+            };
+        }
     };
     match write_snapshots(alloc, out, run, all.as_slice()) {
-        Ok(()) => outcome,
-        Err(fault) => Outcome::from(fault),
+        Ok(()) => Ran {
+            outcome,
+            snapshots: all,
+        },
+        Err(fault) => Ran {
+            outcome: Outcome::from(fault),
+            snapshots: all,
+        },
     }
 }
 
@@ -69,14 +86,16 @@ fn run_opened<R: Threads + Wait + Sync, S: Sink, G: Gate>(
     opened: Opened,
     gate: &G,
     out: &mut S,
-) -> Outcome
+) -> Ran
     requires lawful { IsLawfulRun run.now }
     requires some_workers { 1 ≤ knobs.now.workers }
     requires few_workers { knobs.now.workers ≤ 64 }
     requires few_callers { knobs.now.callers ≤ 16 }
     requires few_snaps { knobs.now.snaps ≤ 64 }
     requires opened { IsOpened run.now knobs.now opened }
-    ensures { HasEndedFrom run.now knobs.now 1 result (S.bytes out.old) (S.bytes out.new) (S.failures out.old) (S.failures out.new) }
+    ensures ended { HasEndedFrom run.now knobs.now 1 result.outcome (S.bytes out.old) (S.bytes out.new) (S.failures out.old) (S.failures out.new) }
+    ensures kept { IsTold result.outcome → S.bytes out.new ≡ append_known (S.bytes out.old) (rest_from run.now 1 (good run.now) (all_steps result.snapshots)) }
+    ensures tried { AreTaking knobs.now.attempts result.snapshots }
 {
     let Opened {
         progress,
@@ -100,7 +119,10 @@ fn run_opened<R: Threads + Wait + Sync, S: Sink, G: Gate>(
         out,
     );
     if !outcome.is_told() {
-        return outcome;
+        return Ran {
+            outcome,
+            snapshots: Items::new(alloc),
+        };
     }
     let publication = Publication {
         store,
@@ -118,18 +140,58 @@ fn run_kept<R: Threads + Wait + Sync, S: Sink, G: Gate>(
     knobs: &Knobs,
     out: &mut S,
     gate: &G,
-) -> Outcome
+) -> Ran
     requires lawful { IsLawfulRun run.now }
     requires some_workers { 1 ≤ knobs.now.workers }
     requires few_workers { knobs.now.workers ≤ 64 }
     requires few_callers { knobs.now.callers ≤ 16 }
     requires few_snaps { knobs.now.snaps ≤ 64 }
-    ensures { HasEndedFrom run.now knobs.now 0 result (S.bytes out.old) (S.bytes out.new) (S.failures out.old) (S.failures out.new) }
+    ensures ended { HasEndedFrom run.now knobs.now 0 result.outcome (S.bytes out.old) (S.bytes out.new) (S.failures out.old) (S.failures out.new) }
+    ensures kept { IsTold result.outcome → S.bytes out.new ≡ append_known (S.bytes out.old) (rest_from run.now 0 (good run.now) (all_steps result.snapshots)) }
+    ensures tried { AreTaking knobs.now.attempts result.snapshots }
 {
     match open_run(alloc, run, knobs, out) {
         Ok(opened) => run_opened(rt, alloc, run, knobs, opened, gate, out),
-        Err(outcome) => outcome,
+        Err(outcome) => Ran {
+            outcome,
+            snapshots: Items::new(alloc),
+        },
     }
+}
+
+/// Does what `run_feed` does, and tells besides how each snapshot was taken that was written. A caller takes the turn only after as many
+/// attempts as the knobs say.
+pub fn replay_feed<R: Threads + Wait + Sync, S: Sink, G: Gate>(
+    rt: &R,
+    alloc: Global,
+    run: &Run,
+    knobs: &Knobs,
+    out: &mut S,
+    gate: &G,
+) -> Ran
+    requires lawful { IsLawfulRun run.now }
+    requires some_workers { 1 ≤ knobs.now.workers }
+    requires few_workers { knobs.now.workers ≤ 64 }
+    requires few_callers { knobs.now.callers ≤ 16 }
+    requires few_snaps { knobs.now.snaps ≤ 64 }
+    ensures verdict { IsTold result.outcome → IsVerdict run.now knobs.now result.outcome }
+    ensures whole { IsTold result.outcome → WritesWhole run.now knobs.now (S.bytes out.old) (S.bytes out.new) }
+    ensures failed { result.outcome ≡ Outcome.Write → Rose (S.failures out.old) (S.failures out.new) }
+    ensures prefix { WritesPrefix run.now knobs.now (S.bytes out.old) (S.bytes out.new) }
+    ensures complete { (Rose (S.failures out.old) (S.failures out.new) → ⊥) → IsComplete run.now knobs.now result.outcome }
+    ensures kept { IsTold result.outcome → S.bytes out.new ≡ append_known (S.bytes out.old) (text_until run.now (last_written run.now knobs.now) (all_steps result.snapshots)) }
+    ensures tried { AreTaking knobs.now.attempts result.snapshots }
+    ensures never_falls { S.failures out.old ≤ S.failures out.new }
+    ensures steady { IsTold result.outcome → S.failures out.new ≡ S.failures out.old }
+{
+    let words = kept_words(run, knobs);
+    if words > MOST_WORDS {
+        return Ran {
+            outcome: Outcome::Kept { words },
+            snapshots: Items::new(alloc),
+        };
+    }
+    run_kept(rt, alloc, run, knobs, out, gate)
 }
 
 /// Runs a run from its opening to its last step, or to the first step that is spoiled, and writes the updates of its printed nodes at
@@ -158,9 +220,9 @@ pub fn run_feed<R: Threads + Wait + Sync, S: Sink, G: Gate>(
     ensures never_falls { S.failures out.old ≤ S.failures out.new }
     ensures steady { IsTold result → S.failures out.new ≡ S.failures out.old }
 {
-    let words = kept_words(run, knobs);
-    if words > MOST_WORDS {
-        return Outcome::Kept { words };
-    }
-    run_kept(rt, alloc, run, knobs, out, gate)
+    let Ran {
+        outcome,
+        snapshots: _,
+    } = replay_feed(rt, alloc, run, knobs, out, gate);
+    outcome
 }

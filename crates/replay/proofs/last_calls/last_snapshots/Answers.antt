@@ -1,10 +1,9 @@
 use Rattle.std.proofs.Common.{◌≡◌, ◌+◌, ◌≤◌, ◌∙◌, refl, ap, sym, arith, subst, length, map, get_or, List}
-use Rattle.std.specs.List.{All, AllByRecursion}
+use Rattle.std.specs.List.{All}
 use Rattle.snapshot_store.specs.Looks.{latest}
 use Rattle.snapshot_store.specs.Models.{CallerModel, WriterModel}
-use Rattle.replay.specs.declared.readers.KeptSnapshot.{KeptSnapshot}
 use Rattle.replay.specs.declared.readers.Reader.{Reader}
-use Rattle.replay.specs.Snapshots.{AreLast, HasEnded, IsTaking}
+use Rattle.replay.specs.Snapshots.{AreLast, AreTaking, HasEnded}
 use Rattle.replay.proofs.KeptInEnd.{all_end, all_taking, callers_owned, written_back}
 use Rattle.replay.proofs.last_calls.last_snapshots.Goals as goal
 
@@ -37,6 +36,6 @@ returns-clause-tried g c =
     let old = c.args.publication.readers in
     let readers = c.call_all.new.readers in
     let long : length readers ≡ length old.items = omega (arith, ap length c.as_mut_slice.ensures.value, c.call_all.auto.readers) in
-    subst (AllByRecursion (AllByRecursion (λ (kept : KeptSnapshot). IsTaking c.args.knobs.now.attempts kept.taken)))
+    subst (AreTaking c.args.knobs.now.attempts)
     (sym (c.in_ok-callers.ensures.kept ∙ ap (map (λ (reader : Reader). reader.kept)) (written_back old.len readers old.items long old.ok.0)))
     (all_taking c.args.publication.store c.args.knobs.now.attempts c.args.knobs.now.snaps c.args.publication.writer.step readers c.in_ok-call_all.ensures.ended)

@@ -5,11 +5,11 @@ use Rattle.snapshot_store.specs.Lines.{count}
 use Rattle.tick_laws.specs.Reached.{IsReached}
 use Rattle.tick_model.specs.declared.feed.Run.{Run}
 use Rattle.replay.specs.declared.readers.KeptSnapshot.{KeptSnapshot}
-use Rattle.replay.specs.Snapshots.{AreLast}
+use Rattle.replay.specs.Snapshots.{AreLast, AreTaking}
 use Rattle.replay.proofs.CallTexts.{callers_text}
 use Rattle.replay.proofs.Exits.{all_written}
 use Rattle.replay.proofs.PublishedTables.{tables_few}
-use Rattle.replay.proofs.SnapshotsAdded.{adds_none, adds_some, adds_whole, callers_call, callers_few}
+use Rattle.replay.proofs.SnapshotsAdded.{adds_none, adds_some, adds_whole, callers_call, callers_few, kept_text}
 use Rattle.replay.proofs.run.ended.Goals as goal
 
 pub overflow_cast-published : goal.overflow_cast-published
@@ -51,12 +51,21 @@ write_snapshots-requires-clause-last g c κs within = (
 pub returns-in-Err-clause-prefix : goal.returns-in-Err-clause-prefix
 returns-in-Err-clause-prefix g c = adds_none c.args.run.now c.args.knobs.now c.args.publication.writer.step (g.S.Sink.bytes c.args.out.now)
 
+pub returns-in-Err-clause-tried : goal.returns-in-Err-clause-tried
+returns-in-Err-clause-tried g c = subst (AreTaking c.args.knobs.now.attempts) (sym c.new.ensures) tt
+
 pub returns-in-Ok-write_snapshots-clause-whole : goal.returns-in-Ok-write_snapshots-clause-whole
 returns-in-Ok-write_snapshots-clause-whole g c = λ told.
     adds_whole c.args.run.now c.args.knobs.now c.args.publication.writer.step c.in-Ok.all (c.in-Ok.ensures.count ∙ c.requires.count)
     (subst (λ (run : Run). AreLast run c.args.knobs.now.snaps c.args.publication.writer.step 0 c.in-Ok.all) c.requires.store c.in-Ok.ensures.last)
     (g.S.Sink.bytes c.args.out.now) (g.S.Sink.bytes c.write_snapshots.new.out)
     (c.in-Ok-write_snapshots.ensures.whole ∙ ap (λ (all : List (List KeptSnapshot)). append_known (g.S.Sink.bytes c.args.out.now) (callers_text c.args.run.now 0 all)) c.as_slice.ensures)
+
+pub returns-in-Ok-write_snapshots-clause-kept : goal.returns-in-Ok-write_snapshots-clause-kept
+returns-in-Ok-write_snapshots-clause-kept g c = λ told.
+    c.in-Ok-write_snapshots.ensures.whole
+    ∙ ap (λ (all : List (List KeptSnapshot)). append_known (g.S.Sink.bytes c.args.out.now) (callers_text c.args.run.now 0 all)) c.as_slice.ensures
+    ∙ ap (append_known (g.S.Sink.bytes c.args.out.now)) (kept_text c.args.run.now c.args.knobs.now.callers c.in-Ok.all (c.in-Ok.ensures.count ∙ c.requires.count))
 
 pub returns-in-Ok-write_snapshots-clause-prefix : goal.returns-in-Ok-write_snapshots-clause-prefix
 returns-in-Ok-write_snapshots-clause-prefix g c =
