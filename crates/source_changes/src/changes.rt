@@ -1,6 +1,6 @@
 //! The keys of the sources, and the changes that a batch makes of them.
 
-ghost use Rattle.std.specs.Prelude.{◌≡◌, ℕ, ◌+◌, ◌<◌, ◌≤◌, None, length, map, sum_by, IfErr, IfOk, OnOk};
+ghost use Rattle.std.specs.Prelude.{◌≡◌, ℕ, ◌+◌, ◌<◌, ◌≤◌, None, [], length, map, sum_by, IfErr, IfOk, OnErr, OnOk};
 ghost use Rattle.std.specs.List.{AllByRecursion};
 ghost use Rattle.source_changes.specs.Faults.{IsFault};
 ghost use Rattle.source_changes.specs.Openings.{IsOpenedTable};
@@ -144,7 +144,7 @@ impl SourceKeys {
     }
 
     /// The change that a batch makes of each source, in order of the sources, where these are their tables before the step. It
-    /// reads the rows that the blocks add, and twice those that they modify. After a refusal the keys are to be given up.
+    /// reads the rows that the blocks add, and twice those that they modify. After a refusal no keys are left.
     pub fn changes<'t, 'b, L: Ledger>(
         &mut self,
         alloc: Global,
@@ -160,6 +160,7 @@ impl SourceKeys {
         ensures changes { IfOk result (λ changes. changes.items ≡ map change_of (after_blocks plan.now (map (λ table. unchanged table.now.new) tables.now) batch.now.blocks)) }
         ensures keys { OnOk result (self.new ≡ map (λ tick. keys tick.new.rows) (after_blocks plan.now (map (λ table. unchanged table.now.new) tables.now) batch.now.blocks)) }
         ensures reads { OnOk result (reads.new ≤ reads.old + sum_by (block_reads plan.now) batch.now.blocks) }
+        ensures refused { OnErr result (self.new ≡ []) }
         ensures cause { IfErr result (IsFault (blocks_fault plan.now (map (λ table. unchanged table.now.new) tables.now) batch.now.blocks)) }
     {
         let sets = mem::replace(&mut self.sets, Vec::new(alloc));

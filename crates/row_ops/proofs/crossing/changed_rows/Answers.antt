@@ -31,9 +31,9 @@ loop-place-preserved g c =
       rows = row.same;
       leaving =
           named_next (λ pair. pair.old) (λ pair. is_among pair.old c.args.shown.now && not (truth c.args.test.now (cells_at pair.new c.args.input.now.new.rows))) c.args.pairs.now c.loop-place.place c.at-pair.result c.loop-place.leaving c.put_last_if.new.keys c.if-before.put_last_if
-          c.at-pair.ensures.pair c.loop-place.invariant.leaving (goes ∙ ap₂ (λ a b. a && not b) c.contains-before.ensures.member passing) c.in_ok-put_last_if.ensures;
+          c.at-pair.ensures.pair c.loop-place.invariant.leaving (goes ∙ ap₂ (λ a b. a && not b) c.contains-before.ensures.member passing) c.in_ok-put_last_if.ensures.keys;
       coming =
           named_next (λ pair. pair.new) (λ pair. not (is_among pair.old c.args.shown.now) && truth c.args.test.now (cells_at pair.new c.args.input.now.new.rows)) c.args.pairs.now c.loop-place.place c.at-pair.result c.loop-place.coming c.put_last_if-in-loop-place.new.keys c.if-not-before.put_last_if
-          c.at-pair.ensures.pair c.loop-place.invariant.coming (comes ∙ ap₂ (λ a b. not a && b) c.contains-before.ensures.member passing) c.in_ok-put_last_if-2.ensures;
+          c.at-pair.ensures.pair c.loop-place.invariant.coming (comes ∙ ap₂ (λ a b. not a && b) c.contains-before.ensures.member passing) c.in_ok-put_last_if-2.ensures.keys;
       reads = reads_next c.args.input.now.new.width c.loop-place.reads c.row.new.reads c.args.reads.now c.loop-place.place c.loop-place.invariant.reads row.reads;
     }

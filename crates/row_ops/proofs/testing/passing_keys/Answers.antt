@@ -31,7 +31,7 @@ loop-key-preserved g c =
       rows = row.same;
       found =
           chosen_more (λ key. truth c.args.test.now (cells_at key c.args.input.now.new.rows)) yielded key c.loop-key.found c.put_last_if.new.keys c.passes-passing.result
-          c.loop-key.invariant.found (c.passes-passing.ensures ∙ ap (truth c.args.test.now) row.cells) c.in_ok-put_last_if.ensures;
+          c.loop-key.invariant.found (c.passes-passing.ensures ∙ ap (truth c.args.test.now) row.cells) c.in_ok-put_last_if.ensures.keys;
       reads = reads_next c.args.input.now.new.width c.args.reads.now c.loop-key.reads c.row.new.reads yielded key c.loop-key.invariant.reads (omega (arith, row.reads));
     }
 

@@ -18,7 +18,7 @@ put_last_if-requires-clause-last c =
 
 pub loop-key-preserved : goal.loop-key-preserved
 loop-key-preserved c =
-    chosen_more (λ key. is_among key c.args.others.now) c.loop-key.yielded c.in-Some.key c.loop-key.found c.put_last_if.new.keys c.contains.result c.loop-key.invariant c.contains.ensures.member c.in_ok-put_last_if.ensures
+    chosen_more (λ key. is_among key c.args.others.now) c.loop-key.yielded c.in-Some.key c.loop-key.found c.put_last_if.new.keys c.contains.result c.loop-key.invariant c.contains.ensures.member c.in_ok-put_last_if.ensures.keys
 
 pub returns : goal.returns
 returns c = c.loop-key.invariant ∙ ap (λ (keys : List ℕ). common keys c.args.others.now) (yielded_all c.loop-key.yielded c.into_iter-key-iterator.ensures.into_iter_gives c.loop-key.yielded_by c.in-None.ensures.steps.0)

@@ -5,8 +5,8 @@ use Rattle.row_set.specs.Sets.{united}
 use Rattle.row_changes.proofs.Comparing.{key_last}
 use Rattle.shown_rows.proofs.keys.put_last.Goals as goal
 
-pub returns : goal.returns
-returns c =
+pub returns-clause-keys : goal.returns-clause-keys
+returns-clause-keys c =
     let last : united (keys_from c.args.key c.args.key) c.args.keys.now ≡ c.args.keys.now ++ c.args.key ∷ []
     = key_last c.args.key c.args.keys.now c.requires.last in
     subst (λ keys. OnOk c.insert_range.result (c.insert_range.new.self ≡ keys)) last c.insert_range.ensures.ok

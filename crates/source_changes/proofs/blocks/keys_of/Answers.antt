@@ -22,6 +22,6 @@ put_last-requires-clause-last c =
 pub loop-row-preserved : goal.loop-row-preserved
 loop-row-preserved c =
     let row = c.row-item.result in
-    c.in_ok-put_last.ensures ∙ ap (λ (ks : List ℕ). ks ++ row.key ∷ []) c.loop-row.invariant
+    c.in_ok-put_last.ensures.keys ∙ ap (λ (ks : List ℕ). ks ++ row.key ∷ []) c.loop-row.invariant
     ∙ ap (λ (row : PlainRow). keys (take c.loop-row.row-index c.args.rows.now) ++ row.key ∷ []) c.row-item.is
     ∙ keys_more c.args.rows.now c.loop-row.row-index row c.loop-row-test.true

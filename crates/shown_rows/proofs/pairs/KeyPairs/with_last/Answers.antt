@@ -17,5 +17,5 @@ put_last-requires-2-clause-last c =
 
 pub returns : goal.returns
 returns c =
-    ap₂ pairs_of c.in_ok-put_last.ensures c.in_ok-put_last-2.ensures ∙ pairs_of-last c.self.inside.from c.self.inside.to c.args.pair c.self.invariant
+    ap₂ pairs_of c.in_ok-put_last.ensures.keys c.in_ok-put_last-2.ensures.keys ∙ pairs_of-last c.self.inside.from c.self.inside.to c.args.pair c.self.invariant
     ∙ ap (λ (pairs : List KeyPair). pairs ++ c.args.pair ∷ []) c.self.view_is
