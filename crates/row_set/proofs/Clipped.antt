@@ -5,13 +5,15 @@ use Rattle.std.proofs.Math.Seq.{take-append-add}
 use Rattle.std.proofs.lemmas.List.{drop-drop, drop_at, get_or-take, get_or_default, length-map, length-set, set_split, take-append-le, take_at}
 use Rattle.key_lists.proofs.Every.{map_map}
 use Rattle.row_set.specs.declared.ranges.Range.{Range}
-use Rattle.row_set.specs.Moves.{clip, moved_range, shift}
-use Rattle.row_set.specs.Ranges.{AreApart, Meets}
+use Rattle.row_set.specs.Moves.{Shifts, clip, moved_range, shift}
+use Rattle.row_set.specs.Ranges.{AreApart, IsRangeFrom, Meets}
 use Rattle.row_set.proofs.Apart.{apart_weaker}
 use Rattle.row_set.proofs.Counts.{blank}
 use Rattle.row_set.proofs.Middles.{middle_first, span}
 use Rattle.row_set.proofs.Parted.{slice_apart}
-use Rattle.row_set.proofs.Shifted.{length-slice}
+use Rattle.row_set.proofs.Places.{range_at}
+use Rattle.row_set.proofs.Shifted.{length-slice, shifts_at, slice_at}
+use Rattle.row_set.proofs.Spliced.{IsSplicing, length-splicing, splicing_read}
 
 -- the range, up to last
 abbrev pub ended : ℕ → Range → Range
@@ -119,3 +121,25 @@ both_moves delta first last from to old one new order within one_is new_is =
     ∙ ap₂ (λ xs ys. xs ++ (map (shift delta) (slice_range one from to) ++ ys)) parts.0 parts.1.1
     ∙ ap (λ middle. take from old ++ (map (shift delta) middle ++ drop to old)) parts.1.0
     ∙ ap (λ middle. take from old ++ (middle ++ drop to old)) (map_map (shift delta) (clip first last) those)
+
+-- the range at an index to which a move of ranges, one after another, has come
+pub record IsNext (delta : ℤ) (old new : List Range) (index : ℕ) (range : Range) : Type 0 where
+  pub within : index < length new
+  pub same : range ≡ get_or old index blank
+  pub is : IsRangeFrom 0 range
+  pub moves : Shifts delta range
+
+pub next_is : (delta : ℤ) (from to index : ℕ) (old new : List Range) (range : Range) → from ≤ to → to ≤ length old → from ≤ index → index < to → AreApart 0 (slice_range old from to) → AllByRecursion (Shifts delta) (slice_range old from to) → IsSplicing old from to (map (shift delta) (slice_range old from to)) (index - from) index new → range ≡ get_or new index range → IsNext delta old new index range
+next_is delta from to index old new range order within after lt apart lands found read =
+    let others = map (shift delta) (slice_range old from to) in
+    let begins : from ≤ length old = omega (arith, order, within) in
+    let many : length others ≡ to - from = length-map (slice_range old from to) (shift delta) ∙ length-slice from to old order within in
+    let size : length new ≡ length old = omega (arith, length-splicing old from to others (index - from) index new found begins (omega (arith, many, lt)), after, lt, within) in
+    let same : range ≡ get_or old index blank =
+    read ∙ get_or_default new index range blank (omega (arith, size, lt, within)) ∙ splicing_read old from to others (index - from) index new blank found begins (omega (arith, many, lt)) lt in
+    record {
+      within = omega (arith, size, lt, within);
+      same = same;
+      is = subst (λ (range : Range). IsRangeFrom 0 range) (slice_at from to index old after lt ∙ sym same) (range_at 0 (slice_range old from to) apart (index - from) blank (omega (arith, length-slice from to old order within, after, lt)));
+      moves = subst (λ (range : Range). Shifts delta range) (sym same) (shifts_at delta from to index old lands after lt within);
+    }
