@@ -1,7 +1,7 @@
 -- How many keys come before a range, and how many there are.
-use Rattle.std.proofs.Common.{◌≡◌, refl, ap, inl, inr, Bool, false, true≢false, ◌==◌, sym, ◌∙◌, ℕ, zero, suc, ◌+◌, ◌-◌, ◌*◌, ◌^◌, ◌<◌, ◌≤◌, arith, List, [], ◌∷◌, ◌++◌, length, take, drop, slice_range, get_or, take-take, length-append, length-drop, get_or-drop, take_all, ne_eqb}
+use Rattle.std.proofs.Common.{◌≡◌, refl, ap, inl, inr, Bool, false, true≢false, ◌==◌, sym, ◌∙◌, ℕ, zero, suc, ◌+◌, ◌-◌, ◌*◌, ◌^◌, ◌<◌, ◌≤◌, arith, List, [], ◌∷◌, ◌++◌, length, take, drop, slice_range, get_or, take-take, length-append, take_all, ne_eqb}
 use Rattle.std.proofs.lemmas.Bool.{cases_lt}
-use Rattle.std.proofs.lemmas.List.{get_or-take, get_or_append_left, length-take, take_more, take_rest}
+use Rattle.std.proofs.lemmas.List.{get_or-take, get_or_append_left, length-take, take_more}
 use Rattle.std.proofs.Math.Seq.{get_or-append_seam}
 use Rattle.key_lists.proofs.Parts.{take_nil}
 use Rattle.row_set.specs.declared.ranges.Range.{Range}

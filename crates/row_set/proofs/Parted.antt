@@ -1,5 +1,5 @@
 -- Ranges of which the keys from one to another have moved, with the edges that stay behind.
-use Rattle.std.proofs.Common.{◌≡◌, refl, ap, ap₂, sym, ◌∙◌, subst, Bool, true, false, cond, ◌||◌, ℕ, zero, suc, ◌+◌, ◌-◌, ◌^◌, ◌<◌, ◌≤◌, min, max, arith, List, [], ◌∷◌, ◌++◌, length, map, take, drop, slice_range, get_or, leb, ltb, le-leb, lt-ltb, le-ltb, length-append, length-take-le, length-drop, append_assoc, take-take, take_at, drop_at, ℤ, pos, ◌+ℤ◌, inl, inr}
+use Rattle.std.proofs.Common.{◌≡◌, refl, ap, ap₂, sym, ◌∙◌, subst, Bool, true, false, cond, ◌||◌, ℕ, zero, suc, ◌+◌, ◌-◌, ◌^◌, ◌<◌, ◌≤◌, min, max, arith, List, [], ◌∷◌, ◌++◌, length, map, take, drop, slice_range, get_or, leb, ltb, le-leb, lt-ltb, le-ltb, length-append, length-take-le, length-drop, append_assoc, take_at, drop_at, ℤ, pos, ◌+ℤ◌, inl, inr}
 use Rattle.std.specs.List.{AllByRecursion, list_any}
 use Rattle.std.proofs.lemmas.Bool.{cases_lt, and_from}
 use Rattle.std.proofs.lemmas.Int.{ints}
@@ -12,7 +12,7 @@ use Rattle.key_lists.proofs.Rising.{rising_same, rising-append}
 use Rattle.key_lists.proofs.Parts.{every-take, every-drop}
 use Rattle.row_set.specs.declared.ranges.Range.{Range}
 use Rattle.row_set.specs.Ranges.{keys_before, keys_in, keys_of, holds, IsRangeFrom, AreApart, Meets}
-use Rattle.row_set.specs.Moves.{moved_key, as_key, moved_keys, IsKey, Lands, Shifts, clip, moved_range, shift}
+use Rattle.row_set.specs.Moves.{moved_key, as_key, moved_keys, IsKey, Lands, clip, moved_range, shift}
 use Rattle.row_set.proofs.Held.{among-in, among-keys, each_key, holds-true, keys_of-append, length-keys_in}
 use Rattle.row_set.proofs.Apart.{apart-drop, apart-take, apart_weaker, apart-append, each_range, keys_rise, apart_back, apart_seam}
 use Rattle.row_set.proofs.Counts.{blank}

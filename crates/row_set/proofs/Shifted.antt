@@ -1,5 +1,5 @@
 -- Keys and ranges that move by one difference.
-use Rattle.std.proofs.Common.{◌≡◌, refl, ap, ap₂, sym, ◌∙◌, subst, Bool, true, false, cond, not, ◌&&◌, ◌||◌, ℕ, zero, suc, ◌+◌, ◌-◌, ◌<◌, ◌≤◌, min, max, arith, List, [], ◌∷◌, ◌++◌, length, map, drop, slice_range, get_or, leb, le-leb, get_or-drop, get_or-take, length-drop, length-take-le, ℤ, pos, negsuc, ◌+ℤ◌, ◌≤ℤ◌, inl, inr}
+use Rattle.std.proofs.Common.{◌≡◌, refl, ap, ap₂, sym, ◌∙◌, subst, Bool, true, false, cond, not, ◌&&◌, ◌||◌, ℕ, zero, suc, ◌+◌, ◌-◌, ◌<◌, ◌≤◌, min, arith, List, [], ◌∷◌, ◌++◌, length, map, drop, slice_range, get_or, leb, le-leb, get_or-drop, get_or-take, length-drop, length-take-le, ℤ, pos, negsuc, ◌+ℤ◌, ◌≤ℤ◌, inl, inr}
 use Rattle.std.specs.List.{AllByRecursion, list_any, range_with_len}
 use Rattle.std.proofs.lemmas.Bool.{cases_lt, and_from, and_left, and_right, lt-leb, true≢false}
 use Rattle.std.proofs.lemmas.Int.{ints}
@@ -8,7 +8,7 @@ use Rattle.key_lists.proofs.Every.{all_from, map_same, map_map}
 use Rattle.key_lists.proofs.Booleans.{and_false}
 use Rattle.row_set.specs.declared.ranges.Range.{Range}
 use Rattle.row_set.specs.Ranges.{keys_in, keys_of, holds, IsRangeFrom, AreApart}
-use Rattle.row_set.specs.Moves.{moved_key, as_key, IsKey, Lands, Shifts, clip, moved_range, shift}
+use Rattle.row_set.specs.Moves.{moved_key, as_key, Lands, Shifts, clip, moved_range, shift}
 use Rattle.row_set.proofs.Held.{each_between, holds-true, holds_before, holds_after}
 use Rattle.row_set.proofs.Apart.{apart_weaker}
 use Rattle.row_set.proofs.Counts.{blank}

@@ -1,5 +1,5 @@
-use Rattle.std.proofs.Common.{◌≡◌, ◌+◌, ◌-◌, ◌*◌, ◌<◌, ◌≤◌, ◌∷◌, [], ◌++◌, cond, is_ok, true, ap, sym, ◌∙◌, subst, length, length-append, vec_capacity, slice_range, arith}
-use Rattle.row_set.specs.Ranges.{AreStarts, keys_before, keys_of}
+use Rattle.std.proofs.Common.{◌≡◌, ◌+◌, ◌*◌, ◌∷◌, [], ◌++◌, cond, is_ok, true, ap, sym, ◌∙◌, subst, length, length-append, arith}
+use Rattle.row_set.specs.Ranges.{AreStarts, keys_before}
 use Rattle.row_set.proofs.Counts.{few_before, keys_before_to, start_more}
 use Rattle.row_set.proofs.Parted.{slice_apart}
 use Rattle.row_set.proofs.edits.count_rest.Goals as goal

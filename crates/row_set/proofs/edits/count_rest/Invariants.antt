@@ -1,4 +1,4 @@
-use Rattle.std.proofs.Common.{◌≡◌, ◌+◌, ◌-◌, ◌*◌, ◌≤◌, length, vec_capacity}
+use Rattle.std.proofs.Common.{◌≡◌, ◌-◌, ◌*◌, ◌≤◌, length, vec_capacity}
 use Rattle.row_set.specs.Ranges.{AreStarts, keys_before}
 use Rattle.row_set.proofs.edits.count_rest.Given as goal
 

@@ -1,4 +1,4 @@
-use Rattle.std.proofs.Common.{◌≡◌, ◌+◌, ◌-◌, ◌*◌, ◌/◌, ◌≤◌, ap, sym, ◌∙◌, subst, length, arith}
+use Rattle.std.proofs.Common.{◌/◌, sym, subst, arith}
 use Rattle.row_set.specs.Ranges.{AreStarts}
 use Rattle.row_set.proofs.Counts.{starts_cut}
 use Rattle.row_set.proofs.edits.recount.Goals as goal

@@ -1,4 +1,4 @@
-use Rattle.std.proofs.Common.{◌≡◌, ◌+◌, ◌-◌, ◌^◌, ◌<◌, ◌≤◌, ap, Fits, w64, get_or, arith}
+use Rattle.std.proofs.Common.{◌+◌, arith}
 use Rattle.row_set.proofs.Counts.{blank, few_before, length-keys_more}
 use Rattle.row_set.proofs.Places.{range_at}
 use Rattle.row_set.proofs.search.count_in.Goals as goal

@@ -1,4 +1,4 @@
-use Rattle.std.proofs.Common.{◌≡◌, ◌+◌, ◌-◌, ◌^◌, ◌<◌, ◌≤◌, ap, sym, ◌∙◌, slice_get, Fits, w64, get_or, arith}
+use Rattle.std.proofs.Common.{ap, sym, ◌∙◌, slice_get, arith}
 use Rattle.std.proofs.lemmas.Option.{slice_get_past}
 use Rattle.row_set.specs.Ranges.{keys_of}
 use Rattle.row_set.proofs.Counts.{blank, keys_before_all, length-keys_more}

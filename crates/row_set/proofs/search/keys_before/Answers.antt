@@ -1,4 +1,4 @@
-use Rattle.std.proofs.Common.{◌≡◌, ◌+◌, ◌*◌, ◌/◌, ◌≤◌, length, arith}
+use Rattle.std.proofs.Common.{◌*◌, ◌≤◌, length, arith}
 use Rattle.row_set.proofs.Counts.{counted_to, few_before}
 use Rattle.row_set.proofs.Parted.{slice_apart}
 use Rattle.row_set.proofs.search.keys_before.Goals as goal

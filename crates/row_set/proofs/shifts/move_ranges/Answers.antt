@@ -1,4 +1,4 @@
-use Rattle.std.proofs.Common.{◌++◌, ap, sym, ◌∙◌, subst, map, take, drop, slice_range, to_z, of_z, to_z-of_z, w64}
+use Rattle.std.proofs.Common.{◌++◌, ap, sym, ◌∙◌, subst, map, take, drop, slice_range, to_z-of_z}
 use Rattle.std.specs.List.{AllByRecursion}
 use Rattle.row_set.specs.Moves.{Shifts, shift}
 use Rattle.row_set.specs.Ranges.{AreApart}

@@ -1,4 +1,4 @@
-use Rattle.std.proofs.Common.{◌≡◌, ℕ, ◌*◌, ◌<◌, ◌≤◌, ap, sym, ◌∙◌, subst, take, length, arith}
+use Rattle.std.proofs.Common.{◌≡◌, ℕ, ◌*◌, ◌<◌, ◌≤◌, ap, sym, ◌∙◌, subst, take, length}
 use Rattle.row_set.specs.Ranges.{keys_before, start_of}
 use Rattle.row_set.proofs.Batches.{empty_united}
 use Rattle.row_set.proofs.Counts.{kept_starts}
