@@ -30,7 +30,7 @@ use Rattle.agg_by.specs.ByNumber.{at_number}
 use Rattle.agg_by.specs.Kept.{AnswerAll, Answers, agg_of, cells_in, group_rows, indexed, member_by}
 use Rattle.agg_by.specs.Steps.{first_keys, kept_cells, key_at}
 use Rattle.agg_by.specs.Sums.{no_total, sum_or_null, total_of}
-use Rattle.agg_by.specs.Values.{greatest, in_order, least}
+use Rattle.agg_by.specs.Values.{greatest, in_order, least, opposites}
 use Rattle.agg_by.proofs.Bringing.{keys-members, members}
 use Rattle.agg_by.proofs.GroupRows.{cells-agg, first_at}
 use Rattle.agg_by.proofs.Ordered.{greatest_is, least_is}
@@ -163,7 +163,7 @@ module _ (by : List ℕ) (rows : List PlainRow) (cells : List ℤ) where
       fewer : (n m k : ℕ) → n ≤ 2 ^ 62 → m ≡ n → k ≤ m → k ≤ 2 ^ 62
       fewer n m k h e l = omega (arith, h, e, l)
   answer_is rising few names number named (Min column values) p =
-      told least [] values number refl ∙ ap least (p number ∙ ap (λ (name : Option (List ℤ)). in_order (cells_in by column rows name)) named) ∙ least_is (present (column_of group column))
+      told least [] values number refl ∙ ap least (p number ∙ ap (λ (name : Option (List ℤ)). opposites (cells_in by column rows name)) named) ∙ least_is (present (column_of group column))
   answer_is rising few names number named (Max column values) p =
       told greatest [] values number refl ∙ ap greatest (p number ∙ ap (λ (name : Option (List ℤ)). in_order (cells_in by column rows name)) named) ∙ greatest_is (present (column_of group column))
   answer_is rising few names number named (First column) p = ap (λ ks. cell_of rows column (slice_get ks 0)) keys_group ∙ cell_at column group 0 (own_rows rising) ∙ first_over column group

@@ -14,13 +14,14 @@ use Rattle.tick_model.specs.Tables.{cells_at, keys, same_cells}
 use Rattle.tick_model.specs.Updates.{moved_row, removing, shifting}
 use Rattle.agg_by.specs.declared.running.Running.{Running}
 use Rattle.agg_by.specs.declared.running.Running.TheVariants.{Count, Sum, Min, Max, First, Last}
-use Rattle.agg_by.specs.Answers.{with_row, without_row}
+use Rattle.agg_by.specs.Answers.{HasRow, with_row, without_row}
 use Rattle.agg_by.specs.Kept.{Answers, agg_of, cells_in, group_rows, indexed}
 use Rattle.agg_by.specs.Steps.{key_at}
-use Rattle.agg_by.specs.Sums.{minus, no_total, plus, total_of}
-use Rattle.agg_by.specs.Values.{in_order, placed, unplaced}
+use Rattle.agg_by.specs.Sums.{HasAny, minus, no_total, plus, total_of}
+use Rattle.agg_by.specs.Values.{IsAmong, in_order, opposite, opposites, placed, unplaced}
 use Rattle.agg_by.proofs.Bringing.{absent_member, keys-members, left-members, moved-members, put_back}
-use Rattle.agg_by.proofs.Made.{made_gains, made_loses, sums, values}
+use Rattle.agg_by.proofs.Counted.{placed_among}
+use Rattle.agg_by.proofs.Made.{made_gains, made_has, made_loses, mirrored, sums, values}
 use Rattle.agg_by.proofs.Untouched.{column-shifting}
 
 -- the index of some members
@@ -56,16 +57,25 @@ pub same_answers : (by : List ℕ) (old new : Names) (before after : List PlainR
     → (x : Running) → Answers by old before x → Answers by new after x
 same_answers by old new before after same Count p = tt
 same_answers by old new before after same (Sum column sums) p = λ n. p n ∙ ap total_of (same column n)
-same_answers by old new before after same (Min column values) p = λ n. p n ∙ ap in_order (same column n)
+same_answers by old new before after same (Min column values) p = λ n. p n ∙ ap opposites (same column n)
 same_answers by old new before after same (Max column values) p = λ n. p n ∙ ap in_order (same column n)
 same_answers by old new before after same (First column) p = tt
 same_answers by old new before after same (Last column) p = tt
 
 module _ (by : List ℕ) (rows : List PlainRow) (rising : IsRising (keys rows)) (key : ℕ) (others : List ℕ) (own : is_among key (keys rows) ≡ true) (apart : is_among key others ≡ false) where
+  pub has_row : (names : Names) (number : ℕ) → IsNumberOf number (key_at by rows key) names → (x : Running) → Answers by names (removing others rows) x → HasRow number (cells_at key rows) x
+  has_row names number is Count p = tt
+  has_row names number is (Sum column totals) p = made_has no_total total_of plus minus sums by column names rows rising key others own apart number is totals HasAny (λ x made. tt) p
+  has_row names number is (Min column lists) p =
+      made_has [] opposites (λ value. placed (opposite value)) (λ value. unplaced (opposite value)) mirrored by column names rows rising key others own apart number is lists (λ value. IsAmong (opposite value)) (λ x. placed_among (opposite x)) p
+  has_row names number is (Max column lists) p = made_has [] in_order placed unplaced values by column names rows rising key others own apart number is lists IsAmong placed_among p
+  has_row names number is (First column) p = tt
+  has_row names number is (Last column) p = tt
+
   pub loses : (names : Names) (number : ℕ) → IsNumberOf number (key_at by rows key) names → (x : Running) → Answers by names (removing others rows) x → Answers by names (removing (key ∷ others) rows) (without_row number (cells_at key rows) x)
   loses names number is Count p = tt
   loses names number is (Sum column totals) p = made_loses no_total total_of plus minus sums by column names rows rising key others own apart number is totals p
-  loses names number is (Min column lists) p = made_loses [] in_order placed unplaced values by column names rows rising key others own apart number is lists p
+  loses names number is (Min column lists) p = made_loses [] opposites (λ value. placed (opposite value)) (λ value. unplaced (opposite value)) mirrored by column names rows rising key others own apart number is lists p
   loses names number is (Max column lists) p = made_loses [] in_order placed unplaced values by column names rows rising key others own apart number is lists p
   loses names number is (First column) p = tt
   loses names number is (Last column) p = tt
@@ -73,7 +83,7 @@ module _ (by : List ℕ) (rows : List PlainRow) (rising : IsRising (keys rows)) 
   pub gains : (names : Names) (number : ℕ) → IsNumberOf number (key_at by rows key) names → (x : Running) → Answers by names (removing (key ∷ others) rows) x → Answers by names (removing others rows) (with_row number (cells_at key rows) x)
   gains names number is Count p = tt
   gains names number is (Sum column totals) p = made_gains no_total total_of plus minus sums by column names rows rising key others own apart number is totals p
-  gains names number is (Min column lists) p = made_gains [] in_order placed unplaced values by column names rows rising key others own apart number is lists p
+  gains names number is (Min column lists) p = made_gains [] opposites (λ value. placed (opposite value)) (λ value. unplaced (opposite value)) mirrored by column names rows rising key others own apart number is lists p
   gains names number is (Max column lists) p = made_gains [] in_order placed unplaced values by column names rows rising key others own apart number is lists p
   gains names number is (First column) p = tt
   gains names number is (Last column) p = tt

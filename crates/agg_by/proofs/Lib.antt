@@ -8,6 +8,7 @@ pub mod KeptSteps
 pub mod Touching
 pub mod Made
 pub mod Ordered
+pub mod Counted
 pub mod Answering
 pub mod FirstKeys
 pub mod Noted

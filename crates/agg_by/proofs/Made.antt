@@ -1,5 +1,5 @@
 -- What is made of the cells of each group, where a row comes or goes, and where groups keep their numbers.
-use Rattle.std.proofs.Common.{◌≡◌, ◌≢◌, refl, ap, ap₂, sym, ◌∙◌, Bool, true, false, cond, not, ℕ, suc, List, [], ◌∷◌, map, filter, length, Option, Some, None, inl, inr, ℤ, pos, ◌+ℤ◌, ◌-ℤ◌, neg_ℤ, arith, w64, if◌then◌else◌}
+use Rattle.std.proofs.Common.{◌≡◌, ◌≢◌, refl, ap, ap₂, sym, ◌∙◌, subst, Bool, true, false, cond, not, ℕ, suc, List, [], ◌∷◌, map, filter, length, Option, Some, None, inl, inr, ℤ, pos, ◌+ℤ◌, ◌-ℤ◌, neg_ℤ, arith, w64, if◌then◌else◌}
 use Rattle.std.specs.Prelude.{nat_lt}
 use Rattle.std.specs.Cmp.Rules.{signed_items}
 use Rattle.std.proofs.lemmas.Bool.{cases_eq}
@@ -15,11 +15,11 @@ use Rattle.tick_model.specs.Formulas.{wrap}
 use Rattle.tick_model.specs.Tables.{cell, cells_at, is_null, keys, same_cells}
 use Rattle.tick_model.specs.Updates.{removing}
 use Rattle.agg_by.specs.declared.sums.Total.{Total}
-use Rattle.agg_by.specs.ByNumber.{at_number, changed_at, changed_by}
+use Rattle.agg_by.specs.ByNumber.{IsHeld, at_number, changed_at, changed_by}
 use Rattle.agg_by.specs.Kept.{AreMade, cells_in, group_rows, member_by}
 use Rattle.agg_by.specs.Steps.{key_at}
 use Rattle.agg_by.specs.Sums.{minus, no_total, plus, total_of}
-use Rattle.agg_by.specs.Values.{in_order, placed, unplaced}
+use Rattle.agg_by.specs.Values.{in_order, opposite, opposites, placed, unplaced}
 use Rattle.agg_by.proofs.Bringing.{members, member_at, put_back}
 use Rattle.agg_by.proofs.Answering.{group_is, small_wraps}
 use Rattle.agg_by.proofs.ByNumber.{changed_other, changed_own}
@@ -73,6 +73,14 @@ values = record {
   gains = λ x xs. refl;
   either = λ x y xs. either_first x y (in_order xs);
   loses = λ x xs. unplaced-placed x (in_order xs);
+}
+
+pub mirrored : IsMadeOf [] opposites (λ x. placed (opposite x)) (λ x. unplaced (opposite x))
+mirrored = record {
+  nothing = refl;
+  gains = λ x xs. refl;
+  either = λ x y xs. values.either (opposite x) (opposite y) (map opposite xs);
+  loses = λ x xs. values.loses (opposite x) (map opposite xs);
 }
 
 -- the cells of a column that hold something of the rows with these key cells
@@ -209,6 +217,15 @@ module _ {X : Type 0} (none : X) (make : List ℤ → X) (gain lose : ℤ → X 
         -- one row more
         pub made_gains : Are without entries → Are (removing others rows) (changed_by none gain number value entries)
         made_gains = made_step gain value number (key_at by rows key) is without (removing others rows) group_gains entries
+
+        -- the cell of the row is among those of its group
+        pub made_has : (has : ℤ → X → Type 0) → ((x : ℤ) (made : X) → has x (gain x made)) → Are (removing others rows) entries → IsHeld none has number value entries
+        made_has has own_held are holds =
+            let own = key_at by rows key in
+            subst (has value)
+            (sym (are number ∙ ap (λ (name : Option (List ℤ)). make (cells_in by column (removing others rows) name)) is.own ∙ group_gains own
+            ∙ ap₂ (λ own null. if own then (if null then made without (key_at by rows key) else gain value (made without (key_at by rows key))) else made without (key_at by rows key)) ((signed_items own own).1 refl) holds))
+            (own_held value (made without own))
 
         -- one row less
         pub made_loses : Are (removing others rows) entries → Are without (changed_by none lose number value entries)

@@ -1,20 +1,20 @@
--- Cells in order: one comes to its place and goes again, and the first is the least and the last one the greatest.
-use Rattle.std.proofs.Common.{◌≡◌, refl, ap, sym, ◌∙◌, Bool, true, false, cond, ℕ, zero, suc, ◌-◌, ◌≤◌, arith, List, [], ◌∷◌, length, get_or, take, drop, true≢false, ℤ, int_lt, fold, if◌then◌else◌}
+-- Cells in order: one comes to its place and goes again, and the last one is the greatest.
+use Rattle.std.proofs.Common.{◌≡◌, refl, ap, sym, ◌∙◌, Bool, true, false, cond, ℕ, suc, ◌-◌, arith, List, [], ◌∷◌, length, map, Option, Some, true≢false, ℤ, int_lt, fold, if◌then◌else◌}
 use Rattle.std.specs.Int.{int_min, int_max}
 use Rattle.std.specs.List.{AllByRecursion}
-use Rattle.std.specs.List.Sorted.{IsPartitionedBy}
-use Rattle.std.specs.Prelude.{insert, remove}
+use Rattle.std.specs.Option.{option_map_or}
+use Rattle.std.specs.Prelude.{slice_get, unwrap_or}
 use Rattle.std.proofs.lemmas.Int.{clamps, ints}
-use Rattle.key_lists.proofs.Every.{all_from, every_weaker}
+use Rattle.key_lists.proofs.Every.{every_weaker}
 use Rattle.row_groups.proofs.Order.{later_too, lt_from, lt_to, not_lt_from, not_lt_to}
 use Rattle.tick_model.specs.Agg.{over}
 use Rattle.tick_model.specs.Tables.{null}
-use Rattle.agg_by.specs.Values.{Ascends, greatest, in_order, least, placed, unplaced}
+use Rattle.agg_by.specs.Values.{Ascends, greatest, in_order, last, least, opposite, opposites, placed, unplaced}
 
 less_then : (x y : ℤ) → int_lt y x ≡ true → int_lt x y ≡ false
 less_then x y e = not_lt_to x y (omega (arith, ints, lt_from y x e))
 
-not_itself : (x : ℤ) → int_lt x x ≡ false
+pub not_itself : (x : ℤ) → int_lt x x ≡ false
 not_itself x = not_lt_to x x (omega (arith, ints))
 
 -- before the first that is no less
@@ -56,30 +56,9 @@ unplaced_ascends x (y ∷ ys) h =
       | false ↦ h.1
     ]
 
-in_order_ascends : (xs : List ℤ) → Ascends (in_order xs)
+pub in_order_ascends : (xs : List ℤ) → Ascends (in_order xs)
 in_order_ascends [] = tt
 in_order_ascends (x ∷ xs) = placed_ascends x (in_order xs) (in_order_ascends xs)
-
--- the place of a cell
-pub parted : (x : ℤ) (ys : List ℤ) → Ascends ys → IsPartitionedBy (λ y. int_lt y x) ys
-parted x [] r i j d le lt h = absurd (omega arith)
-parted x (y ∷ ys) r zero zero d le lt h = h
-parted x (y ∷ ys) r zero (suc j) d le lt h =
-    lt_to y x (omega (arith, ints, lt_from (get_or ys j d) x h, not_lt_from (get_or ys j d) y (all_from (λ z. int_lt z y ≡ false) ys r.0 j d (omega arith))))
-parted x (y ∷ ys) r (suc i) zero d le lt h = absurd (omega arith)
-parted x (y ∷ ys) r (suc i) (suc j) d le lt h = parted x ys r.1 i j d (omega arith) (omega arith) h
-
-pub placed_at : (x : ℤ) (ys : List ℤ) (n : ℕ) → n ≤ length ys → AllByRecursion (λ y. int_lt y x ≡ true) (take n ys) → AllByRecursion (λ y. int_lt y x ≡ false) (drop n ys) → insert ys n x ≡ placed x ys
-placed_at x [] zero le before behind = refl
-placed_at x [] (suc n) le before behind = absurd (omega (arith, le))
-placed_at x (y ∷ ys) zero le before behind = sym (placed_by x y ys false behind.0)
-placed_at x (y ∷ ys) (suc n) le before behind = ap (λ zs. y ∷ zs) (placed_at x ys n (omega (arith, le)) before.1 behind) ∙ sym (placed_by x y ys true before.0)
-
-pub unplaced_at : (x : ℤ) (ys : List ℤ) (n : ℕ) → AllByRecursion (λ y. int_lt y x ≡ true) (take n ys) → AllByRecursion (λ y. int_lt y x ≡ false) (drop n ys) → remove ys n ≡ unplaced x ys
-unplaced_at x [] zero before behind = refl
-unplaced_at x [] (suc n) before behind = refl
-unplaced_at x (y ∷ ys) zero before behind = sym (unplaced_by x y ys false behind.0)
-unplaced_at x (y ∷ ys) (suc n) before behind = ap (λ zs. y ∷ zs) (unplaced_at x ys n before.1 behind) ∙ sym (unplaced_by x y ys true before.0)
 
 -- a cell that came goes again
 pub unplaced-placed : (x : ℤ) (ys : List ℤ) → unplaced x (placed x ys) ≡ ys
@@ -121,40 +100,19 @@ either_first x y zs = by (int_lt x y) (int_lt y x) refl refl
         same : x ≡ y
         same = omega (arith, ints, not_lt_from x y e, not_lt_from y x f)
 
--- the least
-first-placed : (d x : ℤ) (ys : List ℤ) → get_or (placed x ys) 0 d ≡ int_min x (get_or ys 0 x)
-first-placed d x [] = omega (arith, ints, clamps)
-first-placed d x (y ∷ ys) = elim (int_lt y x) as (λ b. get_or (if b then y ∷ placed x ys else x ∷ y ∷ ys) 0 d ≡ cond b y x) [ true ↦ refl | false ↦ refl ]
-
-min_through : (x y z : ℤ) → int_min (int_min x y) z ≡ int_min x (int_min y z)
-min_through x y z = omega (arith, ints, clamps)
-
-min_first : (x : ℤ) (xs : List ℤ) → fold int_min x xs ≡ int_min x (get_or (in_order xs) 0 x)
-min_first x [] = omega (arith, ints, clamps)
-min_first x (y ∷ ys) = min_first (int_min x y) ys ∙ through (in_order ys) ∙ ap (int_min x) (sym (first-placed x y (in_order ys)))
-  where
-    through : (zs : List ℤ) → int_min (int_min x y) (get_or zs 0 (int_min x y)) ≡ int_min x (int_min y (get_or zs 0 y))
-    through [] = omega (arith, ints, clamps)
-    through (z ∷ zs) = min_through x y z
-
-pub least_is : (xs : List ℤ) → least (in_order xs) ≡ over int_min xs
-least_is [] = refl
-least_is (x ∷ xs) = first-placed null x (in_order xs) ∙ sym (min_first x xs)
-
 -- the last one, or else another
-abbrev final : ℤ → List ℤ → ℤ
+abbrev pub final : ℤ → List ℤ → ℤ
 final d [] = d
 final d (x ∷ xs) = final x xs
 
-final_at : (d : ℤ) (xs : List ℤ) → get_or xs (length xs - 1) d ≡ final d xs
-final_at d [] = refl
-final_at d (x ∷ []) = refl
-final_at d (x ∷ y ∷ ys) = ap (λ n. get_or (x ∷ y ∷ ys) n d) (back (length ys)) ∙ final_at d (y ∷ ys)
+pub last_final : (x : ℤ) (xs : List ℤ) → last (x ∷ xs) ≡ Some (final x xs)
+last_final x [] = refl
+last_final x (y ∷ ys) = ap (slice_get (x ∷ y ∷ ys)) (back (length ys)) ∙ last_final y ys
   where
     back : (n : ℕ) → suc (suc n) - 1 ≡ suc (suc n - 1)
     back n = omega arith
 
-final_above : (y : ℤ) (ys : List ℤ) → Ascends (y ∷ ys) → int_lt (final y ys) y ≡ false
+pub final_above : (y : ℤ) (ys : List ℤ) → Ascends (y ∷ ys) → int_lt (final y ys) y ≡ false
 final_above y [] h = not_itself y
 final_above y (z ∷ zs) h = later_too y z (final z zs) h.0.0 (final_above z zs h.1)
 
@@ -181,6 +139,32 @@ max_last x (y ∷ ys) = max_last (int_max x y) ys ∙ through (in_order ys) ∙ 
     through [] = omega (arith, ints, clamps)
     through (z ∷ zs) = max_through x y (final z zs)
 
+last-placed : (x : ℤ) (ys : List ℤ) → Ascends ys → last (placed x ys) ≡ Some (int_max x (final x ys))
+last-placed x [] h = ap Some (omega (arith, ints, clamps))
+last-placed x (y ∷ ys) h = by (int_lt y x) ∙ ap Some (final-placed x x (y ∷ ys) h)
+  where
+    by : (b : Bool) → last (if b then y ∷ placed x ys else x ∷ y ∷ ys) ≡ Some (final x (if b then y ∷ placed x ys else x ∷ y ∷ ys))
+    by true = last_final y (placed x ys)
+    by false = last_final x (y ∷ ys)
+
+last_is : (x : ℤ) (xs : List ℤ) → last (in_order (x ∷ xs)) ≡ Some (fold int_max x xs)
+last_is x xs = last-placed x (in_order xs) (in_order_ascends xs) ∙ ap Some (sym (max_last x xs))
+
 pub greatest_is : (xs : List ℤ) → greatest (in_order xs) ≡ over int_max xs
 greatest_is [] = refl
-greatest_is (x ∷ xs) = final_at null (in_order (x ∷ xs)) ∙ final-placed null x (in_order xs) (in_order_ascends xs) ∙ sym (max_last x xs)
+greatest_is (x ∷ xs) = ap (λ (cell : Option ℤ). unwrap_or cell null) (last_is x xs)
+
+-- the least has the greatest opposite
+max_opposites : (x : ℤ) (xs : List ℤ) → fold int_max (opposite x) (map opposite xs) ≡ opposite (fold int_min x xs)
+max_opposites x [] = refl
+max_opposites x (y ∷ ys) = ap (λ z. fold int_max z (map opposite ys)) (turned x y) ∙ max_opposites (int_min x y) ys
+  where
+    turned : (x y : ℤ) → int_max (opposite x) (opposite y) ≡ opposite (int_min x y)
+    turned x y = omega (arith, ints, clamps)
+
+pub least_is : (xs : List ℤ) → least (opposites xs) ≡ over int_min xs
+least_is [] = refl
+least_is (x ∷ xs) = ap (λ (cell : Option ℤ). option_map_or opposite cell null) (last_is (opposite x) (map opposite xs)) ∙ ap opposite (max_opposites x xs) ∙ back (fold int_min x xs)
+  where
+    back : (x : ℤ) → opposite (opposite x) ≡ x
+    back x = omega (arith, ints)

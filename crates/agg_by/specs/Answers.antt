@@ -1,14 +1,15 @@
 -- What is kept for an aggregate, as it answers and as rows go and come.
 --     answer running number group table      what is said of the group with a number, whose members and table these are
+--     HasRow number row running      a row of the group with a number is among those that are answered
 --     without_row number row running      a row of the group with a number goes
 --     with_row number row running      a row comes into the group with a number
 use Rattle.std.specs.Prelude.{ℕ, ◌-◌, ◌<◌, List, [], Option, length, slice_get, ℤ, pos}
 use Rattle.std.specs.Option.{option_map_or}
 use Rattle.agg_by.specs.declared.running.Running.{Running}
 use Rattle.agg_by.specs.declared.running.Running.TheVariants.{Count, Sum, Min, Max, First, Last}
-use Rattle.agg_by.specs.ByNumber.{changed_by}
-use Rattle.agg_by.specs.Sums.{minus, no_total, plus, sum_or_null}
-use Rattle.agg_by.specs.Values.{greatest, least, placed, unplaced}
+use Rattle.agg_by.specs.ByNumber.{IsHeld, changed_by}
+use Rattle.agg_by.specs.Sums.{HasAny, minus, no_total, plus, sum_or_null}
+use Rattle.agg_by.specs.Values.{IsAmong, greatest, least, opposite, placed, unplaced}
 use Rattle.row_groups.specs.Members.{Member, keys_of}
 use Rattle.tick_model.specs.Tables.{cell, cells_at, null}
 use Rattle.tick_model.specs.declared.table.PlainRow.{PlainRow}
@@ -34,10 +35,18 @@ IsWithin width (Max column values) = Unit {0}
 IsWithin width (First column) = column < width
 IsWithin width (Last column) = column < width
 
+abbrev pub HasRow : ℕ → List ℤ → Running → Type 0
+HasRow number row Count = Unit {0}
+HasRow number row (Sum column sums) = IsHeld no_total HasAny number (cell row column) sums
+HasRow number row (Min column values) = IsHeld [] (λ value. IsAmong (opposite value)) number (cell row column) values
+HasRow number row (Max column values) = IsHeld [] IsAmong number (cell row column) values
+HasRow number row (First column) = Unit {0}
+HasRow number row (Last column) = Unit {0}
+
 abbrev pub without_row : ℕ → List ℤ → Running → Running
 without_row number row Count = Count
 without_row number row (Sum column sums) = Sum column (changed_by no_total minus number (cell row column) sums)
-without_row number row (Min column values) = Min column (changed_by [] unplaced number (cell row column) values)
+without_row number row (Min column values) = Min column (changed_by [] (λ value. unplaced (opposite value)) number (cell row column) values)
 without_row number row (Max column values) = Max column (changed_by [] unplaced number (cell row column) values)
 without_row number row (First column) = First column
 without_row number row (Last column) = Last column
@@ -45,7 +54,7 @@ without_row number row (Last column) = Last column
 abbrev pub with_row : ℕ → List ℤ → Running → Running
 with_row number row Count = Count
 with_row number row (Sum column sums) = Sum column (changed_by no_total plus number (cell row column) sums)
-with_row number row (Min column values) = Min column (changed_by [] placed number (cell row column) values)
+with_row number row (Min column values) = Min column (changed_by [] (λ value. placed (opposite value)) number (cell row column) values)
 with_row number row (Max column values) = Max column (changed_by [] placed number (cell row column) values)
 with_row number row (First column) = First column
 with_row number row (Last column) = Last column

@@ -15,7 +15,7 @@ use Rattle.agg_by.specs.declared.running.Running.{Running}
 use Rattle.agg_by.specs.declared.running.Running.TheVariants.{Count, Sum, Min, Max, First, Last}
 use Rattle.agg_by.specs.ByNumber.{at_number}
 use Rattle.agg_by.specs.Sums.{no_total, total_of}
-use Rattle.agg_by.specs.Values.{in_order}
+use Rattle.agg_by.specs.Values.{in_order, opposites}
 use Rattle.row_groups.specs.Members.{Grouped, Member, Names, groups_of, member_of, name_at}
 use Rattle.tick_model.specs.Agg.{column_of, key_cells, present}
 use Rattle.tick_model.specs.Tables.{cell, same_cells}
@@ -55,7 +55,7 @@ agg_of (Last column) = LastAgg column
 abbrev pub Answers : List ℕ → Names → List PlainRow → Running → Type 0
 Answers by names rows Count = Unit {0}
 Answers by names rows (Sum column sums) = AreMade no_total total_of by names column rows sums
-Answers by names rows (Min column values) = AreMade [] in_order by names column rows values
+Answers by names rows (Min column values) = AreMade [] opposites by names column rows values
 Answers by names rows (Max column values) = AreMade [] in_order by names column rows values
 Answers by names rows (First column) = Unit {0}
 Answers by names rows (Last column) = Unit {0}

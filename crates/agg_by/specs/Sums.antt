@@ -2,6 +2,7 @@
 --     total_of cells      their sum, and how many they are
 --     sum_or_null total      the sum, or null where it is of no cells
 --     plus value total, minus value total      one cell more, and one less
+--     HasAny value total      any cell may be taken out
 use Rattle.std.specs.Prelude.{List, length, ℤ, pos, ◌+ℤ◌, ◌-ℤ◌, if◌then◌else◌}
 use Rattle.std.specs.Ordering.{int_eq}
 use Rattle.agg_by.specs.declared.sums.Total.{Total}
@@ -23,3 +24,6 @@ plus value total = record { sum = wrap (total.sum +ℤ value); count = wrap (tot
 
 abbrev pub minus : ℤ → Total → Total
 minus value total = record { sum = wrap (total.sum -ℤ value); count = wrap (total.count -ℤ pos 1) }
+
+abbrev pub HasAny : ℤ → Total → Type 0
+HasAny value total = Unit {0}

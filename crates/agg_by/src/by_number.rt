@@ -1,7 +1,7 @@
 //! What is kept for each group by its number.
 
 ghost use Rattle.std.specs.Prelude.{◌≡◌, ℤ, [], OnOk, length, option_copied, slice_get, ◌<◌};
-ghost use Rattle.agg_by.specs.ByNumber.{changed_at, changed_by};
+ghost use Rattle.agg_by.specs.ByNumber.{IsHeld, changed_at, changed_by};
 
 use std::alloc::{AllocError, Global};
 use std::marker::Model;
@@ -18,6 +18,9 @@ pub(crate) trait OfCells: Drop {
     /// What is kept of one cell less, which is among them.
     ghost without_cell: { ℤ → Self → Self };
 
+    /// Whether a cell is among those that it is kept of, as far as that has to be known to take it out.
+    ghost has_cell: { ℤ → Self → Type 0 };
+
     /// What is kept of no cells. It takes no memory.
     fn new(alloc: Global) -> Self
         ensures { result ≡ none };
@@ -27,8 +30,9 @@ pub(crate) trait OfCells: Drop {
         ensures { OnOk result (self.new ≡ with_cell value self.old) };
 
     /// Takes a cell out.
-    fn take(&mut self, value: i64)
-        ensures { self.new ≡ without_cell value self.old };
+    fn take(&mut self, value: i64) -> Result<(), AllocError>
+        requires { has_cell value self.old }
+        ensures { OnOk result (self.new ≡ without_cell value self.old) };
 }
 
 /// What is kept for each group by its number. A number that is past the end stands for no cells.
@@ -87,13 +91,13 @@ impl<T: OfCells> ByNumber<T> {
 
     /// Takes a cell out of the group with a number, if it holds something.
     pub(crate) fn take(&mut self, number: usize, value: i64) -> Result<(), AllocError>
+        requires { IsHeld T.none T.has_cell number value self.old }
         ensures { OnOk result (self.new ≡ changed_by T.none T.without_cell number value self.old) }
     {
         if is_null(value) {
             return Ok(());
         }
         self.make_room(number)?;
-        self.entries[number].take(value);
-        Ok(())
+        self.entries[number].take(value)
     }
 }

@@ -3,7 +3,7 @@
 ghost use Rattle.std.specs.Prelude.{◌≡◌, ◌<◌, ◌≤◌, ◌+◌, ◌++◌, ◌^◌, [], ℕ, List, length, map, IfOk, IsTrue, OnOk};
 ghost use Rattle.std.specs.List.{AllByRecursion};
 ghost use Rattle.std.specs.Option.{ForSome};
-ghost use Rattle.agg_by.specs.Answers.{IsWithin, answer, cell_of, with_row, without_row};
+ghost use Rattle.agg_by.specs.Answers.{HasRow, IsWithin, answer, cell_of, with_row, without_row};
 ghost use Rattle.agg_by.specs.Kept.{AnswerAll, Answers, agg_of};
 ghost use Rattle.agg_by.specs.Moments.{table_at};
 ghost use Rattle.key_lists.specs.Keys.{is_among};
@@ -13,7 +13,7 @@ ghost use Rattle.tick_model.specs.Tables.{keys};
 use crate::by_number::ByNumber;
 use crate::moment::Moment;
 use crate::sums::Total;
-use crate::values::Values;
+use crate::values::{Opposites, Values};
 use row_groups::Group;
 use std::alloc::{AllocError, Global};
 use std::sync::ledger::Ledger;
@@ -28,8 +28,9 @@ pub enum Running {
     Count,
     /// The sum of the column in each group.
     Sum(u32, ByNumber<Total>),
-    /// The cells of the column in each group, in order.
-    Min(u32, ByNumber<Values>),
+    /// The cells of the column in each group, by their opposites.
+    Min(u32, ByNumber<Opposites>),
+    /// The cells of the column in each group.
     Max(u32, ByNumber<Values>),
     First(u32),
     Last(u32),
@@ -53,6 +54,7 @@ impl Running {
 
     /// Takes a row out of the group with a number.
     pub(crate) fn take(&mut self, number: usize, row: &[i64]) -> Result<(), AllocError>
+        requires { HasRow number row.now self.old }
         ensures { OnOk result (self.new ≡ without_row number row.now self.old) }
     {
         match self {
@@ -162,6 +164,7 @@ pub(crate) fn put_values<L: Ledger>(
 
 /// Takes a row out of the group with a number everywhere.
 pub(crate) fn take_all(all: &mut [Running], number: usize, row: &[i64]) -> Result<(), AllocError>
+    requires { AllByRecursion (HasRow number row.now) all.old }
     ensures { OnOk result (all.new ≡ map (without_row number row.now) all.old) }
 {
     for place in 0..all.len() {

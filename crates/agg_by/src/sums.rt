@@ -25,13 +25,15 @@ impl Total {
 }
 
 impl OfCells for Total {
-    ghost use Rattle.agg_by.specs.Sums.{minus, no_total, plus};
+    ghost use Rattle.agg_by.specs.Sums.{HasAny, minus, no_total, plus};
 
     ghost none = { no_total };
 
     ghost with_cell = { plus };
 
     ghost without_cell = { minus };
+
+    ghost has_cell = { HasAny };
 
     fn new(_alloc: Global) -> Total {
         Total { sum: 0, count: 0 }
@@ -43,8 +45,9 @@ impl OfCells for Total {
         Ok(())
     }
 
-    fn take(&mut self, value: i64) {
+    fn take(&mut self, value: i64) -> Result<(), AllocError> {
         self.sum = self.sum.wrapping_sub(value);
         self.count = self.count.wrapping_sub(1);
+        Ok(())
     }
 }

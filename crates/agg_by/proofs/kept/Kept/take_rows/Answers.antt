@@ -1,7 +1,8 @@
 use Rattle.std.proofs.Common.{◌≡◌, refl, ap, ap₂, sym, ◌∙◌, subst, rules, arith, true, IsTrue, List, Some, [], ◌∷◌, ◌++◌, ℕ, ℤ, ◌+◌, ◌*◌, ◌≤◌, length, map, option_map, is_some}
+use Rattle.std.specs.List.{AllByRecursion}
 use Rattle.std.proofs.lemmas.List.{with_items_is}
 use Rattle.key_lists.specs.Keys.{is_among}
-use Rattle.key_lists.proofs.Every.{filter_all}
+use Rattle.key_lists.proofs.Every.{every_weaker, filter_all}
 use Rattle.row_changes.proofs.Comparing.{reads_next}
 use Rattle.row_groups.specs.Members.{IsNumberOf, Member, Numbered, groups_of, member_under}
 use Rattle.row_set.proofs.Yielded.{next_has, next_new, yielded_all}
@@ -10,11 +11,11 @@ use Rattle.tick_model.specs.Tables.{cells_at, keys}
 use Rattle.tick_model.specs.Updates.{removing}
 use Rattle.tick_table.specs.Ticking.{Ticking}
 use Rattle.agg_by.specs.declared.running.Running.{Running}
-use Rattle.agg_by.specs.Answers.{without_row}
+use Rattle.agg_by.specs.Answers.{HasRow, without_row}
 use Rattle.agg_by.specs.Kept.{AnswerAll, Answers}
 use Rattle.agg_by.specs.Steps.{key_at}
 use Rattle.agg_by.proofs.Answering.{known_at, there_at}
-use Rattle.agg_by.proofs.KeptSteps.{all_changed, loses, removing-last, without_agg}
+use Rattle.agg_by.proofs.KeptSteps.{all_changed, has_row, loses, removing-last, without_agg}
 use Rattle.agg_by.proofs.kept.Kept.take_rows.Goals as goal
 
 pub loop-key-init : goal.loop-key-init
@@ -39,6 +40,28 @@ number_of-number-requires g c =
     let own : is_among c.in-Some.key (keys t.rows) ≡ true = next_has c.loop-key.yielded c.into_iter-key-iterator.ensures.into_iter_gives c.loop-key.yielded_by c.in-Some.ensures.steps (λ key. is_among key (keys t.rows) ≡ true) c.requires.gone in
     subst (λ (kept : Numbered). is_some (member_under c.in-Some.key kept.members) ≡ true) (sym c.loop-key.invariant.rows)
     (there_at c.args.self.now.by t c.requires.old_table (groups_of c.args.self.now.rows) c.requires.keeps.rows c.in-Some.key own)
+
+pub take_all-requires : goal.take_all-requires
+take_all-requires g c =
+    let rows = c.args.input.now.old.rows in
+    let by = c.args.self.now.by in
+    let names = c.args.self.now.rows.names in
+    let yielded = c.loop-key.yielded in
+    let gives = c.into_iter-key-iterator.ensures.into_iter_gives in
+    let key = c.in-Some.key in
+    let number = c.number_of-number.result in
+    let items = c.loop-key.self.running.items in
+    let own : is_among key (keys rows) ≡ true = next_has yielded gives c.loop-key.yielded_by c.in-Some.ensures.steps (λ key. is_among key (keys rows) ≡ true) c.requires.gone in
+    let known : option_map (λ (member : Member). member.cells) (member_under key c.loop-key.self.rows.members) ≡ Some (key_at by rows key) =
+    ap (λ (kept : Numbered). option_map (λ (member : Member). member.cells) (member_under key kept.members)) c.loop-key.invariant.rows
+    ∙ known_at by c.args.input.now.old c.requires.old_table (groups_of c.args.self.now.rows) c.requires.keeps.rows key own in
+    let is : IsNumberOf number (key_at by rows key) names = subst (λ (kept : Numbered). IsNumberOf number (key_at by rows key) kept.names) c.loop-key.invariant.rows (c.number_of-number.ensures (key_at by rows key) known) in
+    let all : c.deref_mut.result.now ≡ items = search rules in
+    let row : c.row-row.result.now ≡ cells_at key rows = c.row-row.ensures.cells ∙ ap (λ (table : Ticking). cells_at key table.old.rows) c.loop-key.invariant.table in
+    let has : AllByRecursion (HasRow number (cells_at key rows)) items =
+    every_weaker (Answers by names (removing yielded rows)) (HasRow number (cells_at key rows)) items
+    (has_row by rows c.requires.old_table.rising key yielded own (next_new yielded gives c.loop-key.yielded_by c.in-Some.ensures.steps) names number is) c.loop-key.invariant.running.1 in
+    subst (λ (row : List ℤ). AllByRecursion (HasRow number row) c.deref_mut.result.now) (sym row) (subst (AllByRecursion (HasRow number (cells_at key rows))) (sym all) has)
 
 pub loop-key-preserved : goal.loop-key-preserved
 loop-key-preserved g c =

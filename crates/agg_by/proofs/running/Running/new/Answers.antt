@@ -2,8 +2,8 @@ use Rattle.std.proofs.Common.{ℤ, sym, subst, [], List}
 use Rattle.agg_by.specs.declared.sums.Total.{Total}
 use Rattle.agg_by.specs.Kept.{AreMade}
 use Rattle.agg_by.specs.Sums.{minus, no_total, plus, total_of}
-use Rattle.agg_by.specs.Values.{in_order, placed, unplaced}
-use Rattle.agg_by.proofs.Made.{none_made, sums, values}
+use Rattle.agg_by.specs.Values.{in_order, opposite, opposites, placed, unplaced}
+use Rattle.agg_by.proofs.Made.{mirrored, none_made, sums, values}
 use Rattle.agg_by.proofs.running.Running.new.Goals as goal
 
 pub returns-in-Sum-clause-answers : goal.returns-in-Sum-clause-answers
@@ -12,7 +12,8 @@ returns-in-Sum-clause-answers c = λ by names.
 
 pub returns-in-Min-clause-answers : goal.returns-in-Min-clause-answers
 returns-in-Min-clause-answers c = λ by names.
-    subst (λ (lists : List (List ℤ)). AreMade [] in_order by names c.in-Min.column [] lists) (sym c.new-in-Min.ensures) (none_made [] in_order placed unplaced values by c.in-Min.column names)
+    subst (λ (lists : List (List ℤ)). AreMade [] opposites by names c.in-Min.column [] lists) (sym c.new-in-Min.ensures)
+    (none_made [] opposites (λ value. placed (opposite value)) (λ value. unplaced (opposite value)) mirrored by c.in-Min.column names)
 
 pub returns-in-Max-clause-answers : goal.returns-in-Max-clause-answers
 returns-in-Max-clause-answers c = λ by names.

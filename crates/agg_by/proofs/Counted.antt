@@ -1,0 +1,456 @@
+-- Cells by how often each is among them: cells in order are known by it, and so are those that are left of heaps.
+use Rattle.std.proofs.Common.{◌≡◌, refl, ap, ap₂, sym, ◌∙◌, subst, Bool, true, false, cond, ℕ, zero, suc, ◌+◌, ◌<◌, ◌≤◌, arith, List, [], ◌∷◌, length, get_or, Option, Some, None, ℤ, int_lt, is_ok, is_some, OnOk, Result, Ok, Err, true≢false, if◌then◌else◌}
+use Rattle.std.specs.BinaryHeap.{IsHeap, IsUpperBound, PopsGreatest}
+use Rattle.std.specs.Cmp.{int_cmp_total, signed_Decides}
+use Rattle.std.specs.List.{AllByRecursion}
+use Rattle.std.specs.List.Sorted.{IsPermutation}
+use Rattle.std.specs.Ordering.{int_cmp, int_eq, is_lt}
+use Rattle.std.specs.declared.cmp.Ordering.TheVariants.{Less, Equal, Greater}
+use Rattle.std.specs.Prelude.{IfSome, nat_lt, slice_get}
+use Rattle.std.proofs.lemmas.Bool.{lt-ltb}
+use Rattle.std.proofs.HeapSift.{empty as heap_empty, greatest as heap_greatest}
+use Rattle.std.proofs.lemmas.Int.{ints}
+use Rattle.std.proofs.lemmas.List.Sorted.{sum_by-IsPermutation}
+use Rattle.std.proofs.lemmas.List.Sums.{sum_by-cons}
+use Rattle.row_groups.proofs.Order.{later_too, lt_from, not_lt_from, not_lt_to}
+use Rattle.tick_model.specs.Tables.{null}
+use Rattle.agg_by.specs.Values.{Ascends, IsAmong, IsKept, IsSettled, count, in_order, last, left, placed, top, unplaced}
+use Rattle.agg_by.proofs.Ordered.{final, final_above, in_order_ascends, last_final, not_itself, placed_ascends, unplaced_ascends}
+
+-- whether two cells are the same, as a number
+abbrev one : ℤ → ℤ → ℕ
+one x y = cond (int_eq x y) 1 0
+
+count_first : (v x : ℤ) (xs : List ℤ) → count v (x ∷ xs) ≡ one x v + count v xs
+count_first v x xs = sum_by-cons (λ cell. cond (int_eq cell v) 1 0) x xs
+
+count_permuted : (v : ℤ) (xs ys : List ℤ) → IsPermutation xs ys → count v ys ≡ count v xs
+count_permuted v xs ys h = sum_by-IsPermutation (λ cell. cond (int_eq cell v) 1 0) xs ys h
+
+count_pushed : (v x : ℤ) (xs ys : List ℤ) → IsPermutation (x ∷ xs) ys → count v ys ≡ one x v + count v xs
+count_pushed v x xs ys h = count_permuted v (x ∷ xs) ys h ∙ count_first v x xs
+
+count_popped : (v x : ℤ) (xs ys : List ℤ) → IsPermutation xs (x ∷ ys) → count v xs ≡ one x v + count v ys
+count_popped v x xs ys h = sym (count_permuted v xs (x ∷ ys) h) ∙ count_first v x ys
+
+one_own : (x : ℤ) → one x x ≡ 1
+one_own x = ap (λ b. cond b 1 0) ((signed_Decides x x).1 refl)
+
+one_same : (x y v : ℤ) → x ≡ y → one x v ≡ one y v
+one_same x y v e = ap (λ z. one z v) e
+
+one_less : (x y : ℤ) → int_lt x y ≡ true → one y x ≡ 0
+one_less x y e = ap (λ b. cond b 1 0) (by (int_eq y x) refl)
+  where
+    by : (b : Bool) → int_eq y x ≡ b → b ≡ false
+    by true f = absurd (omega (arith, ints, lt_from x y e, (signed_Decides y x).0 f))
+    by false f = refl
+
+same_by : (x y : ℤ) → int_lt x y ≡ false → int_lt y x ≡ false → x ≡ y
+same_by x y e f = omega (arith, ints, not_lt_from x y e, not_lt_from y x f)
+
+own_among : (x : ℤ) (xs : List ℤ) → IsAmong x (x ∷ xs)
+own_among x xs = omega (arith, count_first x x xs, one_own x)
+
+pub some_long : (v : ℤ) (xs : List ℤ) → IsAmong v xs → 0 < length xs
+some_long v [] among = absurd (omega (arith, among))
+some_long v (x ∷ xs) among = omega arith
+
+-- what is said of the first cell and of the others is said of each that is among them
+among_cases : (P : Type 0) (v x : ℤ) (xs : List ℤ) → IsAmong v (x ∷ xs) → (x ≡ v → P) → (IsAmong v xs → P) → P
+among_cases P v x xs h first others = by (int_eq x v) refl
+  where
+    by : (b : Bool) → int_eq x v ≡ b → P
+    by true e = first ((signed_Decides x v).0 e)
+    by false e = others (later (count v (x ∷ xs)) (one x v) (count v xs) h (count_first v x xs) (ap (λ b. cond b 1 0) e))
+      where
+        later : (n m k : ℕ) → 0 < n → n ≡ m + k → m ≡ 0 → 0 < k
+        later n m k h e f = omega (arith, h, e, f)
+
+-- one cell more
+count-placed : (v x : ℤ) (ys : List ℤ) → count v (placed x ys) ≡ one x v + count v ys
+count-placed v x [] = count_first v x []
+count-placed v x (y ∷ ys) = by (int_lt y x) (count-placed v x ys)
+  where
+    turned : (a b c : ℕ) → a + (b + c) ≡ b + (a + c)
+    turned a b c = omega arith
+
+    by : (b : Bool) → count v (placed x ys) ≡ one x v + count v ys → count v (if b then y ∷ placed x ys else x ∷ y ∷ ys) ≡ one x v + count v (y ∷ ys)
+    by true rest =
+        count_first v y (placed x ys) ∙ ap (λ n. one y v + n) rest ∙ turned (one y v) (one x v) (count v ys)
+        ∙ ap (λ n. one x v + n) (sym (count_first v y ys))
+    by false rest = count_first v x (y ∷ ys)
+
+pub placed_among : (x : ℤ) (ys : List ℤ) → IsAmong x (placed x ys)
+placed_among x ys = omega (arith, count-placed x x ys, one_own x)
+
+count-in_order : (v : ℤ) (xs : List ℤ) → count v (in_order xs) ≡ count v xs
+count-in_order v [] = refl
+count-in_order v (x ∷ xs) = count-placed v x (in_order xs) ∙ ap (λ n. one x v + n) (count-in_order v xs) ∙ sym (count_first v x xs)
+
+-- no cell is below the first
+none_below : (x y : ℤ) (ys : List ℤ) → int_lt x y ≡ true → AllByRecursion (λ z. int_lt z y ≡ false) ys → count x ys ≡ 0
+none_below x y [] e h = refl
+none_below x y (z ∷ zs) e h = count_first x z zs ∙ both (one z x) (count x zs) (one_less x z (above x y z e h.0)) (none_below x y zs e h.1)
+  where
+    above : (x y z : ℤ) → int_lt x y ≡ true → int_lt z y ≡ false → int_lt x z ≡ true
+    above x y z e f = by (int_lt x z) refl
+      where
+        by : (b : Bool) → int_lt x z ≡ b → b ≡ true
+        by true g = refl
+        by false g = absurd (omega (arith, ints, lt_from x y e, not_lt_from z y f, not_lt_from x z g))
+
+    both : (m n : ℕ) → m ≡ 0 → n ≡ 0 → m + n ≡ 0
+    both m n e f = omega (arith, e, f)
+
+not_below : (x y : ℤ) (ys : List ℤ) → Ascends (y ∷ ys) → IsAmong x (y ∷ ys) → int_lt x y ≡ false
+not_below x y ys h among = by (int_lt x y) refl
+  where
+    none : int_lt x y ≡ true → count x (y ∷ ys) ≡ 0
+    none e = none_below x y (y ∷ ys) e (not_itself y, h.0)
+
+    by : (b : Bool) → int_lt x y ≡ b → b ≡ false
+    by true e = absurd (omega (arith, among, none e))
+    by false e = refl
+
+-- one cell less, that is there
+count-unplaced : (v x : ℤ) (ys : List ℤ) → Ascends ys → IsAmong x ys → one x v + count v (unplaced x ys) ≡ count v ys
+count-unplaced v x [] h among = absurd (omega (arith, among))
+count-unplaced v x (y ∷ ys) h among = by (int_lt y x) refl (count-unplaced v x ys h.1)
+  where
+    turned : (a b c n : ℕ) → a + c ≡ n → a + (b + c) ≡ b + n
+    turned a b c n e = omega (arith, e)
+
+    by : (b : Bool) → int_lt y x ≡ b → (IsAmong x ys → one x v + count v (unplaced x ys) ≡ count v ys) → one x v + count v (if b then y ∷ unplaced x ys else ys) ≡ count v (y ∷ ys)
+    by true e rest =
+        ap (λ n. one x v + n) (count_first v y (unplaced x ys))
+        ∙ turned (one x v) (one y v) (count v (unplaced x ys)) (count v ys) (rest (among_cases (IsAmong x ys) x y ys among (λ same. absurd (omega (arith, ints, lt_from y x e, same))) (λ later. later)))
+        ∙ sym (count_first v y ys)
+    by false e rest = ap (λ n. n + count v ys) (one_same x y v (same_by x y (not_below x y ys h among) e)) ∙ sym (count_first v y ys)
+
+-- cells in order are known by how often each is among them
+same_counts : (xs ys : List ℤ) → Ascends xs → Ascends ys → ((v : ℤ) → count v xs ≡ count v ys) → xs ≡ ys
+same_counts [] [] h k same = refl
+same_counts [] (y ∷ ys) h k same = absurd (omega (arith, own_among y ys, same y))
+same_counts (x ∷ xs) [] h k same = absurd (omega (arith, own_among x xs, same x))
+same_counts (x ∷ xs) (y ∷ ys) h k same = ap₂ (λ z zs. z ∷ zs) first (same_counts xs ys h.1 k.1 others)
+  where
+    first : x ≡ y
+    first = same_by x y (not_below x y ys k (subst (λ n. 0 < n) (same x) (own_among x xs))) (not_below y x xs h (subst (λ n. 0 < n) (sym (same y)) (own_among y ys)))
+
+    others : (v : ℤ) → count v xs ≡ count v ys
+    others v = rest (one x v) (one y v) (count v xs) (count v ys) (one_same x y v first) (sym (count_first v x xs) ∙ same v ∙ count_first v y ys)
+      where
+        rest : (a b m n : ℕ) → a ≡ b → a + m ≡ b + n → m ≡ n
+        rest a b m n e f = omega (arith, e, f)
+
+-- what is left of the live cells
+record IsLeft (live gone cells : List ℤ) : Type 0 where
+  ascends : Ascends cells
+  counts : (v : ℤ) → count v gone + count v cells ≡ count v live
+
+left_counts : (live gone : List ℤ) → ((v : ℤ) → count v gone ≤ count v live) → IsLeft live gone (left live gone)
+left_counts live [] h = record { ascends = in_order_ascends live; counts = λ v. none (count v (in_order live)) (count v live) (count-in_order v live) }
+  where
+    none : (m n : ℕ) → m ≡ n → 0 + m ≡ n
+    none m n e = omega (arith, e)
+left_counts live (g ∷ gone) h =
+    let rest = left_counts live gone (λ v. fewer (count v (g ∷ gone)) (one g v) (count v gone) (count v live) (count_first v g gone) (h v)) in
+    let there : IsAmong g (left live gone) = some (count g (g ∷ gone)) (one g g) (count g gone) (count g (left live gone)) (count g live) (count_first g g gone) (one_own g) (h g) (rest.counts g) in record {
+      ascends = unplaced_ascends g (left live gone) rest.ascends;
+      counts = λ v.
+          all (count v (g ∷ gone)) (one g v) (count v gone) (count v (unplaced g (left live gone))) (count v (left live gone)) (count v live) (count_first v g gone)
+          (count-unplaced v g (left live gone) rest.ascends there) (rest.counts v);
+    }
+  where
+    fewer : (n a m k : ℕ) → n ≡ a + m → n ≤ k → m ≤ k
+    fewer n a m k e h = omega (arith, e, h)
+
+    some : (n a m l k : ℕ) → n ≡ a + m → a ≡ 1 → n ≤ k → m + l ≡ k → 0 < l
+    some n a m l k e f h g = omega (arith, e, f, h, g)
+
+    all : (n a m u l k : ℕ) → n ≡ a + m → a + u ≡ l → m + l ≡ k → n + u ≡ k
+    all n a m u l k e f g = omega (arith, e, f, g)
+
+left_is : (live gone cells : List ℤ) → IsLeft live gone cells → left live gone ≡ cells
+left_is live gone cells is = same_counts (left live gone) cells all.ascends is.ascends (λ v. same (count v gone) (count v (left live gone)) (count v cells) (count v live) (all.counts v) (is.counts v))
+  where
+    all : IsLeft live gone (left live gone)
+    all = left_counts live gone (λ v. fewer (count v gone) (count v cells) (count v live) (is.counts v))
+      where
+        fewer : (m n k : ℕ) → m + n ≡ k → m ≤ k
+        fewer m n k e = omega (arith, e)
+
+    same : (g m n k : ℕ) → g + m ≡ k → g + n ≡ k → m ≡ n
+    same g m n k e f = omega (arith, e, f)
+
+-- a cell comes
+left_gains : (live gone more : List ℤ) (x : ℤ) → ((v : ℤ) → count v gone ≤ count v live) → ((v : ℤ) → count v more ≡ one x v + count v live) → left more gone ≡ placed x (left live gone)
+left_gains live gone more x among gains =
+    let was = left_counts live gone among in
+    left_is more gone (placed x (left live gone)) (record {
+      ascends = placed_ascends x (left live gone) was.ascends;
+      counts = λ v. all (count v gone) (one x v) (count v (left live gone)) (count v (placed x (left live gone))) (count v live) (count v more) (was.counts v) (count-placed v x (left live gone)) (gains v);
+    })
+  where
+    all : (g a l p k m : ℕ) → g + l ≡ k → p ≡ a + l → m ≡ a + k → g + p ≡ m
+    all g a l p k m e f h = omega (arith, e, f, h)
+
+-- a cell goes that is there
+left_loses : (live gone more : List ℤ) (x : ℤ) → ((v : ℤ) → count v gone ≤ count v live) → IsAmong x (left live gone) → ((v : ℤ) → count v more ≡ one x v + count v gone) → left live more ≡ unplaced x (left live gone)
+left_loses live gone more x among there loses =
+    let was = left_counts live gone among in
+    left_is live more (unplaced x (left live gone)) (record {
+      ascends = unplaced_ascends x (left live gone) was.ascends;
+      counts = λ v. all (count v gone) (one x v) (count v (left live gone)) (count v (unplaced x (left live gone))) (count v live) (count v more) (was.counts v) (count-unplaced v x (left live gone) was.ascends there) (loses v);
+    })
+  where
+    all : (g a l u k m : ℕ) → g + l ≡ k → a + u ≡ l → m ≡ a + g → m + u ≡ k
+    all g a l u k m e f h = omega (arith, e, f, h)
+
+-- a cell is taken out of both heaps
+left_both : (live gone live' gone' : List ℤ) (x : ℤ) → ((v : ℤ) → count v gone ≤ count v live) → ((v : ℤ) → count v live ≡ one x v + count v live') → ((v : ℤ) → count v gone ≡ one x v + count v gone') → left live' gone' ≡ left live gone
+left_both live gone live' gone' x among of_live of_gone =
+    let was = left_counts live gone among in
+    left_is live' gone' (left live gone) (record {
+      ascends = was.ascends;
+      counts = λ v. all (count v live) (count v gone) (count v live') (count v gone') (one x v) (count v (left live gone)) (was.counts v) (of_live v) (of_gone v);
+    })
+  where
+    all : (k g k' g' a l : ℕ) → g + l ≡ k → k ≡ a + k' → g ≡ a + g' → g' + l ≡ k'
+    all k g k' g' a l e f h = omega (arith, e, f, h)
+
+-- what stands first in a heap is no less than the others
+cmp_less : (x y : ℤ) → int_lt x y ≡ true → is_lt (int_cmp x y) ≡ true
+cmp_less x y e = ap (λ b. is_lt (cond b Less (cond (int_lt y x) Greater Equal))) e
+
+no_more : (x v : ℤ) (xs : List ℤ) → IsUpperBound int_cmp x xs → IsAmong v xs → int_lt x v ≡ false
+no_more x v [] h among = absurd (omega (arith, among))
+no_more x v (y ∷ ys) h among = among_cases (int_lt x v ≡ false) v y ys among (λ same. subst (λ z. int_lt x z ≡ false) same (by (int_lt x y) refl)) (no_more x v ys h.1)
+  where
+    by : (b : Bool) → int_lt x y ≡ b → b ≡ false
+    by true e = sym (cmp_less x y e) ∙ h.0
+    by false e = refl
+
+top_bounds : (xs : List ℤ) → IsHeap int_cmp xs → IsUpperBound int_cmp (top xs) xs
+top_bounds xs h = heap_greatest int_cmp_total xs (top xs) (own xs) h
+  where
+    own : (xs : List ℤ) → top xs ≡ get_or xs 0 (top xs)
+    own [] = refl
+    own (x ∷ xs) = refl
+
+no_greater : (xs : List ℤ) → IsHeap int_cmp xs → (v : ℤ) → IsAmong v xs → int_lt (top xs) v ≡ false
+no_greater xs h v among = no_more (top xs) v xs (top_bounds xs h) among
+
+top_among : (v : ℤ) (xs : List ℤ) → IsAmong v xs → IsAmong (top xs) xs
+top_among v [] among = absurd (omega (arith, among))
+top_among v (x ∷ xs) among = own_among x xs
+
+-- where the greatest of the live cells has gone, it is the greatest of those that have
+same_tops : (live gone : List ℤ) → IsKept live gone → IsAmong (top live) gone → top live ≡ top gone
+same_tops live gone is among =
+    let other = top_among (top live) gone among in
+    same_by (top live) (top gone)
+    (no_greater live is.live_heap (top gone) (omega (arith, other, is.among (top gone))))
+    (no_greater gone is.gone_heap (top live) among)
+
+-- a live cell comes, and the greatest has still not gone
+stays_more : (live gone more : List ℤ) (x : ℤ) → IsSettled live gone → IsHeap int_cmp more → ((v : ℤ) → count v more ≡ one x v + count v live) → count (top more) gone ≡ 0
+stays_more live gone more x is heap gains = by (count (top more) gone) refl
+  where
+    by : (n : ℕ) → count (top more) gone ≡ n → n ≡ 0
+    by zero e = refl
+    by (suc n) e = absurd (omega (arith, is.stays, ap (λ v. count v gone) same, e))
+      where
+        in_live : IsAmong (top more) live
+        in_live = omega (arith, is.kept.among (top more), e)
+
+        in_more : IsAmong (top live) more
+        in_more = omega (arith, top_among (top more) live in_live, gains (top live))
+
+        same : top live ≡ top more
+        same = same_by (top live) (top more) (no_greater live is.kept.live_heap (top more) in_live) (no_greater more heap (top live) in_more)
+
+pub settled_more : (live gone more : List ℤ) (x : ℤ) → IsSettled live gone → (IsHeap int_cmp live → IsHeap int_cmp more) → IsPermutation (x ∷ live) more → IsSettled more gone × (left more gone ≡ placed x (left live gone))
+settled_more live gone more x is heap pushed = (
+  record {
+    kept = record {
+      live_heap = heap is.kept.live_heap;
+      gone_heap = is.kept.gone_heap;
+      among = λ v. most (count v gone) (one x v) (count v live) (count v more) (is.kept.among v) (gains v);
+    };
+    stays = stays_more live gone more x is (heap is.kept.live_heap) gains;
+  },
+  left_gains live gone more x is.kept.among gains,
+)
+  where
+    gains : (v : ℤ) → count v more ≡ one x v + count v live
+    gains v = count_pushed v x live more pushed
+
+    most : (g a k m : ℕ) → g ≤ k → m ≡ a + k → g ≤ m
+    most g a k m h e = omega (arith, h, e)
+
+-- whether what stands first in both is the same
+pub has_gone : (live gone : List ℤ) (cell other : ℤ) → IsKept live gone → 0 < length live → 0 < length gone → cell ≡ get_or live 0 cell → other ≡ get_or gone 0 other → int_eq cell other ≡ nat_lt 0 (count (top live) gone)
+has_gone [] gone cell other is some any first second = absurd (omega (arith, some))
+has_gone (x ∷ xs) [] cell other is some any first second = absurd (omega (arith, any))
+has_gone (x ∷ xs) (y ∷ ys) cell other is some any first second = ap₂ int_eq first second ∙ by (count x (y ∷ ys)) refl
+  where
+    differ : count x (y ∷ ys) ≡ 0 → (b : Bool) → int_eq x y ≡ b → b ≡ false
+    differ none true e = absurd (omega (arith, own_among y ys, ap (λ v. count v (y ∷ ys)) ((signed_Decides x y).0 e), none))
+    differ none false e = refl
+
+    by : (n : ℕ) → count x (y ∷ ys) ≡ n → int_eq x y ≡ nat_lt 0 n
+    by zero e = differ e (int_eq x y) refl
+    by (suc n) e = (signed_Decides x y).1 (same_tops (x ∷ xs) (y ∷ ys) is (omega (arith, e))) ∙ sym (lt-ltb 0 (suc n) (omega arith))
+
+pub none_gone : (v : ℤ) (live gone : List ℤ) → (0 < length live → ⊥) → count v gone ≤ count v live → false ≡ nat_lt 0 (count v gone)
+none_gone v [] gone none among = by (count v gone) among
+  where
+    by : (n : ℕ) → n ≤ 0 → false ≡ nat_lt 0 n
+    by zero h = refl
+    by (suc n) h = absurd (omega (arith, h))
+none_gone v (x ∷ xs) gone none among = absurd (none (omega arith))
+
+-- the last of the cells in order
+final_among : (x : ℤ) (xs : List ℤ) → IsAmong (final x xs) (x ∷ xs)
+final_among x [] = own_among x []
+final_among x (y ∷ ys) = omega (arith, final_among y ys, count_first (final y ys) x (y ∷ ys))
+
+final_most : (x : ℤ) (xs : List ℤ) → Ascends (x ∷ xs) → (v : ℤ) → IsAmong v (x ∷ xs) → int_lt (final x xs) v ≡ false
+final_most x [] h v among = among_cases (int_lt x v ≡ false) v x [] among (λ same. subst (λ z. int_lt x z ≡ false) same (not_itself x)) (λ none. absurd (omega (arith, none)))
+final_most x (y ∷ ys) h v among = among_cases (int_lt (final y ys) v ≡ false) v x (y ∷ ys) among (λ same. subst (λ z. int_lt (final y ys) z ≡ false) same (final_above x (y ∷ ys) h)) (final_most y ys h.1 v)
+
+last_by : (x : ℤ) (cells : List ℤ) → Ascends cells → IsAmong x cells → ((v : ℤ) → IsAmong v cells → int_lt x v ≡ false) → last cells ≡ Some x
+last_by x [] h among most = absurd (omega (arith, among))
+last_by x (y ∷ ys) h among most = last_final y ys ∙ ap Some (same_by (final y ys) x (final_most y ys h x among) (most (final y ys) (final_among y ys)))
+
+none_left : (gone : List ℤ) → ((v : ℤ) → count v gone ≤ 0) → left [] gone ≡ []
+none_left gone h = left_is [] gone [] (record { ascends = tt; counts = λ v. none (count v gone) (h v) })
+  where
+    none : (n : ℕ) → n ≤ 0 → n + 0 ≡ 0
+    none n h = omega (arith, h)
+
+-- the greatest cell that is left is what stands first
+pub last_left : (live gone : List ℤ) → IsSettled live gone → last (left live gone) ≡ slice_get live 0
+last_left [] gone is = ap last (none_left gone is.kept.among)
+last_left (x ∷ xs) gone is =
+    let all = left_counts (x ∷ xs) gone is.kept.among in
+    last_by x (left (x ∷ xs) gone) all.ascends (omega (arith, own_among x xs, is.stays, all.counts x)) (λ v among. no_greater (x ∷ xs) is.kept.live_heap v (omega (arith, among, all.counts v)))
+
+pub when_ok : {T E : Type 0} (r : Result T E) (P : Type 0) → is_ok r ≡ true → OnOk r P → P
+when_ok (Err e) P ok h = absurd (true≢false (sym ok))
+when_ok (Ok x) P ok h = h
+
+pub when_some : (r : Option ℤ) (P : Type 0) → is_some r ≡ true → IfSome r (λ _. P) → P
+when_some None P some h = absurd (true≢false (sym some))
+when_some (Some x) P some h = h
+
+-- what stands first is taken out of a heap
+pub record IsPopped (xs ys : List ℤ) : Type 0 where
+  pub counts : (v : ℤ) → count v xs ≡ one (top xs) v + count v ys
+  pub heap : IsHeap int_cmp xs → IsHeap int_cmp ys
+
+pub popped : (r : Option ℤ) (xs ys : List ℤ) → is_some r ≡ true → IfSome r (λ x. x ≡ get_or xs 0 x) → IfSome r (λ x. IsPermutation xs (x ∷ ys)) → IfSome r (λ x. PopsGreatest int_cmp xs x ys) → IsPopped xs ys
+popped None xs ys some first moved order = absurd (true≢false (sym some))
+popped (Some x) [] ys some first moved order = absurd (omega (arith, count_popped x x [] ys moved, one_own x))
+popped (Some x) (y ∷ xs) ys some first moved order = record {
+  counts = λ v. count_popped v x (y ∷ xs) ys moved ∙ ap (λ n. n + count v ys) (one_same x y v first);
+  heap = λ h. (order h).0;
+}
+
+-- both heaps lose what stands first in them
+pub kept_less : (live gone live' gone' : List ℤ) → IsKept live gone → IsAmong (top live) gone → IsPopped live live' → IsPopped gone gone' → IsKept live' gone' × (left live' gone' ≡ left live gone)
+kept_less live gone live' gone' is among first other = (
+  record {
+    live_heap = first.heap is.live_heap;
+    gone_heap = other.heap is.gone_heap;
+    among = λ v. fewer (count v live) (count v gone) (count v live') (count v gone') (one (top live) v) (first.counts v) (of_gone v) (is.among v);
+  },
+  left_both live gone live' gone' (top live) is.among first.counts of_gone,
+)
+  where
+    of_gone : (v : ℤ) → count v gone ≡ one (top live) v + count v gone'
+    of_gone v = other.counts v ∙ ap (λ n. n + count v gone') (one_same (top gone) (top live) v (sym (same_tops live gone is among)))
+
+    fewer : (k g k' g' a : ℕ) → k ≡ a + k' → g ≡ a + g' → g ≤ k → g' ≤ k'
+    fewer k g k' g' a e f h = omega (arith, e, f, h)
+
+-- a cell that is there goes
+pub kept_gone : (live gone more : List ℤ) (x : ℤ) → IsSettled live gone → (IsHeap int_cmp gone → IsHeap int_cmp more) → IsPermutation (x ∷ gone) more → IsAmong x (left live gone) → IsKept live more × (left live more ≡ unplaced x (left live gone))
+kept_gone live gone more x is heap pushed there =
+    let was = left_counts live gone is.kept.among in (
+      record {
+        live_heap = is.kept.live_heap;
+        gone_heap = heap is.kept.gone_heap;
+        among = λ v.
+            fewer (count v gone) (one x v) (count v (left live gone)) (count v (unplaced x (left live gone))) (count v live) (count v more) (was.counts v)
+            (count-unplaced v x (left live gone) was.ascends there) (loses v);
+      },
+      left_loses live gone more x is.kept.among there loses,
+    )
+  where
+    loses : (v : ℤ) → count v more ≡ one x v + count v gone
+    loses v = count_pushed v x gone more pushed
+
+    fewer : (g a l u k m : ℕ) → g + l ≡ k → a + u ≡ l → m ≡ a + g → m ≤ k
+    fewer g a l u k m e f h = omega (arith, e, f, h)
+
+-- the greatest cell is taken out, which has not gone
+pub kept_popped : (live gone live' : List ℤ) → IsSettled live gone → IsPopped live live' → IsKept live' gone × ((v : ℤ) → count v (left live gone) ≡ one (top live) v + count v (left live' gone))
+kept_popped live gone live' is first = (
+  kept,
+  λ v. taken (count v gone) (count v (left live gone)) (count v live) (one (top live) v) (count v live') (count v (left live' gone)) ((left_counts live gone is.kept.among).counts v) (first.counts v)
+      ((left_counts live' gone kept.among).counts v),
+)
+  where
+    among : (v : ℤ) → count v gone ≤ count v live'
+    among v = by (int_eq (top live) v) refl
+      where
+        none : int_eq (top live) v ≡ true → count v gone ≡ 0
+        none e = ap (λ z. count z gone) (sym ((signed_Decides (top live) v).0 e)) ∙ is.stays
+
+        all : (g a k k' : ℕ) → g ≤ k → k ≡ a + k' → a ≡ 0 → g ≤ k'
+        all g a k k' h e f = omega (arith, h, e, f)
+
+        by : (b : Bool) → int_eq (top live) v ≡ b → count v gone ≤ count v live'
+        by true e = omega (arith, none e)
+        by false e = all (count v gone) (one (top live) v) (count v live) (count v live') (is.kept.among v) (first.counts v) (ap (λ b. cond b 1 0) e)
+
+    kept : IsKept live' gone
+    kept = record { live_heap = first.heap is.kept.live_heap; gone_heap = is.kept.gone_heap; among = among }
+
+    taken : (g l k a k' l' : ℕ) → g + l ≡ k → k ≡ a + k' → g + l' ≡ k' → l ≡ a + l'
+    taken g l k a k' l' e f h = omega (arith, e, f, h)
+
+pub top_of : (x : ℤ) (xs : List ℤ) → 0 < length xs → x ≡ get_or xs 0 x → x ≡ top xs
+top_of x [] some e = absurd (omega (arith, some))
+top_of x (y ∷ xs) some e = e
+
+-- the greatest cell moves to another heap
+pub moved_over : (live gone live' live'' gone'' others others' whole : List ℤ) (x : ℤ) → IsSettled live gone → IsPopped live live' → x ≡ top live → IsPermutation (x ∷ others) others' → left live'' gone'' ≡ left live' gone
+    → ((v : ℤ) → count v others + count v (left live gone) ≡ count v whole) → (v : ℤ) → count v others' + count v (left live'' gone'') ≡ count v whole
+moved_over live gone live' live'' gone'' others others' whole x is first e pushed same counts v =
+    all (count v others) (count v (left live gone)) (count v whole) (one (top live) v) (count v (left live' gone)) (count v others') (count v (left live'' gone'')) (counts v) ((kept_popped live gone live' is first).1 v)
+    (count_pushed v x others others' pushed ∙ ap (λ n. n + count v others) (one_same x (top live) v e)) (ap (count v) same)
+  where
+    all : (o l w a l' o' l'' : ℕ) → o + l ≡ w → l ≡ a + l' → o' ≡ a + o → l'' ≡ l' → o' + l'' ≡ w
+    all o l w a l' o' l'' e f g h = omega (arith, e, f, g, h)
+
+-- all live cells are in another heap
+pub rebuilt : (live gone others whole : List ℤ) → length live ≡ 0 → IsSettled live gone → IsHeap int_cmp others → Ascends whole → ((v : ℤ) → count v others + count v (left live gone) ≡ count v whole)
+    → IsSettled others [] × (left others [] ≡ whole)
+rebuilt (x ∷ xs) gone others whole none is heap ascends counts = absurd (omega (arith, none))
+rebuilt [] gone others whole none is heap ascends counts = (
+  record { kept = record { live_heap = heap; gone_heap = heap_empty int_cmp_total [] refl; among = λ v. omega arith }; stays = refl },
+  left_is others [] whole (record {
+    ascends = ascends;
+    counts = λ v. all (count v others) (count v whole) (subst (λ (cells : List ℤ). count v others + count v cells ≡ count v whole) (none_left gone is.kept.among) (counts v));
+  }),
+)
+  where
+    all : (m n : ℕ) → m + 0 ≡ n → 0 + n ≡ m
+    all m n e = omega (arith, e)
+
+pub left_ascends : (live gone : List ℤ) → IsSettled live gone → Ascends (left live gone)
+left_ascends live gone is = (left_counts live gone is.kept.among).ascends
