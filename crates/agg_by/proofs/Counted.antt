@@ -12,7 +12,7 @@ use Rattle.std.proofs.HeapSift.{empty as heap_empty, greatest as heap_greatest}
 use Rattle.std.proofs.lemmas.Int.{ints}
 use Rattle.std.proofs.lemmas.List.Sorted.{sum_by-IsPermutation}
 use Rattle.std.proofs.lemmas.List.Sums.{sum_by-cons}
-use Rattle.row_groups.proofs.Order.{later_too, lt_from, not_lt_from, not_lt_to}
+use Rattle.row_groups.proofs.Order.{lt_from, lt_to, not_lt_from}
 use Rattle.tick_model.specs.Tables.{null}
 use Rattle.agg_by.specs.Values.{Ascends, IsAmong, IsKept, IsSettled, count, in_order, last, left, placed, top, unplaced}
 use Rattle.agg_by.proofs.Ordered.{final, final_above, in_order_ascends, last_final, not_itself, placed_ascends, unplaced_ascends}
@@ -62,23 +62,15 @@ among_cases P v x xs h first others = by (int_eq x v) refl
   where
     by : (b : Bool) → int_eq x v ≡ b → P
     by true e = first ((signed_Decides x v).0 e)
-    by false e = others (later (count v (x ∷ xs)) (one x v) (count v xs) h (count_first v x xs) (ap (λ b. cond b 1 0) e))
-      where
-        later : (n m k : ℕ) → 0 < n → n ≡ m + k → m ≡ 0 → 0 < k
-        later n m k h e f = omega (arith, h, e, f)
+    by false e = let none : one x v ≡ 0 = ap (λ b. cond b 1 0) e in others (omega (arith, h, count_first v x xs, none))
 
 -- one cell more
 count-placed : (v x : ℤ) (ys : List ℤ) → count v (placed x ys) ≡ one x v + count v ys
 count-placed v x [] = count_first v x []
 count-placed v x (y ∷ ys) = by (int_lt y x) (count-placed v x ys)
   where
-    turned : (a b c : ℕ) → a + (b + c) ≡ b + (a + c)
-    turned a b c = omega arith
-
     by : (b : Bool) → count v (placed x ys) ≡ one x v + count v ys → count v (if b then y ∷ placed x ys else x ∷ y ∷ ys) ≡ one x v + count v (y ∷ ys)
-    by true rest =
-        count_first v y (placed x ys) ∙ ap (λ n. one y v + n) rest ∙ turned (one y v) (one x v) (count v ys)
-        ∙ ap (λ n. one x v + n) (sym (count_first v y ys))
+    by true rest = omega (arith, count_first v y (placed x ys), rest, count_first v y ys)
     by false rest = count_first v x (y ∷ ys)
 
 pub placed_among : (x : ℤ) (ys : List ℤ) → IsAmong x (placed x ys)
@@ -91,17 +83,7 @@ count-in_order v (x ∷ xs) = count-placed v x (in_order xs) ∙ ap (λ n. one x
 -- no cell is below the first
 none_below : (x y : ℤ) (ys : List ℤ) → int_lt x y ≡ true → AllByRecursion (λ z. int_lt z y ≡ false) ys → count x ys ≡ 0
 none_below x y [] e h = refl
-none_below x y (z ∷ zs) e h = count_first x z zs ∙ both (one z x) (count x zs) (one_less x z (above x y z e h.0)) (none_below x y zs e h.1)
-  where
-    above : (x y z : ℤ) → int_lt x y ≡ true → int_lt z y ≡ false → int_lt x z ≡ true
-    above x y z e f = by (int_lt x z) refl
-      where
-        by : (b : Bool) → int_lt x z ≡ b → b ≡ true
-        by true g = refl
-        by false g = absurd (omega (arith, ints, lt_from x y e, not_lt_from z y f, not_lt_from x z g))
-
-    both : (m n : ℕ) → m ≡ 0 → n ≡ 0 → m + n ≡ 0
-    both m n e f = omega (arith, e, f)
+none_below x y (z ∷ zs) e h = omega (arith, count_first x z zs, one_less x z (lt_to x z (omega (arith, ints, lt_from x y e, not_lt_from z y h.0))), none_below x y zs e h.1)
 
 not_below : (x y : ℤ) (ys : List ℤ) → Ascends (y ∷ ys) → IsAmong x (y ∷ ys) → int_lt x y ≡ false
 not_below x y ys h among = by (int_lt x y) refl
@@ -118,14 +100,10 @@ count-unplaced : (v x : ℤ) (ys : List ℤ) → Ascends ys → IsAmong x ys →
 count-unplaced v x [] h among = absurd (omega (arith, among))
 count-unplaced v x (y ∷ ys) h among = by (int_lt y x) refl (count-unplaced v x ys h.1)
   where
-    turned : (a b c n : ℕ) → a + c ≡ n → a + (b + c) ≡ b + n
-    turned a b c n e = omega (arith, e)
-
     by : (b : Bool) → int_lt y x ≡ b → (IsAmong x ys → one x v + count v (unplaced x ys) ≡ count v ys) → one x v + count v (if b then y ∷ unplaced x ys else ys) ≡ count v (y ∷ ys)
     by true e rest =
-        ap (λ n. one x v + n) (count_first v y (unplaced x ys))
-        ∙ turned (one x v) (one y v) (count v (unplaced x ys)) (count v ys) (rest (among_cases (IsAmong x ys) x y ys among (λ same. absurd (omega (arith, ints, lt_from y x e, same))) (λ later. later)))
-        ∙ sym (count_first v y ys)
+        let same = rest (among_cases (IsAmong x ys) x y ys among (λ same. absurd (omega (arith, ints, lt_from y x e, same))) (λ later. later)) in
+        omega (arith, count_first v y (unplaced x ys), same, count_first v y ys)
     by false e rest = ap (λ n. n + count v ys) (one_same x y v (same_by x y (not_below x y ys h among) e)) ∙ sym (count_first v y ys)
 
 -- cells in order are known by how often each is among them
@@ -139,10 +117,7 @@ same_counts (x ∷ xs) (y ∷ ys) h k same = ap₂ (λ z zs. z ∷ zs) first (sa
     first = same_by x y (not_below x y ys k (subst (λ n. 0 < n) (same x) (own_among x xs))) (not_below y x xs h (subst (λ n. 0 < n) (sym (same y)) (own_among y ys)))
 
     others : (v : ℤ) → count v xs ≡ count v ys
-    others v = rest (one x v) (one y v) (count v xs) (count v ys) (one_same x y v first) (sym (count_first v x xs) ∙ same v ∙ count_first v y ys)
-      where
-        rest : (a b m n : ℕ) → a ≡ b → a + m ≡ b + n → m ≡ n
-        rest a b m n e f = omega (arith, e, f)
+    others v = omega (arith, one_same x y v first, count_first v x xs, same v, count_first v y ys)
 
 -- what is left of the live cells
 record IsLeft (live gone cells : List ℤ) : Type 0 where
@@ -150,75 +125,18 @@ record IsLeft (live gone cells : List ℤ) : Type 0 where
   counts : (v : ℤ) → count v gone + count v cells ≡ count v live
 
 left_counts : (live gone : List ℤ) → ((v : ℤ) → count v gone ≤ count v live) → IsLeft live gone (left live gone)
-left_counts live [] h = record { ascends = in_order_ascends live; counts = λ v. none (count v (in_order live)) (count v live) (count-in_order v live) }
-  where
-    none : (m n : ℕ) → m ≡ n → 0 + m ≡ n
-    none m n e = omega (arith, e)
+left_counts live [] h = record { ascends = in_order_ascends live; counts = λ v. omega (arith, count-in_order v live) }
 left_counts live (g ∷ gone) h =
-    let rest = left_counts live gone (λ v. fewer (count v (g ∷ gone)) (one g v) (count v gone) (count v live) (count_first v g gone) (h v)) in
-    let there : IsAmong g (left live gone) = some (count g (g ∷ gone)) (one g g) (count g gone) (count g (left live gone)) (count g live) (count_first g g gone) (one_own g) (h g) (rest.counts g) in record {
+    let rest = left_counts live gone (λ v. omega (arith, count_first v g gone, h v)) in
+    let there : IsAmong g (left live gone) = omega (arith, count_first g g gone, one_own g, h g, rest.counts g) in record {
       ascends = unplaced_ascends g (left live gone) rest.ascends;
-      counts = λ v.
-          all (count v (g ∷ gone)) (one g v) (count v gone) (count v (unplaced g (left live gone))) (count v (left live gone)) (count v live) (count_first v g gone)
-          (count-unplaced v g (left live gone) rest.ascends there) (rest.counts v);
+      counts = λ v. omega (arith, count_first v g gone, count-unplaced v g (left live gone) rest.ascends there, rest.counts v);
     }
-  where
-    fewer : (n a m k : ℕ) → n ≡ a + m → n ≤ k → m ≤ k
-    fewer n a m k e h = omega (arith, e, h)
-
-    some : (n a m l k : ℕ) → n ≡ a + m → a ≡ 1 → n ≤ k → m + l ≡ k → 0 < l
-    some n a m l k e f h g = omega (arith, e, f, h, g)
-
-    all : (n a m u l k : ℕ) → n ≡ a + m → a + u ≡ l → m + l ≡ k → n + u ≡ k
-    all n a m u l k e f g = omega (arith, e, f, g)
 
 left_is : (live gone cells : List ℤ) → IsLeft live gone cells → left live gone ≡ cells
-left_is live gone cells is = same_counts (left live gone) cells all.ascends is.ascends (λ v. same (count v gone) (count v (left live gone)) (count v cells) (count v live) (all.counts v) (is.counts v))
-  where
-    all : IsLeft live gone (left live gone)
-    all = left_counts live gone (λ v. fewer (count v gone) (count v cells) (count v live) (is.counts v))
-      where
-        fewer : (m n k : ℕ) → m + n ≡ k → m ≤ k
-        fewer m n k e = omega (arith, e)
-
-    same : (g m n k : ℕ) → g + m ≡ k → g + n ≡ k → m ≡ n
-    same g m n k e f = omega (arith, e, f)
-
--- a cell comes
-left_gains : (live gone more : List ℤ) (x : ℤ) → ((v : ℤ) → count v gone ≤ count v live) → ((v : ℤ) → count v more ≡ one x v + count v live) → left more gone ≡ placed x (left live gone)
-left_gains live gone more x among gains =
-    let was = left_counts live gone among in
-    left_is more gone (placed x (left live gone)) (record {
-      ascends = placed_ascends x (left live gone) was.ascends;
-      counts = λ v. all (count v gone) (one x v) (count v (left live gone)) (count v (placed x (left live gone))) (count v live) (count v more) (was.counts v) (count-placed v x (left live gone)) (gains v);
-    })
-  where
-    all : (g a l p k m : ℕ) → g + l ≡ k → p ≡ a + l → m ≡ a + k → g + p ≡ m
-    all g a l p k m e f h = omega (arith, e, f, h)
-
--- a cell goes that is there
-left_loses : (live gone more : List ℤ) (x : ℤ) → ((v : ℤ) → count v gone ≤ count v live) → IsAmong x (left live gone) → ((v : ℤ) → count v more ≡ one x v + count v gone) → left live more ≡ unplaced x (left live gone)
-left_loses live gone more x among there loses =
-    let was = left_counts live gone among in
-    left_is live more (unplaced x (left live gone)) (record {
-      ascends = unplaced_ascends x (left live gone) was.ascends;
-      counts = λ v. all (count v gone) (one x v) (count v (left live gone)) (count v (unplaced x (left live gone))) (count v live) (count v more) (was.counts v) (count-unplaced v x (left live gone) was.ascends there) (loses v);
-    })
-  where
-    all : (g a l u k m : ℕ) → g + l ≡ k → a + u ≡ l → m ≡ a + g → m + u ≡ k
-    all g a l u k m e f h = omega (arith, e, f, h)
-
--- a cell is taken out of both heaps
-left_both : (live gone live' gone' : List ℤ) (x : ℤ) → ((v : ℤ) → count v gone ≤ count v live) → ((v : ℤ) → count v live ≡ one x v + count v live') → ((v : ℤ) → count v gone ≡ one x v + count v gone') → left live' gone' ≡ left live gone
-left_both live gone live' gone' x among of_live of_gone =
-    let was = left_counts live gone among in
-    left_is live' gone' (left live gone) (record {
-      ascends = was.ascends;
-      counts = λ v. all (count v live) (count v gone) (count v live') (count v gone') (one x v) (count v (left live gone)) (was.counts v) (of_live v) (of_gone v);
-    })
-  where
-    all : (k g k' g' a l : ℕ) → g + l ≡ k → k ≡ a + k' → g ≡ a + g' → g' + l ≡ k'
-    all k g k' g' a l e f h = omega (arith, e, f, h)
+left_is live gone cells is =
+    let all = left_counts live gone (λ v. omega (arith, is.counts v)) in
+    same_counts (left live gone) cells all.ascends is.ascends (λ v. omega (arith, all.counts v, is.counts v))
 
 -- what stands first in a heap is no less than the others
 cmp_less : (x y : ℤ) → int_lt x y ≡ true → is_lt (int_cmp x y) ≡ true
@@ -272,23 +190,20 @@ stays_more live gone more x is heap gains = by (count (top more) gone) refl
         same = same_by (top live) (top more) (no_greater live is.kept.live_heap (top more) in_live) (no_greater more heap (top live) in_more)
 
 pub settled_more : (live gone more : List ℤ) (x : ℤ) → IsSettled live gone → (IsHeap int_cmp live → IsHeap int_cmp more) → IsPermutation (x ∷ live) more → IsSettled more gone × (left more gone ≡ placed x (left live gone))
-settled_more live gone more x is heap pushed = (
-  record {
-    kept = record {
-      live_heap = heap is.kept.live_heap;
-      gone_heap = is.kept.gone_heap;
-      among = λ v. most (count v gone) (one x v) (count v live) (count v more) (is.kept.among v) (gains v);
-    };
-    stays = stays_more live gone more x is (heap is.kept.live_heap) gains;
-  },
-  left_gains live gone more x is.kept.among gains,
-)
+settled_more live gone more x is heap pushed =
+    let was = left_counts live gone is.kept.among in (
+      record {
+        kept = record { live_heap = heap is.kept.live_heap; gone_heap = is.kept.gone_heap; among = λ v. omega (arith, is.kept.among v, gains v) };
+        stays = stays_more live gone more x is (heap is.kept.live_heap) gains;
+      },
+      left_is more gone (placed x (left live gone)) (record {
+        ascends = placed_ascends x (left live gone) was.ascends;
+        counts = λ v. omega (arith, was.counts v, count-placed v x (left live gone), gains v);
+      }),
+    )
   where
     gains : (v : ℤ) → count v more ≡ one x v + count v live
     gains v = count_pushed v x live more pushed
-
-    most : (g a k m : ℕ) → g ≤ k → m ≡ a + k → g ≤ m
-    most g a k m h e = omega (arith, h, e)
 
 -- whether what stands first in both is the same
 pub has_gone : (live gone : List ℤ) (cell other : ℤ) → IsKept live gone → 0 < length live → 0 < length gone → cell ≡ get_or live 0 cell → other ≡ get_or gone 0 other → int_eq cell other ≡ nat_lt 0 (count (top live) gone)
@@ -326,10 +241,7 @@ last_by x [] h among most = absurd (omega (arith, among))
 last_by x (y ∷ ys) h among most = last_final y ys ∙ ap Some (same_by (final y ys) x (final_most y ys h x among) (most (final y ys) (final_among y ys)))
 
 none_left : (gone : List ℤ) → ((v : ℤ) → count v gone ≤ 0) → left [] gone ≡ []
-none_left gone h = left_is [] gone [] (record { ascends = tt; counts = λ v. none (count v gone) (h v) })
-  where
-    none : (n : ℕ) → n ≤ 0 → n + 0 ≡ 0
-    none n h = omega (arith, h)
+none_left gone h = left_is [] gone [] (record { ascends = tt; counts = λ v. omega (arith, h v) })
 
 -- the greatest cell that is left is what stands first
 pub last_left : (live gone : List ℤ) → IsSettled live gone → last (left live gone) ≡ slice_get live 0
@@ -361,67 +273,48 @@ popped (Some x) (y ∷ xs) ys some first moved order = record {
 
 -- both heaps lose what stands first in them
 pub kept_less : (live gone live' gone' : List ℤ) → IsKept live gone → IsAmong (top live) gone → IsPopped live live' → IsPopped gone gone' → IsKept live' gone' × (left live' gone' ≡ left live gone)
-kept_less live gone live' gone' is among first other = (
-  record {
-    live_heap = first.heap is.live_heap;
-    gone_heap = other.heap is.gone_heap;
-    among = λ v. fewer (count v live) (count v gone) (count v live') (count v gone') (one (top live) v) (first.counts v) (of_gone v) (is.among v);
-  },
-  left_both live gone live' gone' (top live) is.among first.counts of_gone,
-)
+kept_less live gone live' gone' is among first other =
+    let was = left_counts live gone is.among in (
+      record {
+        live_heap = first.heap is.live_heap;
+        gone_heap = other.heap is.gone_heap;
+        among = λ v. omega (arith, first.counts v, of_gone v, is.among v);
+      },
+      left_is live' gone' (left live gone) (record { ascends = was.ascends; counts = λ v. omega (arith, was.counts v, first.counts v, of_gone v) }),
+    )
   where
     of_gone : (v : ℤ) → count v gone ≡ one (top live) v + count v gone'
     of_gone v = other.counts v ∙ ap (λ n. n + count v gone') (one_same (top gone) (top live) v (sym (same_tops live gone is among)))
 
-    fewer : (k g k' g' a : ℕ) → k ≡ a + k' → g ≡ a + g' → g ≤ k → g' ≤ k'
-    fewer k g k' g' a e f h = omega (arith, e, f, h)
-
 -- a cell that is there goes
 pub kept_gone : (live gone more : List ℤ) (x : ℤ) → IsSettled live gone → (IsHeap int_cmp gone → IsHeap int_cmp more) → IsPermutation (x ∷ gone) more → IsAmong x (left live gone) → IsKept live more × (left live more ≡ unplaced x (left live gone))
 kept_gone live gone more x is heap pushed there =
-    let was = left_counts live gone is.kept.among in (
+    let was = left_counts live gone is.kept.among in
+    let less = λ (v : ℤ). count-unplaced v x (left live gone) was.ascends there in (
       record {
         live_heap = is.kept.live_heap;
         gone_heap = heap is.kept.gone_heap;
-        among = λ v.
-            fewer (count v gone) (one x v) (count v (left live gone)) (count v (unplaced x (left live gone))) (count v live) (count v more) (was.counts v)
-            (count-unplaced v x (left live gone) was.ascends there) (loses v);
+        among = λ v. omega (arith, was.counts v, less v, count_pushed v x gone more pushed);
       },
-      left_loses live gone more x is.kept.among there loses,
+      left_is live more (unplaced x (left live gone)) (record {
+        ascends = unplaced_ascends x (left live gone) was.ascends;
+        counts = λ v. omega (arith, was.counts v, less v, count_pushed v x gone more pushed);
+      }),
     )
-  where
-    loses : (v : ℤ) → count v more ≡ one x v + count v gone
-    loses v = count_pushed v x gone more pushed
-
-    fewer : (g a l u k m : ℕ) → g + l ≡ k → a + u ≡ l → m ≡ a + g → m ≤ k
-    fewer g a l u k m e f h = omega (arith, e, f, h)
 
 -- the greatest cell is taken out, which has not gone
 pub kept_popped : (live gone live' : List ℤ) → IsSettled live gone → IsPopped live live' → IsKept live' gone × ((v : ℤ) → count v (left live gone) ≡ one (top live) v + count v (left live' gone))
-kept_popped live gone live' is first = (
-  kept,
-  λ v. taken (count v gone) (count v (left live gone)) (count v live) (one (top live) v) (count v live') (count v (left live' gone)) ((left_counts live gone is.kept.among).counts v) (first.counts v)
-      ((left_counts live' gone kept.among).counts v),
-)
+kept_popped live gone live' is first = (kept, λ v. omega (arith, (left_counts live gone is.kept.among).counts v, first.counts v, (left_counts live' gone kept.among).counts v))
   where
     among : (v : ℤ) → count v gone ≤ count v live'
     among v = by (int_eq (top live) v) refl
       where
-        none : int_eq (top live) v ≡ true → count v gone ≡ 0
-        none e = ap (λ z. count z gone) (sym ((signed_Decides (top live) v).0 e)) ∙ is.stays
-
-        all : (g a k k' : ℕ) → g ≤ k → k ≡ a + k' → a ≡ 0 → g ≤ k'
-        all g a k k' h e f = omega (arith, h, e, f)
-
         by : (b : Bool) → int_eq (top live) v ≡ b → count v gone ≤ count v live'
-        by true e = omega (arith, none e)
-        by false e = all (count v gone) (one (top live) v) (count v live) (count v live') (is.kept.among v) (first.counts v) (ap (λ b. cond b 1 0) e)
+        by true e = omega (arith, ap (λ z. count z gone) (sym ((signed_Decides (top live) v).0 e)) ∙ is.stays)
+        by false e = let none : one (top live) v ≡ 0 = ap (λ b. cond b 1 0) e in omega (arith, is.kept.among v, first.counts v, none)
 
     kept : IsKept live' gone
     kept = record { live_heap = first.heap is.kept.live_heap; gone_heap = is.kept.gone_heap; among = among }
-
-    taken : (g l k a k' l' : ℕ) → g + l ≡ k → k ≡ a + k' → g + l' ≡ k' → l ≡ a + l'
-    taken g l k a k' l' e f h = omega (arith, e, f, h)
 
 pub top_of : (x : ℤ) (xs : List ℤ) → 0 < length xs → x ≡ get_or xs 0 x → x ≡ top xs
 top_of x [] some e = absurd (omega (arith, some))
@@ -431,11 +324,7 @@ top_of x (y ∷ xs) some e = e
 pub moved_over : (live gone live' live'' gone'' others others' whole : List ℤ) (x : ℤ) → IsSettled live gone → IsPopped live live' → x ≡ top live → IsPermutation (x ∷ others) others' → left live'' gone'' ≡ left live' gone
     → ((v : ℤ) → count v others + count v (left live gone) ≡ count v whole) → (v : ℤ) → count v others' + count v (left live'' gone'') ≡ count v whole
 moved_over live gone live' live'' gone'' others others' whole x is first e pushed same counts v =
-    all (count v others) (count v (left live gone)) (count v whole) (one (top live) v) (count v (left live' gone)) (count v others') (count v (left live'' gone'')) (counts v) ((kept_popped live gone live' is first).1 v)
-    (count_pushed v x others others' pushed ∙ ap (λ n. n + count v others) (one_same x (top live) v e)) (ap (count v) same)
-  where
-    all : (o l w a l' o' l'' : ℕ) → o + l ≡ w → l ≡ a + l' → o' ≡ a + o → l'' ≡ l' → o' + l'' ≡ w
-    all o l w a l' o' l'' e f g h = omega (arith, e, f, g, h)
+    omega (arith, counts v, (kept_popped live gone live' is first).1 v, count_pushed v x others others' pushed, one_same x (top live) v e, ap (count v) same)
 
 -- all live cells are in another heap
 pub rebuilt : (live gone others whole : List ℤ) → length live ≡ 0 → IsSettled live gone → IsHeap int_cmp others → Ascends whole → ((v : ℤ) → count v others + count v (left live gone) ≡ count v whole)
@@ -445,12 +334,9 @@ rebuilt [] gone others whole none is heap ascends counts = (
   record { kept = record { live_heap = heap; gone_heap = heap_empty int_cmp_total [] refl; among = λ v. omega arith }; stays = refl },
   left_is others [] whole (record {
     ascends = ascends;
-    counts = λ v. all (count v others) (count v whole) (subst (λ (cells : List ℤ). count v others + count v cells ≡ count v whole) (none_left gone is.kept.among) (counts v));
+    counts = λ v. omega (arith, ap (count v) (none_left gone is.kept.among), counts v);
   }),
 )
-  where
-    all : (m n : ℕ) → m + 0 ≡ n → 0 + n ≡ m
-    all m n e = omega (arith, e)
 
 pub left_ascends : (live gone : List ℤ) → IsSettled live gone → Ascends (left live gone)
 left_ascends live gone is = (left_counts live gone is.kept.among).ascends
