@@ -18,7 +18,7 @@ use Rattle.snapshot_store.specs.Lines.{below, count, limit, width, size, spot, l
 use Rattle.tick_model.specs.Clock.{completed}
 use Rattle.snapshot_store.specs.Views.{Begins, informed, IsQuiet}
 use Rattle.snapshot_store.specs.Rule.{Stands, Stored, IsDoing, Knows, KeepsRule}
-use Rattle.snapshot_store.specs.Plays.{looks_first, looks_once, counts_rows, reads_word, looks_last, sets_clock, stores_word, takes_turn, gives_turn}
+use Rattle.snapshot_store.specs.Plays.{looks_first, looks_once, counts_rows, reads_word, looks_last, sets_clock, stores_word, finds_word, takes_turn, gives_turn}
 use Rattle.snapshot_store.proofs.Places.{place_unique, spot_high, spot_bound, spot_unique, begins_more, within_line, held_on, set_at}
 
 abbrev Sat : Type 0
@@ -312,6 +312,33 @@ module _ (run : Run) where
         },
         (refl, (refl, refl, refl, refl, refl), λ done' k' is'. let e = ap writer_parts (sym is ∙ is') in λ j. Writing ((e j).0) ((e j).1 + 1)),
       )
+
+  -- the writer looks at the next word of its step
+  pub finds : (slots id : ℕ) (me : Sat) (done k p i word : ℕ) → me.0.doing ≡ Writing done k → me.0.floor ≡ 2 * done + 2 → p < count run → i < length (line_of run (done + 1) p) → i < size run p
+      → word ≡ spot run ((done + 1) % 2) p i → below (λ q. length (line_of run (done + 1) q)) p + i ≡ k → (i ≡ 0 → get_or (line_of run (done + 1) p) i 0 ≤ limit run p)
+      → Allows Rule slots id me word (λ n. n) (finds_word (step slots word 0 0 none) me)
+  finds slots id me done k p i word is busy inside within sized place next few s r h at small = let v : View = me.0 in let x : ℕ = get_or (line_of run (done + 1) p) i 0 in let kn = r.each_seat id v at in
+      let only : (run' : Run) (done' k' p' i' : ℕ) → v.run ≡ Some run' → v.doing ≡ Writing done' k' → i' < length (line_of run' (done' + 1) p') → below (λ q. length (line_of run' (done' + 1) q)) p' + i' ≡ k' → get_or (line_of run' (done' + 1) p') i' 0 ≡ x =
+      λ run' done' k' p' i' named is' within' next'. let er = kn.names run' named in let e = ap writer_parts (sym is ∙ is') in
+          let there : (i' < length (line_of run (done + 1) p')) × (below (λ q. length (line_of run (done + 1) q)) p' + i' ≡ k) =
+          subst (λ (z : Run × (ℕ × ℕ)). (i' < length (line_of z.0 (z.1.0 + 1) p')) × (below (λ q. length (line_of z.0 (z.1.0 + 1) q)) p' + i' ≡ z.1.1)) (λ j. (er j, sym e j)) (within', next') in
+          let u = place_unique (λ q. length (line_of run (done + 1) q)) p' p i' i there.0 within (there.1 ∙ sym next) in
+          λ j. get_or (line_of (er j) ((sym e j).0 + 1) (u.0 j)) (u.1 j) 0 in
+      dite (ℕ_discrete (get_or s.words word 0) x)
+      (λ has. let stored = stores slots id me done k p i word x is busy inside within sized place refl next few s r h at small in (
+        stored.0,
+        stored.1,
+        stored.2,
+        subst (λ (n : ℕ). Rule (stepped s word n id me.1 stored.0 stored.1)) (sym has) stored.3,
+        (stored.4.0, stored.4.1, λ run' done' k' p' i' named is' within' next'. ((λ _. stored.4.2 done' k' is'), λ not. absurd (not (has ∙ sym (only run' done' k' p' i' named is' within' next'))))),
+      ))
+      (λ other. (
+        v,
+        keeps,
+        tt,
+        unmoved s r word id me.1 v v at refl kn,
+        (refl, (refl, refl, refl, refl, refl), λ run' done' k' p' i' named is' within' next'. ((λ found. absurd (other (found ∙ only run' done' k' p' i' named is' within' next'))), λ _. refl)),
+      ))
 
   pub parts : (id : ℕ) (v : View) → Splits Rule id v v (informed v.run v.floor)
   parts id v s r at = let k = r.each_seat id v at in let K = Knows run (clock s) (turn s) r.holder r.writer r.stored in let new : View = informed v.run v.floor in record {

@@ -1,11 +1,11 @@
 -- What each step on a word tells the seat that makes it. None changes what the seat holds.
-use Rattle.std.specs.Prelude.{◌≡◌, ◌≢◌, ℕ, ◌+◌, ◌*◌, ◌%◌, ◌<◌, ◌≤◌, List, [], ◌∷◌, ◌++◌, true, false, slice_index, Some}
+use Rattle.std.specs.Prelude.{◌≡◌, ◌≢◌, ℕ, ◌+◌, ◌*◌, ◌%◌, ◌<◌, ◌≤◌, List, [], ◌∷◌, ◌++◌, length, true, false, slice_index, Some}
 use Rattle.atomic_table.specs.Table.{Me, State, Step}
 use Rattle.tick_model.specs.Clock.{completed}
 use Rattle.tick_model.specs.declared.feed.Run.{Run}
 use Rattle.snapshot_store.specs.declared.board.View.{View}
 use Rattle.snapshot_store.specs.declared.board.Doing.TheVariants.{Rest, Looked, Reading, Writing}
-use Rattle.snapshot_store.specs.Lines.{count, limit, spot, line_of, IsWhole}
+use Rattle.snapshot_store.specs.Lines.{below, count, limit, spot, line_of, IsWhole}
 use Rattle.snapshot_store.specs.Rule.{KeepsRule}
 use Rattle.snapshot_store.specs.Views.{IsLook, IsTick, IsSameSight, IsSameBut, Begins}
 
@@ -47,6 +47,12 @@ sets_clock st me found me' = (me'.1 ≡ me.1) × IsTick me.0 st.first me'.0
 abbrev pub stores_word : Plays
 stores_word st me found me' = (me'.1 ≡ me.1) × IsSameSight me.0 me'.0
     × ((step stored : ℕ) → me.0.doing ≡ Writing step stored → me'.0.doing ≡ Writing step (stored + 1))
+
+-- the writer looks at the next word, which counts as stored where it is the line's already
+abbrev pub finds_word : Plays
+finds_word st me found me' = (me'.1 ≡ me.1) × IsSameSight me.0 me'.0
+    × ((run : Run) (step stored number i : ℕ) → me.0.run ≡ Some run → me.0.doing ≡ Writing step stored → i < length (line_of run (step + 1) number) → below (λ q. length (line_of run (step + 1) q)) number + i ≡ stored
+    → (found ≡ slice_index (line_of run (step + 1) number) i → me'.0.doing ≡ Writing step (stored + 1)) × (found ≢ slice_index (line_of run (step + 1) number) i → me'.0.doing ≡ me.0.doing))
 
 -- the turn is taken where it was free, and else the seat is refused it
 abbrev pub takes_turn : Plays

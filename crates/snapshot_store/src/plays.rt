@@ -80,6 +80,15 @@ impl Play<(), View> for StoreWord {
     ghost then = { stores_word };
 }
 
+/// Looks whether the next word of a table needs to be stored.
+pub struct FindWord;
+
+impl Play<(), View> for FindWord {
+    ghost use Rattle.snapshot_store.specs.Plays.{finds_word};
+
+    ghost then = { finds_word };
+}
+
 /// Takes the turn where it is free.
 pub struct TakeTurn;
 

@@ -1,28 +1,24 @@
 //! The words of a table, copied row by row.
 
-ghost use Rattle.std.specs.Prelude.{◌≡◌, ◌+◌, ◌*◌, ◌<◌, ◌≤◌, ◌++◌, IsTrue, length, vec_len, vec_capacity};
-ghost use Rattle.key_lists.specs.Keys.{is_among};
-ghost use Rattle.tick_model.specs.Tables.{IsTable, keys};
+ghost use Rattle.std.specs.Int.{w64, cast_unsigned};
+ghost use Rattle.std.specs.Prelude.{◌≡◌, ◌+◌, ◌*◌, ◌<◌, ◌≤◌, ◌++◌, ◌∷◌, length, map, vec_len, vec_capacity};
 ghost use Rattle.tick_model.specs.Words.{words as words_of_table};
-ghost use Rattle.snapshot_store.specs.Rows.{words_at};
 
 use new_counts::new_count;
 use std::marker::Brand;
 use std::sync::ledger::{Blank, Ledger};
-use tick_table::{Steps, TickTable};
+use tick_table::{RowsNow, Steps, TickTable};
 
 // Copies the key and the cells of a row behind the words.
-fn copy_row<L: Ledger>(table: &TickTable, key: u64, words: &mut Vec<u64>, reads: &mut Steps<L>)
-    requires table { IsTable table.now.new }
-    requires here { IsTrue (is_among key (keys table.now.new.rows)) }
-    requires room { vec_len words.old + (1 + table.now.new.width) ≤ vec_capacity words.old }
-    ensures words { words.new.items ≡ words.old.items ++ words_at table.now.new.rows key }
-    ensures long { vec_len words.new ≡ vec_len words.old + (1 + table.now.new.width) }
+fn copy_row(key: u64, cells: &[i64], words: &mut Vec<u64>)
+    requires room { vec_len words.old + (1 + length cells.now) ≤ vec_capacity words.old }
+    ensures words { words.new.items ≡ words.old.items ++ key ∷ map (cast_unsigned w64) cells.now }
+    ensures long { vec_len words.new ≡ vec_len words.old + (1 + length cells.now) }
     ensures room { vec_capacity words.new ≡ vec_capacity words.old }
 {
     words.push_reserved(key);
-    for column in 0..table.width() {
-        words.push_reserved(table.cell(column, key, reads).cast_unsigned());
+    for cell in cells {
+        words.push_reserved(cell.cast_unsigned());
     }
 }
 
@@ -36,11 +32,12 @@ fn copy_counting<L: Ledger>(table: &TickTable, words: &mut Vec<u64>, blank: Blan
     ensures room { vec_capacity words.new ≡ vec_capacity words.old }
 {
     let mut reads = Steps::<L>::new(blank, new_count());
-    let rows = table.rows();
+    let keys = table.rows();
+    let mut rows = RowsNow::of(table);
     words.clear();
-    words.push_reserved(rows.len());
-    for key in rows {
-        copy_row(table, key, words, &mut reads);
+    words.push_reserved(keys.len());
+    for key in keys {
+        copy_row(key, rows.row(key, &mut reads), words);
     }
 }
 

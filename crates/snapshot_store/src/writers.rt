@@ -11,7 +11,7 @@ ghost use Rattle.snapshot_store.specs.declared.board.Doing.TheVariants.{Writing}
 
 use crate::answers::Full;
 use crate::board::Place;
-use crate::plays::{SetClock, StoreWord};
+use crate::plays::{FindWord, SetClock, StoreWord};
 use crate::rows::copy_table;
 use crate::store::Store;
 use logical_clock::ClockValue;
@@ -102,9 +102,10 @@ impl Store {
         unreachable!()
     }
 
-    // Stores a table's words in the bank of the step that follows `step`.
+    // Stores a table's words in the bank of the step that follows `step`. A word that the bank has already is not stored again:
+    // a load is a plain read, and a store takes the word from the processors of the callers.
     fn store_words(&self, place: &mut Place, step: u64, number: u32, table: &[u64])
-        requires own { place.old.table_id ≡ self.now.table }
+        requires own { IsOf self.now place.old.table_id place.old.me.0.run }
         requires number { number < count self.now.run }
         requires step { (step + 1 < 2 ^ 62) × (place.old.me.0.floor ≡ updating (step + 1)) }
         requires table { table.now ≡ line_of self.now.run (step + 1) number }
@@ -115,9 +116,12 @@ impl Store {
     {
         let start = self.first_word(step + 1, number);
         for i in 0..table.len() {
-            self.board
-                .shared
-                .store::<StoreWord>(place, start + i, table[i]);
+            let word = start + i;
+            let value = table[i];
+            let found = self.board.shared.load::<FindWord>(place, word);
+            if found != value {
+                self.board.shared.store::<StoreWord>(place, word, value);
+            }
         }
     }
 

@@ -26,6 +26,9 @@ copy_table-requires c =
     subst (λ (z : PlainTable). 1 + length z.rows * (1 + z.width) ≤ size c.args.self.now.run c.args.number) (sym c.requires.table) fits in
     let room = c.writer.invariant.room c.args.self.now.run c.args.number (ap (λ z. z.run) c.writer.view_is ∙ c.requires.own.1) c.requires.number in omega arith
 
+pub store_words-requires-clause-own : goal.store_words-requires-clause-own
+store_words-requires-clause-own c = (ap (λ z. z.table) c.writer.view_is ∙ c.requires.own.0, ap (λ z. z.run) c.writer.view_is ∙ c.requires.own.1)
+
 pub store_words-requires-clause-table : goal.store_words-requires-clause-table
 store_words-requires-clause-table c =
     c.as_slice.ensures.value ∙ (c.copy_table.ensures.words ∙ (ap words c.requires.table ∙ (sym (line_named c.args.self.now.run (c.args.writer.now.step + 1) c.args.number)
