@@ -320,10 +320,10 @@ module _ (run : Run) where
   finds slots id me done k p i word is busy inside within sized place next few s r h at small = let v : View = me.0 in let x : ℕ = get_or (line_of run (done + 1) p) i 0 in let kn = r.each_seat id v at in
       let only : (run' : Run) (done' k' p' i' : ℕ) → v.run ≡ Some run' → v.doing ≡ Writing done' k' → i' < length (line_of run' (done' + 1) p') → below (λ q. length (line_of run' (done' + 1) q)) p' + i' ≡ k' → get_or (line_of run' (done' + 1) p') i' 0 ≡ x =
       λ run' done' k' p' i' named is' within' next'. let er = kn.names run' named in let e = ap writer_parts (sym is ∙ is') in
-          let there : (i' < length (line_of run (done + 1) p')) × (below (λ q. length (line_of run (done + 1) q)) p' + i' ≡ k) =
-          subst (λ (z : Run × (ℕ × ℕ)). (i' < length (line_of z.0 (z.1.0 + 1) p')) × (below (λ q. length (line_of z.0 (z.1.0 + 1) q)) p' + i' ≡ z.1.1)) (λ j. (er j, sym e j)) (within', next') in
-          let u = place_unique (λ q. length (line_of run (done + 1) q)) p' p i' i there.0 within (there.1 ∙ sym next) in
-          λ j. get_or (line_of (er j) ((sym e j).0 + 1) (u.0 j)) (u.1 j) 0 in
+      let there : (i' < length (line_of run (done + 1) p')) × (below (λ q. length (line_of run (done + 1) q)) p' + i' ≡ k) =
+      subst (λ (z : Run × (ℕ × ℕ)). (i' < length (line_of z.0 (z.1.0 + 1) p')) × (below (λ q. length (line_of z.0 (z.1.0 + 1) q)) p' + i' ≡ z.1.1)) (λ j. (er j, sym e j)) (within', next') in
+      let u = place_unique (λ q. length (line_of run (done + 1) q)) p' p i' i there.0 within (there.1 ∙ sym next) in
+      λ j. get_or (line_of (er j) ((sym e j).0 + 1) (u.0 j)) (u.1 j) 0 in
       dite (ℕ_discrete (get_or s.words word 0) x)
       (λ has. let stored = stores slots id me done k p i word x is busy inside within sized place refl next few s r h at small in (
         stored.0,

@@ -1,16 +1,13 @@
 -- The words of a table, row by row.
-use Rattle.std.proofs.Common.{◌≡◌, refl, ap, ap₂, sym, ◌∙◌, ℕ, zero, suc, ◌+◌, ◌<◌, arith, true, List, [], ◌∷◌, ◌++◌, take, length, get_or, ℤ, Some, append_assoc}
+use Rattle.std.proofs.Common.{◌≡◌, refl, ap, ap₂, ℕ, suc, List, [], ◌∷◌, ◌++◌, length, Some}
 use Rattle.std.specs.Prelude.{map, flat_map, unwrap_or, option_map, Option}
 use Rattle.std.specs.List.{AllByRecursion}
 use Rattle.std.specs.Int.{w64, cast_unsigned}
-use Rattle.key_lists.specs.Keys.{is_among}
-use Rattle.key_lists.proofs.Every.{every_weaker}
 use Rattle.tick_model.specs.declared.table.PlainRow.{PlainRow}
 use Rattle.tick_model.specs.declared.table.PlainTable.{PlainTable}
-use Rattle.tick_model.specs.Tables.{IsTable, IsRow, cells_at, keys, row_at}
+use Rattle.tick_model.specs.Tables.{IsTable, cells_at, keys, row_at}
 use Rattle.tick_model.specs.Words.{row_words}
 use Rattle.tick_model.proofs.Among.{each_found}
-use Rattle.tick_laws.proofs.ToldRows.{cells_of_row}
 
 -- a key and the cells of its row
 abbrev pub words_at : List PlainRow → ℕ → List ℕ

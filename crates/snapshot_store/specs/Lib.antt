@@ -8,4 +8,3 @@ pub mod Models
 pub mod Looks
 pub mod Answers
 pub mod Opening
-pub mod Rows

@@ -17,7 +17,6 @@ use crate::store::Store;
 use logical_clock::ClockValue;
 use std::marker::Model;
 use std::sync::Wait;
-use std::thread;
 
 // How far the clock may go past the step completed at the first look: from its idle value until the next step is completed.
 // A later step is stored over its words.
@@ -201,7 +200,7 @@ impl Store {
             return taken;
         }
         for _ in rt.forever() {
-            thread::yield_now();
+            self.await_turn(rt);
             if let Some(taken) = self.try_snapshot(caller, number, 0) {
                 return Taken {
                     tries: attempts,

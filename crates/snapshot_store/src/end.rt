@@ -45,7 +45,11 @@ impl Store {
             words: _,
         } = writer;
         self.gather(&mut place, callers);
-        let Store { board, layout: _ } = self;
+        let Store {
+            board,
+            layout: _,
+            sleepers: _,
+        } = self;
         board.close_with(place).free();
         Ended { step }
     }

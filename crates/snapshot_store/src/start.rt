@@ -18,6 +18,7 @@ use crate::writers::{Phase, Writer};
 use atomic_table::Table;
 use std::alloc::{AllocError, Global};
 use std::snapshot::Snapshot;
+use std::sync::atomic::AtomicU64;
 use tick_model::feed::Run;
 use tick_model::items::Items;
 use tick_table::Shared;
@@ -82,7 +83,11 @@ impl Store {
         let first = opening(alloc, run, &layout, tables, &mut words)?;
         let about = Snapshot::of(run);
         let (board, place): (Board, Place) = Table::of_words(alloc, first.as_slice(), &about)?;
-        let store = Store { board, layout };
+        let store = Store {
+            board,
+            layout,
+            sleepers: AtomicU64::new(0),
+        };
         let mut writer = Writer {
             place,
             step: 0,

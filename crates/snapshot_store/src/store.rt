@@ -6,6 +6,7 @@ ghost use Rattle.snapshot_store.specs.Lines.{count, spot};
 use crate::board::Board;
 use crate::layout::Layout;
 use std::marker::Model;
+use std::sync::atomic::AtomicU64;
 
 /// The words of the published tables of one run, which callers and the writer share. Contracts see the words by their
 /// identity, and the run, whose name they alone keep.
@@ -13,6 +14,8 @@ use std::marker::Model;
 pub struct Store {
     pub(crate) board: Board,
     pub(crate) layout: Layout,
+    /// How many callers sleep until the turn is given back, or are about to.
+    pub(crate) sleepers: AtomicU64,
 }
 
 impl Model for Store {

@@ -84,7 +84,8 @@ impl Store {
         true
     }
 
-    /// Begins the next step: it takes the turn, for which it waits while a caller has it, and sets the clock to updating.
+    /// Begins the next step: it takes the turn, for which it waits while a caller has it, and sets the clock to updating. It does
+    /// not sleep, and so comes before the callers that do: it waits for the reading of one.
     pub fn begin<R: Wait>(&self, rt: &R, writer: &mut Writer)
         requires own { IsOf self.now writer.old.table writer.old.run }
         requires idle { writer.old.phase ≡ Phase.Idle }

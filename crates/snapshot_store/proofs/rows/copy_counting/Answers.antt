@@ -9,8 +9,7 @@ use Rattle.key_lists.proofs.Among.{each_among}
 use Rattle.row_set.proofs.Yielded.{next_has, yielded_all}
 use Rattle.tick_model.specs.Tables.{cells_at, keys}
 use Rattle.tick_table.specs.Ticking.{Ticking}
-use Rattle.snapshot_store.specs.Rows.{words_at}
-use Rattle.snapshot_store.proofs.RowWords.{keys_long, table_words}
+use Rattle.snapshot_store.proofs.RowWords.{keys_long, table_words, words_at}
 use Rattle.snapshot_store.proofs.rows.copy_counting.Goals as goal
 
 pub loop-key-init : goal.loop-key-init

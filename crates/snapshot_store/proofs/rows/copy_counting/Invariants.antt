@@ -1,6 +1,6 @@
 use Rattle.std.proofs.Common.{◌≡◌, ◌≤◌, ◌∷◌, length, ◌+◌, ◌*◌, vec_len, vec_capacity}
 use Rattle.std.specs.Prelude.{flat_map}
-use Rattle.snapshot_store.specs.Rows.{words_at}
+use Rattle.snapshot_store.proofs.RowWords.{words_at}
 use Rattle.snapshot_store.proofs.rows.copy_counting.Given as goal
 
 abbrev pub invariant-loop-key : goal.invariant-loop-key

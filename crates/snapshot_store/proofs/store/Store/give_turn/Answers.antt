@@ -8,3 +8,6 @@ store-requires c = (
   (let w = c.self.invariant.words in omega arith),
   gives _ _ _ _ c.requires.quiet c.requires.turn,
 )
+
+pub wake_one-requires : goal.wake_one-requires
+wake_one-requires c = let w = c.self.invariant.words in omega arith

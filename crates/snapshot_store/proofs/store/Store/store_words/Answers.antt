@@ -1,4 +1,4 @@
-use Rattle.std.proofs.Common.{◌≡◌, ◌≢◌, ℕ, ◌+◌, ◌<◌, length, get_or, ap, ◌∙◌, sym, arith, List, refl, Some}
+use Rattle.std.proofs.Common.{◌≡◌, ◌≢◌, ℕ, ◌+◌, ◌<◌, length, get_or, ap, ◌∙◌, sym, arith, List, refl}
 use Rattle.snapshot_store.specs.Lines.{line_of}
 use Rattle.snapshot_store.specs.Models.{words_of}
 use Rattle.snapshot_store.proofs.Calls.{place_stored}
