@@ -3,6 +3,7 @@
 --     put key cell entries      the entries with this cell under the key
 --     left_entries dropped entries      those under none of the dropped keys
 --     moved_entries shifts entries      each under the key to which its row moves
+--     paired keys cells      the entries of these cells under these keys, one by one
 use Rattle.std.specs.Prelude.{ℕ, ◌^◌, ◌<◌, ◌==◌, not, nat_lt, List, [], ◌∷◌, Option, Some, None, filter, map, ℤ, if◌then◌else◌}
 use Rattle.std.specs.List.{AllByRecursion}
 use Rattle.key_lists.specs.Keys.{is_among, IsRising}
@@ -44,10 +45,10 @@ moved_entry shifts entry = entry_of (as_key (moved shifts entry.key)) entry.cell
 abbrev pub moved_entries : List ShiftRange → List Entry → List Entry
 moved_entries shifts = map (moved_entry shifts)
 
--- each key is below those after it
-abbrev pub Ascend : List Entry → Type 0
-Ascend [] = Unit {0}
-Ascend (entry ∷ others) = AllByRecursion (λ other. entry.key < other.key) others × Ascend others
+abbrev pub paired : List ℕ → List ℤ → List Entry
+paired [] cells = []
+paired (key ∷ keys) [] = []
+paired (key ∷ keys) (cell ∷ cells) = entry_of key cell ∷ paired keys cells
 
 -- the entries rise, and each key is below 2 ^ 62
 pub record IsEntryList (entries : List Entry) : Type 0 where

@@ -1,11 +1,2 @@
-pub mod Blocks
+pub mod Edits
 pub mod Entries
-pub mod Firsts
-pub mod Notes
-pub mod Slots
-pub mod Drops
-pub mod Moves
-pub mod Steps
-pub mod Joins
-pub mod Splits
-pub mod Gaps

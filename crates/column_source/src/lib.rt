@@ -1,17 +1,8 @@
 //! The cells of one column by row key, as they are and as they were when the step began.
 #![tactic(auto)]
 
-mod block;
-mod blocks;
 mod cells;
-mod directory;
-mod drops;
-mod firsts;
-mod gaps;
-mod joins;
-mod moves;
-mod notes;
-mod splits;
-mod sweeps;
+mod edit;
+mod version;
 
 pub use cells::Column;
