@@ -1,6 +1,6 @@
 -- What each edit makes of the keys and the cells that are kept.
-use Rattle.std.proofs.Common.{◌≡◌, refl, ap, ap₂, sym, ◌∙◌, subst, Bool, true, false, cond, ℕ, zero, suc, ◌+◌, ◌<◌, ◌≤◌, arith, List, [], ◌∷◌, ◌++◌, length, ℤ, ltb, add-one}
-use Rattle.std.specs.Prelude.{◌^◌, filter, slice_get, None, Some, Option, Result, Ok, Err}
+use Rattle.std.proofs.Common.{◌≡◌, refl, ap, ap₂, sym, ◌∙◌, subst, true, false, cond, ℕ, zero, suc, ◌+◌, ◌<◌, ◌≤◌, arith, List, [], ◌∷◌, ◌++◌, length, ℤ, ltb, add-one}
+use Rattle.std.specs.Prelude.{◌^◌, filter, slice_get, None, Result, Ok, Err}
 use Rattle.std.specs.List.{AllByRecursion, insert, remove}
 use Rattle.std.proofs.lemmas.Option.{slice_get_within}
 use Rattle.key_lists.specs.Keys.{is_among, IsRising, without}
@@ -9,7 +9,7 @@ use Rattle.key_lists.proofs.Every.{every, every-filter, every_unmapped}
 use Rattle.key_lists.proofs.Parts.{every_back}
 use Rattle.key_lists.proofs.Rising.{rising_count}
 use Rattle.row_set.specs.Ranges.{keys_from}
-use Rattle.row_set.specs.Sets.{IsKeySet, common, count_below, found, united, with_key}
+use Rattle.row_set.specs.Sets.{IsKeySet, common, count_below, found, united}
 use Rattle.row_set.proofs.Lookups.{count_at}
 use Rattle.row_set.proofs.United.{one_key}
 use Rattle.row_set.proofs.Windows.{rising_back, rising_before}

@@ -14,7 +14,6 @@ use std::marker::Model;
 
 /// The cells of one column by row key: those of now, and those from before the step. A step costs as much as its edits, each of
 /// which is made twice: in the cells of now, and in the next step in those from before.
-#[derive(Drop)]
 pub struct Column {
     current: Version,
     /// The cells from before the step. Until the step has its first edit they may lack edits of the last one.
@@ -23,6 +22,17 @@ pub struct Column {
     edits: VecDeque<Edit>,
     /// Whether a step has begun that has no edit yet.
     begun: bool,
+}
+
+impl Drop for Column {
+    fn drop(self) {
+        let Self {
+            current: _,
+            previous: _,
+            edits: _,
+            begun: _,
+        } = self;
+    }
 }
 
 impl Model for Column {

@@ -6,7 +6,6 @@ use shift_data::ShiftData;
 use std::alloc::AllocError;
 
 /// A change of the cells.
-#[derive(Drop)]
 pub(crate) enum Edit {
     /// Puts a cell under a key.
     Set { key: u64, cell: i64 },
@@ -14,6 +13,16 @@ pub(crate) enum Edit {
     DropKeys(RowSet),
     /// Moves the rows.
     Shift(ShiftData),
+}
+
+impl Drop for Edit {
+    fn drop(self) {
+        match self {
+            Self::Set { key: _, cell: _ } => {}
+            Self::DropKeys(_) => {}
+            Self::Shift(_) => {}
+        }
+    }
 }
 
 impl Edit {

@@ -13,7 +13,7 @@ use std::alloc::{AllocError, Global};
 use std::marker::Model;
 
 /// The cells by row key at one time. A contract sees the entries, rising by key. A row is put in or taken out at the cost of one
-/// chunk of cells, and a shift moves keys alone.
+/// chunk of cells and of the ranges of keys, and a shift moves keys alone.
 #[derive(Drop)]
 pub(crate) struct Version {
     keys: RowSet,

@@ -18,24 +18,6 @@ loop-edit-preserved-in_ok-make c =
       allowed = allowed_rest edits edit c.loop-edit.previous some c.in-Some.ensures.lookup c.loop-edit.invariant.allowed c.pop_front.new.self.items c.make.new.self c.pop_front.ensures.rest c.in_ok-make.ensures.ok;
     }
 
-pub loop-edit-preserved-in_ok-make-2 : goal.loop-edit-preserved-in_ok-make-2
-loop-edit-preserved-in_ok-make-2 c =
-    let edits = c.loop-edit.edits.items in
-    let some : 0 < length edits = omega (arith, c.in-Some.ensures.variant.0 refl, c.loop-edit.edits.ok.0) in
-    let edit = c.in-Some.edit.now in record {
-      led = led_rest edits edit c.loop-edit.previous some c.in-Some.ensures.lookup c.loop-edit.invariant.allowed c.pop_front.new.self.items c.make.new.self c.pop_front.ensures.rest c.in_ok-make.ensures.ok ∙ c.loop-edit.invariant.led;
-      allowed = allowed_rest edits edit c.loop-edit.previous some c.in-Some.ensures.lookup c.loop-edit.invariant.allowed c.pop_front.new.self.items c.make.new.self c.pop_front.ensures.rest c.in_ok-make.ensures.ok;
-    }
-
-pub loop-edit-preserved-in_ok-make-3 : goal.loop-edit-preserved-in_ok-make-3
-loop-edit-preserved-in_ok-make-3 c =
-    let edits = c.loop-edit.edits.items in
-    let some : 0 < length edits = omega (arith, c.in-Some.ensures.variant.0 refl, c.loop-edit.edits.ok.0) in
-    let edit = c.in-Some.edit.now in record {
-      led = led_rest edits edit c.loop-edit.previous some c.in-Some.ensures.lookup c.loop-edit.invariant.allowed c.pop_front.new.self.items c.make.new.self c.pop_front.ensures.rest c.in_ok-make.ensures.ok ∙ c.loop-edit.invariant.led;
-      allowed = allowed_rest edits edit c.loop-edit.previous some c.in-Some.ensures.lookup c.loop-edit.invariant.allowed c.pop_front.new.self.items c.make.new.self c.pop_front.ensures.rest c.in_ok-make.ensures.ok;
-    }
-
 pub returns-clause-brought : goal.returns-clause-brought
 returns-clause-brought c =
     let edits = c.loop-edit.edits.items in

@@ -1,4 +1,4 @@
-use Rattle.std.proofs.Common.{◌≡◌, refl, ap, sym, ◌∙◌, List, ℕ}
+use Rattle.std.proofs.Common.{refl, ap, sym, ◌∙◌, List, ℕ}
 use Rattle.chunk_list.specs.Chunked.{joined}
 use Rattle.key_lists.proofs.Every.{filter_all}
 use Rattle.row_set.proofs.Yielded.{yielded_all, yielded_next}

@@ -1,5 +1,3 @@
-use Rattle.std.proofs.Common.{ap, ◌∙◌}
-use Rattle.shift_data.specs.Moves.{IsLawful}
 use Rattle.column_source.proofs.Made.{moved_on}
 use Rattle.column_source.proofs.Paired.{are_of, shown}
 use Rattle.column_source.proofs.version.Version.shift.Goals as goal
