@@ -1,11 +1,14 @@
 -- Lists of blocks: where a key is found in them.
 use Rattle.std.proofs.Common.{◌≡◌, ◌≢◌, refl, ap, sym, ◌∙◌, subst, true, false, cond, ℕ, zero, suc, ◌-◌, ◌<◌, ◌≤◌, arith, List, [], ◌∷◌, ◌++◌, map, length, take, drop, get_or, Option, Some, None, leb, leb-true, leb-false, ltb, ltb-true, ltb-false, take-append-drop, take_all}
 use Rattle.std.specs.Option.{option_or}
+use Rattle.std.specs.Prelude.{slice_get}
 use Rattle.std.specs.List.{AllByRecursion}
 use Rattle.std.specs.List.Sorted.{IsPartitionPoint, IsPartitionedBy, IsNonDecreasingBy}
 use Rattle.std.proofs.lemmas.Bool.{eq-eqb}
 use Rattle.std.proofs.lemmas.List.Sorted.{IsPartitionedBy-leb, IsPartitionedBy-ltb}
 use Rattle.std.proofs.lemmas.List.{map-append}
+use Rattle.std.proofs.lemmas.List.Elements.{recursion_from_All}
+use Rattle.std.proofs.lemmas.Option.{get_or_from_slice_get}
 use Rattle.std.proofs.lemmas.Grind.{flat_map-append}
 use Rattle.key_lists.proofs.Every.{every_weaker, every-append, every-map, every_unmapped}
 use Rattle.key_lists.proofs.Parts.{every_front, every_back, front_part, back_part, every_at, around, last_taken}
@@ -14,6 +17,12 @@ use Rattle.row_handles.specs.declared.block.Row.{Row}
 use Rattle.row_handles.specs.Entries.{handle_under, Ascend}
 use Rattle.row_handles.specs.Blocks.{IsBlock, entry_at, rows_of, rows}
 use Rattle.row_handles.proofs.EntryLists.{handle_under-append, handle_under-above, handle_under-below, ascend_front, ascend_back, begin_has, from_begin, begin_below, below_begin}
+
+-- what holds of the last holds of those that are no greater
+pub until_last : {X : Type 0} (f : X → ℕ) (P : X → Type 0) → ((x y : X) → f x ≤ f y → P y → P x) → (xs : List X) (last : X) → IsNonDecreasingBy f xs → slice_get xs (length xs - 1) ≡ Some last → P last → AllByRecursion P xs
+until_last f P down xs last rise at p =
+    recursion_from_All P xs
+    (λ k d lt. down (get_or xs k d) (get_or xs (length xs - 1) d) (rise k (length xs - 1) d (omega arith) (omega arith)) (subst P (sym (get_or_from_slice_get xs (length xs - 1) last d at)) p))
 
 -- rows within a block
 lt_le : (a b : ℕ) → a < b → a ≤ b
@@ -88,7 +97,7 @@ rows_above bound (block ∷ blocks) sound ascend h =
 pub later_firsts : (block : Block) (blocks : List Block) → AllByRecursion IsBlock (block ∷ blocks) → Ascend (rows (block ∷ blocks)) → AllByRecursion (λ other. block.first < other.first) blocks
 later_firsts block blocks sound ascend = firsts_above block.first blocks sound.1 (begin_below block.first (rows_of block) (rows blocks) sound.0.begun ascend)
 
-firsts_rise : (blocks : List Block) → AllByRecursion IsBlock blocks → Ascend (rows blocks) → IsNonDecreasingBy (λ block. block.first) blocks
+pub firsts_rise : (blocks : List Block) → AllByRecursion IsBlock blocks → Ascend (rows blocks) → IsNonDecreasingBy (λ block. block.first) blocks
 firsts_rise [] sound ascend i j d le lt = absurd (omega arith)
 firsts_rise (block ∷ blocks) sound ascend zero zero d le lt = omega arith
 firsts_rise (block ∷ blocks) sound ascend zero (suc j) d le lt = lt_le block.first (get_or blocks j d).first (every_at (λ other. block.first < other.first) blocks j d (omega arith) (later_firsts block blocks sound ascend))

@@ -46,14 +46,17 @@ pub(crate) struct Block {
 impl Block {
     ghost use Rattle.row_handles.specs.Blocks.{AreRowsUnder, rows_of};
 
-    /// How many of its rows have smaller keys.
+    /// How many of its rows have smaller keys. Where the last one has, no other is looked at.
     pub(crate) fn rows_below(&self, key: u64) -> usize
         requires { Ascend (rows_of self.now) }
         ensures within { result ≤ length self.now.rows.items }
         ensures below { AllByRecursion (λ row. self.now.ceiling - row.depth < key) (take result self.now.rows.items) }
         ensures others { AllByRecursion (λ row. key ≤ self.now.ceiling - row.depth) (drop result self.now.rows.items) }
     {
-        self.rows.partition_point(|row| row.key(self.ceiling) < key)
+        match self.rows.last() {
+            Some(last) if last.key(self.ceiling) < key => self.rows.len(),
+            _ => self.rows.partition_point(|row| row.key(self.ceiling) < key),
+        }
     }
 
     /// Its rows under the keys from first to last.

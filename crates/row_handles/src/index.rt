@@ -30,7 +30,7 @@ pub(crate) struct Index {
     pub(crate) places: Slab<Place>,
 }
 
-/// How many of the blocks begin at the key or before it.
+/// How many of the blocks begin at the key or before it. Where the last one does, no other is looked at.
 pub(crate) fn begun_by(blocks: &[Block], key: u64) -> usize
     requires sound { AllByRecursion IsBlock blocks.now }
     requires ascend { Ascend (rows blocks.now) }
@@ -38,7 +38,10 @@ pub(crate) fn begun_by(blocks: &[Block], key: u64) -> usize
     ensures begun { AllByRecursion (λ block. block.first ≤ key) (take result blocks.now) }
     ensures others { AllByRecursion (λ block. key < block.first) (drop result blocks.now) }
 {
-    blocks.partition_point(|block| block.first <= key)
+    match blocks.last() {
+        Some(last) if last.first <= key => blocks.len(),
+        _ => blocks.partition_point(|block| block.first <= key),
+    }
 }
 
 impl Index {
