@@ -26,3 +26,4 @@ pub mod Batched
 pub mod Inserted
 pub mod LeftOut
 pub mod Arrived
+pub mod Coming

@@ -1,5 +1,6 @@
 pub mod Cells
 pub mod Entries
+pub mod Firsts
 pub mod Places
 pub mod Ranks
 pub mod Reading

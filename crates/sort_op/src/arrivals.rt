@@ -7,6 +7,7 @@ ghost use Rattle.row_handles.specs.Entries.{key_with, keys_of};
 ghost use Rattle.sort_op.specs.declared.entry.Entry.{Entry};
 ghost use Rattle.sort_op.specs.declared.row_order.Row.{Row};
 ghost use Rattle.sort_op.specs.Entries.{AreDistinct, Falls, Rises, entry_cmp, is_in, keys_in};
+ghost use Rattle.sort_op.specs.Firsts.{coming_cmp, coming_of, rows_in};
 ghost use Rattle.sort_op.specs.Places.{AreFound};
 ghost use Rattle.sort_op.specs.Ranks.{AreArrived, HasArrived, arrived, listed, row_entry};
 ghost use Rattle.sort_op.specs.Reading.{entries_under, entry_with};
@@ -45,12 +46,49 @@ fn compare(by: &[SortBy], cells: &SortCells, row: Row, other: Row) -> Ordering
     }
 }
 
-/// Puts the first row of an order last.
-fn sort_backward(by: &[SortBy], cells: &SortCells, rows: &mut Vec<Row>)
-    ensures permutation { IsPermutation rows.old.items rows.new.items }
-    ensures backward { Falls by.now (map (row_entry by.now cells.now) rows.new.items) }
+/// A row that comes, with its first sort cell as it ranks, by which most rows are told apart.
+#[derive(Clone, Copy)]
+struct Coming {
+    first: i64,
+    row: Row,
+}
+
+impl Coming {
+    /// How the row stands to another, by their first sort cells, and where these are equal by all.
+    fn compare(&self, other: &Coming, by: &[SortBy], cells: &SortCells) -> Ordering
+        ensures { result ≡ coming_cmp by.now cells.now self.now other.now }
+    {
+        match self.first.cmp(&other.first) {
+            Ordering::Equal => compare(by, cells, self.row, other.row),
+            order => order,
+        }
+    }
+}
+
+/// The rows with their first sort cells.
+fn with_firsts(by: &[SortBy], cells: &SortCells, rows: Vec<Row>) -> Result<Vec<Coming>, AllocError>
+    ensures { IfOk result (λ coming. coming.items ≡ map (coming_of by.now cells.now) rows.items) }
 {
-    rows.sort_unstable_by(|row, other| compare(by, cells, *other, *row));
+    let mut coming = Vec::with_capacity(*rows.allocator(), rows.len())?;
+    for row in rows {
+        let first = cells.first_rank(by, row.handle);
+        coming.push(Coming { first, row })?;
+    }
+    Ok(coming)
+}
+
+/// The rows in order, but the first one last.
+fn sorted_backward(
+    by: &[SortBy],
+    cells: &SortCells,
+    rows: Vec<Row>,
+) -> Result<Vec<Coming>, AllocError>
+    ensures permutation { IfOk result (λ coming. IsPermutation rows.items (rows_in coming.items)) }
+    ensures backward { IfOk result (λ coming. Falls by.now (map (row_entry by.now cells.now) (rows_in coming.items))) }
+{
+    let mut coming = with_firsts(by, cells, rows)?;
+    coming.sort_unstable_by(|row, other| other.compare(row, by, cells));
+    Ok(coming)
 }
 
 impl RowOrder {
@@ -95,7 +133,7 @@ impl RowOrder {
 
     /// Puts rows in that are not there, no two of which are the same, and gives the positions at which they stand then. They
     /// come in the order in which they stand, each behind the one before it, so that the position of none moves any more.
-    pub(crate) fn insert_rows(&mut self, mut rows: Vec<Row>) -> Result<Vec<u64>, AllocError>
+    pub(crate) fn insert_rows(&mut self, rows: Vec<Row>) -> Result<Vec<u64>, AllocError>
         requires known { AllByRecursion (λ row. key_with row.handle self.old.handles ≡ Some row.key) rows.items }
         requires absent { AllByRecursion (λ row. is_in (arrived self.old row) (listed self.old) ≡ false) rows.items }
         requires distinct { AreDistinct (map (arrived self.old) rows.items) }
@@ -105,10 +143,10 @@ impl RowOrder {
         ensures by { self.new.by ≡ self.old.by }
         ensures handles { self.new.handles ≡ self.old.handles }
     {
-        sort_backward(self.by.as_slice(), &self.cells, &mut rows);
-        let mut positions = Vec::with_capacity(*rows.allocator(), rows.len())?;
-        while let Some(row) = rows.pop() {
-            positions.push(self.insert(row)?)?;
+        let mut coming = sorted_backward(self.by.as_slice(), &self.cells, rows)?;
+        let mut positions = Vec::with_capacity(*coming.allocator(), coming.len())?;
+        while let Some(next) = coming.pop() {
+            positions.push(self.insert(next.row)?)?;
         }
         Ok(positions)
     }

@@ -3,6 +3,7 @@ ghost use Rattle.std.specs.Prelude.{◌≡◌, ◌≢◌, ◌<◌, ℕ, length, 
 ghost use Rattle.std.specs.Ordering.{is_lt};
 ghost use Rattle.tick_model.specs.Tables.{cell as cell_of, same_cells};
 ghost use Rattle.sort_op.specs.Cells.{cells_cmp};
+ghost use Rattle.sort_op.specs.Firsts.{first_rank, ranked};
 ghost use Rattle.sort_op.specs.Ranks.{cell_in, kept_cells, lists_of};
 ghost use Rattle.sort_op.specs.Sorted.{sort_cells};
 
@@ -59,6 +60,13 @@ fn put_cell(column: &mut Vec<i64>, handle: Handle, cell: i64) -> Result<(), Allo
     Ok(())
 }
 
+/// A cell as it ranks in a sort column, the lower first: itself, or its opposite where the column descends. It never wraps.
+fn ranked(sort: &SortBy, cell: i64) -> i64
+    ensures { result ≡ ranked sort.now cell }
+{
+    if sort.descending { -1 - cell } else { cell }
+}
+
 impl SortCells {
     /// No cells.
     pub(crate) fn new(alloc: Global) -> SortCells {
@@ -73,6 +81,16 @@ impl SortCells {
     {
         match self.columns.get(place) {
             Some(column) => column.get(handle).copied().unwrap_or(NULL),
+            None => NULL,
+        }
+    }
+
+    /// The first sort cell of a row as it ranks, or null where there is no sort column.
+    pub(crate) fn first_rank(&self, by: &[SortBy], handle: Handle) -> i64
+        ensures { result ≡ first_rank by.now self.now handle }
+    {
+        match by.first() {
+            Some(sort) => ranked(sort, self.get(0, handle)),
             None => NULL,
         }
     }
