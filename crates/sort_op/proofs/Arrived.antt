@@ -8,12 +8,13 @@ use Rattle.std.specs.Option.{option_map_or}
 use Rattle.std.proofs.lemmas.Bool.{cases_eq, eq-eqb, ne_eqb}
 use Rattle.std.proofs.lemmas.Cmp.{back_total}
 use Rattle.std.proofs.lemmas.List.{append-nil}
+use Rattle.std.proofs.lemmas.List.Edits.{insert_end}
 use Rattle.std.proofs.lemmas.List.Elements.{recursion_from_All}
 use Rattle.std.proofs.lemmas.List.MinMax.{ranks_by}
 use Rattle.std.proofs.lemmas.List.Sorted.{sorted_far}
 use Rattle.key_lists.specs.Keys.{is_among}
 use Rattle.key_lists.proofs.Among.{among-append}
-use Rattle.key_lists.proofs.Every.{every, every_both, every_weaker, every-map, map_own}
+use Rattle.key_lists.proofs.Every.{every, every_both, every_weaker, every-append, every-map, map_own}
 use Rattle.key_lists.proofs.Booleans.{or_false, or_true}
 use Rattle.key_lists.proofs.Parts.{every_front, every_back}
 use Rattle.tick_model.specs.declared.plan.SortBy.{SortBy}
@@ -22,7 +23,7 @@ use Rattle.sort_op.specs.Entries.{comes_before, is_in, is_same, place_of, AreDis
 use Rattle.sort_op.specs.Places.{AreFound, is_one}
 use Rattle.sort_op.proofs.Batched.{same_flip}
 use Rattle.sort_op.proofs.Comparing.{before_trans, behind, entries_total, is_same_own, other_before}
-use Rattle.sort_op.proofs.Inserted.{in_permuted, others_than_first}
+use Rattle.sort_op.proofs.Inserted.{in_permuted, others_than_first, others_than_last}
 use Rattle.sort_op.proofs.Rises.{rises_back}
 use Rattle.sort_op.proofs.Searches.{each_other}
 
@@ -130,6 +131,33 @@ module _ (by : List SortBy) where
           every_weaker (λ other. comes_before by entry other ≡ true) (λ other. is_in other h.came ≡ false) (drop place old)
           (λ other later. none_in other h.came (every_weaker (λ first. comes_before by first entry ≡ true) (λ first. is_same first other ≡ false) h.came (λ first less. other_before by first other (before_trans by first entry other less later)) before))
           (rises_back by (take place old) (entry ∷ drop place old) (subst (Rises by) is rises_now)).0
+
+  -- those that are still to come stand behind one that stands last
+  stand_before : (xs : List Entry) (entry : Entry) → Rises by (xs ++ entry ∷ []) → AllByRecursion (λ x. comes_before by x entry ≡ true) xs
+  stand_before [] entry h = tt
+  stand_before (x ∷ xs) entry h = ((every_back (λ y. comes_before by x y ≡ true) xs (entry ∷ []) h.0).0, stand_before xs entry h.1)
+
+  not_before : (rest came : List Entry) (entry : Entry) → Falls by ((rest ++ entry ∷ []) ++ came) → AllByRecursion (λ x. comes_before by x entry ≡ false) rest
+  not_before [] came entry h = tt
+  not_before (x ∷ rest) came entry h =
+      let later : Entry → Type 0 = λ y. comes_before by x y ≡ false in
+      ((every_back later rest (entry ∷ []) (every_front later (rest ++ entry ∷ []) came h.0)).0, not_before rest came entry h.1)
+
+  pub last_ahead : (all rest old now : List Entry) (entry : Entry) (place : ℕ) (positions : List ℕ) → Falls by all → AreDistinct (rest ++ entry ∷ []) → AllByRecursion (IsWhole by) all → Rises by now → place ≡ length old → now ≡ insert old place entry
+      → HaveArrived all (rest ++ entry ∷ []) old positions → AllByRecursion (λ x. AllByRecursion (λ y. comes_before by y x ≡ true) now) rest
+  last_ahead all rest old now entry place positions falls distinct whole rises last is h =
+      every_weaker (λ x. comes_before by entry x ≡ true) (λ x. AllByRecursion (λ y. comes_before by y x ≡ true) now) rest
+      (λ x later. subst (AllByRecursion (λ y. comes_before by y x ≡ true)) (sym more) (every-append (λ y. comes_before by y x ≡ true) old (entry ∷ []) (every_weaker (λ y. comes_before by y entry ≡ true) (λ y. comes_before by y x ≡ true) old (λ y sooner. before_trans by y entry x sooner later) (stand_before old entry (subst (Rises by) more rises))) (later, tt)))
+      (every_both (λ x. IsWhole by x) (λ x. (comes_before by x entry ≡ false) × (is_same x entry ≡ false)) (λ x. comes_before by entry x ≡ true) rest
+      (λ x w e. behind by x entry w (every_back (IsWhole by) rest (entry ∷ []) own).0 e.0 e.1) (every_front (IsWhole by) rest (entry ∷ []) own)
+      (every_both (λ x. comes_before by x entry ≡ false) (λ x. is_same x entry ≡ false) (λ x. (comes_before by x entry ≡ false) × (is_same x entry ≡ false)) rest (λ x a b. (a, b))
+      (not_before rest h.came entry (subst (Falls by) h.split falls)) (others_than_last rest entry distinct)))
+    where
+      more : now ≡ old ++ entry ∷ []
+      more = is ∙ ap (λ n. insert old n entry) last ∙ insert_end old entry
+
+      own : AllByRecursion (IsWhole by) (rest ++ entry ∷ [])
+      own = every_front (IsWhole by) (rest ++ entry ∷ []) h.came (subst (AllByRecursion (IsWhole by)) h.split whole)
 
   pub none_arrived : (all now : List Entry) (positions : List ℕ) → positions ≡ [] → HaveArrived all all now positions
   none_arrived all now positions is = record { came = []; split = sym (append-nil all); found = λ at. ap (is_among at) is ∙ none (slice_get now at) }

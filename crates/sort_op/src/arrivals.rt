@@ -132,7 +132,8 @@ impl RowOrder {
     }
 
     /// Puts rows in that are not there, no two of which are the same, and gives the positions at which they stand then. They
-    /// come in the order in which they stand, each behind the one before it, so that the position of none moves any more.
+    /// come in the order in which they stand, each behind the one before it, so that the position of none moves any more; and
+    /// where one comes to stand last, so do those behind it, without a search.
     pub(crate) fn insert_rows(&mut self, rows: Vec<Row>) -> Result<Vec<u64>, AllocError>
         requires known { AllByRecursion (λ row. key_with row.handle self.old.handles ≡ Some row.key) rows.items }
         requires absent { AllByRecursion (λ row. is_in (arrived self.old row) (listed self.old) ≡ false) rows.items }
@@ -145,8 +146,12 @@ impl RowOrder {
     {
         let mut coming = sorted_backward(self.by.as_slice(), &self.cells, rows)?;
         let mut positions = Vec::with_capacity(*coming.allocator(), coming.len())?;
+        let mut is_last = false;
         while let Some(next) = coming.pop() {
-            positions.push(self.insert(next.row)?)?;
+            let count = self.len();
+            let position = self.insert(next.row, is_last)?;
+            is_last = position == count;
+            positions.push(position)?;
         }
         Ok(positions)
     }

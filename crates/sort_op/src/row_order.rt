@@ -169,16 +169,31 @@ impl RowOrder {
         self.cells.are_of(self.by.as_slice(), handle, row)
     }
 
-    /// Puts a row in that is not there, and gives its position.
-    pub(crate) fn insert(&mut self, row: Row) -> Result<u64, AllocError>
+    /// How many rows stand before one. Where it is known to stand behind all, no row is looked at.
+    fn position_for(&self, row: Row, is_last: bool) -> usize
+        requires { IsTrue is_last → AllByRecursion (λ entry. comes_before self.now.by entry (arrived self.now row) ≡ true) (listed self.now) }
+        ensures within { result ≤ length (listed self.now) }
+        ensures before { AllByRecursion (λ entry. comes_before self.now.by entry (arrived self.now row) ≡ true) (take result (listed self.now)) }
+        ensures others { AllByRecursion (λ entry. comes_before self.now.by entry (arrived self.now row) ≡ false) (drop result (listed self.now)) }
+    {
+        if is_last {
+            self.len() as usize
+        } else {
+            self.count_before(row)
+        }
+    }
+
+    /// Puts a row in that is not there, and gives its position. It may be known to stand behind all others.
+    pub(crate) fn insert(&mut self, row: Row, is_last: bool) -> Result<u64, AllocError>
         requires known { key_with row.handle self.old.handles ≡ Some row.key }
         requires absent { place_of (arrived self.old row) (listed self.old) ≡ None }
+        requires last { IsTrue is_last → AllByRecursion (λ entry. comes_before self.old.by entry (arrived self.old row) ≡ true) (listed self.old) }
         ensures within { IfOk result (λ position. position ≤ length (listed self.old)) }
         ensures rows { IfOk result (λ position. self.new ≡ record self.old { rows = insert self.old.rows position row.handle }) }
         ensures rises { Rises self.new.by (listed self.new) }
         ensures refused { OnErr result (self.new ≡ self.old) }
     {
-        let position = self.count_before(row);
+        let position = self.position_for(row, is_last);
         self.rows.insert(position, row.handle)?;
         Ok(position as u64)
     }

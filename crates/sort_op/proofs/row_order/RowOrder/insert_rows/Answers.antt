@@ -1,7 +1,8 @@
-use Rattle.std.proofs.Common.{◌≡◌, ◌||◌, ◌∙◌, ◌++◌, ◌∷◌, [], false, map, refl, ap, arith, sym, subst, Some}
+use Rattle.std.proofs.Common.{◌≡◌, ◌||◌, ◌∙◌, ◌++◌, ◌∷◌, [], false, map, refl, ap, arith, sym, subst, true, true≢false, Some}
 use Rattle.std.specs.Prelude.{insert}
 use Rattle.std.specs.List.{AllByRecursion}
 use Rattle.std.specs.List.Sorted.{IsPermutation}
+use Rattle.std.proofs.lemmas.Bool.{eqb-true}
 use Rattle.std.proofs.lemmas.List.{map-append, nil_from_length}
 use Rattle.std.proofs.lemmas.List.Sorted.{IsPermutation-map}
 use Rattle.key_lists.proofs.Booleans.{or_false}
@@ -11,10 +12,10 @@ use Rattle.row_handles.specs.Entries.{key_with}
 use Rattle.sort_op.specs.declared.arrivals.Coming.{Coming}
 use Rattle.sort_op.specs.declared.entry.Entry.{Entry}
 use Rattle.sort_op.specs.declared.row_order.Row.{Row}
-use Rattle.sort_op.specs.Entries.{is_in, place_of, AreDistinct, Falls, IsWhole, Rises}
+use Rattle.sort_op.specs.Entries.{comes_before, is_in, place_of, AreDistinct, Falls, IsWhole, Rises}
 use Rattle.sort_op.specs.Firsts.{rows_in}
 use Rattle.sort_op.specs.Ranks.{IsRanking, Ranking, arrived, listed, row_entry}
-use Rattle.sort_op.proofs.Arrived.{all_arrived, none_arrived, one_arrived, HaveArrived}
+use Rattle.sort_op.proofs.Arrived.{all_arrived, last_ahead, none_arrived, one_arrived, HaveArrived}
 use Rattle.sort_op.proofs.Inserted.{distinct_front, distinct_permuted, every_permuted, in_permuted, in_step, last_has, out_step, place_out}
 use Rattle.sort_op.proofs.Ranked.{arrived_whole}
 use Rattle.sort_op.proofs.RankedEdits.{listed_more}
@@ -34,6 +35,7 @@ loop-next-init c =
       out = every_permuted (λ x. is_in x (listed order) ≡ false) (map entry was) (map entry sorted) shuffled (every-map (λ x. is_in x (listed order) ≡ false) entry was c.requires.absent);
       distinct = distinct_permuted (map entry was) (map entry sorted) shuffled c.requires.distinct;
       rises = (subst IsRanking c.self.view_is c.self.invariant).rising;
+      ahead = λ last. absurd (true≢false (sym last));
       arrived = none_arrived order.by (map entry sorted) (listed order) c.in_ok-positions.positions.items c.in_ok-positions.ensures.items;
     }
 
@@ -56,6 +58,17 @@ insert-requires-clause-absent c =
     ap (λ (order : Ranking). place_of (arrived order row) now) c.loop-next.invariant.same
     ∙ place_out (entry row) now (last_has (λ x. is_in x now ≡ false) (map entry rest) (entry row) (subst (AllByRecursion (λ x. is_in x now ≡ false)) split c.loop-next.invariant.out))
 
+pub insert-requires-clause-last : goal.insert-requires-clause-last
+insert-requires-clause-last c = λ last.
+    let row = c.in-Some.next.row in
+    let rest = rows_in c.pop.new.self.items in
+    let entry : Row → Entry = arrived c.args.self.now in
+    let items : rows_in c.loop-next.coming.items ≡ rest ++ row ∷ [] = ap rows_in c.in-Some.ensures.items ∙ map-append (λ (next : Coming). next.row) c.pop.new.self.items (c.in-Some.next ∷ []) in
+    let split : map entry (rows_in c.loop-next.coming.items) ≡ map entry rest ++ entry row ∷ [] = ap (map entry) items ∙ map-append entry rest (row ∷ []) in
+    let now = listed c.loop-next.self in
+    subst (λ (order : Ranking). AllByRecursion (λ y. comes_before order.by y (arrived order row) ≡ true) now) (sym c.loop-next.invariant.same)
+    (last_has (λ x. AllByRecursion (λ y. comes_before c.args.self.now.by y x ≡ true) now) (map entry rest) (entry row) (subst (AllByRecursion (λ x. AllByRecursion (λ y. comes_before c.args.self.now.by y x ≡ true) now)) split (c.loop-next.invariant.ahead last)))
+
 pub loop-next-preserved : goal.loop-next-preserved
 loop-next-preserved c =
     let first = c.args.self.now in
@@ -67,22 +80,22 @@ loop-next-preserved c =
     let split : map entry (rows_in c.loop-next.coming.items) ≡ map entry rest ++ entry row ∷ [] = ap (map entry) items ∙ map-append entry rest (row ∷ []) in
     let old = listed c.loop-next.self in
     let new = listed c.insert.new.self in
-    let place = c.in_ok-insert.field-0 in
+    let place = c.in_ok-position.position in
     let same = c.loop-next.invariant.same in
     let known = (every_back (λ (row : Row). key_with row.handle first.handles ≡ Some row.key) rest (row ∷ []) (subst (AllByRecursion (λ (row : Row). key_with row.handle first.handles ≡ Some row.key)) items c.loop-next.invariant.known)) in
     let more : new ≡ insert old place (entry row) =
-    ap listed c.in_ok-insert.ensures.rows
+    ap listed c.in_ok-position.ensures.rows
     ∙ listed_more c.loop-next.self row place (subst (λ (order : Ranking). key_with row.handle order.handles ≡ Some row.key) (sym same) known.0)
     ∙ ap (λ (order : Ranking). insert old place (arrived order row)) same in
     let distinct = subst AreDistinct split c.loop-next.invariant.distinct in
     let out = subst (AllByRecursion (λ x. is_in x old ≡ false)) split c.loop-next.invariant.out in
-    let rises_now : Rises first.by new = subst (λ by. Rises by new) (ap (λ (order : Ranking). order.by) c.in_ok-insert.ensures.rows ∙ ap (λ (order : Ranking). order.by) same) c.insert.ensures.rises in
+    let rises_now : Rises first.by new = subst (λ by. Rises by new) (ap (λ (order : Ranking). order.by) c.in_ok-position.ensures.rows ∙ ap (λ (order : Ranking). order.by) same) c.insert.ensures.rises in
     let back : Falls first.by all =
     subst (λ (order : Ranking). Falls order.by (map (row_entry order.by order.cells) (rows_in c.in_ok-coming.coming.items))) c.self.view_is
     (subst (λ by. Falls by (map (row_entry by c.self.inside.cells) (rows_in c.in_ok-coming.coming.items))) c.as_slice.ensures c.in_ok-coming.ensures.backward) in
     let whole : AllByRecursion (IsWhole first.by) all = every-map (IsWhole first.by) entry (rows_in c.in_ok-coming.coming.items) (every (λ row. IsWhole first.by (entry row)) (rows_in c.in_ok-coming.coming.items) (arrived_whole first)) in
     record {
-      same = c.in_ok-insert.ensures.rows ∙ ap (λ (order : Ranking). record order { rows = insert c.loop-next.self.rows place row.handle }) same ∙ ap (λ (order : Ranking). record first { rows = order.rows }) (sym c.in_ok-insert.ensures.rows);
+      same = c.in_ok-position.ensures.rows ∙ ap (λ (order : Ranking). record order { rows = insert c.loop-next.self.rows place row.handle }) same ∙ ap (λ (order : Ranking). record first { rows = order.rows }) (sym c.in_ok-position.ensures.rows);
       kept = λ x.
           ap (λ now. is_in x now || is_in x (map entry rest)) more
           ∙ in_step x old place (entry row) (map entry rest)
@@ -96,8 +109,11 @@ loop-next-preserved c =
           subst (HaveArrived first.by all (map entry rest) new) (sym c.in_ok-push.ensures.items)
           (one_arrived first.by all (map entry rest) old new (entry row) place c.loop-next.positions.items back
           (distinct_permuted (map entry c.args.rows.items) all (IsPermutation-map entry c.args.rows.items (rows_in c.in_ok-coming.coming.items) c.in_ok-coming.ensures.permutation) c.requires.distinct) whole
-          rises_now (place_out (entry row) old (last_has (λ x. is_in x old ≡ false) (map entry rest) (entry row) out)) c.in_ok-insert.ensures.within more
+          rises_now (place_out (entry row) old (last_has (λ x. is_in x old ≡ false) (map entry rest) (entry row) out)) c.in_ok-position.ensures.within more
           (subst (λ items. HaveArrived first.by all items old c.loop-next.positions.items) split c.loop-next.invariant.arrived));
+      ahead = λ last.
+          last_ahead first.by all (map entry rest) old new (entry row) place c.loop-next.positions.items back distinct whole rises_now
+          (eqb-true place c.len-count.result last ∙ c.len-count.ensures.count) more (subst (λ items. HaveArrived first.by all items old c.loop-next.positions.items) split c.loop-next.invariant.arrived);
     }
 
 pub returns-clause-listed : goal.returns-clause-listed

@@ -1,9 +1,10 @@
-use Rattle.std.proofs.Common.{◌≡◌, ◌||◌, false, map, vec_len, Some}
+use Rattle.std.proofs.Common.{◌≡◌, ◌||◌, false, map, true, vec_len, Some}
+use Rattle.std.specs.Prelude.{IsTrue}
 use Rattle.std.specs.List.{AllByRecursion}
 use Rattle.row_handles.specs.Entries.{key_with}
 use Rattle.sort_op.specs.declared.entry.Entry.{Entry}
 use Rattle.sort_op.specs.declared.row_order.Row.{Row}
-use Rattle.sort_op.specs.Entries.{is_in, AreDistinct, Rises}
+use Rattle.sort_op.specs.Entries.{comes_before, is_in, AreDistinct, Rises}
 use Rattle.sort_op.specs.Firsts.{rows_in}
 use Rattle.sort_op.specs.Ranks.{arrived, listed}
 use Rattle.sort_op.proofs.Arrived.{HaveArrived}
@@ -17,6 +18,7 @@ invariant-loop-next l = record {
   out : AllByRecursion (λ x. is_in x (listed l.self) ≡ false) (map (arrived l.initial.self) (rows_in l.coming.items));
   distinct : AreDistinct (map (arrived l.initial.self) (rows_in l.coming.items));
   rises : Rises l.initial.self.by (listed l.self);
+  ahead : IsTrue l.is_last → AllByRecursion (λ x. AllByRecursion (λ y. comes_before l.initial.self.by y x ≡ true) (listed l.self)) (map (arrived l.initial.self) (rows_in l.coming.items));
   arrived : HaveArrived l.initial.self.by (map (arrived l.initial.self) (rows_in l.initial.coming.items)) (map (arrived l.initial.self) (rows_in l.coming.items)) (listed l.self) l.positions.items;
 }
 
