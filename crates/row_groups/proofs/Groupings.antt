@@ -1,7 +1,8 @@
 -- Rows and their members, and the lists of slots that stand for groups.
-use Rattle.std.proofs.Common.{◌≡◌, ◌≢◌, refl, ap, sym, ◌∙◌, subst, Bool, true, false, not, cond, ltb, eqb, ℕ, suc, ◌+◌, ◌^◌, ◌<◌, ◌≤◌, zero, arith, zero-add, List, [], ◌∷◌, map, filter, length, take, drop, Option, Some, None, option_map, unwrap_or, IsSome, ℤ, int_lt, int_le, count_by, if◌then◌else◌}
+use Rattle.std.proofs.Common.{◌≡◌, ◌≢◌, refl, ap, sym, ◌∙◌, subst, Bool, true, false, not, cond, ltb, eqb, ℕ, suc, ◌+◌, ◌-◌, ◌^◌, ◌<◌, ◌≤◌, zero, arith, zero-add, List, [], ◌∷◌, map, filter, length, take, drop, Option, Some, None, option_map, unwrap_or, IsSome, ℤ, int_lt, int_le, count_by, if◌then◌else◌}
 use Rattle.std.specs.List.{AllByRecursion}
 use Rattle.std.specs.Prelude.{slice_get}
+use Rattle.std.proofs.lemmas.List.{drop_all}
 use Rattle.std.proofs.lemmas.List.Sums.{sum_by-cons}
 use Rattle.std.proofs.lemmas.Bool.{false_from_ne_true}
 use Rattle.std.specs.Cmp.Rules.{signed_items}
@@ -19,6 +20,7 @@ use Rattle.row_groups.specs.Slots.{AreKnown, AreRanked, IsGroup, IsParted, is_be
 use Rattle.row_groups.specs.Rows.{AreListed, Becomes, ByNumber, IsKept, IsSame, Row, at_in, cells_in, group_rows, members_of, row_of, row_placed, rows_by_at, rows_of, slot_of, slots_under}
 use Rattle.row_groups.proofs.Order.{at_most, less, less_above, less_below, less_itself, less_through}
 use Rattle.row_groups.proofs.Ranks.{Ascends, Ranked, before, every-by_at, every-group, group_ranked, group_with, group_without, put_in, with_row}
+use Rattle.row_groups.proofs.Ends.{failed_all, passed_all}
 use Rattle.row_groups.proofs.Keys.{known_all, small_key}
 
 -- a group of rows has the members of the group
@@ -292,6 +294,18 @@ counted_below entries cells at slots n le h k =
     counted (λ member. int_lt member.at at) entries cells slots n le
     (every_weaker (λ s. is_before entries at 0 s ≡ true) (λ s. int_lt s.at at ≡ true) (take n slots) (λ s e. sym (same s) ∙ e) h)
     (every_weaker (λ s. is_before entries at 0 s ≡ false) (λ s. int_lt s.at at ≡ false) (drop n slots) (λ s e. sym (same s) ∙ e) k)
+
+-- where the last row is not later than a time, none is, and where the first is not earlier, none is
+pub all_at_most : (entries : List Entry) (cells : List ℤ) (at : ℤ) (slots : List Slot) (last : Slot) → AreHandled entries → AreRanked entries slots → slice_get slots (length slots - 1) ≡ Some last → int_le last.at at ≡ true → length slots ≡ count_by (λ member. int_le member.at at) (map (member_at entries cells) slots)
+all_at_most entries cells at slots last handled ranked is le =
+    counted_at_most entries cells at slots (length slots) handled (omega arith)
+    (passed_all (is_before entries at (2 ^ 62)) slots (length slots) last refl is (ranked_parted entries at (2 ^ 62) slots ranked) (less_below last.at (key_in entries last.handle) at (2 ^ 62) (small_key last.handle entries handled) ∙ at_most last.at at ∙ le))
+    (subst (AllByRecursion (λ s. is_before entries at (2 ^ 62) s ≡ false)) (sym (drop_all (length slots) slots (omega arith))) tt)
+
+pub none_below : (entries : List Entry) (cells : List ℤ) (at : ℤ) (slots : List Slot) (first : Slot) → AreRanked entries slots → slice_get slots 0 ≡ Some first → int_lt first.at at ≡ false → 0 ≡ count_by (λ member. int_lt member.at at) (map (member_at entries cells) slots)
+none_below entries cells at slots first ranked is not_lt =
+    counted_below entries cells at slots 0 (omega arith) tt
+    (failed_all (is_before entries at 0) slots first is (ranked_parted entries at 0 slots ranked) (less_above first.at (key_in entries first.handle) at 0 (omega arith) ∙ not_lt))
 
 -- the row at a position, in its list and in its group
 pub slot_of_member : {X : Type 0} (f : Member → X) (entries : List Entry) (cells : List ℤ) (slots : List Slot) (i : ℕ) → slice_get (map f (map (member_at entries cells) slots)) i ≡ option_map (λ s. f (member_at entries cells s)) (slice_get slots i)

@@ -103,10 +103,16 @@ impl<'a> Group<'a> {
         Some(self.handles.key_of(slot.handle))
     }
 
-    /// How many rows have an `at` that is not greater. They are the first ones.
+    /// How many rows have an `at` that is not greater. They are the first ones. Where that is all of them, a look at the last one
+    /// shows it.
     pub fn count_at_most(&self, at: i64) -> usize
         ensures { result ≡ count_by (λ member. int_le member.at at) self.now }
     {
+        if let Some(last) = self.rows.last() {
+            if last.at <= at {
+                return self.rows.len();
+            }
+        }
         self.rows.count_before(&Place {
             handles: self.handles,
             at,
@@ -114,10 +120,15 @@ impl<'a> Group<'a> {
         })
     }
 
-    /// How many rows have a smaller `at`. They are the first ones.
+    /// How many rows have a smaller `at`. They are the first ones. Where none has, a look at the first one shows it.
     pub fn count_below(&self, at: i64) -> usize
         ensures { result ≡ count_by (λ member. int_lt member.at at) self.now }
     {
+        if let Some(first) = self.rows.first() {
+            if at <= first.at {
+                return 0;
+            }
+        }
         self.rows.count_before(&Place {
             handles: self.handles,
             at,

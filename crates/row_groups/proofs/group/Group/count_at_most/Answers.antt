@@ -1,7 +1,7 @@
-use Rattle.std.proofs.Common.{◌^◌, ap, ◌∙◌, map, count_by, int_le, w64}
+use Rattle.std.proofs.Common.{◌≡◌, ◌^◌, ap, ap₂, sym, ◌∙◌, map, count_by, int_le, rules, true, w64, SFits}
 use Rattle.std.proofs.lemmas.Int.{to_z-of_z}
 use Rattle.row_groups.specs.Slots.{member_at}
-use Rattle.row_groups.proofs.Groupings.{counted_at_most, ranked_parted}
+use Rattle.row_groups.proofs.Groupings.{all_at_most, counted_at_most, ranked_parted}
 use Rattle.row_groups.proofs.group.Group.count_at_most.Goals as goal
 
 pub count_before-requires-clause-parted : goal.count_before-requires-clause-parted
@@ -13,4 +13,13 @@ returns c =
     let count = c.count_before in
     counted_at_most group.handles.now group.cells.now _ group.rows.now count.result c.self.invariant.handled count.ensures.within count.ensures.before count.ensures.others
     ∙ ap (λ at. count_by (λ member. int_le member.at at) (map (member_at group.handles.now group.cells.now) group.rows.now)) (to_z-of_z w64 c.args.at c.ranges.at)
+    ∙ ap (count_by (λ member. int_le member.at c.args.at)) c.self.view_is
+
+pub returns-then-last-at : goal.returns-then-last-at
+returns-then-last-at c =
+    let group = c.self.inside in
+    let fits : SFits w64 c.in-Some.last.at = search rules in
+    let le : int_le c.in-Some.last.at c.args.at ≡ true = ap₂ int_le (sym (to_z-of_z w64 c.in-Some.last.at fits)) (sym (to_z-of_z w64 c.args.at c.ranges.at)) ∙ c.if-last-at.true in
+    c.len.ensures
+    ∙ all_at_most group.handles.now group.cells.now c.args.at group.rows.now c.in-Some.last c.self.invariant.handled c.self.invariant.ranked (sym c.last.ensures ∙ c.in-Some.is) le
     ∙ ap (count_by (λ member. int_le member.at c.args.at)) c.self.view_is
