@@ -1,5 +1,5 @@
 -- The lists of rows by their cells, where one of them becomes another.
-use Rattle.std.proofs.Common.{◌≡◌, ◌≢◌, refl, ap, sym, ◌∙◌, subst, Bool, true, false, List, [], ◌∷◌, ◌++◌, ℕ, zero, suc, ◌≤◌, ◌<◌, length, take, drop, arith, ℤ, Option, Some, None, option_map, IsSome, inl, inr, if◌then◌else◌}
+use Rattle.std.proofs.Common.{◌≡◌, ◌≢◌, refl, ap, sym, ◌∙◌, subst, Bool, true, false, List, [], ◌∷◌, ◌++◌, ℕ, zero, suc, ◌+◌, ◌≤◌, ◌<◌, length, length-append, take, drop, arith, ℤ, Option, Some, None, option_map, IsSome, inl, inr, if◌then◌else◌}
 use Rattle.std.specs.Option.{option_map_or}
 use Rattle.std.specs.List.{AllByRecursion}
 use Rattle.std.specs.Map.{KeepsOthers, lookup}
@@ -9,6 +9,7 @@ use Rattle.std.specs.Cmp.Lexicographic.{pointwise}
 use Rattle.std.specs.Cmp.Rules.{signed_items}
 use Rattle.std.specs.Global.{Vec}
 use Rattle.std.proofs.lemmas.Bool.{cases_eq, false_from_ne_true}
+use Rattle.std.proofs.lemmas.List.{length-drop, length-take}
 use Rattle.std.proofs.lemmas.Option.{same_Some}
 use Rattle.slab.specs.Slab.{get, with_value}
 use Rattle.slab.proofs.SlabLemmas.{Updates-with_value}
@@ -72,8 +73,18 @@ becomes cells number slots old new change own other = by_test (same_cells cells 
     by_test false e =
         ap (λ n. option_map_or (λ m. slots_numbered m new.groups) n []) (change.numbers other e) ∙ by_number (number_under other old.numbers) refl e
 
-pub numbered : (cells : List ℤ) (number : ℕ) (old new : Lists) → IsChange cells number old new → ((other : ℕ) → number_under cells new.numbers ≡ Some other → (other ≡ number) × (cells_with number new.groups ≡ Some cells)) → ((other : List ℤ) → cells_with number new.groups ≡ Some other → (other ≡ cells) × (number_under cells new.numbers ≡ Some number)) → AreNumbered new
-numbered cells number old new change under with = record { numbers = λ other n e. by_cells other n e (same_cells cells other) refl; cells = by_number }
+-- before a row comes to a group that was there, no list has two rows
+abbrev IsShort : Lists → Type 0
+IsShort lists = lists.crowded ≡ false → (cells : List ℤ) → length (slots_under cells lists) ≤ 1
+
+-- where a list becomes another
+stays_short : (cells : List ℤ) (slots : List Slot) (old new : Lists) → AreNumbered old → Becomes cells slots old new → (new.crowded ≡ false → (old.crowded ≡ false) × (length slots ≤ 1)) → IsShort new
+stays_short cells slots old new sound becomes keeps calm other =
+    subst (λ (rows : List Slot). length rows ≤ 1) (sym (becomes other))
+    (elim (same_cells cells other) as (λ b. length (if b then slots else slots_under other old) ≤ 1) [ true ↦ (keeps calm).1 | false ↦ sound.alone (keeps calm).0 other ])
+
+pub numbered : (cells : List ℤ) (number : ℕ) (old new : Lists) → IsChange cells number old new → ((other : ℕ) → number_under cells new.numbers ≡ Some other → (other ≡ number) × (cells_with number new.groups ≡ Some cells)) → ((other : List ℤ) → cells_with number new.groups ≡ Some other → (other ≡ cells) × (number_under cells new.numbers ≡ Some number)) → IsShort new → AreNumbered new
+numbered cells number old new change under with short = record { numbers = λ other n e. by_cells other n e (same_cells cells other) refl; cells = by_number; alone = short }
   where
     stays : (n : ℕ) → n ≢ number → cells_with n new.groups ≡ cells_with n old.groups
     stays n ne = ap (λ (group : Option KeyedRows). option_map (λ g. g.cells.items) group) (change.groups n ne)
@@ -132,6 +143,8 @@ pub record Begins (cells : List ℤ) (number : ℕ) (group : KeyedRows) (old new
   pub put : get new.groups number ≡ Some group
   pub others : (n : ℕ) → n ≢ number → get new.groups n ≡ get old.groups n
   pub same : group.cells.items ≡ cells
+  pub crowded : new.crowded ≡ old.crowded
+  pub only : length group.rows ≤ 1
 
 module _ (cells : List ℤ) (number : ℕ) (group : KeyedRows) (old new : Lists) (begins : Begins cells number group old new) where
   begins_change : IsChange cells number old new
@@ -157,6 +170,7 @@ module _ (cells : List ℤ) (number : ℕ) (group : KeyedRows) (old new : Lists)
       numbered cells number old new begins_change
       (λ other e. (sym (same_Some number other (sym under ∙ e)), begins_cells))
       (λ other e. (sym (same_Some cells other (sym begins_cells ∙ e)), under))
+      (stays_short cells group.rows old new begins.sound begins_rows (λ calm. (sym begins.crowded ∙ calm, begins.only)))
 
 -- a group whose rows become others
 pub record Changes (number : ℕ) (group : KeyedRows) (rows : List Slot) (old new : Lists) : Type 0 where
@@ -194,8 +208,9 @@ module _ (number : ℕ) (group : KeyedRows) (rows : List Slot) (old new : Lists)
         | inr differ ↦ ap (λ (g : Option KeyedRows). option_map (λ k. k.cells.items) g) (changes.others other differ)
       ]
 
-  pub changes_numbered : AreNumbered new
-  changes_numbered = record {
+  pub changes_numbered : (new.crowded ≡ false → (old.crowded ≡ false) × (length rows ≤ 1)) → AreNumbered new
+  changes_numbered keeps = record {
+    alone = stays_short group.cells.items rows old new changes.sound changes_rows keeps;
     numbers = λ cells n e. changes_cells n ∙ changes.sound.numbers cells n (sym (ap (number_under cells) changes.numbers) ∙ e);
     cells = λ cells n e. ap (number_under cells) changes.numbers ∙ changes.sound.cells cells n (sym (changes_cells n) ∙ e);
   }
@@ -218,6 +233,7 @@ pub record GivesUp (number : ℕ) (group : KeyedRows) (old new : Lists) : Type 0
   pub updates : UpdatesBy same_key (has_cells group.cells.items) old.numbers new.numbers None
   pub gone : get new.groups number ≡ None
   pub others : (n : ℕ) → n ≢ number → get new.groups n ≡ get old.groups n
+  pub crowded : new.crowded ≡ old.crowded
 
 module _ (number : ℕ) (group : KeyedRows) (old new : Lists) (gives : GivesUp number group old new) where
   gives_own : cells_with number old.groups ≡ Some group.cells.items
@@ -245,12 +261,37 @@ module _ (number : ℕ) (group : KeyedRows) (old new : Lists) (gives : GivesUp n
       numbered group.cells.items number old new gives_change
       (λ other e. absurd (none_some other (sym gives_none ∙ e)))
       (λ other e. absurd (none_some other (sym (ap (λ (g : Option KeyedRows). option_map (λ k. k.cells.items) g) gives.gone) ∙ e)))
+      (stays_short group.cells.items [] old new gives.sound (gives_rows group.cells.items gives_own) (λ calm. (sym gives.crowded ∙ calm, omega arith)))
 
 pub same_numbers : (old new : Numbers) (other : List ℤ) → new.entries ≡ old.entries → number_under other new ≡ number_under other old
 same_numbers old new other e = ap (lookup (has_cells other)) e
 
 pub with_same_cells : (cells : List ℤ) (number : ℕ) (group : KeyedRows) (lists : Lists) → AreNumbered lists → number_under cells lists.numbers ≡ Some number → get lists.groups number ≡ Some group → group.cells.items ≡ cells
 with_same_cells cells number group lists numbered under is = same_Some group.cells.items cells (sym (with_group number lists.groups group is) ∙ numbered.numbers cells number under)
+
+-- the list of a group before a row came to one that was there, also without a row
+pub own_short : (number : ℕ) (group : KeyedRows) (lists : Lists) → AreNumbered lists → get lists.groups number ≡ Some group → lists.crowded ≡ false → length group.rows ≤ 1
+own_short number group lists sound was calm =
+    subst (λ (rows : List Slot). length rows ≤ 1) (under_number group.cells.items number lists (sound.cells group.cells.items number (with_group number lists.groups group was)) ∙ with_rows number lists.groups group was)
+    (sound.alone calm group.cells.items)
+
+pub shorter : (slots : List Slot) (n : ℕ) → length (take n slots ++ drop (n + 1) slots) ≤ length slots
+shorter slots n = omega (arith, length-append (take n slots) (drop (n + 1) slots), length-take n slots, length-drop (n + 1) slots)
+
+-- lists that stay
+pub same_numbered : (old new : Lists) → AreNumbered old → new.crowded ≡ old.crowded → ((cells : List ℤ) → number_under cells new.numbers ≡ number_under cells old.numbers) → ((number : ℕ) → get new.groups number ≡ get old.groups number) → AreNumbered new
+same_numbered old new sound crowded numbers groups = record {
+  numbers = λ cells n e. cells_stay n ∙ sound.numbers cells n (sym (numbers cells) ∙ e);
+  cells = λ cells n e. numbers cells ∙ sound.cells cells n (sym (cells_stay n) ∙ e);
+  alone = λ calm cells. subst (λ (rows : List Slot). length rows ≤ 1) (sym (ap (λ o. option_map_or (λ n. slots_numbered n new.groups) o []) (numbers cells) ∙ rows_stay (number_under cells old.numbers))) (sound.alone (sym crowded ∙ calm) cells);
+}
+  where
+    cells_stay : (n : ℕ) → cells_with n new.groups ≡ cells_with n old.groups
+    cells_stay n = ap (λ (g : Option KeyedRows). option_map (λ k. k.cells.items) g) (groups n)
+
+    rows_stay : (o : Option ℕ) → option_map_or (λ n. slots_numbered n new.groups) o [] ≡ option_map_or (λ n. slots_numbered n old.groups) o []
+    rows_stay None = refl
+    rows_stay (Some n) = ap (λ (g : Option KeyedRows). option_map_or (λ k. k.rows) g []) (groups n)
 
 -- a group that does not begin
 pub unbegun : (cells : List ℤ) (old new : Lists) → number_under cells old.numbers ≡ None → ((other : List ℤ) → slots_under other new ≡ slots_under other old) → Becomes cells [] old new

@@ -5,7 +5,7 @@
 --     rows_of table groups entries      the rows, each with what is kept of it
 --     group_rows cells rows      the rows of a group in order
 --     slots_under cells lists      the list that is kept of a group
-use Rattle.std.specs.Prelude.{ℕ, ◌<◌, ◌≡◌, int_lt, List, [], ◌∷◌, Option, Some, IsSome, filter, length, map, option_map, slice_index_or, unwrap_or, ℤ, pos, if◌then◌else◌}
+use Rattle.std.specs.Prelude.{ℕ, ◌<◌, ◌≤◌, ◌≡◌, false, int_lt, List, [], ◌∷◌, Option, Some, IsSome, filter, length, map, option_map, slice_index_or, unwrap_or, ℤ, pos, if◌then◌else◌}
 use Rattle.std.specs.Option.{option_map_or}
 use Rattle.std.specs.HashMap.{HashMap, get_by}
 use Rattle.std.specs.declared.hash.FoldHasher.{FoldHasher}
@@ -90,10 +90,11 @@ slot_of row = record { at = row.member.at; handle = row.handle }
 abbrev pub slots_under : List ℤ → Lists → List Slot
 slots_under cells lists = option_map_or (λ number. slots_numbered number lists.groups) (number_under cells lists.numbers) []
 
--- the cells lead to the numbers of the groups that have them
+-- the cells lead to the numbers of the groups that have them, and no list has two rows before a row came to one that was there
 pub record AreNumbered (lists : Lists) : Type 0 where
   pub numbers : (cells : List ℤ) (number : ℕ) → number_under cells lists.numbers ≡ Some number → cells_with number lists.groups ≡ Some cells
   pub cells : (cells : List ℤ) (number : ℕ) → cells_with number lists.groups ≡ Some cells → number_under cells lists.numbers ≡ Some number
+  pub alone : lists.crowded ≡ false → (cells : List ℤ) → length (slots_under cells lists) ≤ 1
 
 -- only the list under these cells is another
 abbrev pub Becomes : List ℤ → List Slot → Lists → Lists → Type 0

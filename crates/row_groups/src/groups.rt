@@ -1,5 +1,5 @@
 //! The index itself.
-ghost use Rattle.std.specs.Prelude.{◌≡◌, ◌<◌, ◌^◌, [], None, length, option_map, OnOk, OnErr};
+ghost use Rattle.std.specs.Prelude.{◌≡◌, ◌<◌, ◌≤◌, ◌^◌, List, ℤ, [], None, length, option_map, true, OnOk, OnErr};
 ghost use Rattle.tick_model.specs.Rules.{shift_fault};
 ghost use Rattle.row_groups.specs.Members.{AreGrouped, group_of, keys_of, left_members, member_of, member_under, moved_members, with_member};
 
@@ -68,6 +68,13 @@ impl Groups {
         ensures refused { OnErr result (self.new ≡ self.old) }
     {
         self.numbered.shift(shifts)
+    }
+
+    /// Whether each row is known to be the only one of its group: none has come to a group that was there.
+    pub fn are_alone(&self) -> bool
+        ensures { result ≡ true → (cells : List ℤ) → length (group_of cells self.now.members) ≤ 1 }
+    {
+        self.numbered.are_alone()
     }
 
     /// The rows with these cells.

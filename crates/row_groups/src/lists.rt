@@ -22,6 +22,8 @@ pub(crate) struct Lists {
     /// The number of each group, by its key cells.
     pub(crate) numbers: HashMap<Vec<i64>, usize>,
     pub(crate) groups: Slab<KeyedRows>,
+    /// Whether a row has come to a group that was there.
+    pub(crate) crowded: bool,
     /// What stands for the groups that are not there.
     none: Sequence,
     ghost nothing: { none ≡ [] },
@@ -34,11 +36,13 @@ impl Lists {
     pub(crate) fn new(alloc: Global) -> Lists
         ensures numbers { result.numbers.entries ≡ [] }
         ensures groups { result.groups.slots ≡ [] }
+        ensures sound { AreNumbered result }
     {
         Lists {
             alloc,
             numbers: HashMap::new(alloc),
             groups: Slab::new(alloc),
+            crowded: false,
             none: Sequence::new(alloc),
         }
     }
@@ -101,6 +105,7 @@ impl Lists {
         let Some(number) = self.numbers.get(cells).copied() else {
             return self.begin(cells, slot);
         };
+        self.crowded = true;
         let rows = &mut self.groups[number].rows;
         let position = rows.count_before(place);
         rows.insert(position, slot)?;

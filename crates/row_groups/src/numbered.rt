@@ -1,5 +1,5 @@
 //! Groups whose numbers are shown.
-ghost use Rattle.std.specs.Prelude.{◌≡◌, ◌≢◌, ℕ, List, ℤ, ◌<◌, ◌^◌, [], None, Some, IfOk, IfSome, IsSome, length, option_map, OnOk, OnErr};
+ghost use Rattle.std.specs.Prelude.{◌≡◌, ◌≢◌, ℕ, List, ℤ, ◌<◌, ◌≤◌, ◌^◌, [], None, Some, IfOk, IfSome, IsSome, length, option_map, true, OnOk, OnErr};
 ghost use Rattle.tick_model.specs.Rules.{shift_fault};
 ghost use Rattle.row_groups.specs.Members.{AreGrouped, IsNumberOf, IsPart, group_of, groups_of, keys_of, left_members, member_of, member_under, moved_members, name_at, with_member};
 
@@ -102,6 +102,13 @@ impl NumberedGroups {
     {
         let group = self.index.lists.groups.get(number)?;
         Some(Group::new(&self.index.handles, &group.cells, &group.rows))
+    }
+
+    /// Whether each row is known to be the only one of its group: none has come to a group that was there.
+    pub(crate) fn are_alone(&self) -> bool
+        ensures { result ≡ true → (cells : List ℤ) → length (group_of cells self.now.members) ≤ 1 }
+    {
+        !self.index.lists.crowded
     }
 
     /// The rows with these cells.

@@ -1,10 +1,11 @@
-use Rattle.std.proofs.Common.{◌∷◌, [], ◌++◌, ap, sym, ◌∙◌, subst, refl, take, drop, Some}
+use Rattle.std.proofs.Common.{◌∷◌, [], ◌++◌, ap, sym, ◌∙◌, subst, refl, take, drop, length, arith, List, ◌≤◌, Some}
 use Rattle.std.specs.Option.{option_map_or}
 use Rattle.std.specs.HashMap.{UpdatesBy}
 use Rattle.slab.specs.Slab.{get}
 use Rattle.row_handles.proofs.Inserting.{on_err}
 use Rattle.row_groups.specs.declared.lists.KeyedRows.{KeyedRows}
 use Rattle.row_groups.specs.declared.lists.Lists.{Lists}
+use Rattle.row_groups.specs.declared.place.Slot.{Slot}
 use Rattle.row_groups.specs.Rows.{Becomes, ByNumber, number_under, slots_numbered}
 use Rattle.row_groups.proofs.Listed.{Begins, begins_numbered, begins_rows, has_cells, same_key, same_numbers, unbegun}
 use Rattle.row_groups.proofs.lists.Lists.begin.Goals as goal
@@ -52,6 +53,8 @@ begins c =
       put = c.insert_reserved.ensures.updates.changed;
       others = λ n ne. c.insert_reserved.ensures.updates.others n ne ∙ ap (λ (groups : ByNumber). get groups n) kept;
       same = c.in_ok-kept.ensures.items ∙ sym c.in_ok-key.ensures.items;
+      crowded = refl;
+      only = subst (λ (rows : List Slot). length rows ≤ 1) (sym (c.in_ok-insert.ensures.ok ∙ ap (λ rows. take 0 rows ++ c.args.slot ∷ drop 0 rows) c.new-rows.ensures)) (omega arith);
     }
 
 pub returns-clause-ok : goal.returns-clause-ok
@@ -64,4 +67,4 @@ returns-clause-ok c =
 pub returns-clause-sound : goal.returns-clause-sound
 returns-clause-sound c =
     let is = begins_numbered c.in_ok-key.key.items c.insert_reserved.result (group c) c.args.self.now (new c) (begins c) in
-    record { numbers = is.numbers; cells = is.cells }
+    record { numbers = is.numbers; cells = is.cells; alone = is.alone }

@@ -1,4 +1,4 @@
-use Rattle.std.proofs.Common.{sym, ◌∙◌, subst, None}
+use Rattle.std.proofs.Common.{refl, sym, ◌∙◌, subst, None}
 use Rattle.std.specs.HashMap.{UpdatesBy}
 use Rattle.row_groups.proofs.Listed.{GivesUp, gives_numbered, gives_rows, has_cells, same_key}
 use Rattle.row_groups.proofs.lists.Lists.give_up.Goals as goal
@@ -10,6 +10,7 @@ gives c = record {
   updates = subst (λ cells. UpdatesBy same_key (has_cells cells) c.args.self.now.numbers c.remove.new.self None) c.as_slice.ensures.value c.remove.ensures.updates;
   gone = c.try_remove.ensures.updates.changed;
   others = c.try_remove.ensures.updates.others;
+  crowded = refl;
 }
 
 pub returns-in-Some-clause-rows : goal.returns-in-Some-clause-rows
@@ -18,4 +19,4 @@ returns-in-Some-clause-rows c = gives_rows c.args.number c.in-Some.group c.args.
 pub returns-in-Some-clause-sound : goal.returns-in-Some-clause-sound
 returns-in-Some-clause-sound c =
     let is = gives_numbered c.args.number c.in-Some.group c.args.self.now _ (gives c) in
-    record { numbers = is.numbers; cells = is.cells }
+    record { numbers = is.numbers; cells = is.cells; alone = is.alone }

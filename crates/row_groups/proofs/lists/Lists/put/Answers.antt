@@ -1,4 +1,4 @@
-use Rattle.std.proofs.Common.{ap, sym, ◌∙◌, subst, refl, Some}
+use Rattle.std.proofs.Common.{ap, sym, ◌∙◌, subst, refl, true, true≢false, Some}
 use Rattle.row_handles.proofs.Inserting.{on_err}
 use Rattle.slab.specs.Slab.{with_value}
 use Rattle.row_groups.specs.declared.lists.Lists.{Lists}
@@ -16,7 +16,7 @@ returns-in_err-insert-clause-err c =
     let cells = c.args.cells.now in
     let number = c.in-Some.number in
     let group = c.index_mut.result.now in
-    let new : Lists = record old { groups = with_value old.groups number (record group { rows = c.insert.new.self }) } in
+    let new : Lists = record old { crowded = true; groups = with_value old.groups number (record group { rows = c.insert.new.self }) } in
     let was = c.index_mut.ensures.value in
     let under = sym c.get.ensures.value ∙ sym c.copied.ensures ∙ c.in-Some.is in
     let own = with_same_cells cells number group old c.requires.sound under was in
@@ -30,7 +30,7 @@ returns-clause-ok c =
     let cells = c.args.cells.now in
     let number = c.in-Some.number in
     let group = c.index_mut.result.now in
-    let new : Lists = record old { groups = with_value old.groups number (record group { rows = c.insert.new.self }) } in
+    let new : Lists = record old { crowded = true; groups = with_value old.groups number (record group { rows = c.insert.new.self }) } in
     let with = slots_with c.args.place.now.handles.now c.args.place.now.at c.args.place.now.key c.args.slot in
     let count = c.count_before-position in
     let was = c.index_mut.ensures.value in
@@ -45,7 +45,7 @@ returns-clause-number c =
     let old = c.args.self.now in
     let number = c.in-Some.number in
     let group = c.index_mut.result.now in
-    let new : Lists = record old { groups = with_value old.groups number (record group { rows = c.insert.new.self }) } in
+    let new : Lists = record old { crowded = true; groups = with_value old.groups number (record group { rows = c.insert.new.self }) } in
     let was = c.index_mut.ensures.value in
     let own = with_same_cells c.args.cells.now number group old c.requires.sound (sym c.get.ensures.value ∙ sym c.copied.ensures ∙ c.in-Some.is) was in
     changes_cells number group c.insert.new.self old new (changed number group c.insert.new.self old new c.requires.sound was refl refl) number ∙ with_group number old.groups group was ∙ ap Some own
@@ -55,4 +55,11 @@ returns-clause-sound c =
     let old = c.args.self.now in
     let number = c.in-Some.number in
     let group = c.index_mut.result.now in
-    changes_numbered number group c.insert.new.self old _ (changed number group c.insert.new.self old _ c.requires.sound c.index_mut.ensures.value refl refl)
+    changes_numbered number group c.insert.new.self old _ (changed number group c.insert.new.self old _ c.requires.sound c.index_mut.ensures.value refl refl) (λ calm. absurd (true≢false calm))
+
+pub returns-in_err-insert-clause-sound : goal.returns-in_err-insert-clause-sound
+returns-in_err-insert-clause-sound c =
+    let old = c.args.self.now in
+    let number = c.in-Some.number in
+    let group = c.index_mut.result.now in
+    changes_numbered number group c.insert.new.self old _ (changed number group c.insert.new.self old _ c.requires.sound c.index_mut.ensures.value refl refl) (λ calm. absurd (true≢false calm))

@@ -1,12 +1,14 @@
-use Rattle.std.proofs.Common.{◌≡◌, ◌+◌, ◌<◌, ◌≤◌, ◌++◌, ap, sym, ◌∙◌, subst, refl, suc, take, drop, length, arith, [], inl, inr}
+use Rattle.std.proofs.Common.{◌≡◌, ◌+◌, ◌<◌, ◌≤◌, ◌++◌, ap, sym, ◌∙◌, subst, refl, suc, take, drop, length, arith, ℕ, List, [], Some, inl, inr}
 use Rattle.std.proofs.lemmas.Bool.{cases_eq}
 use Rattle.std.proofs.lemmas.Option.{none-some}
 use Rattle.key_lists.proofs.Parts.{no_items}
+use Rattle.row_groups.specs.declared.lists.KeyedRows.{KeyedRows}
 use Rattle.row_groups.specs.declared.lists.Lists.{Lists}
+use Rattle.row_groups.specs.declared.place.Slot.{Slot}
 use Rattle.row_groups.specs.Slots.{slots_without}
-use Rattle.row_groups.specs.Rows.{Becomes, cells_with}
-use Rattle.slab.specs.Slab.{with_value}
-use Rattle.row_groups.proofs.Listed.{becomes_after, changed, changes_cells, changes_rows, none_there, placed_without, same_items, under_number, with_rows}
+use Rattle.row_groups.specs.Rows.{AreNumbered, Becomes, cells_with}
+use Rattle.slab.specs.Slab.{get, with_value}
+use Rattle.row_groups.proofs.Listed.{becomes_after, changed, changes_cells, changes_numbered, changes_rows, none_there, own_short, placed_without, same_items, shorter, under_number, with_rows}
 use Rattle.row_groups.proofs.lists.Lists.take.Goals as goal
 use Rattle.row_groups.proofs.lists.Lists.take.Goals.{then-position-len, else-position-len}
 
@@ -85,3 +87,30 @@ returns-else-is_empty-clause-fewer c = λ other cells e.
     let left = c.if-position-len.rows in
     let mid : Lists = record old { groups = with_value old.groups number (record group { rows = left }) } in
     sym (changes_cells number group left old mid (changed number group left old mid c.requires.sound c.index_mut.ensures.value refl refl) other) ∙ e
+
+-- the lists where a group has lost a row
+kept : (old : Lists) (number : ℕ) (group : KeyedRows) (left : List Slot) → AreNumbered old → get old.groups number ≡ Some group → length left ≤ length group.rows → AreNumbered (record old { groups = with_value old.groups number (record group { rows = left }) })
+kept old number group left sound was fewer =
+    changes_numbered number group left old _ (changed number group left old _ sound was refl refl) (λ calm. (calm, omega (arith, fewer, own_short number group old sound was calm)))
+
+pub give_up-requires : goal.give_up-requires
+give_up-requires c =
+    let rows = c.index_mut.result.now.rows in
+    let left = c.if-position-len.rows in
+    let fewer : length left ≤ length rows = elim c.if-position-len.branch [
+      | then-position-len w ↦ subst (λ (slots : List Slot). length slots ≤ length rows) (sym (w.rows-is ∙ w.remove.ensures)) (shorter rows c.count_before-position.result)
+      | else-position-len w ↦ subst (λ (slots : List Slot). length slots ≤ length rows) (sym w.rows-is) (omega arith)
+    ] in
+    let is = kept c.args.self.now c.args.number c.index_mut.result.now left c.requires.sound c.index_mut.ensures.value fewer in
+    record { numbers = is.numbers; cells = is.cells; alone = is.alone }
+
+pub returns-else-is_empty-clause-sound : goal.returns-else-is_empty-clause-sound
+returns-else-is_empty-clause-sound c =
+    let rows = c.index_mut.result.now.rows in
+    let left = c.if-position-len.rows in
+    let fewer : length left ≤ length rows = elim c.if-position-len.branch [
+      | then-position-len w ↦ subst (λ (slots : List Slot). length slots ≤ length rows) (sym (w.rows-is ∙ w.remove.ensures)) (shorter rows c.count_before-position.result)
+      | else-position-len w ↦ subst (λ (slots : List Slot). length slots ≤ length rows) (sym w.rows-is) (omega arith)
+    ] in
+    let is = kept c.args.self.now c.args.number c.index_mut.result.now left c.requires.sound c.index_mut.ensures.value fewer in
+    record { numbers = is.numbers; cells = is.cells; alone = is.alone }
