@@ -60,7 +60,8 @@ fn noted_duplicate(left: &Groups, right: &Groups, notes: &Notes) -> Option<Dupli
     least
 }
 
-/// The least left row with two matches in the noted groups and in those of these left rows.
+/// The least left row with two matches in the noted groups and in those of these left rows. Where each right row is alone in its
+/// group, none is looked for.
 pub(crate) fn first_duplicate(
     left: &Groups,
     right: &Groups,
@@ -70,6 +71,9 @@ pub(crate) fn first_duplicate(
     requires { AllByRecursion (λ key. is_among key (keys_of left.now.members) ≡ true) came.now }
     ensures { result ≡ least_fault left.now.members right.now.members None (map (λ note. note.cells) notes.now.notes ++ map (cells_under left.now.members) came.now) }
 {
+    if right.are_alone() {
+        return None;
+    }
     let mut least = noted_duplicate(left, right, notes);
     for key in came {
         let cells = left.cells_of(key).unwrap();

@@ -1,15 +1,31 @@
-use Rattle.std.proofs.Common.{◌≡◌, ap, ap₂, sym, ◌∙◌, None, map, Option, ◌++◌, ◌∷◌, [], append_assoc, true, ℕ, List}
-use Rattle.std.proofs.lemmas.List.{map-append}
+use Rattle.std.proofs.Common.{◌≡◌, refl, ap, ap₂, sym, ◌∙◌, subst, arith, ◌≤◌, None, map, length, Option, ◌++◌, ◌∷◌, [], append_assoc, true, ℕ, List, ℤ}
+use Rattle.std.proofs.lemmas.List.{length-map, map-append}
 use Rattle.std.proofs.lemmas.List.Sums.{fold-append}
 use Rattle.std.proofs.lemmas.Option.{same_Some}
 use Rattle.key_lists.specs.Keys.{is_among}
 use Rattle.lookup_join.specs.declared.duplicates.Duplicate.{Duplicate}
-use Rattle.lookup_join.specs.Duplicates.{cells_under, earlier, faulty_group, least_fault}
+use Rattle.lookup_join.specs.Duplicates.{cells_under, earlier, faulty_group, first_with_two, least_fault}
 use Rattle.lookup_join.specs.Notes.{Note}
 use Rattle.lookup_join.proofs.Walks.{some_of, under_some}
-use Rattle.row_groups.specs.Members.{keys_of}
+use Rattle.row_groups.specs.Members.{Member, group_of, keys_of}
 use Rattle.row_set.proofs.Yielded.{next_has, yielded_all}
 use Rattle.lookup_join.proofs.duplicates.first_duplicate.Goals as goal
+
+-- where no two right rows are in one group, there is none
+none_two : (left right : List ℕ) → length right ≤ 1 → first_with_two left right ≡ None
+none_two [] right h = refl
+none_two (key ∷ others) [] h = refl
+none_two (key ∷ others) (only ∷ []) h = refl
+none_two (key ∷ others) (first ∷ second ∷ more) h = absurd (omega arith)
+
+none_alone : (left right : List Member) → ((cells : List ℤ) → length (group_of cells right) ≤ 1) → (groups : List (List ℤ)) → least_fault left right None groups ≡ None
+none_alone left right alone [] = refl
+none_alone left right alone (cells ∷ groups) =
+    ap (λ found. least_fault left right found groups) (none_two (keys_of (group_of cells left)) (keys_of (group_of cells right)) (subst (λ n. n ≤ 1) (sym (length-map (group_of cells right) (λ (member : Member). member.key))) (alone cells)))
+    ∙ none_alone left right alone groups
+
+pub returns-then-are_alone : goal.returns-then-are_alone
+returns-then-are_alone c = sym (none_alone c.args.left.now.members c.args.right.now.members (c.are_alone.ensures c.if-are_alone.true) (map (λ (note : Note). note.cells) c.args.notes.now.notes ++ map (cells_under c.args.left.now.members) c.args.came.now))
 
 pub unwrap-cells-requires : goal.unwrap-cells-requires
 unwrap-cells-requires c =
