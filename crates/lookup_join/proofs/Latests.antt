@@ -1,20 +1,24 @@
 -- What is picked of the latest of some elements, and of the members of a group, which stand by their times.
-use Rattle.std.proofs.Common.{◌≡◌, refl, ap, sym, ◌∙◌, subst, Bool, true, false, not, cond, ℕ, zero, suc, ◌<◌, ◌≤◌, ◌≤ℤ◌, arith, List, [], ◌∷◌, map, filter, length, Option, Some, None, ℤ, true≢false}
-use Rattle.std.specs.Prelude.{find, int_le, int_lt, option_map, slice_get}
+use Rattle.std.proofs.Common.{◌≡◌, refl, ap, ap₂, sym, ◌∙◌, subst, Bool, true, false, not, cond, ℕ, zero, suc, ◌-◌, ◌≤◌, ◌&&◌, arith, List, [], ◌∷◌, map, filter, length, Option, Some, None, ℤ, true≢false}
+use Rattle.std.specs.Prelude.{find, int_le, int_lt, option_map, pos, slice_get, IfSome}
 use Rattle.std.specs.List.{AllByRecursion, count_by}
 use Rattle.std.proofs.lemmas.List.Sums.{length-filter}
-use Rattle.std.proofs.lemmas.Option.{none-some, slice_get-map, slice_get_within}
-use Rattle.key_lists.proofs.Every.{every_weaker, filter_filter, filter_none}
+use Rattle.std.proofs.lemmas.Option.{none-some, slice_get-map}
+use Rattle.key_lists.proofs.Every.{every_weaker, every-filter, filter_filter, filter_none}
 use Rattle.lookup_join.specs.declared.latest.Found.{Found}
 use Rattle.lookup_join.specs.declared.pick.Pick.{Pick}
-use Rattle.lookup_join.specs.declared.pick.Pick.TheVariants.{First, Last}
-use Rattle.lookup_join.specs.Latest.{beats, latest_by, match_of, next_time, or_later}
-use Rattle.lookup_join.proofs.Picks.{beats_later, beats_no_earlier, beats_through, left_no_later, one_way}
-use Rattle.row_groups.proofs.Order.{at_most, later_too, not_lt_from}
-use Rattle.row_groups.proofs.Placed.{every-placed}
-use Rattle.row_groups.specs.Members.{Member, by_at, group_of, keys_of, placed}
+use Rattle.lookup_join.specs.declared.pick.Pick.TheVariants.{First, Last, Latest}
+use Rattle.lookup_join.specs.declared.keyed.Side.{Side}
+use Rattle.lookup_join.specs.Keyed.{indexed, keyed}
+use Rattle.lookup_join.specs.Latest.{AreTimed, beats, latest_by, match_of, next_time, or_later}
+use Rattle.lookup_join.proofs.Picks.{beats_later, beats_no_earlier, beats_through, one_way}
+use Rattle.row_groups.proofs.Order.{at_most, later_too}
+use Rattle.row_groups.proofs.Placed.{every-by_at, every-placed}
+use Rattle.row_groups.specs.Members.{Grouped, Member, by_at, group_of, keys_of, placed}
 use Rattle.std.proofs.lemmas.Int.{ints}
 use Rattle.tick_laws.proofs.ResultCells.{length-filter_most}
+use Rattle.tick_model.specs.declared.plan.OnPair.{OnPair}
+use Rattle.tick_model.specs.declared.table.PlainRow.{PlainRow}
 use Rattle.tick_model.specs.Tables.{same_cells}
 
 module _ {X : Type 0} (pick : Pick) (time : X → ℤ) where
@@ -38,36 +42,6 @@ module _ {X : Type 0} (pick : Pick) (time : X → ℤ) where
     swap_both x y o h true false = refl
     swap_both x y o h false true = refl
     swap_both x y o h false false = refl
-
--- whatever is picked, its time is the greatest
-module _ {X : Type 0} (time : X → ℤ) where
-  reached : (a b : ℤ) → int_le a b ≡ true → a ≤ℤ b
-  reached a b e = grind (arith, ints)
-
-  same_end : (first last own : ℤ) → first ≡ last → int_le first own ≡ true → int_lt last own ≡ false → own ≡ last
-  same_end first last own e f g = omega (arith, ints, e, reached first own f, not_lt_from last own g)
-
-  neither : (first last own : ℤ) → first ≡ last → int_le first own ≡ false → int_lt last own ≡ false
-  neither first last own e f = subst (λ a. int_lt a own ≡ false) e (left_no_later First first own f)
-
-  pub same_time : (xs : List X) → option_map time (latest_by First time xs) ≡ option_map time (latest_by Last time xs)
-  same_time [] = refl
-  same_time (x ∷ xs) = with_first (latest_by First time xs) (latest_by Last time xs) (same_time xs)
-    where
-      with_first : (o u : Option X) → option_map time o ≡ option_map time u → option_map time (or_later First time x o) ≡ option_map time (or_later Last time x u)
-      with_first None None e = refl
-      with_first None (Some b) e = absurd (none-some (time b) e)
-      with_first (Some a) None e = absurd (none-some (time a) (sym e))
-      with_first (Some a) (Some b) e = by (int_le (time a) (time x)) refl (int_lt (time b) (time x)) refl (same e)
-        where
-          same : Some (time a) ≡ Some (time b) → time a ≡ time b
-          same e = cc
-
-          by : (p : Bool) → int_le (time a) (time x) ≡ p → (q : Bool) → int_lt (time b) (time x) ≡ q → time a ≡ time b → option_map time (cond p (Some x) (Some a)) ≡ option_map time (cond q (Some x) (Some b))
-          by true f true g t = refl
-          by true f false g t = ap Some (same_end (time a) (time b) (time x) t f g)
-          by false f true g t = absurd (true≢false (sym g ∙ neither (time a) (time b) (time x) t f))
-          by false f false g t = ap Some t
 
 -- members stand by their times
 abbrev pub Timed : List Member → Type 0
@@ -139,11 +113,37 @@ later_than other member at e f = grind (arith, ints)
 later_all : (at : ℤ) (member : Member) (members : List Member) → AllByRecursion (λ (other : Member). int_lt other.at member.at ≡ false) members → int_le member.at at ≡ false → AllByRecursion (λ (other : Member). int_le other.at at ≡ false) members
 later_all at member members h not_le = every_weaker (λ (other : Member). int_lt other.at member.at ≡ false) (λ (other : Member). int_le other.at at ≡ false) members (λ other e. later_than other.at member.at at e not_le) h
 
-never : (a : ℤ) → int_lt a a ≡ false
-never a = grind (arith, ints)
+-- where all have one time
+all_pass : (p : Member → Bool) (members : List Member) → AllByRecursion (λ (member : Member). p member ≡ true) members → filter p members ≡ members
+all_pass p [] h = refl
+all_pass p (member ∷ members) h = ap₂ (λ b (rest : List Member). cond b (member ∷ rest) rest) h.0 (all_pass p members h.1)
 
-before_that : (a b : ℤ) → int_le a b ≡ false → int_lt b a ≡ true
-before_that a b e = grind (arith, ints)
+got_still : (members : List Member) (n : ℕ) → AllByRecursion (λ (member : Member). member.at ≡ pos 0) members → IfSome (slice_get members n) (λ (member : Member). member.at ≡ pos 0)
+got_still [] n h = tt
+got_still (member ∷ members) zero h = h.0
+got_still (member ∷ members) (suc n) h = got_still members n h.1
+
+found_still : (o : Option Member) → IfSome o (λ (member : Member). member.at ≡ pos 0) → option_map (λ key. let it : Found = record { key = key; at = pos 0 } in it) (option_map (λ (member : Member). member.key) o) ≡ option_map (λ (member : Member). let it : Found = record { key = member.key; at = member.at } in it) o
+found_still None h = refl
+found_still (Some member) h = ap (λ moment. let it : Found = record { key = member.key; at = moment } in Some it) (sym h)
+
+first_still : (members : List Member) → AllByRecursion (λ (member : Member). member.at ≡ pos 0) members → latest_by First time members ≡ slice_get members 0
+first_still [] h = refl
+first_still (member ∷ members) h = ap (or_later First time member) (first_still members h.1) ∙ by members h.1
+  where
+    by : (others : List Member) → AllByRecursion (λ (member : Member). member.at ≡ pos 0) others → or_later First time member (slice_get others 0) ≡ Some member
+    by [] k = refl
+    by (other ∷ others) k = ap (λ b. cond b (Some member) (Some other)) (ap₂ int_le k.0 h.0)
+
+last_still : (members : List Member) → AllByRecursion (λ (member : Member). member.at ≡ pos 0) members → latest_by Last time members ≡ slice_get members (length members - 1)
+last_still [] h = refl
+last_still (member ∷ []) h = refl
+last_still (member ∷ other ∷ others) h =
+    let before : length (other ∷ others) - 1 ≡ length others = omega arith in
+    let end : length (member ∷ other ∷ others) - 1 ≡ suc (length others) = omega arith in
+    ap (or_later Last time member) (last_still (other ∷ others) h.1 ∙ ap (slice_get (other ∷ others)) before)
+    ∙ stays_last Last (λ behind own. refl) member (other ∷ others) (length others) (every_weaker (λ (later : Member). later.at ≡ pos 0) (λ (later : Member). int_lt later.at member.at ≡ false) (other ∷ others) (λ later z. ap₂ int_lt z h.0) h.1) (omega arith)
+    ∙ sym (ap (slice_get (member ∷ other ∷ others)) end)
 
 module _ (at : ℤ) where
   abbrev pub until : Member → Bool
@@ -162,51 +162,6 @@ module _ (at : ℤ) where
       by false e rest =
           let none : filter until members ≡ [] = filter_none until members (later_all at member members h.0 e) in
           ap (latest_by pick time) none ∙ sym (ap (λ xs. last_of (member ∷ members) (length xs)) none)
-
-  -- the first of a time stands behind those before it
-  module _ (moment : ℤ) where
-    abbrev pub before : Member → Bool
-    before member = int_lt member.at moment
-
-    same : (a : ℤ) → Some a ≡ Some moment → a ≡ moment
-    same a e = cc
-
-    not_before : (a b : ℤ) → b ≡ moment → int_lt a b ≡ false → int_lt a moment ≡ false
-    not_before a b e f = subst (λ c. int_lt a c ≡ false) e f
-
-    itself : (a : ℤ) → a ≡ moment → int_lt a moment ≡ false
-    itself a e = subst (λ c. int_lt a c ≡ false) e (never a)
-
-    earlier : (a b : ℤ) → a ≡ moment → int_le a b ≡ false → int_lt b moment ≡ true
-    earlier a b e f = subst (λ c. int_lt b c ≡ true) e (before_that a b f)
-
-    -- none stands before a member of that time
-    at_first : (member : Member) (members : List Member) → AllByRecursion (λ (other : Member). int_lt other.at member.at ≡ false) members → member.at ≡ moment → Some member ≡ slice_get (member ∷ members) (length (filter before (member ∷ members)))
-    at_first member members h own =
-        sym (ap (λ (xs : List Member). slice_get (member ∷ members) (length xs)) (filter_none before (member ∷ members)
-        (itself member.at own, every_weaker (λ (other : Member). int_lt other.at member.at ≡ false) (λ other. before other ≡ false) members (λ other later. not_before other.at member.at own later) h)))
-
-    first_until : (members : List Member) → Timed members → option_map time (Picked First until members) ≡ Some moment → Picked First until members ≡ slice_get members (length (filter before members))
-    first_until [] h e = absurd (none-some moment e)
-    first_until (member ∷ members) h e = by (until member) refl e (λ k. first_until members h.1 k)
-      where
-        Rest : Type 0
-        Rest = option_map time (Picked First until members) ≡ Some moment → Picked First until members ≡ slice_get members (length (filter before members))
-
-        behind : (o : Option Member) → Picked First until members ≡ o → option_map time (or_later First time member o) ≡ Some moment → Rest → or_later First time member o ≡ slice_get (member ∷ members) (length (filter before (member ∷ members)))
-        behind None is f rest = at_first member members h.0 (same member.at f)
-        behind (Some best) is f rest = third (int_le best.at member.at) refl f
-          where
-            third : (c : Bool) → int_le best.at member.at ≡ c → option_map time (cond c (Some member) (Some best)) ≡ Some moment → cond c (Some member) (Some best) ≡ slice_get (member ∷ members) (length (filter before (member ∷ members)))
-            third true le g = at_first member members h.0 (same member.at g)
-            third false le g =
-                sym is ∙ rest (ap (option_map time) is ∙ g)
-                ∙ sym (ap (λ b. slice_get (member ∷ members) (length (cond b (member ∷ filter before members) (filter before members)))) (earlier best.at member.at (same best.at g) le))
-
-        by : (b : Bool) → until member ≡ b → option_map time (latest_by First time (cond b (member ∷ filter until members) (filter until members))) ≡ Some moment → Rest
-            → latest_by First time (cond b (member ∷ filter until members) (filter until members)) ≡ slice_get (member ∷ members) (length (filter before (member ∷ members)))
-        by true is f rest = behind (Picked First until members) refl f rest
-        by false is f rest = absurd (none-some moment (sym (ap (λ xs. option_map time (latest_by First time xs)) (filter_none until members (later_all at member members h.0 is))) ∙ f))
 
   pub next_until : (members : List Member) → Timed members → find (λ (member : Member). int_lt at member.at) members ≡ slice_get members (length (filter until members))
   next_until [] h = refl
@@ -241,29 +196,56 @@ module _ (at : ℤ) where
         both key own (slice_get group n) (sym (slice_get-map (λ (member : Member). member.key) group n) ∙ e) (sym (slice_get-map time group n) ∙ f)
         ∙ ap (option_map found) (sym (match_in pick cells at members ∙ last_until pick takes group timed ∙ ap (last_of group) (length-filter until group ∙ count)))
 
-    module _ (n : ℕ) (own : ℤ) (count : count_by until group ≡ suc n) (here : slice_get (map time group) n ≡ Some own) where
-      of_time : option_map time (Picked First until group) ≡ Some own
-      of_time = same_time time (filter until group) ∙ ap (option_map time) (last_until Last (λ behind own. refl) group timed ∙ ap (last_of group) (length-filter until group ∙ count)) ∙ sym (slice_get-map time group n) ∙ here
-
-      match_first : match_of First cells at members ≡ slice_get group (count_by (before own) group)
-      match_first = match_in First cells at members ∙ first_until own group timed of_time ∙ ap (slice_get group) (length-filter (before own) group)
-
-      -- the first one that has the time of that last one is one of the group
-      pub first_within : count_by (before own) group < length group
-      first_within = within (slice_get group (count_by (before own) group)) refl (ap (option_map time) (sym match_first ∙ match_in First cells at members) ∙ of_time)
-        where
-          within : (o : Option Member) → slice_get group (count_by (before own) group) ≡ o → option_map time o ≡ Some own → count_by (before own) group < length group
-          within None is e = absurd (none-some own e)
-          within (Some member) is e = slice_get_within group (count_by (before own) group) member is
-
-      pub found_first : (key : ℕ) → slice_get (keys_of group) (count_by (before own) group) ≡ Some key → Some (record { key = key; at = own }) ≡ option_map found (match_of First cells at members)
-      found_first key e =
-          both key own (slice_get group (count_by (before own) group)) (sym (slice_get-map (λ (member : Member). member.key) group (count_by (before own) group)) ∙ e) (ap (option_map time) (sym match_first ∙ match_in First cells at members) ∙ of_time)
-          ∙ ap (option_map found) (sym match_first)
-
     pub none_found : (pick : Pick) → count_by until group ≡ 0 → ◌≡◌ {A = Option Found} None (option_map found (match_of pick cells at members))
     none_found pick count = ap (option_map found) (sym (match_in pick cells at members ∙ ap (latest_by pick time) (nothing_long (filter until group) (length-filter until group ∙ count))))
       where
         nothing_long : (xs : List Member) → length xs ≡ 0 → xs ≡ []
         nothing_long [] e = refl
         nothing_long (x ∷ xs) e = absurd (omega (arith, e))
+
+    -- where all have the time 0, the first or the last one is picked, if that is not later
+    module _ (still : AllByRecursion (λ (member : Member). member.at ≡ pos 0) members) where
+      own : AllByRecursion (λ (member : Member). member.at ≡ pos 0) group
+      own = every-by_at (λ (member : Member). member.at ≡ pos 0) (filter (λ (member : Member). same_cells cells member.cells) members) (every-filter (λ (member : Member). member.at ≡ pos 0) (λ (member : Member). same_cells cells member.cells) members still)
+
+      each : (b : Bool) → int_le (pos 0) at ≡ b → AllByRecursion (λ (member : Member). until member ≡ b) group
+      each b e = every_weaker (λ (member : Member). member.at ≡ pos 0) (λ (member : Member). until member ≡ b) group (λ member z. ap (λ moment. int_le moment at) z ∙ e) own
+
+      found_end : (pick : Pick) (n : ℕ) (key : Option ℕ) → latest_by pick time group ≡ slice_get group n → key ≡ slice_get (keys_of group) n → cond (int_le (pos 0) at) (option_map (λ key. let it : Found = record { key = key; at = pos 0 } in it) key) None ≡ option_map found (match_of pick cells at members)
+      found_end pick n key picked is = by (int_le (pos 0) at) refl ∙ sym (ap (option_map found) (match_in pick cells at members))
+        where
+          by : (b : Bool) → int_le (pos 0) at ≡ b → cond b (option_map (λ key. let it : Found = record { key = key; at = pos 0 } in it) key) None ≡ option_map found (latest_by pick time (filter until group))
+          by true e =
+              ap (option_map (λ key. let it : Found = record { key = key; at = pos 0 } in it)) (is ∙ slice_get-map (λ (member : Member). member.key) group n) ∙ found_still (slice_get group n) (got_still group n own)
+              ∙ sym (ap (option_map found) (ap (latest_by pick time) (all_pass until group (each true e)) ∙ picked))
+          by false e = sym (ap (λ xs. option_map found (latest_by pick time xs)) (filter_none until group (each false e)))
+
+      pub found_first : (key : Option ℕ) → key ≡ slice_get (keys_of group) 0 → cond (int_le (pos 0) at) (option_map (λ key. let it : Found = record { key = key; at = pos 0 } in it) key) None ≡ option_map found (match_of First cells at members)
+      found_first key is = found_end First 0 key (first_still group own) is
+
+      pub found_final : (key : Option ℕ) → key ≡ slice_get (keys_of group) (length group - 1) → cond (int_le (pos 0) at) (option_map (λ key. let it : Found = record { key = key; at = pos 0 } in it) key) None ≡ option_map found (match_of Last cells at members)
+      found_final key is = found_end Last (length group - 1) key (last_still group own) is
+
+-- a pick of times takes the last one
+as_last : {X : Type 0} (on : OnPair) (time : X → ℤ) (xs : List X) → latest_by (Latest on) time xs ≡ latest_by Last time xs
+as_last on time [] = refl
+as_last {X = X} on time (x ∷ xs) = by (latest_by (Latest on) time xs) (latest_by Last time xs) (as_last on time xs)
+  where
+    by : (o u : Option X) → o ≡ u → or_later (Latest on) time x o ≡ or_later Last time x u
+    by None u e = ap (or_later Last time x) e
+    by (Some best) u e = ap (or_later Last time x) e
+
+pub match_as_last : (pick : Pick) (on : OnPair) (cells : List ℤ) (at : ℤ) (members : List Member) → pick ≡ Latest on → match_of Last cells at members ≡ match_of pick cells at members
+match_as_last pick on cells at members is =
+    sym (as_last on time (filter (λ (member : Member). same_cells cells member.cells && int_le member.at at) members)) ∙ ap (λ (pick : Pick). match_of pick cells at members) (sym is)
+
+-- the members of an index have the times of its pick
+are_timed : (side : Side) (on : List OnPair) (pick : Pick) (rows : List PlainRow) → AreTimed pick (keyed side on pick rows)
+are_timed side on First [] = tt
+are_timed side on First (row ∷ rows) = (refl, are_timed side on First rows)
+are_timed side on Last [] = tt
+are_timed side on Last (row ∷ rows) = (refl, are_timed side on Last rows)
+are_timed side on (Latest at) rows = tt
+
+pub timed_index : (side : Side) (on : List OnPair) (pick : Pick) (rows : List PlainRow) (index : Grouped) → index ≡ indexed side on pick rows → AreTimed pick index.members
+timed_index side on pick rows index is = subst (λ (index : Grouped). AreTimed pick index.members) (sym is) (are_timed side on pick rows)

@@ -3,10 +3,11 @@
 --     latest_by pick time xs      of those whose time is the greatest the one that is picked
 --     match_of pick cells at members      the member with these cells that is picked at this time
 --     next_time cells at members      the first time after this one of a member with these cells
+--     AreTimed pick members      where the pick asks for no time, all members have the same
 --     during from until member      whether the member's time is in the time from one moment until another
 --     count_before until members      how many members come before a time, which may be missing
-use Rattle.std.specs.Prelude.{ℕ, Bool, true, ◌&&◌, List, [], ◌∷◌, Option, Some, None, filter, find, int_le, int_lt, length, option_map, ℤ, if◌then◌else◌}
-use Rattle.std.specs.List.{count_by}
+use Rattle.std.specs.Prelude.{◌≡◌, ℕ, Bool, true, ◌&&◌, List, [], ◌∷◌, Option, Some, None, filter, find, int_le, int_lt, length, option_map, ℤ, pos, if◌then◌else◌}
+use Rattle.std.specs.List.{AllByRecursion, count_by}
 use Rattle.std.specs.Option.{option_map_or}
 use Rattle.lookup_join.specs.declared.pick.Pick.{Pick}
 use Rattle.lookup_join.specs.declared.pick.Pick.TheVariants.{First, Last, Latest}
@@ -29,6 +30,11 @@ latest_by pick time (x ∷ xs) = or_later pick time x (latest_by pick time xs)
 
 abbrev pub match_of : Pick → List ℤ → ℤ → List Member → Option Member
 match_of pick cells at members = latest_by pick (λ member. member.at) (filter (λ member. same_cells cells member.cells && int_le member.at at) members)
+
+abbrev pub AreTimed : Pick → List Member → Type 0
+AreTimed First members = AllByRecursion (λ member. member.at ≡ pos 0) members
+AreTimed Last members = AllByRecursion (λ member. member.at ≡ pos 0) members
+AreTimed (Latest at) members = Unit {0}
 
 abbrev pub next_time : List ℤ → ℤ → List Member → Option ℤ
 next_time cells at members = option_map (λ (member : Member). member.at) (find (λ member. int_lt at member.at) (group_of cells members))

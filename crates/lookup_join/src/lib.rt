@@ -6,7 +6,7 @@
 //! themselves serves both.
 //!
 //! A step costs the rows that it touches. Both inputs are kept by their key cells and in order of time (`keyed`), so that the
-//! match of a left row is found by a search (`latest`).
+//! match of a left row is the first or the last row of its group, or is found by a search (`latest`).
 //!
 //! What a step may change. Take a left row that stays as it is, with its key cells and its time `t`. Let `p` be the right row
 //! that it took before the step and `q` the one that it takes now. Where the step touches neither `p` nor `q`, they are one row,
@@ -26,7 +26,7 @@
 //! each row that is counted, and a left row for which a note speaks but whose cells stay is not read at all.
 //!
 //! A left row with two matches, where there is to be one, is in the group of a note or is new in its own, since there was none
-//! before (`duplicates`).
+//! before (`duplicates`). Where each right row has been alone in its group, there is none.
 #![tactic(auto)]
 
 mod as_of_op;

@@ -4,6 +4,7 @@ ghost use Rattle.std.specs.Prelude.{◌≡◌, ◌+◌, ◌*◌, ◌<◌, ◌≤
 ghost use Rattle.std.specs.List.{AllByRecursion};
 ghost use Rattle.key_lists.specs.Keys.{is_among};
 ghost use Rattle.lookup_join.specs.Keyed.{indexed};
+ghost use Rattle.lookup_join.specs.Latest.{AreTimed};
 ghost use Rattle.lookup_join.specs.Notes.{fresh_note, is_noted, next_after, note_of, noted_of, noting, spot_under, with_note};
 ghost use Rattle.lookup_join.specs.Taken.{spot_at, touched_spots};
 ghost use Rattle.row_groups.specs.Members.{member_under};
@@ -11,7 +12,7 @@ ghost use Rattle.tick_model.specs.Tables.{keys};
 ghost use Rattle.tick_table.specs.Exact.{IsExact};
 
 use crate::keyed::{Side, read_key};
-use crate::latest::{latest, latest_key, next_time};
+use crate::latest::{last_until, latest_key, next_time};
 use crate::pick::Pick;
 use row_groups::Groups;
 use row_set::RowSet;
@@ -71,7 +72,7 @@ impl Notes {
     pub fn of(&self, cells: &[i64], at: i64) -> Option<Noted>
         ensures { result ≡ option_map noted_of (note_of cells.now at self.now.notes) }
     {
-        let found = latest(Pick::Last, &self.numbers, cells, at)?;
+        let found = last_until(&self.numbers, cells, at)?;
         Some(Noted {
             at: found.at,
             before: self.before[found.key as usize],
@@ -135,7 +136,8 @@ impl Notes {
 
     /// Notes a place by the right rows that there are, if it is not noted yet.
     fn note(&mut self, pick: Pick, right: &Groups, cells: &[i64], at: i64) -> Result<(), AllocError>
-        requires { length cells.now ≡ self.old.width }
+        requires width { length cells.now ≡ self.old.width }
+        requires timed { AreTimed pick right.now.members }
         ensures { OnOk result (self.new ≡ record self.old { notes = with_note (fresh_note pick right.now.members (record { cells = cells.now; at = at })) self.old.notes }) }
     {
         if !self.has(cells, at) {
@@ -148,6 +150,7 @@ impl Notes {
     fn note_old(&mut self, pick: Pick, right: &Groups, key: u64) -> Result<(), AllocError>
         requires here { IsSome (member_under key right.now.members) }
         requires width { self.old.width ≡ right.now.width }
+        requires timed { AreTimed pick right.now.members }
         ensures { OnOk result (self.new ≡ record self.old { notes = with_note (fresh_note pick right.now.members (spot_under key right.now.members)) self.old.notes }) }
     {
         let cells = right.cells_of(key).unwrap();
@@ -165,6 +168,7 @@ fn note_removed(
 ) -> Result<(), AllocError>
     requires here { AllByRecursion (λ key. IsSome (member_under key index.now.members)) removed.now }
     requires width { notes.old.width ≡ index.now.width }
+    requires timed { AreTimed pick index.now.members }
     ensures { OnOk result (notes.new ≡ record notes.old { notes = noting pick index.now.members notes.old.notes (map (λ key. spot_under key index.now.members) removed.now) }) }
 {
     for key in removed {
@@ -217,6 +221,7 @@ fn note_added<L: Ledger>(
 ) -> Result<(), AllocError>
     requires exact { IsExact right.now }
     requires width { notes.old.width ≡ length on.now }
+    requires timed { AreTimed pick index.now.members }
     ensures notes { OnOk result (notes.new ≡ record notes.old { notes = noting pick index.now.members notes.old.notes (map (spot_at on.now pick right.now.new.rows) right.now.update.added) }) }
     ensures reads { OnOk result (reads.new ≤ reads.old + right.now.new.width * length right.now.update.added) }
 {

@@ -2,7 +2,7 @@
 
 ghost use Rattle.std.specs.Prelude.{◌≡◌, ◌+◌, ◌≤◌, ◌++◌, drop, length, vec_len, OnOk};
 ghost use Rattle.lookup_join.specs.Keyed.{key_cells, time_of};
-ghost use Rattle.lookup_join.specs.Latest.{match_of};
+ghost use Rattle.lookup_join.specs.Latest.{AreTimed, match_of};
 ghost use Rattle.lookup_join.specs.Notes.{taken_key};
 ghost use Rattle.lookup_join.specs.Taken.{AreMatched, match_as_before, match_now, speaks, taken_cells};
 
@@ -35,6 +35,7 @@ pub(crate) struct MatchedRows<'a> {
 impl MatchedRows<'_> {
     /// The right row that left rows with these key cells take now at a time.
     fn match_now(&self, cells: &[i64], time: i64) -> Match
+        requires { AreTimed self.now.pick self.now.index.now.members }
         ensures { result ≡ match_now (taken_key self.now.pick self.now.index.now.members cells.now time) }
     {
         Match::now(latest_key(self.pick, self.index, cells, time))
@@ -42,6 +43,7 @@ impl MatchedRows<'_> {
 
     /// Whether a note of this time speaks for left rows: no right row of now came after it.
     fn speaks(&self, cells: &[i64], time: i64, noted: i64) -> bool
+        requires { AreTimed self.now.pick self.now.index.now.members }
         ensures { result ≡ speaks (match_of self.now.pick cells.now time self.now.index.now.members) noted }
     {
         match latest(self.pick, self.index, cells, time) {
@@ -52,6 +54,7 @@ impl MatchedRows<'_> {
 
     /// The right row that they took before the step. A note says it, but where a right row of now came after the note.
     fn match_before(&self, cells: &[i64], time: i64) -> Match
+        requires { AreTimed self.now.pick self.now.index.now.members }
         ensures { result ≡ match_as_before self.now.pick self.now.index.now.members self.now.notes.now.notes cells.now time }
     {
         match self.notes.of(cells, time) {

@@ -2,7 +2,7 @@
 
 ghost use Rattle.std.specs.Prelude.{◌≡◌, ◌+◌, ◌*◌, ◌<◌, ◌≤◌, ◌++◌, filter, length, IfOk, OnOk};
 ghost use Rattle.std.specs.List.{AllByRecursion};
-ghost use Rattle.lookup_join.specs.Latest.{count_before, during};
+ghost use Rattle.lookup_join.specs.Latest.{AreTimed, count_before, during};
 ghost use Rattle.lookup_join.specs.Taken.{IsFrom, end_of as end_of_note, turned_members};
 ghost use Rattle.row_groups.specs.Members.{group_of, keys_of};
 
@@ -64,6 +64,7 @@ pub(crate) fn turned_rows<L: Ledger>(
     reads: &mut Steps<L>,
 ) -> Result<Vec<u64>, AllocError>
     requires take { AllByRecursion (λ column. column < right.now.new.width) take.now }
+    requires timed { AreTimed pick index.now.members }
     requires there { AllByRecursion (IsFrom pick index.now.members right.now.old right.now.new) notes.now.notes }
     ensures keys { IfOk result (λ keys. keys.items ≡ turned_members pick take.now left.now.members index.now.members notes.now.notes right.now.old.rows right.now.new.rows notes.now.notes) }
     ensures reads { OnOk result (reads.new ≤ reads.old + 2 * length take.now * length notes.now.notes) }

@@ -3,10 +3,12 @@ use Rattle.std.specs.List.{AllByRecursion}
 use Rattle.std.proofs.lemmas.Bool.{eqb-true}
 use Rattle.std.proofs.lemmas.List.{nil_from_length}
 use Rattle.key_lists.specs.Keys.{is_among}
+use Rattle.lookup_join.specs.declared.keyed.Side.TheVariants.{Right}
 use Rattle.lookup_join.specs.declared.pick.Pick.{Pick}
 use Rattle.lookup_join.specs.Notes.{Note}
 use Rattle.lookup_join.specs.Taken.{IsFrom, step_notes, turned_keys, turned_members}
 use Rattle.lookup_join.proofs.Before.{notes_from}
+use Rattle.lookup_join.proofs.Latests.{timed_index}
 use Rattle.lookup_join.proofs.Compared.{told_came, turned_small}
 use Rattle.row_groups.specs.Members.{Grouped, Member}
 use Rattle.tick_model.specs.declared.table.PlainRow.{PlainRow}
@@ -19,6 +21,11 @@ turned_same pick take left left' right right' old new notes notes' l r n =
 
 pub turned_rows-requires-clause-take : goal.turned_rows-requires-clause-take
 turned_rows-requires-clause-take g c = c.requires.matched.within
+
+pub turned_rows-requires-clause-timed : goal.turned_rows-requires-clause-timed
+turned_rows-requires-clause-timed g c =
+    let rows = c.args.rows.now in
+    timed_index Right rows.on.now rows.pick rows.right.now.new.rows rows.index.now c.requires.matched.rows
 
 pub turned_rows-requires-clause-there : goal.turned_rows-requires-clause-there
 turned_rows-requires-clause-there g c =

@@ -22,8 +22,8 @@ row-row-requires g c = record {
       (subst (AllByRecursion (λ key. is_among key (keys c.args.right.now.new.rows) ≡ true)) (sym (c.added-key-items.ensures.keys ∙ ap (λ (update : Update). update.added) c.update.ensures)) (added_there c.args.right.now c.requires.exact)));
 }
 
-pub note-requires : goal.note-requires
-note-requires g c =
+pub note-requires-clause-width : goal.note-requires-clause-width
+note-requires-clause-width g c =
     ap length (c.deref.ensures.value ∙ c.in_ok-time.ensures.cells) ∙ length-key_cells Right c.args.on.now c.row-row.result.now ∙ sym (ap (λ (noted : NoteList). noted.width) c.loop-key.invariant.notes ∙ c.requires.width)
 
 pub loop-key-preserved : goal.loop-key-preserved

@@ -5,6 +5,7 @@ use Rattle.lookup_join.specs.declared.keyed.Side.TheVariants.{Right}
 use Rattle.lookup_join.specs.Keyed.{key_at, key_cells, time_at, time_of}
 use Rattle.lookup_join.specs.Notes.{Note, NoteList, spot_under}
 use Rattle.lookup_join.specs.Taken.{spot_at}
+use Rattle.lookup_join.proofs.Latests.{timed_index}
 use Rattle.lookup_join.proofs.Walks.{length-key_cells, member_is, note_put, noting_two, reader_has, reads_more, row_given, row_read, spot_is, spot_known}
 use Rattle.row_groups.specs.Members.{Grouped}
 use Rattle.shown_rows.proofs.Walks.{of_place}
@@ -25,8 +26,14 @@ row-row-requires g c = record {
   here = reader_has c.args.right.now c.loop-place.rows c.at-pair.result.new c.loop-place.invariant.rows (of_place (λ (pair : KeyPair). is_among pair.new (keys c.args.right.now.new.rows) ≡ true) c.loop-place.place c.args.modified.now c.at-pair.result c.requires.now c.at-pair.ensures.pair);
 }
 
-pub note-requires : goal.note-requires
-note-requires g c =
+pub note_old-requires-clause-timed : goal.note_old-requires-clause-timed
+note_old-requires-clause-timed g c = timed_index Right c.args.on.now c.args.pick c.args.right.now.old.rows c.args.index.now c.requires.index
+
+pub note-requires-clause-timed : goal.note-requires-clause-timed
+note-requires-clause-timed g c = timed_index Right c.args.on.now c.args.pick c.args.right.now.old.rows c.args.index.now c.requires.index
+
+pub note-requires-clause-width : goal.note-requires-clause-width
+note-requires-clause-width g c =
     ap length (c.deref.ensures.value ∙ c.in_ok-time.ensures.cells) ∙ length-key_cells Right c.args.on.now c.row-row.result.now
     ∙ sym (ap (λ (noted : NoteList). noted.width) c.in_ok-note_old.ensures ∙ ap (λ (noted : NoteList). noted.width) c.loop-place.invariant.notes ∙ c.requires.width)
 

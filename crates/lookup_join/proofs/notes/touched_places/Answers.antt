@@ -3,6 +3,8 @@ use Rattle.std.specs.Prelude.{flat_map, is_some}
 use Rattle.std.specs.List.{AllByRecursion}
 use Rattle.lookup_join.specs.Notes.{NoteList, spot_under}
 use Rattle.lookup_join.specs.Taken.{spot_at}
+use Rattle.lookup_join.specs.declared.keyed.Side.TheVariants.{Right}
+use Rattle.lookup_join.proofs.Latests.{timed_index}
 use Rattle.lookup_join.proofs.Stepping.{removed_there}
 use Rattle.lookup_join.proofs.Walks.{members_known, noting_parts, spots_known}
 use Rattle.row_groups.specs.Members.{Grouped, member_under}
@@ -20,6 +22,12 @@ note_removed-requires-clause-here g c =
 pub note_removed-requires-clause-width : goal.note_removed-requires-clause-width
 note_removed-requires-clause-width g c =
     ap (λ (noted : NoteList). noted.width) c.new-notes.ensures ∙ sym (ap (λ (index : Grouped). index.width) c.requires.index)
+
+pub note_removed-requires-clause-timed : goal.note_removed-requires-clause-timed
+note_removed-requires-clause-timed g c = timed_index Right c.args.on.now c.args.pick c.args.right.now.old.rows c.args.index.now c.requires.index
+
+pub note_added-requires-clause-timed : goal.note_added-requires-clause-timed
+note_added-requires-clause-timed g c = timed_index Right c.args.on.now c.args.pick c.args.right.now.old.rows c.args.index.now c.requires.index
 
 pub returns-clause-notes : goal.returns-clause-notes
 returns-clause-notes g c =

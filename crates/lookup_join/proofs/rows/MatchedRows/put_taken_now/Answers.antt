@@ -2,13 +2,19 @@ use Rattle.std.proofs.Common.{◌≡◌, ap, sym, ◌∙◌, subst, rules, w64, 
 use Rattle.std.specs.Prelude.{OnOk}
 use Rattle.std.proofs.lemmas.Int.{to_z-of_z}
 use Rattle.std.proofs.lemmas.List.{take_rest}
-use Rattle.lookup_join.specs.declared.keyed.Side.TheVariants.{Left}
+use Rattle.lookup_join.specs.declared.keyed.Side.TheVariants.{Left, Right}
 use Rattle.lookup_join.specs.declared.matches.Match.{Match}
 use Rattle.lookup_join.specs.Keyed.{time_of}
 use Rattle.lookup_join.specs.Taken.{IsThere, cell_of}
+use Rattle.lookup_join.proofs.Latests.{timed_index}
 use Rattle.lookup_join.proofs.Taking.{now_cells, now_there}
 use Rattle.lookup_join.proofs.Reading.{taken_behind}
 use Rattle.lookup_join.proofs.rows.MatchedRows.put_taken_now.Goals as goal
+
+pub match_now-taken-requires : goal.match_now-taken-requires
+match_now-taken-requires g c =
+    let rows = c.args.self.now in
+    timed_index Right rows.on.now rows.pick rows.right.now.new.rows rows.index.now c.requires.matched.rows
 
 pub put_cells-requires-clause-there : goal.put_cells-requires-clause-there
 put_cells-requires-clause-there g c =

@@ -3,10 +3,11 @@ use Rattle.std.specs.Prelude.{OnOk}
 use Rattle.std.proofs.lemmas.Int.{to_z-of_z}
 use Rattle.std.proofs.lemmas.List.{take_rest}
 use Rattle.key_lists.specs.Keys.{is_among}
-use Rattle.lookup_join.specs.declared.keyed.Side.TheVariants.{Left}
+use Rattle.lookup_join.specs.declared.keyed.Side.TheVariants.{Left, Right}
 use Rattle.lookup_join.specs.declared.matches.Match.{Match}
 use Rattle.lookup_join.specs.Keyed.{time_of}
 use Rattle.lookup_join.specs.Taken.{IsThere, cell_of}
+use Rattle.lookup_join.proofs.Latests.{timed_index}
 use Rattle.lookup_join.proofs.Reading.{row_behind, taken_behind}
 use Rattle.lookup_join.proofs.Compared.{cells_old, matched_keys}
 use Rattle.tick_model.specs.Tables.{cells_at}
@@ -18,6 +19,11 @@ prev_row-requires g c =
     let ready = c.requires.ready in record {
       here = subst (λ ks. is_among c.args.key ks ≡ true) (matched_keys rows.on.now rows.pick rows.take.now rows.left.now ready.left_exact rows.right.now ready.right_exact rows.left.now.old rows.right.now.old) c.requires.here;
     }
+
+pub match_before-taken-requires : goal.match_before-taken-requires
+match_before-taken-requires g c =
+    let rows = c.args.self.now in
+    timed_index Right rows.on.now rows.pick rows.right.now.new.rows rows.index.now c.requires.ready.rows
 
 pub put_cells-requires-clause-there : goal.put_cells-requires-clause-there
 put_cells-requires-clause-there g c =
