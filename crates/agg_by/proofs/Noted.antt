@@ -135,6 +135,18 @@ module _ (f : ℕ → List ℤ) (rows : Numbered) (before : List ℕ) where
             | Some own ↦ or_false (is_among number before)
           ]
 
+  -- where there is no group
+  pub noted_nothing : ((number : ℕ) → name_at number rows.names ≡ None) → ((cells : List ℤ) → group_of cells rows.members ≡ []) → (some : List ℕ) → HaveNoted f rows before before some
+  noted_nothing unnamed empty some = record {
+    named = λ number.
+        sym (ap (λ named. is_among number before || option_map_or (λ own. list_any (same_cells own) (map f some)) named false) (unnamed number) ∙ or_false (is_among number before));
+    firsts = λ first. sym (ap (λ b. list_any (starts_numbered rows first) before || b) (none_start first some) ∙ or_false (list_any (starts_numbered rows first) before));
+  }
+    where
+      none_start : (first : ℕ) (some : List ℕ) → list_any (starts rows.members first) (map f some) ≡ false
+      none_start first [] = refl
+      none_start first (key ∷ some) = ap (λ b. b || list_any (starts rows.members first) (map f some)) (starts_none (f key) rows.members first (empty (f key))) ∙ none_start first some
+
   module _ (numbers some : List ℕ) (key : ℕ) (noted : HaveNoted f rows before numbers some) where
     -- one key more, whose cells a group has
     pub noted_own : (number : ℕ) (more : List ℕ) → more ≡ with_number number numbers → IsNumberOf number (f key) rows.names → HaveNoted f rows before more (some ++ key ∷ [])

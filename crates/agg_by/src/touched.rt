@@ -117,7 +117,8 @@ impl TouchedGroups {
         Ok(())
     }
 
-    /// Notes the groups, as they are kept, that have the key cells of these rows of now. It reads each of the rows.
+    /// Notes the groups, as they are kept, that have the key cells of these rows of now. It reads each of the rows, if there is
+    /// any group.
     fn note_coming<L: Ledger>(
         &mut self,
         kept: &Kept,
@@ -133,6 +134,9 @@ impl TouchedGroups {
             ≡ (list_any (starts_numbered kept.now.rows first) self.old || list_any (starts kept.now.rows.members first) (map (key_at kept.now.by input.now.new.rows) keys.now))) }
         ensures reads { OnOk result (reads.new ≤ reads.old + input.now.new.width * length keys.now) }
     {
+        if kept.rows.is_empty() {
+            return Ok(());
+        }
         let mut rows = RowsNow::of(input);
         for key in keys {
             kept.read_key_cells(rows.row(key, reads), key_cells)?;

@@ -1,5 +1,5 @@
 //! Groups whose numbers are shown.
-ghost use Rattle.std.specs.Prelude.{◌≡◌, ◌≢◌, ℕ, List, ℤ, ◌<◌, ◌≤◌, ◌^◌, [], None, Some, IfOk, IfSome, IsSome, length, option_map, true, OnOk, OnErr};
+ghost use Rattle.std.specs.Prelude.{◌≡◌, ◌≢◌, ◌↔◌, ℕ, List, ℤ, ◌<◌, ◌≤◌, ◌^◌, [], None, Some, IfOk, IfSome, IsSome, IsTrue, length, option_map, true, OnOk, OnErr};
 ghost use Rattle.tick_model.specs.Rules.{shift_fault};
 ghost use Rattle.row_groups.specs.Members.{AreGrouped, IsNumberOf, IsPart, group_of, groups_of, keys_of, left_members, member_of, member_under, moved_members, name_at, with_member};
 
@@ -149,5 +149,13 @@ impl NumberedGroups {
     {
         let handle = self.index.handles.handle_of(key)?;
         Some(self.index.table.get(handle).at)
+    }
+
+    /// Whether there is no group.
+    pub fn is_empty(&self) -> bool
+        ensures unnamed { IsTrue result ↔ ((number : ℕ) → name_at number self.now.names ≡ None) }
+        ensures empty { IsTrue result → (cells : List ℤ) → group_of cells self.now.members ≡ [] }
+    {
+        self.index.lists.numbers.is_empty()
     }
 }

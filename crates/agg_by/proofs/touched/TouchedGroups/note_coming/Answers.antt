@@ -7,7 +7,7 @@ use Rattle.tick_model.specs.Agg.{key_cells}
 use Rattle.tick_model.specs.Tables.{cells_at, keys as keys_of}
 use Rattle.tick_table.specs.Ticking.{Ticking}
 use Rattle.agg_by.specs.Steps.{key_at}
-use Rattle.agg_by.proofs.Noted.{HaveNoted, noted_alien, noted_first, noted_own}
+use Rattle.agg_by.proofs.Noted.{HaveNoted, noted_alien, noted_first, noted_nothing, noted_own}
 use Rattle.agg_by.proofs.touched.TouchedGroups.note_coming.Goals as goal
 
 pub row-requires : goal.row-requires
@@ -56,6 +56,13 @@ loop-key-preserved g c =
           (subst (λ (cells : List ℤ). group_of cells kept.members ≡ []) cells (c.find.ensures.empty c.in_default.is));
       reads = reads_next c.args.input.now.new.width c.args.reads.now c.loop-key.reads c.row.new.reads c.loop-key.yielded key c.loop-key.invariant.reads (omega (arith, c.row.ensures.reads, width));
     }
+
+pub returns-then-is_empty : goal.returns-then-is_empty
+returns-then-is_empty g c =
+    let rows = c.args.kept.now.rows in
+    let noted =
+    noted_nothing (key_at c.args.kept.now.by c.args.input.now.new.rows) rows c.args.self.now (c.is_empty.ensures.unnamed.0 c.if-is_empty.true) (c.is_empty.ensures.empty c.if-is_empty.true) c.args.keys.now in
+    record { named = noted.named; firsts = noted.firsts; reads = omega arith }
 
 pub returns : goal.returns
 returns g c =
