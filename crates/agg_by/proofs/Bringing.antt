@@ -1,5 +1,5 @@
 -- An index that a step brings on has the rows of now.
-use Rattle.std.proofs.Common.{◌≡◌, refl, ap, ap₂, sym, ◌∙◌, Bool, true, false, not, cond, ◌||◌, ◌==◌, ℕ, ◌<◌, arith, List, [], ◌∷◌, map, Option, Some, None, true≢false, inl, inr}
+use Rattle.std.proofs.Common.{◌≡◌, refl, ap, ap₂, sym, ◌∙◌, Bool, true, false, not, cond, ◌||◌, ◌==◌, ℕ, ◌<◌, arith, List, [], ◌∷◌, map, Option, Some, None, true≢false, inl, inr, is_some, pos}
 use Rattle.std.specs.Prelude.{nat_lt, option_map, unwrap_or}
 use Rattle.std.specs.List.{AllByRecursion}
 use Rattle.std.proofs.lemmas.Bool.{cases_eq, eq-eqb, eqb-true, lt-ltb, ne_eqb, or_parts}
@@ -104,3 +104,13 @@ module _ (by : List ℕ) (column : Option ℕ) where
             let there : is_among key (keys rows) ≡ true = sym (ap (λ b. b || is_among key (keys rows)) (ne_eqb row.key key other)) ∙ own in
             put_there key others row rows (of_among (λ k. row.key < k) key (keys rows) rising.0 there) (put_back key others rows rising.1 there absent)
       ]
+
+-- where rows stand in their groups by their keys alone
+pub placed_none : (by : List ℕ) (rows : List PlainRow) (key : ℕ) → is_some (member_under key (members by None rows)) ≡ true → option_map (λ (member : Member). member.at) (member_under key (members by None rows)) ≡ Some (pos 0)
+placed_none by [] key there = absurd (true≢false (sym there))
+placed_none by (row ∷ rows) key there = by_case (row.key == key) (placed_none by rows key) there
+  where
+    by_case : (b : Bool) → (is_some (member_under key (members by None rows)) ≡ true → option_map (λ (member : Member). member.at) (member_under key (members by None rows)) ≡ Some (pos 0))
+        → is_some (cond b (Some (member_by by None row)) (member_under key (members by None rows))) ≡ true → option_map (λ (member : Member). member.at) (cond b (Some (member_by by None row)) (member_under key (members by None rows))) ≡ Some (pos 0)
+    by_case true rest there = refl
+    by_case false rest there = rest there

@@ -1,8 +1,8 @@
 -- The numbers of touched groups, as they are noted, and the groups that have them before and after a step.
-use Rattle.std.proofs.Common.{◌≡◌, ◌≢◌, refl, ap, ap₂, sym, ◌∙◌, subst, Bool, true, false, cond, ◌||◌, ◌==◌, ℕ, zero, suc, ◌+◌, ◌<◌, arith, List, [], ◌∷◌, ◌++◌, map, filter, get_or, length, set, take, Option, Some, None, ℤ, true≢false, inl, inr, ◌⊎◌, if◌then◌else◌}
+use Rattle.std.proofs.Common.{◌≡◌, ◌≢◌, is_some, refl, ap, ap₂, sym, ◌∙◌, subst, Bool, true, false, cond, ◌||◌, ◌==◌, ℕ, zero, suc, ◌+◌, ◌<◌, arith, List, [], ◌∷◌, ◌++◌, map, filter, get_or, length, set, take, Option, Some, None, ℤ, true≢false, inl, inr, ◌⊎◌, if◌then◌else◌}
 use Rattle.std.specs.Prelude.{slice_get, not}
 use Rattle.std.specs.Cmp.Rules.{signed_items}
-use Rattle.std.specs.List.{list_any}
+use Rattle.std.specs.List.{AllByRecursion, AllZip, list_any}
 use Rattle.std.specs.Option.{option_map_or}
 use Rattle.std.proofs.lemmas.Bool.{cases_eq, eq-eqb, eqb-true, ne_eqb, or_cases, or_right, and_parts}
 use Rattle.std.proofs.lemmas.List.{get_or-set_other, get_or-set_same, map-append}
@@ -12,7 +12,7 @@ use Rattle.key_lists.specs.Keys.{is_among}
 use Rattle.key_lists.proofs.Among.{among-append, of_among}
 use Rattle.key_lists.proofs.Every.{every-append, every_unmapped, every_weaker, filter-map, filter_swap, any-map}
 use Rattle.key_lists.proofs.Booleans.{or_assoc, or_false, same_truth}
-use Rattle.row_groups.specs.Members.{IsNumberOf, IsPart, Member, Names, Numbered, group_of, keys_of, name_at}
+use Rattle.row_groups.specs.Members.{IsNumberOf, IsNumberUnder, IsPart, Member, Names, Numbered, group_of, keys_of, member_under, name_at}
 use Rattle.shown_rows.proofs.Walks.{take_next}
 use Rattle.tick_model.specs.declared.table.PlainRow.{PlainRow}
 use Rattle.tick_model.specs.declared.table.PlainTable.{PlainTable}
@@ -21,11 +21,11 @@ use Rattle.tick_model.specs.Agg.{key_cells}
 use Rattle.tick_model.specs.Tables.{IsTable, keys, same_cells}
 use Rattle.tick_model.specs.Updates.{moved_row, removing, shifting}
 use Rattle.agg_by.specs.Kept.{group_rows}
-use Rattle.agg_by.specs.Steps.{key_at, starts}
+use Rattle.agg_by.specs.Steps.{kept_cells, key_at, starts}
 use Rattle.agg_by.specs.Touched.{AreNoted, is_named, starts_numbered, with_number}
 use Rattle.agg_by.proofs.Answering.{group_is, keys_group}
 use Rattle.agg_by.proofs.Bringing.{members}
-use Rattle.agg_by.proofs.FirstKeys.{starts_when}
+use Rattle.agg_by.proofs.FirstKeys.{kept_own, starts_when}
 use Rattle.agg_by.proofs.Made.{no_rows}
 
 -- marks of numbers
@@ -108,6 +108,13 @@ named-append xs ys names number =
       | Some own ↦ list_any-append (same_cells own) xs ys
     ]
 
+pub named_nothing : (names : Names) (number : ℕ) → is_named [] names number ≡ false
+named_nothing names number =
+    elim (name_at number names) as (λ named. option_map_or (λ own. list_any (same_cells own) []) named false ≡ false) [
+      | None ↦ refl
+      | Some own ↦ refl
+    ]
+
 pub starts_none : (cells : List ℤ) (ms : List Member) (first : ℕ) → group_of cells ms ≡ [] → starts ms first cells ≡ false
 starts_none cells ms first none = ap (λ (group : List Member). option_map_or (λ (key : ℕ). key == first) (slice_get (keys_of group) 0) false) none
 
@@ -124,16 +131,9 @@ pub record HaveNoted (f : ℕ → List ℤ) (rows : Numbered) (before numbers so
 module _ (f : ℕ → List ℤ) (rows : Numbered) (before : List ℕ) where
   pub noted_first : HaveNoted f rows before before []
   noted_first = record {
-    named = λ number. sym (is_named_nothing number);
+    named = λ number. sym (ap (λ b. is_among number before || b) (named_nothing rows.names number) ∙ or_false (is_among number before));
     firsts = λ first. sym (or_false (list_any (starts_numbered rows first) before));
   }
-    where
-      is_named_nothing : (number : ℕ) → (is_among number before || is_named [] rows.names number) ≡ is_among number before
-      is_named_nothing number =
-          elim (name_at number rows.names) as (λ named. (is_among number before || option_map_or (λ own. list_any (same_cells own) []) named false) ≡ is_among number before) [
-            | None ↦ or_false (is_among number before)
-            | Some own ↦ or_false (is_among number before)
-          ]
 
   -- where there is no group
   pub noted_nothing : ((number : ℕ) → name_at number rows.names ≡ None) → ((cells : List ℤ) → group_of cells rows.members ≡ []) → (some : List ℕ) → HaveNoted f rows before before some
@@ -171,6 +171,16 @@ module _ (f : ℕ → List ℤ) (rows : Numbered) (before : List ℕ) where
           ∙ ap₂ (λ a b. a || b) (noted.firsts first) (sym (ap (λ b. b || false) (starts_none (f key) rows.members first empty)))
           ∙ next_key (list_any (starts rows.members first)) f some key (list_any (starts_numbered rows first) before) (list_any-append (starts rows.members first));
     }
+
+-- what is told of the numbers of the groups of some rows is told of their key cells
+pub told_of : (rows : Numbered) (p : ℕ → Bool) (g : List (List ℤ) → Bool) → g [] ≡ false → ((xs ys : List (List ℤ)) → g (xs ++ ys) ≡ (g xs || g ys)) → ((number : ℕ) (cells : List ℤ) → IsNumberOf number cells rows.names → p number ≡ g (cells ∷ []))
+    → (keys numbers : List ℕ) → AllByRecursion (λ key. is_some (member_under key rows.members) ≡ true) keys → AllZip (IsNumberUnder rows) keys numbers → list_any p numbers ≡ g (map (kept_cells rows.members) keys)
+told_of rows p g none append one [] [] there are = sym none
+told_of rows p g none append one [] (number ∷ numbers) there are = absurd are
+told_of rows p g none append one (key ∷ keys) [] there are = absurd are
+told_of rows p g none append one (key ∷ keys) (number ∷ numbers) there are =
+    let cells = kept_cells rows.members key in
+    ap₂ (λ a b. a || b) (one number cells (are.0 cells (kept_own rows.members key there.0))) (told_of rows p g none append one keys numbers there.1 are.1) ∙ sym (append (cells ∷ []) (map (kept_cells rows.members) keys))
 
 -- what is noted of some cells and then of others is noted of all
 pub together : {X : Type 0} (f : List ℕ → Bool) (g : List X → Bool) (start middle numbers : List ℕ) (xs ys all : List X) → f [] ≡ false → ((xs ys : List X) → g (xs ++ ys) ≡ (g xs || g ys)) → start ≡ [] → f middle ≡ (f start || g xs) → f numbers ≡ (f middle || g ys) → xs ++ ys ≡ all → f numbers ≡ g all

@@ -1,7 +1,7 @@
 //! The operator: what it keeps, and its step.
 
 ghost use Rattle.std.specs.Prelude.{◌≡◌, ℕ, ◌+◌, ◌*◌, ◌≤◌, None, length, IfOk, OnOk};
-ghost use Rattle.std.specs.List.{AllByRecursion};
+ghost use Rattle.std.specs.List.{AllByRecursion, AllZip};
 ghost use Rattle.agg_by.specs.Aggregator.{IsAggregator, IsColumn, StandsFor, grouped};
 ghost use Rattle.agg_by.specs.Answers.{IsWithin};
 ghost use Rattle.agg_by.specs.Kept.{Are, IsMade, Keeps, indexed};
@@ -10,7 +10,7 @@ ghost use Rattle.agg_by.specs.Rows.{AreReady};
 ghost use Rattle.agg_by.specs.Steps.{come as come_of, first_keys, gone as gone_of, touched_cells, touched_firsts};
 ghost use Rattle.agg_by.specs.Touched.{is_named};
 ghost use Rattle.key_lists.specs.Keys.{is_among};
-ghost use Rattle.row_groups.specs.Members.{groups_of};
+ghost use Rattle.row_groups.specs.Members.{IsNumberUnder, groups_of};
 ghost use Rattle.tick_model.specs.Agg.{agg_table};
 ghost use Rattle.tick_model.specs.Changes.{change_of};
 ghost use Rattle.tick_table.specs.Exact.{IsExact, counted, tick_of};
@@ -18,13 +18,13 @@ ghost use Rattle.tick_table.specs.Ticking.{no_rows};
 
 use crate::firsts::firsts_of;
 use crate::kept::Kept;
+use crate::moving::Moving;
 use crate::notes::Notes;
 use crate::rows::GroupRows;
 use crate::staying::staying_firsts;
 use crate::touched::TouchedGroups;
 use row_changes::{Touched, change_of_touched};
 use row_set::RowSet;
-use shown_rows::KeyPairs;
 use std::alloc::{AllocError, Global};
 use std::marker::Model;
 use std::mem;
@@ -80,29 +80,6 @@ impl Model for AggOp {
     } };
 
     ghost invariant = { λ op. IsAggregator op.kept.by op.kept.aggs op.width };
-}
-
-/// The rows that a step takes out of their groups and puts into groups.
-#[derive(Drop)]
-struct Moving {
-    /// The old keys of the rows that go or are modified.
-    gone: RowSet,
-    /// The new keys of the rows that come or are modified.
-    come: RowSet,
-}
-
-impl Moving {
-    fn of(input: &TickTable) -> Result<Moving, AllocError>
-        requires { IsExact input.now }
-        ensures gone { IfOk result (λ moving. moving.gone ≡ gone_of input.now) }
-        ensures come { IfOk result (λ moving. moving.come ≡ come_of input.now) }
-    {
-        let update = input.update();
-        let (from, to) = KeyPairs::modified(input)?.into_keys();
-        let gone = update.removed().union(&from)?;
-        let come = update.added().union(&to)?;
-        Ok(Moving { gone, come })
-    }
 }
 
 impl AggOp {
@@ -198,12 +175,12 @@ fn grouped_step<L: Ledger>(
     ensures change { IfOk result (λ out. out.0 ≡ change_of (grouped kept.old.by kept.old.aggs (tick_of input.now))) }
     ensures reads { OnOk result (reads.new ≤ reads.old + 3 * (input.now.new.width + length kept.old.aggs) * counted input.now.update) }
 {
-    let moving = Moving::of(input)?;
     kept.begin(alloc)?;
+    let moving = Moving::of(alloc, kept, input)?;
     let notes = noted_groups(
         alloc, kept, input, &moving, touched, key_cells, noted, reads,
     )?;
-    kept.bring_on(input, &moving.gone, &moving.come, touched, key_cells, reads)?;
+    kept.bring_on(input, &moving, touched, key_cells, reads)?;
     let firsts = firsts_of(alloc, &kept.rows, touched.numbers())?;
     let rows = GroupRows {
         input,
@@ -232,13 +209,14 @@ fn noted_groups<L: Ledger>(
     requires keeps { Keeps kept.now input.now.old.rows }
     requires within { AllByRecursion (IsWithin input.now.old.width) kept.now.running.items }
     requires gone { moving.now.gone ≡ gone_of input.now }
+    requires numbers { AllZip (IsNumberUnder kept.now.rows) moving.now.gone moving.now.numbers.items }
     requires come { moving.now.come ≡ come_of input.now }
     ensures touched { OnOk result ((number : ℕ) → is_among number touched.new ≡ is_named (touched_cells kept.now.by input.now) kept.now.rows.names number) }
     ensures noted { IfOk result (λ notes. IsNoted notes (agg_table kept.now.by kept.now.aggs input.now.old)) }
     ensures keys { IfOk result (λ notes. notes.keys ≡ touched_firsts kept.now.by input.now input.now.old.rows) }
     ensures reads { OnOk result (reads.new ≤ reads.old + (input.now.new.width + length kept.now.aggs) * (length moving.now.gone + length moving.now.come)) }
 {
-    touched.note_before(kept, input, &moving.gone, &moving.come, key_cells, reads)?;
+    touched.note_before(kept, input, moving, key_cells, reads)?;
     let before = firsts_of(alloc, &kept.rows, touched.numbers())?;
     Notes::take(kept, input, before, noted, reads)
 }

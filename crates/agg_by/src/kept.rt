@@ -1,9 +1,9 @@
 //! What is kept of an input's rows, and how a step brings it on.
 
-ghost use Rattle.std.specs.Prelude.{◌≡◌, ◌+◌, ◌*◌, ◌≤◌, ◌++◌, ℕ, [], List, None, IsTrue, OnOk, length, map};
-ghost use Rattle.std.specs.List.{AllByRecursion, list_any};
+ghost use Rattle.std.specs.Prelude.{◌≡◌, ◌+◌, ◌*◌, ◌≤◌, ◌++◌, ℕ, [], List, None, IsSome, IsTrue, OnOk, length, map};
+ghost use Rattle.std.specs.List.{AllByRecursion, AllZip, list_any};
 ghost use Rattle.key_lists.specs.Keys.{is_among, without};
-ghost use Rattle.row_groups.specs.Members.{IsPart, groups_of};
+ghost use Rattle.row_groups.specs.Members.{IsNumberUnder, IsPart, groups_of, member_under};
 ghost use Rattle.shift_data.specs.Moves.{IsLawful};
 ghost use Rattle.tick_model.specs.Agg.{agg_table, key_cells};
 ghost use Rattle.tick_model.specs.Tables.{IsTable, cells_at, keys};
@@ -16,6 +16,7 @@ ghost use Rattle.agg_by.specs.Steps.{come as come_of, first_keys, gone as gone_o
 ghost use Rattle.agg_by.specs.Touched.{AreNoted, is_named, starts_numbered};
 
 use crate::moment::Moment;
+use crate::moving::Moving;
 use crate::running::{Running, begun, put_all, put_values, take_all};
 use crate::touched::TouchedGroups;
 use row_groups::NumberedGroups;
@@ -80,42 +81,44 @@ impl Kept {
         Ok(())
     }
 
-    /// Brings all on by the step that the input shows, where `gone` has the old keys of the rows that go or are modified, and
-    /// `come` the new keys of those that come or are modified. `touched` has the groups with their key cells before, and gets those
-    /// that come, so that it has the touched groups of now.
+    /// Brings all on by the step that the input shows. `touched` has the groups with the key cells of its rows before, and gets
+    /// those that come, so that it has the touched groups of now.
     pub(crate) fn bring_on<L: Ledger>(
         &mut self,
         input: &TickTable,
-        gone: &RowSet,
-        come: &RowSet,
+        moving: &Moving,
         touched: &mut TouchedGroups,
         key_cells: &mut Vec<i64>,
         reads: &mut Steps<L>,
     ) -> Result<(), AllocError>
         requires exact { IsExact input.now }
         requires keeps { Keeps self.old input.now.old.rows }
-        requires gone { gone.now ≡ gone_of input.now }
-        requires come { come.now ≡ come_of input.now }
+        requires gone { moving.now.gone ≡ gone_of input.now }
+        requires numbers { AllZip (IsNumberUnder self.old.rows) moving.now.gone moving.now.numbers.items }
+        requires come { moving.now.come ≡ come_of input.now }
         requires touched { (number : ℕ) → is_among number touched.old ≡ is_named (touched_cells self.old.by input.now) self.old.rows.names number }
         ensures keeps { OnOk result (Keeps self.new input.now.new.rows) }
         ensures firsts { OnOk result ((first : ℕ) → list_any (starts_numbered self.new.rows first) touched.new ≡ list_any (starts self.new.rows.members first) (touched_cells self.old.by input.now)) }
         ensures made { OnOk result (IsMade self.old self.new) }
-        ensures reads { OnOk result (reads.new ≤ reads.old + input.now.new.width * (length gone.now + length come.now)) }
+        ensures reads { OnOk result (reads.new ≤ reads.old + input.now.new.width * (length moving.now.gone + length moving.now.come)) }
     {
-        self.take_rows(input, gone, reads)?;
-        self.move_rows(input, gone)?;
-        self.put_rows(input, come, touched, key_cells, reads)
+        let numbers = moving.numbers.as_slice();
+        self.take_rows(input, &moving.gone, numbers, reads)?;
+        self.move_rows(input, &moving.gone, numbers)?;
+        self.put_rows(input, &moving.come, touched, key_cells, reads)
     }
 
-    /// Takes rows out of what answers the aggregates.
+    /// Takes rows, whose groups have these numbers, out of what answers the aggregates.
     fn take_rows<L: Ledger>(
         &mut self,
         input: &TickTable,
         gone: &RowSet,
+        numbers: &[usize],
         reads: &mut Steps<L>,
     ) -> Result<(), AllocError>
         requires keeps { Keeps self.old input.now.old.rows }
         requires gone { AllByRecursion (λ key. IsTrue (is_among key (keys input.now.old.rows))) gone.now }
+        requires numbers { AllZip (IsNumberUnder self.old.rows) gone.now numbers.now }
         requires old_table { IsTable input.now.old }
         ensures made { OnOk result (IsMade self.old self.new) }
         ensures rows { OnOk result (self.new.rows ≡ self.old.rows) }
@@ -123,17 +126,25 @@ impl Kept {
         ensures reads { OnOk result (reads.new ≤ reads.old + input.now.old.width * length gone.now) }
     {
         let mut rows = RowsBefore::of(input);
+        let mut position = 0;
         for key in gone {
             let row = rows.row(key, reads);
-            let number = self.rows.number_of(key);
-            take_all(&mut self.running, number, row)?;
+            take_all(&mut self.running, numbers[position], row)?;
+            position += 1;
         }
         Ok(())
     }
 
-    /// Takes rows out of the groups, and moves the others to their keys of now.
-    fn move_rows(&mut self, input: &TickTable, gone: &RowSet) -> Result<(), AllocError>
+    /// Takes rows out of the groups, which have these numbers, and moves the others to their keys of now.
+    fn move_rows(
+        &mut self,
+        input: &TickTable,
+        gone: &RowSet,
+        numbers: &[usize],
+    ) -> Result<(), AllocError>
         requires rows { groups_of self.old.rows ≡ indexed self.old.by None input.now.old.rows }
+        requires gone { AllByRecursion (λ key. IsSome (member_under key self.old.rows.members)) gone.now }
+        requires numbers { AllZip (IsNumberUnder self.old.rows) gone.now numbers.now }
         requires running { AnswerAll self.old.by self.old.rows.names self.old.aggs (removing gone.now input.now.old.rows) self.old.running.items }
         requires lawful { IsLawful input.now.update.shifted (without gone.now (keys input.now.old.rows)) }
         ensures made { OnOk result (IsMade self.old self.new) }
@@ -141,7 +152,7 @@ impl Kept {
         ensures names { OnOk result (IsPart self.new.rows self.old.rows) }
     {
         let shifts = input.update().shifted();
-        self.rows.remove(gone);
+        self.rows.remove_numbered(gone, numbers, 0);
         self.rows.shift(shifts)?;
         Ok(())
     }

@@ -3,9 +3,10 @@
 //! The operator keeps the rows of its input by their groups (`row_groups`), and for each aggregate what answers it without a
 //! walk (`running`): of the cells of each group, by the group's number (`by_number`), their sum (`sums`) or themselves with the
 //! greatest or the least at hand (`values`).
-//! What a step touches are the groups of the rows that come, go or are modified, by their key cells before and now. Each is noted
-//! once, by its number (`touched`), which gives its first row before and now (`firsts`). Its row before is noted (`notes`) before
-//! the indexes are brought on (`kept`). A group that no row touches is not looked at; only its key moves with its first row.
+//! What a step touches are the groups of the rows that come, go or are modified (`moving`), by their key cells before and now.
+//! The groups that rows leave are found once, by their numbers. Each touched group is noted once, by its number (`touched`), which
+//! gives its first row before and now (`firsts`). Its row before is noted (`notes`) before the indexes are brought on (`kept`). A
+//! group that no row touches is not looked at; only its key moves with its first row.
 #![tactic(auto)]
 
 mod agg_op;
@@ -13,6 +14,7 @@ mod by_number;
 mod firsts;
 mod kept;
 mod moment;
+mod moving;
 mod notes;
 mod rows;
 mod running;

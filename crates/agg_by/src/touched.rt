@@ -1,17 +1,17 @@
 //! The groups that a step touches, by their numbers.
 
-ghost use Rattle.std.specs.Prelude.{◌≡◌, ℕ, ◌+◌, ◌*◌, ◌≤◌, ◌||◌, [], None, IsSome, IsTrue, OnOk, length, map};
-ghost use Rattle.std.specs.List.{AllByRecursion, list_any};
+ghost use Rattle.std.specs.Prelude.{◌≡◌, Bool, ℕ, ◌+◌, ◌*◌, ◌≤◌, ◌||◌, [], None, IsTrue, OnOk, length, map};
+ghost use Rattle.std.specs.List.{AllByRecursion, AllZip, list_any};
 ghost use Rattle.agg_by.specs.Kept.{indexed};
-ghost use Rattle.agg_by.specs.Steps.{come as come_of, gone as gone_of, kept_cells, key_at, starts, touched_cells};
+ghost use Rattle.agg_by.specs.Steps.{come as come_of, gone as gone_of, key_at, starts, touched_cells};
 ghost use Rattle.agg_by.specs.Touched.{is_named, starts_numbered, with_number};
 ghost use Rattle.key_lists.specs.Keys.{is_among};
-ghost use Rattle.row_groups.specs.Members.{groups_of, member_under};
+ghost use Rattle.row_groups.specs.Members.{IsNumberUnder, groups_of};
 ghost use Rattle.tick_model.specs.Tables.{keys as keys_of};
 ghost use Rattle.tick_table.specs.Exact.{IsExact};
 
 use crate::kept::Kept;
-use row_groups::NumberedGroups;
+use crate::moving::Moving;
 use row_set::RowSet;
 use std::alloc::{AllocError, Global};
 use std::marker::Model;
@@ -79,40 +79,35 @@ impl TouchedGroups {
         Ok(())
     }
 
-    /// Notes the groups that a step touches, as they are before it, and forgets others. `gone` has the old keys of the rows that
-    /// go or are modified, and `come` the new keys of those that come or are modified.
+    /// Notes the groups that a step touches, as they are before it, and forgets others.
     pub fn note_before<L: Ledger>(
         &mut self,
         kept: &Kept,
         input: &TickTable,
-        gone: &RowSet,
-        come: &RowSet,
+        moving: &Moving,
         key_cells: &mut Vec<i64>,
         reads: &mut Steps<L>,
     ) -> Result<(), AllocError>
         requires exact { IsExact input.now }
         requires rows { groups_of kept.now.rows ≡ indexed kept.now.by None input.now.old.rows }
-        requires gone { gone.now ≡ gone_of input.now }
-        requires come { come.now ≡ come_of input.now }
+        requires gone { moving.now.gone ≡ gone_of input.now }
+        requires numbers { AllZip (IsNumberUnder kept.now.rows) moving.now.gone moving.now.numbers.items }
+        requires come { moving.now.come ≡ come_of input.now }
         ensures named { OnOk result ((number : ℕ) → is_among number self.new ≡ is_named (touched_cells kept.now.by input.now) kept.now.rows.names number) }
         ensures firsts { OnOk result ((first : ℕ) → list_any (starts_numbered kept.now.rows first) self.new ≡ list_any (starts kept.now.rows.members first) (touched_cells kept.now.by input.now)) }
-        ensures reads { OnOk result (reads.new ≤ reads.old + input.now.new.width * length come.now) }
+        ensures reads { OnOk result (reads.new ≤ reads.old + input.now.new.width * length moving.now.come) }
     {
         self.clear();
-        self.note_kept(&kept.rows, gone)?;
-        self.note_coming(kept, input, come, key_cells, reads)
+        self.note_all(moving.numbers.as_slice())?;
+        self.note_coming(kept, input, &moving.come, key_cells, reads)
     }
 
-    /// Notes the groups of these rows, which are kept.
-    fn note_kept(&mut self, rows: &NumberedGroups, keys: &RowSet) -> Result<(), AllocError>
-        requires { AllByRecursion (λ key. IsSome (member_under key rows.now.members)) keys.now }
-        ensures named { OnOk result ((number : ℕ) → is_among number self.new
-            ≡ (is_among number self.old || is_named (map (kept_cells rows.now.members) keys.now) rows.now.names number)) }
-        ensures firsts { OnOk result ((first : ℕ) → list_any (starts_numbered rows.now first) self.new
-            ≡ (list_any (starts_numbered rows.now first) self.old || list_any (starts rows.now.members first) (map (kept_cells rows.now.members) keys.now))) }
+    /// Notes these groups.
+    fn note_all(&mut self, numbers: &[usize]) -> Result<(), AllocError>
+        ensures { OnOk result ((test : ℕ → Bool) → list_any test self.new ≡ (list_any test self.old || list_any test numbers.now)) }
     {
-        for key in keys {
-            self.note(rows.number_of(key))?;
+        for number in numbers {
+            self.note(*number)?;
         }
         Ok(())
     }

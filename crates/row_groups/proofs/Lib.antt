@@ -8,3 +8,4 @@ pub mod Keys
 pub mod Groupings
 pub mod Indexed
 pub mod Named
+pub mod Departing

@@ -8,8 +8,9 @@
 --     name_at number names      the key cells of the group with a number, or None where no group has it
 --     with_names names groups, groups_of numbered      members with the numbers of their groups, and without
 --     IsNumberOf number cells names      it is the number of the group with these key cells, and no other is
+--     IsNumberUnder groups key number      it is the number of the group of the member under a key, if there is one
 --     IsPart part whole      each group of the part has its number in the whole
-use Rattle.std.specs.Prelude.{ℕ, ◌≡◌, ◌≢◌, ◌==◌, not, nat_lt, int_lt, List, [], ◌∷◌, Option, None, Some, filter, find, length, map, slice_index_or, ℤ, if◌then◌else◌}
+use Rattle.std.specs.Prelude.{ℕ, ◌≡◌, ◌≢◌, ◌==◌, not, nat_lt, int_lt, List, [], ◌∷◌, Option, None, Some, filter, find, length, map, option_map, slice_index_or, ℤ, if◌then◌else◌}
 use Rattle.std.specs.List.{AllByRecursion}
 use Rattle.key_lists.specs.Keys.{is_among}
 use Rattle.row_set.specs.Sets.{IsKeySet}
@@ -90,6 +91,9 @@ groups_of numbered = record { width = numbered.width; members = numbered.members
 pub record IsNumberOf (number : ℕ) (cells : List ℤ) (names : Names) : Type 0 where
   pub own : name_at number names ≡ Some cells
   pub alone : (other : ℕ) → name_at other names ≡ Some cells → other ≡ number
+
+abbrev pub IsNumberUnder : Numbered → ℕ → ℕ → Type 0
+IsNumberUnder groups key number = (cells : List ℤ) → option_map (λ member. member.cells) (member_under key groups.members) ≡ Some cells → IsNumberOf number cells groups.names
 
 -- the groups of the part, each of which has a number there, have it in the whole too, where no group has two
 pub record IsPart (part whole : Numbered) : Type 0 where

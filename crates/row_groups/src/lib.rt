@@ -6,6 +6,7 @@ mod chunks;
 mod group;
 mod groups;
 mod index;
+mod leaving;
 mod lists;
 mod numbered;
 mod place;

@@ -1,7 +1,8 @@
 //! Groups whose numbers are shown.
 ghost use Rattle.std.specs.Prelude.{◌≡◌, ◌≢◌, ◌↔◌, ℕ, List, ℤ, ◌<◌, ◌≤◌, ◌^◌, [], None, Some, IfOk, IfSome, IsSome, IsTrue, length, option_map, true, OnOk, OnErr};
+ghost use Rattle.std.specs.List.{AllByRecursion, AllZip};
 ghost use Rattle.tick_model.specs.Rules.{shift_fault};
-ghost use Rattle.row_groups.specs.Members.{AreGrouped, IsNumberOf, IsPart, group_of, groups_of, keys_of, left_members, member_of, member_under, moved_members, name_at, with_member};
+ghost use Rattle.row_groups.specs.Members.{AreGrouped, IsNumberOf, IsNumberUnder, IsPart, group_of, groups_of, keys_of, left_members, member_of, member_under, moved_members, name_at, with_member};
 
 use crate::group::Group;
 use crate::index::Index;
@@ -157,5 +158,28 @@ impl NumberedGroups {
         ensures empty { IsTrue result → (cells : List ℤ) → group_of cells self.now.members ≡ [] }
     {
         self.index.lists.numbers.is_empty()
+    }
+
+    /// The numbers of the groups of the rows under these keys, in their order. It takes no hash.
+    pub fn numbers_of(&self, alloc: Global, keys: &RowSet) -> Result<Vec<usize>, AllocError>
+        requires { AllByRecursion (λ key. IsSome (member_under key self.now.members)) keys.now }
+        ensures { IfOk result (λ numbers. AllZip (IsNumberUnder self.now) keys.now numbers.items) }
+    {
+        let mut numbers = Vec::new(alloc);
+        for key in keys {
+            numbers.push(self.number_of(key))?;
+        }
+        Ok(numbers)
+    }
+
+    /// Takes out the rows under these keys, whose groups have these numbers and whose `at` is this. It takes no memory, and
+    /// looks for none of the rows.
+    pub fn remove_numbered(&mut self, keys: &RowSet, numbers: &[usize], at: i64)
+        requires numbers { AllZip (IsNumberUnder self.old) keys.now numbers.now }
+        requires at { AllByRecursion (λ key. option_map (λ member. member.at) (member_under key self.old.members) ≡ Some at) keys.now }
+        ensures members { groups_of self.new ≡ record (groups_of self.old) { members = left_members keys.now self.old.members } }
+        ensures names { IsPart self.new self.old }
+    {
+        self.index.remove_numbered(keys, numbers, at);
     }
 }

@@ -16,6 +16,10 @@ use Rattle.agg_by.proofs.GroupParts.{tick}
 use Rattle.agg_by.proofs.Whole.{begun_keeps, found_firsts, shown_after, shown_lawful, step_reads, touched_count, touched_few, within_all}
 use Rattle.agg_by.proofs.agg_op.grouped_step.Goals as goal
 
+pub of-requires-clause-rows : goal.of-requires-clause-rows
+of-requires-clause-rows g c =
+    (begun_keeps c.args.kept.now c.begin.new.self c.args.input.now.old.rows c.in_ok-begin.ensures.made c.in_ok-begin.ensures.rows c.in_ok-begin.ensures.running c.requires.rows c.requires.running).rows
+
 pub noted_groups-requires-clause-keeps : goal.noted_groups-requires-clause-keeps
 noted_groups-requires-clause-keeps g c =
     begun_keeps c.args.kept.now c.begin.new.self c.args.input.now.old.rows c.in_ok-begin.ensures.made c.in_ok-begin.ensures.rows c.in_ok-begin.ensures.running c.requires.rows c.requires.running
@@ -30,6 +34,9 @@ noted_groups-requires-clause-within g c =
 pub bring_on-requires-clause-keeps : goal.bring_on-requires-clause-keeps
 bring_on-requires-clause-keeps g c =
     begun_keeps c.args.kept.now c.begin.new.self c.args.input.now.old.rows c.in_ok-begin.ensures.made c.in_ok-begin.ensures.rows c.in_ok-begin.ensures.running c.requires.rows c.requires.running
+
+pub bring_on-requires-clause-numbers : goal.bring_on-requires-clause-numbers
+bring_on-requires-clause-numbers g c = c.in_ok-moving.ensures.numbers
 
 pub bring_on-requires-clause-touched : goal.bring_on-requires-clause-touched
 bring_on-requires-clause-touched g c = c.in_ok-notes.ensures.touched

@@ -10,6 +10,9 @@ use Rattle.agg_by.proofs.FirstKeys.{few_firsts}
 use Rattle.agg_by.proofs.Whole.{found_firsts, more_reads, noted_reads, touched_few, touched_there}
 use Rattle.agg_by.proofs.agg_op.noted_groups.Goals as goal
 
+pub note_before-requires-clause-numbers : goal.note_before-requires-clause-numbers
+note_before-requires-clause-numbers g c = c.requires.numbers
+
 pub take-requires-clause-firsts : goal.take-requires-clause-firsts
 take-requires-clause-firsts g c =
     let t = c.args.input.now in

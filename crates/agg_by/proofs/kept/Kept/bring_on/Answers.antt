@@ -1,7 +1,7 @@
-use Rattle.std.proofs.Common.{◌≡◌, ap, sym, ◌∙◌, subst, true, ◌++◌, List, None, ℕ, ℤ, map}
-use Rattle.std.specs.List.{AllByRecursion, list_any}
+use Rattle.std.proofs.Common.{◌≡◌, is_some, ap, sym, ◌∙◌, subst, true, ◌++◌, List, None, ℕ, ℤ, map}
+use Rattle.std.specs.List.{AllByRecursion, AllZip, list_any}
 use Rattle.key_lists.specs.Keys.{is_among, without}
-use Rattle.row_groups.specs.Members.{Grouped, IsPart, Numbered}
+use Rattle.row_groups.specs.Members.{Grouped, IsNumberUnder, IsPart, Numbered, groups_of, member_under}
 use Rattle.shift_data.specs.Moves.{IsLawful}
 use Rattle.tick_model.specs.declared.plan.Agg.{Agg}
 use Rattle.tick_model.specs.Tables.{keys}
@@ -9,7 +9,7 @@ use Rattle.tick_model.specs.Updates.{removing, shifting}
 use Rattle.agg_by.specs.Kept.{AnswerAll, IsMade, Keeps}
 use Rattle.agg_by.specs.Steps.{gone as gone_of, key_at, starts, touched_cells}
 use Rattle.agg_by.specs.Touched.{AreNoted, is_named}
-use Rattle.agg_by.proofs.Answering.{both_ok}
+use Rattle.agg_by.proofs.Answering.{both_ok, own_there}
 use Rattle.agg_by.proofs.Bringing.{members}
 use Rattle.agg_by.proofs.Noted.{part_own, touched_now}
 use Rattle.agg_by.proofs.Touching.{come_there, gone_there, lawful_left}
@@ -20,10 +20,25 @@ pub take_rows-requires-clause-gone : goal.take_rows-requires-clause-gone
 take_rows-requires-clause-gone g c =
     subst (AllByRecursion (λ key. is_among key (keys c.args.input.now.old.rows) ≡ true)) (sym c.requires.gone) (gone_there c.args.input.now c.requires.exact)
 
+pub take_rows-requires-clause-numbers : goal.take_rows-requires-clause-numbers
+take_rows-requires-clause-numbers g c = subst (AllZip (IsNumberUnder c.args.self.now.rows) c.args.moving.now.gone) (sym c.as_slice-numbers.ensures.value) c.requires.numbers
+
+pub move_rows-requires-clause-gone : goal.move_rows-requires-clause-gone
+move_rows-requires-clause-gone g c =
+    let t = c.args.input.now in
+    let gone = c.args.moving.now.gone in
+    subst (λ (kept : Numbered). AllByRecursion (λ key. is_some (member_under key kept.members) ≡ true) gone) (sym c.in_ok-take_rows.ensures.rows)
+    (own_there c.args.self.now.by t.old c.requires.exact.tick.old_table (groups_of c.args.self.now.rows) c.requires.keeps.rows gone (subst (AllByRecursion (λ key. is_among key (keys t.old.rows) ≡ true)) (sym c.requires.gone) (gone_there t c.requires.exact)))
+
+pub move_rows-requires-clause-numbers : goal.move_rows-requires-clause-numbers
+move_rows-requires-clause-numbers g c =
+    subst (λ (kept : Numbered). AllZip (IsNumberUnder kept) c.args.moving.now.gone c.as_slice-numbers.result.now) (sym c.in_ok-take_rows.ensures.rows)
+    (subst (AllZip (IsNumberUnder c.args.self.now.rows) c.args.moving.now.gone) (sym c.as_slice-numbers.ensures.value) c.requires.numbers)
+
 pub move_rows-requires-clause-running : goal.move_rows-requires-clause-running
 move_rows-requires-clause-running g c =
     let rows = c.args.input.now.old.rows in
-    let left = removing c.args.gone.now rows in
+    let left = removing c.args.moving.now.gone rows in
     let new = c.take_rows.new.self in
     subst (λ (by : List ℕ). AnswerAll by new.rows.names new.aggs left new.running.items) (sym c.in_ok-take_rows.ensures.made.by)
     (subst (λ (aggs : List Agg). AnswerAll c.args.self.now.by new.rows.names aggs left new.running.items) (sym c.in_ok-take_rows.ensures.made.aggs)
@@ -52,7 +67,7 @@ returns-clause-firsts g c =
     let t = c.args.input.now in
     let e = c.requires.exact in
     let by = c.args.self.now.by in
-    let come = c.args.come.now in
+    let come = c.args.moving.now.come in
     let went = map (key_at by t.old.rows) (gone_of t) in
     let old = c.args.self.now.rows in
     let mid = c.move_rows.new.self.rows in

@@ -1,11 +1,12 @@
-use Rattle.std.proofs.Common.{◌≡◌, refl, ap, ap₂, sym, ◌∙◌, subst, rules, arith, true, IsTrue, List, Some, [], ◌∷◌, ◌++◌, ℕ, ℤ, ◌+◌, ◌*◌, ◌≤◌, length, map, option_map, is_some}
+use Rattle.std.proofs.Common.{◌≡◌, refl, ap, ap₂, sym, ◌∙◌, subst, rules, arith, true, IsTrue, List, [], ◌∷◌, ◌++◌, ℕ, ℤ, ◌+◌, ◌*◌, ◌<◌, ◌≤◌, get_or, length, length-append, map}
 use Rattle.std.specs.List.{AllByRecursion}
 use Rattle.std.proofs.lemmas.List.{with_items_is}
 use Rattle.key_lists.specs.Keys.{is_among}
 use Rattle.key_lists.proofs.Every.{every_weaker, filter_all}
 use Rattle.row_changes.proofs.Comparing.{reads_next}
-use Rattle.row_groups.specs.Members.{IsNumberOf, Member, Numbered, groups_of, member_under}
-use Rattle.row_set.proofs.Yielded.{next_has, next_new, yielded_all}
+use Rattle.row_groups.specs.Members.{IsNumberOf, IsNumberUnder, groups_of}
+use Rattle.row_groups.proofs.Departing.{zipped_next, zipped_within}
+use Rattle.row_set.proofs.Yielded.{next_has, next_new, yielded_all, yielded_next}
 use Rattle.tick_model.specs.declared.table.PlainRow.{PlainRow}
 use Rattle.tick_model.specs.Tables.{cells_at, keys}
 use Rattle.tick_model.specs.Updates.{removing}
@@ -14,7 +15,7 @@ use Rattle.agg_by.specs.declared.running.Running.{Running}
 use Rattle.agg_by.specs.Answers.{HasRow, without_row}
 use Rattle.agg_by.specs.Kept.{AnswerAll, Answers}
 use Rattle.agg_by.specs.Steps.{key_at}
-use Rattle.agg_by.proofs.Answering.{known_at, there_at}
+use Rattle.agg_by.proofs.Answering.{known_at}
 use Rattle.agg_by.proofs.KeptSteps.{all_changed, has_row, loses, removing-last, without_agg}
 use Rattle.agg_by.proofs.kept.Kept.take_rows.Goals as goal
 
@@ -24,6 +25,7 @@ loop-key-init g c = record {
   by = refl;
   aggs = refl;
   rows = refl;
+  position = refl;
   running = subst (λ (rows : List PlainRow). AnswerAll c.args.self.now.by c.args.self.now.rows.names c.args.self.now.aggs rows c.args.self.now.running.items) (sym (filter_all c.args.input.now.old.rows)) c.requires.keeps.running;
   reads = omega arith;
 }
@@ -34,12 +36,24 @@ row-row-requires g c = record {
       (next_has c.loop-key.yielded c.into_iter-key-iterator.ensures.into_iter_gives c.loop-key.yielded_by c.in-Some.ensures.steps (λ key. IsTrue (is_among key (keys c.args.input.now.old.rows))) c.requires.gone);
 }
 
-pub number_of-number-requires : goal.number_of-number-requires
-number_of-number-requires g c =
-    let t = c.args.input.now.old in
-    let own : is_among c.in-Some.key (keys t.rows) ≡ true = next_has c.loop-key.yielded c.into_iter-key-iterator.ensures.into_iter_gives c.loop-key.yielded_by c.in-Some.ensures.steps (λ key. is_among key (keys t.rows) ≡ true) c.requires.gone in
-    subst (λ (kept : Numbered). is_some (member_under c.in-Some.key kept.members) ≡ true) (sym c.loop-key.invariant.rows)
-    (there_at c.args.self.now.by t c.requires.old_table (groups_of c.args.self.now.rows) c.requires.keeps.rows c.in-Some.key own)
+pub bounds-numbers-position : goal.bounds-numbers-position
+bounds-numbers-position g c =
+    zipped_within (IsNumberUnder c.args.self.now.rows) c.args.gone.now c.loop-key.yielded c.next.new.self c.args.numbers.now c.in-Some.key c.loop-key.position
+    (yielded_next c.loop-key.yielded c.into_iter-key-iterator.ensures.into_iter_gives c.loop-key.yielded_by c.in-Some.ensures.steps) c.loop-key.invariant.position c.requires.numbers
+
+pub offset_bounds-numbers-position : goal.offset_bounds-numbers-position
+offset_bounds-numbers-position g c =
+    let within : c.loop-key.position < length c.args.numbers.now =
+    zipped_within (IsNumberUnder c.args.self.now.rows) c.args.gone.now c.loop-key.yielded c.next.new.self c.args.numbers.now c.in-Some.key c.loop-key.position
+    (yielded_next c.loop-key.yielded c.into_iter-key-iterator.ensures.into_iter_gives c.loop-key.yielded_by c.in-Some.ensures.steps) c.loop-key.invariant.position c.requires.numbers in
+    search rules
+
+pub overflow_add-position : goal.overflow_add-position
+overflow_add-position g c =
+    let within : c.loop-key.position < length c.args.numbers.now =
+    zipped_within (IsNumberUnder c.args.self.now.rows) c.args.gone.now c.loop-key.yielded c.next.new.self c.args.numbers.now c.in-Some.key c.loop-key.position
+    (yielded_next c.loop-key.yielded c.into_iter-key-iterator.ensures.into_iter_gives c.loop-key.yielded_by c.in-Some.ensures.steps) c.loop-key.invariant.position c.requires.numbers in
+    omega (arith, within)
 
 pub take_all-requires : goal.take_all-requires
 take_all-requires g c =
@@ -49,13 +63,12 @@ take_all-requires g c =
     let yielded = c.loop-key.yielded in
     let gives = c.into_iter-key-iterator.ensures.into_iter_gives in
     let key = c.in-Some.key in
-    let number = c.number_of-number.result in
+    let number : ℕ = get_or c.args.numbers.now c.loop-key.position 0 in
     let items = c.loop-key.self.running.items in
     let own : is_among key (keys rows) ≡ true = next_has yielded gives c.loop-key.yielded_by c.in-Some.ensures.steps (λ key. is_among key (keys rows) ≡ true) c.requires.gone in
-    let known : option_map (λ (member : Member). member.cells) (member_under key c.loop-key.self.rows.members) ≡ Some (key_at by rows key) =
-    ap (λ (kept : Numbered). option_map (λ (member : Member). member.cells) (member_under key kept.members)) c.loop-key.invariant.rows
-    ∙ known_at by c.args.input.now.old c.requires.old_table (groups_of c.args.self.now.rows) c.requires.keeps.rows key own in
-    let is : IsNumberOf number (key_at by rows key) names = subst (λ (kept : Numbered). IsNumberOf number (key_at by rows key) kept.names) c.loop-key.invariant.rows (c.number_of-number.ensures (key_at by rows key) known) in
+    let under : IsNumberUnder c.args.self.now.rows key number =
+    zipped_next (IsNumberUnder c.args.self.now.rows) c.args.gone.now yielded c.next.new.self c.args.numbers.now key c.loop-key.position (yielded_next yielded gives c.loop-key.yielded_by c.in-Some.ensures.steps) c.loop-key.invariant.position c.requires.numbers in
+    let is : IsNumberOf number (key_at by rows key) names = under (key_at by rows key) (known_at by c.args.input.now.old c.requires.old_table (groups_of c.args.self.now.rows) c.requires.keeps.rows key own) in
     let all : c.deref_mut.result.now ≡ items = search rules in
     let row : c.row-row.result.now ≡ cells_at key rows = c.row-row.ensures.cells ∙ ap (λ (table : Ticking). cells_at key table.old.rows) c.loop-key.invariant.table in
     let has : AllByRecursion (HasRow number (cells_at key rows)) items =
@@ -72,14 +85,13 @@ loop-key-preserved g c =
     let yielded = c.loop-key.yielded in
     let gives = c.into_iter-key-iterator.ensures.into_iter_gives in
     let key = c.in-Some.key in
-    let number = c.number_of-number.result in
+    let number : ℕ = get_or c.args.numbers.now c.loop-key.position 0 in
     let items = c.loop-key.self.running.items in
     let new = c.take_all.new.all in
     let own : is_among key (keys rows) ≡ true = next_has yielded gives c.loop-key.yielded_by c.in-Some.ensures.steps (λ key. is_among key (keys rows) ≡ true) c.requires.gone in
-    let known : option_map (λ (member : Member). member.cells) (member_under key c.loop-key.self.rows.members) ≡ Some (key_at by rows key) =
-    ap (λ (kept : Numbered). option_map (λ (member : Member). member.cells) (member_under key kept.members)) c.loop-key.invariant.rows
-    ∙ known_at by c.args.input.now.old c.requires.old_table (groups_of c.args.self.now.rows) c.requires.keeps.rows key own in
-    let is : IsNumberOf number (key_at by rows key) names = subst (λ (kept : Numbered). IsNumberOf number (key_at by rows key) kept.names) c.loop-key.invariant.rows (c.number_of-number.ensures (key_at by rows key) known) in
+    let under : IsNumberUnder c.args.self.now.rows key number =
+    zipped_next (IsNumberUnder c.args.self.now.rows) c.args.gone.now yielded c.next.new.self c.args.numbers.now key c.loop-key.position (yielded_next yielded gives c.loop-key.yielded_by c.in-Some.ensures.steps) c.loop-key.invariant.position c.requires.numbers in
+    let is : IsNumberOf number (key_at by rows key) names = under (key_at by rows key) (known_at by c.args.input.now.old c.requires.old_table (groups_of c.args.self.now.rows) c.requires.keeps.rows key own) in
     let all : c.deref_mut.result.now ≡ items = search rules in
     let f = without_row number (cells_at key rows) in
     let row : c.row-row.result.now ≡ cells_at key rows = c.row-row.ensures.cells ∙ ap (λ (table : Ticking). cells_at key table.old.rows) c.loop-key.invariant.table in
@@ -95,6 +107,7 @@ loop-key-preserved g c =
           (subst (λ (left : List PlainRow). AnswerAll by names aggs left (map f items)) (removing-last key yielded rows)
           (all_changed f (Answers by names (removing yielded rows)) (Answers by names (removing (key ∷ yielded) rows)) aggs items (without_agg number (cells_at key rows))
           (loses by rows c.requires.old_table.rising key yielded own (next_new yielded gives c.loop-key.yielded_by c.in-Some.ensures.steps) names number is) c.loop-key.invariant.running));
+      position = omega (arith, c.loop-key.invariant.position, length-append yielded (key ∷ []));
       reads = reads_next c.args.input.now.old.width c.args.reads.now c.loop-key.reads c.row-row.new.reads yielded key c.loop-key.invariant.reads (omega (arith, c.row-row.ensures.reads, width));
     }
 

@@ -10,5 +10,6 @@ invariant-loop-key g l = record {
   aggs : l.self.aggs ≡ l.fn.self.aggs;
   rows : l.self.rows ≡ l.fn.self.rows;
   running : AnswerAll l.fn.self.by l.fn.self.rows.names l.fn.self.aggs (removing l.yielded l.input.old.rows) l.self.running.items;
+  position : l.position ≡ length l.yielded;
   reads : l.reads ≤ l.fn.reads + l.input.old.width * length l.yielded;
 }
