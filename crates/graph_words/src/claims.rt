@@ -12,7 +12,7 @@ use std::marker::Model;
 pub struct Claims<W: Tagged, H: Tagged> {
     pub(crate) nodes: u32,
     pub(crate) edges: Vec<Edge>,
-    /// How many of the edges go to each node.
+    /// The table's words at the start: for each node how many of the edges go to it, then 0 for each edge.
     pub(crate) inputs: Vec<u64>,
     pub(crate) alloc: Global,
     pub(crate) table: Table<Slot<W, H>, View<W>, Plan<W>, ClaimRule, Global>,

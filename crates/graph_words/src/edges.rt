@@ -32,7 +32,8 @@ impl<W: Tagged, H: Tagged> Claims<W, H> {
         let table = &self.table.shared;
         let to = self.edges[edge as usize].to as usize;
         let slot = self.nodes as usize + edge as usize;
-        table.compare_exchange::<LiftOut>(&mut seat.seat, 0, edge as u64, edge as u64);
+        // A plain read: the word that it is of says which edge's slot is lifted.
+        table.load::<LiftOut>(&mut seat.seat, slot);
         let empty = table.exchange(&mut seat.seat, slot, Slot::Share(share));
         let found = table.fetch_sub::<Deliver>(&mut seat.seat, to, 1);
         let Slot::Empty = empty else { unreachable!() };
@@ -52,7 +53,8 @@ impl<W: Tagged, H: Tagged> Claims<W, H> {
     {
         let table = &self.table.shared;
         let slot = self.nodes as usize + edge as usize;
-        table.compare_exchange::<LiftIn>(&mut seat.seat, 0, edge as u64, edge as u64);
+        // A plain read: the word that it is of says which edge's slot is lifted.
+        table.load::<LiftIn>(&mut seat.seat, slot);
         let found = table.exchange(&mut seat.seat, slot, Slot::Empty);
         table.load::<LayIn>(&mut seat.seat, 0);
         let Slot::Share(share) = found else {
