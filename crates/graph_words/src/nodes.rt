@@ -9,7 +9,7 @@ ghost use Rattle.graph_words.specs.Seats.{IsSeatOf, Has};
 
 use crate::claims::{ClaimSeat, Claims};
 use crate::graph::Tagged;
-use crate::plays::{Accept, LayBack, LayTaken, LiftEmpty, LiftWork, Offer};
+use crate::plays::{Accept, LayBack, LayTaken, LiftEmpty, LiftWork, Offer, Peek};
 use crate::table::Slot;
 
 // The word of a node on offer.
@@ -85,10 +85,13 @@ impl<W: Tagged, H: Tagged> Claims<W, H> {
         ensures fresh { IsTrue result → (at seat.old.view.nodes node ≡ Unmarked) × IsUntouched self.now.plan seat.old.view node }
         ensures alone { seat.old.view.parts ≡ 1024 → InputsDelivered self.now.plan seat.old.view node → Has seat.new.view node }
     {
-        let found = self
-            .table
-            .shared
-            .compare_exchange::<Accept>(&mut seat.seat, node as usize, OFFERED, 0);
+        let table = &self.table.shared;
+        let node = node as usize;
+        // Most nodes that are asked for are not on offer, and a read takes no other processor's copy of the word away.
+        if table.load::<Peek>(&mut seat.seat, node) != OFFERED {
+            return false;
+        }
+        let found = table.compare_exchange::<Accept>(&mut seat.seat, node, OFFERED, 0);
         found == OFFERED
     }
 }

@@ -81,6 +81,15 @@ impl<W, H> Play<Slot<W, H>, View<W>> for Offer {
     ghost then = { offers };
 }
 
+/// Reads whether a node is on offer.
+pub struct Peek;
+
+impl<W, H> Play<Slot<W, H>, View<W>> for Peek {
+    ghost use Rattle.graph_words.specs.Plays.{peeks};
+
+    ghost then = { peeks };
+}
+
 /// Takes a node that is on offer.
 pub struct Accept;
 
