@@ -13,7 +13,6 @@ use Rattle.std.proofs.lemmas.Int.{ints}
 use Rattle.std.proofs.lemmas.List.Sorted.{sum_by-IsPermutation}
 use Rattle.std.proofs.lemmas.List.Sums.{sum_by-cons}
 use Rattle.row_groups.proofs.Order.{lt_from, lt_to, not_lt_from}
-use Rattle.tick_model.specs.Tables.{null}
 use Rattle.agg_by.specs.Values.{Ascends, IsAmong, IsKept, IsSettled, count, in_order, last, left, placed, top, unplaced}
 use Rattle.agg_by.proofs.Ordered.{final, final_above, in_order_ascends, last_final, not_itself, placed_ascends, unplaced_ascends}
 

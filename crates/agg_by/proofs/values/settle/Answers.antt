@@ -1,4 +1,4 @@
-use Rattle.std.proofs.Common.{◌≡◌, ◌+◌, ◌<◌, ◌≤◌, ◌∙◌, arith, ℕ, length, sym}
+use Rattle.std.proofs.Common.{◌≡◌, ◌+◌, ◌<◌, ◌∙◌, arith, length, sym}
 use Rattle.std.proofs.lemmas.Bool.{ltb-true}
 use Rattle.agg_by.specs.Values.{IsAmong, count, top}
 use Rattle.agg_by.proofs.Counted.{IsPopped, kept_less, popped, some_long, when_some}

@@ -1,4 +1,4 @@
-use Rattle.std.proofs.Common.{◌≡◌, ◌+◌, ◌<◌, ◌∙◌, ap, refl, subst, sym, rules, arith, is_ok, length, true, Some, ◌∷◌, List, ℕ, ℤ, w64, FitsSigned}
+use Rattle.std.proofs.Common.{◌≡◌, ◌+◌, ◌<◌, ◌∙◌, ap, refl, subst, sym, rules, arith, is_ok, length, true, Some, ◌∷◌, ℤ, w64, FitsSigned}
 use Rattle.std.specs.List.Sorted.{IsPermutation}
 use Rattle.std.proofs.lemmas.Int.{to_z-of_z}
 use Rattle.agg_by.specs.Values.{Ascends, IsSettled, left}

@@ -1,4 +1,4 @@
-use Rattle.std.proofs.Common.{ap, ◌∙◌, subst, ◌∷◌, List, ℤ, w64}
+use Rattle.std.proofs.Common.{ap, ◌∙◌, subst, ◌∷◌, ℤ, w64}
 use Rattle.std.specs.List.Sorted.{IsPermutation}
 use Rattle.std.proofs.lemmas.Int.{to_z-of_z}
 use Rattle.agg_by.specs.Values.{placed}
