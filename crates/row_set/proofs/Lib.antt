@@ -14,6 +14,7 @@ pub mod Middles
 pub mod Opened
 pub mod Parted
 pub mod Places
+pub mod Runs
 pub mod Shifted
 pub mod Spliced
 pub mod Swept

@@ -1,11 +1,10 @@
 -- The keys of two lists.
-use Rattle.std.proofs.Common.{◌≡◌, refl, ap, sym, ◌∙◌, true, false, cond, ◌==◌, ◌||◌, ℕ, ◌+◌, ◌-◌, ◌<◌, ◌≤◌, arith, List, [], ◌∷◌, get_or, length, take, ltb, ltb-true, ltb-false, eqb-true}
+use Rattle.std.proofs.Common.{◌≡◌, refl, ap, sym, ◌∙◌, true, false, cond, ◌==◌, ◌||◌, ℕ, ◌+◌, ◌-◌, ◌<◌, ◌≤◌, arith, List, [], ◌∷◌, length, ltb, ltb-true, ltb-false, eqb-true}
 use Rattle.std.specs.List.{AllByRecursion, range_with_len}
 use Rattle.std.proofs.lemmas.Bool.{eqb-false as neq-from}
-use Rattle.std.proofs.lemmas.List.Folds.{list_any_more}
 use Rattle.key_lists.specs.Keys.{is_among, IsRising}
 use Rattle.key_lists.proofs.Every.{every_weaker}
-use Rattle.key_lists.proofs.Booleans.{or_assoc, or_swap, or_turned, or_twice}
+use Rattle.key_lists.proofs.Booleans.{or_assoc, or_swap, or_twice}
 use Rattle.row_set.specs.Ranges.{keys_from}
 use Rattle.row_set.specs.Sets.{with_key, united}
 
@@ -75,12 +74,3 @@ length-united (key ∷ keys) others = omega (arith, length-with_key key (united 
 -- the range of one key, and a set with one key more
 pub one_key : (key : ℕ) → keys_from key key ≡ key ∷ []
 one_key key = let one : key + 1 - key ≡ 1 = omega arith in ap (range_with_len key) one
-
-pub among_more : (key : ℕ) (keys set : List ℕ) (n : ℕ) → n < length keys → is_among key set ≡ is_among key (take n keys) → is_among key (united (keys_from (get_or keys n 0) (get_or keys n 0)) set) ≡ is_among key (take (n + 1) keys)
-among_more key keys set n within so_far =
-    let more = get_or keys n 0 in
-    ap (λ ks. is_among key (united ks set)) (one_key more)
-    ∙ among-with_key key more set
-    ∙ ap (λ b. (more == key) || b) so_far
-    ∙ or_turned (more == key) (is_among key (take n keys))
-    ∙ sym (list_any_more (λ other. other == key) keys n 0 within)

@@ -75,9 +75,19 @@ impl RowSet {
     {
         keys.sort_unstable();
         let mut set = RowSet::new(alloc);
-        for key in &keys {
-            set.insert_range(*key, *key)?;
+        let Some((least, others)) = keys.split_first() else {
+            return Ok(set);
+        };
+        let mut first = *least;
+        let mut last = *least;
+        for key in others {
+            if *key > last + 1 {
+                set.insert_range(first, last)?;
+                first = *key;
+            }
+            last = *key;
         }
+        set.insert_range(first, last)?;
         Ok(set)
     }
 
