@@ -1,5 +1,5 @@
 -- What edits of chunks do to the joined list and to the counts.
-use Rattle.std.proofs.Common.{◌≡◌, refl, ap, sym, ◌∙◌, ℕ, zero, suc, ◌+◌, ◌-◌, ◌^◌, ◌<◌, arith, List, [], ◌∷◌, ◌++◌, length, map, take, drop, get_or, set, append_assoc, length-append, Result, Ok, Err, OnErr, true, false, true≢false}
+use Rattle.std.proofs.Common.{◌≡◌, refl, ap, sym, ◌∙◌, ℕ, zero, suc, ◌+◌, ◌-◌, ◌^◌, ◌<◌, ◌≤◌, arith, List, [], ◌∷◌, ◌++◌, length, map, take, drop, get_or, set, append_assoc, length-append, Result, Ok, Err, OnErr, false, true≢false}
 use Rattle.std.specs.Prelude.{insert, remove, ◌==◌}
 use Rattle.std.specs.List.{AllByRecursion}
 use Rattle.std.proofs.lemmas.List.{append-nil}
@@ -20,7 +20,7 @@ map_insert f xs zero x = refl
 map_insert f [] (suc i) x = refl
 map_insert f (y ∷ xs) (suc i) x = ap (λ ys. f y ∷ ys) (map_insert f xs i x)
 
-map_remove : {X Y : Type 0} (f : X → Y) (xs : List X) (i : ℕ) → map f (remove xs i) ≡ remove (map f xs) i
+pub map_remove : {X Y : Type 0} (f : X → Y) (xs : List X) (i : ℕ) → map f (remove xs i) ≡ remove (map f xs) i
 map_remove f [] zero = refl
 map_remove f [] (suc i) = refl
 map_remove f (y ∷ xs) zero = refl
@@ -54,12 +54,12 @@ remove_set (y ∷ xs) (suc i) x = ap (λ ys. y ∷ ys) (remove_set xs i x)
 pub length_instead : {X : Type 0} (ls : List (List X)) (i : ℕ) (l : List X) → i < length ls → length (joined (set ls i l)) + length (list_at i ls) ≡ length (joined ls) + length l
 length_instead ls i l lt = omega (arith, ap length (joined_set ls i l lt), ap length (joined_around ls i lt), length-append (joined (take i ls)) (l ++ joined (drop (suc i) ls)), length-append l (joined (drop (suc i) ls)), length-append (joined (take i ls)) (list_at i ls ++ joined (drop (suc i) ls)), length-append (list_at i ls) (joined (drop (suc i) ls)))
 
--- chunks stay so when one has an item more
-pub put_kept : {X : Type 0} (ls : List (List X)) (counts : List ℕ) (i : ℕ) (l : List X) → AreChunks ls counts → i < length ls → length l ≡ length (list_at i ls) + 1 → length (list_at i ls) < 512 → length (joined ls) < 2 ^ 62 → AreChunks (set ls i l) (set counts i (get_or counts i 0 + 1))
-put_kept ls counts i l are lt one few room = record {
-  sizes = every_set IsChunk ls i l (record { some = omega arith; few = omega arith }) are.sizes;
-  counted = ap (λ ns. set ns i (get_or ns i 0 + 1)) are.counted ∙ ap (λ n. set (map length ls) i (n + 1)) (count_at ls i) ∙ ap (set (map length ls) i) (sym one) ∙ sym (map_set length ls i l);
-  few = omega (arith, length_instead ls i l lt);
+-- chunks stay so when one has some items more
+pub put_kept : {X : Type 0} (ls : List (List X)) (counts : List ℕ) (i n : ℕ) (l : List X) → AreChunks ls counts → i < length ls → length l ≡ length (list_at i ls) + n → length (list_at i ls) + n ≤ 512 → length (joined ls) + n ≤ 2 ^ 62 → AreChunks (set ls i l) (set counts i (get_or counts i 0 + n))
+put_kept ls counts i n l are lt more few room = record {
+  sizes = every_set IsChunk ls i l (record { some = omega (arith, (size_at ls i lt are.sizes).some, more); few = omega (arith, more, few) }) are.sizes;
+  counted = ap (λ ns. set ns i (get_or ns i 0 + n)) are.counted ∙ ap (λ m. set (map length ls) i (m + n)) (count_at ls i) ∙ ap (set (map length ls) i) (sym more) ∙ sym (map_set length ls i l);
+  few = omega (arith, length_instead ls i l lt, more, room);
 }
 
 -- a chunk that becomes another

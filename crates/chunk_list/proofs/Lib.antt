@@ -1,5 +1,6 @@
 pub mod Changing
 pub mod Edits
+pub mod Extended
 pub mod Halves
 pub mod Joined
 pub mod Sums

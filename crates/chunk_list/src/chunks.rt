@@ -159,6 +159,22 @@ impl<T: Drop> Chunks<T> {
         Ok(())
     }
 
+    /// Puts a chunk behind all others.
+    fn append_chunk(&mut self, items: Vec<T>) -> Result<(), AllocError>
+        requires chunked { IsChunked self.old }
+        requires chunk { IsChunk items.items }
+        requires room { length (items_in self.old) + length items.items ≤ 2 ^ 62 }
+        ensures ok { OnOk result (lists self.new ≡ lists self.old ++ items.items ∷ []) }
+        ensures err { OnErr result (lists self.new ≡ lists self.old) }
+        ensures chunked { IsChunked self.new }
+    {
+        self.chunks.reserve(1)?;
+        let count = self.chunks.len();
+        self.counts.insert(count, items.len())?;
+        put_within(&mut self.chunks, count, items);
+        Ok(())
+    }
+
     /// Begins a chunk with an item behind all others.
     fn push_chunk(&mut self, item: T) -> Result<(), AllocError>
         requires chunked { IsChunked self.old }
@@ -169,11 +185,7 @@ impl<T: Drop> Chunks<T> {
     {
         let mut items = Vec::new(*self.chunks.allocator());
         items.push(item)?;
-        self.chunks.reserve(1)?;
-        let count = self.chunks.len();
-        self.counts.insert(count, 1)?;
-        put_within(&mut self.chunks, count, items);
-        Ok(())
+        self.append_chunk(items)
     }
 
     /// Puts an item in behind all others: into the last chunk, or into a new one where that is full.
@@ -263,6 +275,131 @@ impl<T: Drop> Chunks<T> {
             self.counts.sub(place.index, 1);
         }
         item
+    }
+
+    /// How many items there is room for in the last chunk.
+    fn room_at_end(&self) -> usize
+        requires { IsChunked self.now }
+        ensures some { 0 < result → 0 < length (lists self.now) }
+        ensures room { 0 < length (lists self.now) → length (list_at (length (lists self.now) - 1) (lists self.now)) + result ≤ 512 }
+    {
+        let count = self.chunks.len();
+        if count == 0 {
+            return 0;
+        }
+        CHUNK_LEN - self.chunks[count - 1].len()
+    }
+
+    /// Takes all chunks but the first ones off.
+    fn truncate(&mut self, count: usize)
+        requires chunked { IsChunked self.old }
+        requires within { count ≤ length (lists self.old) }
+        ensures lists { lists self.new ≡ take count (lists self.old) }
+        ensures chunked { IsChunked self.new }
+    {
+        let mut end = self.chunks.len();
+        while end > count {
+            end -= 1;
+            self.chunks.remove(end);
+            self.counts.remove(end);
+        }
+    }
+
+    /// Puts items in behind those of a chunk that has room for them.
+    fn extend_chunk(&mut self, index: usize, items: &[T]) -> Result<(), AllocError>
+    where
+        T: Copy,
+        requires chunked { IsChunked self.old }
+        requires index { index < length (lists self.old) }
+        requires few { length (list_at index (lists self.old)) + length items.now ≤ 512 }
+        requires room { length (items_in self.old) + length items.now ≤ 2 ^ 62 }
+        ensures ok { OnOk result (lists self.new ≡ slice_set (lists self.old) index (list_at index (lists self.old) ++ items.now)) }
+        ensures err { OnErr result (lists self.new ≡ lists self.old) }
+        ensures chunked { IsChunked self.new }
+    {
+        self.chunks[index].extend_from_slice(items)?;
+        self.counts.add(index, items.len());
+        Ok(())
+    }
+
+    /// Puts items into new chunks behind all others. After a refusal some of these chunks are there.
+    fn append_chunks(&mut self, items: &[T]) -> Result<(), AllocError>
+    where
+        T: Copy,
+        requires chunked { IsChunked self.old }
+        requires room { length (items_in self.old) + length items.now ≤ 2 ^ 62 }
+        ensures kept { take (length (lists self.old)) (lists self.new) ≡ lists self.old }
+        ensures ok { OnOk result (joined (drop (length (lists self.old)) (lists self.new)) ≡ items.now) }
+        ensures chunked { IsChunked self.new }
+    {
+        let alloc = *self.chunks.allocator();
+        let mut rest = items;
+        while !rest.is_empty() {
+            let (first, others) = rest.split_at(CHUNK_LEN.min(rest.len()));
+            let chunk = Vec::from_slice(alloc, first)?;
+            self.append_chunk(chunk)?;
+            rest = others;
+        }
+        Ok(())
+    }
+
+    /// Puts items in behind all others: those that are too many for the last chunk into new ones. After a refusal some of the
+    /// new chunks are there.
+    fn append(&mut self, items: &[T]) -> Result<(), AllocError>
+    where
+        T: Copy,
+        requires chunked { IsChunked self.old }
+        requires room { length (items_in self.old) + length items.now ≤ 2 ^ 62 }
+        ensures ok { OnOk result (items_in self.new ≡ items_in self.old ++ items.now) }
+        ensures err { OnErr result (take (length (lists self.old)) (lists self.new) ≡ lists self.old) }
+        ensures chunked { IsChunked self.new }
+    {
+        let count = self.chunks.len();
+        let (first, rest) = items.split_at(self.room_at_end().min(items.len()));
+        self.append_chunks(rest)?;
+        if first.is_empty() {
+            return Ok(());
+        }
+        self.extend_chunk(count - 1, first)
+    }
+
+    /// Puts items in behind all others. After a refusal all is as before.
+    pub(crate) fn extend_from_slice(&mut self, items: &[T]) -> Result<(), AllocError>
+    where
+        T: Copy,
+        requires chunked { IsChunked self.old }
+        requires room { length (items_in self.old) + length items.now ≤ 2 ^ 62 }
+        ensures ok { OnOk result (items_in self.new ≡ items_in self.old ++ items.now) }
+        ensures err { OnErr result (lists self.new ≡ lists self.old) }
+        ensures chunked { IsChunked self.new }
+    {
+        let count = self.chunks.len();
+        match self.append(items) {
+            Ok(()) => Ok(()),
+            Err(refused) => {
+                self.truncate(count);
+                Err(refused)
+            }
+        }
+    }
+
+    /// Equal chunks.
+    pub(crate) fn copy(&self) -> Result<Chunks<T>, AllocError>
+    where
+        T: Copy,
+        ensures lists { IfOk result (λ copy. lists copy ≡ lists self.now) }
+        ensures counts { IfOk result (λ copy. copy.counts ≡ self.now.counts) }
+    {
+        let alloc = *self.chunks.allocator();
+        let mut chunks = Vec::with_capacity(alloc, self.chunks.len())?;
+        for items in &self.chunks {
+            let copied = Vec::from_slice(alloc, items)?;
+            chunks.push(copied)?;
+        }
+        Ok(Chunks {
+            chunks,
+            counts: self.counts.copy()?,
+        })
     }
 
     /// Changes each item in its place.

@@ -1,5 +1,5 @@
 //! Numbers with the sums of their blocks, so that a sum of the first of them is found without adding up all of these.
-ghost use Rattle.std.specs.Prelude.{◌≡◌, ℕ, ◌+◌, ◌-◌, ◌*◌, ◌^◌, ◌<◌, ◌≤◌, [], length, take, drop, insert, remove, slice_index, slice_set, sum, OnErr, OnOk, vec_capacity, vec_len};
+ghost use Rattle.std.specs.Prelude.{◌≡◌, ℕ, ◌+◌, ◌-◌, ◌*◌, ◌^◌, ◌<◌, ◌≤◌, [], length, take, drop, insert, remove, slice_index, slice_set, sum, IfOk, OnErr, OnOk, vec_capacity, vec_len};
 ghost use Rattle.chunk_list.specs.Blocks.{IsSum, AreBlocks};
 
 use std::alloc::{AllocError, Global};
@@ -209,6 +209,18 @@ impl Counts {
         self.total += number;
         sum_blocks(&mut self.blocks, &self.each, index / BLOCK_LEN);
         Ok(())
+    }
+
+    /// Equal numbers.
+    pub fn copy(&self) -> Result<Counts, AllocError>
+        ensures { IfOk result (λ copy. copy ≡ self.now) }
+    {
+        let alloc = *self.each.allocator();
+        Ok(Counts {
+            each: Vec::from_slice(alloc, &self.each)?,
+            blocks: Vec::from_slice(alloc, &self.blocks)?,
+            total: self.total,
+        })
     }
 
     /// Takes the number at an index out.

@@ -43,17 +43,6 @@ impl<T: Drop> ChunkList<T> {
         }
     }
 
-    /// A list of the items of a vector, in full chunks.
-    pub fn from_vec(items: Vec<T>) -> Result<ChunkList<T>, AllocError>
-        ensures { IfOk result (λ list. joined list ≡ items.items) }
-    {
-        let mut list = ChunkList::new(*items.allocator());
-        for item in items {
-            list.push(item)?;
-        }
-        Ok(list)
-    }
-
     /// How many items there are.
     pub fn len(&self) -> usize
         ensures count { result ≡ length (joined self.now) }
@@ -132,6 +121,31 @@ impl<T: Drop> ChunkList<T> {
             return Err(AllocError);
         }
         self.chunks.push(item)
+    }
+
+    /// Puts items in behind all others, without a move of these. After a refusal all is as before.
+    pub fn extend_from_slice(&mut self, items: &[T]) -> Result<(), AllocError>
+    where
+        T: Copy,
+        ensures ok { OnOk result (joined self.new ≡ joined self.old ++ items.now) }
+        ensures err { OnErr result (self.new ≡ self.old) }
+        ensures sizes { AllByRecursion IsChunk self.new }
+    {
+        if items.len() > MOST_ITEMS - self.chunks.len() {
+            return Err(AllocError);
+        }
+        self.chunks.extend_from_slice(items)
+    }
+
+    /// An equal list.
+    pub fn copy(&self) -> Result<ChunkList<T>, AllocError>
+    where
+        T: Copy,
+        ensures { IfOk result (λ copy. copy ≡ self.now) }
+    {
+        Ok(ChunkList {
+            chunks: self.chunks.copy()?,
+        })
     }
 
     /// Puts an item in at a position. After a refusal all is as before.

@@ -67,8 +67,8 @@ impl Column {
     {
         let alloc = *self.edits.allocator();
         Ok(Column {
-            current: self.current.copy(alloc)?,
-            previous: self.previous.copy(alloc)?,
+            current: self.current.copy()?,
+            previous: self.previous.copy()?,
             edits: copy_edits(alloc, &self.edits)?,
             begun: self.begun,
         })

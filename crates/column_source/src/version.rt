@@ -45,12 +45,12 @@ impl Version {
     }
 
     /// The same cells.
-    pub(crate) fn copy(&self, alloc: Global) -> Result<Version, AllocError>
+    pub(crate) fn copy(&self) -> Result<Version, AllocError>
         ensures { IfOk result (λ copy. copy ≡ self.now) }
     {
         Ok(Version {
             keys: self.keys.copy()?,
-            cells: copy_cells(alloc, &self.cells)?,
+            cells: self.cells.copy()?,
         })
     }
 
@@ -126,15 +126,4 @@ impl Version {
         self.keys = shifts.apply(&self.keys)?;
         Ok(())
     }
-}
-
-/// The same cells.
-fn copy_cells(alloc: Global, cells: &ChunkList<i64>) -> Result<ChunkList<i64>, AllocError>
-    ensures { IfOk result (λ copy. joined copy ≡ joined cells.now) }
-{
-    let mut copies = Vec::new(alloc);
-    while copies.len() < cells.len() {
-        copies.extend_from_slice(cells.run_at(copies.len()))?;
-    }
-    ChunkList::from_vec(copies)
 }

@@ -38,4 +38,4 @@ returns-clause-chunked g c =
     let l = insert (list_at i old) c.args.place.offset c.args.item in
     let one : length l ≡ length (list_at i old) + 1 = omega (arith, length-insert (list_at i old) c.args.place.offset c.args.item) in
     subst (λ ls. AreChunks ls c.add.new.self) (sym (lists_set c.args.self.now.chunks.items i c.insert.new.self l (c.in_ok-insert.ensures.items ∙ ap (λ xs. insert xs c.args.place.offset c.args.item) (sym (own_list c.args.self.now.chunks.items i c.index_mut.result.now c.requires.index c.index_mut.ensures.value)))))
-    (subst (λ ns. AreChunks (set old i l) ns) (sym c.add.ensures) (put_kept old c.args.self.now.counts i l c.requires.chunked c.requires.index one c.requires.few c.requires.room))
+    (subst (λ ns. AreChunks (set old i l) ns) (sym c.add.ensures) (put_kept old c.args.self.now.counts i 1 l c.requires.chunked c.requires.index one (omega (arith, c.requires.few)) (omega (arith, c.requires.room))))

@@ -1,0 +1,17 @@
+use Rattle.std.proofs.Common.{ap, arith, ◌∙◌, take_all}
+use Rattle.chunk_list.proofs.Extended.{one_copied}
+use Rattle.chunk_list.proofs.Joined.{contents, length-lists}
+use Rattle.chunk_list.proofs.chunks.Chunks.copy.Goals as goal
+
+pub loop-items-preserved : goal.loop-items-preserved
+loop-items-preserved g c =
+    let chunks = c.deref-items-items.result.now in
+    ap contents c.in_ok-push.ensures.items
+    ∙ one_copied chunks c.loop-items.chunks.items c.loop-items.items-index c.items-item.result c.in_ok-copied.copied c.loop-items-test.true c.items-item.is (c.in_ok-copied.ensures.items ∙ c.deref.ensures.value) c.loop-items.invariant
+
+pub returns-clause-lists : goal.returns-clause-lists
+returns-clause-lists g c =
+    let chunks = c.deref-items-items.result.now in
+    c.loop-items.invariant
+    ∙ take_all c.loop-items.items-index (contents chunks) (omega (arith, c.loop-items-test.false, length-lists chunks))
+    ∙ ap contents c.deref-items-items.ensures.value
