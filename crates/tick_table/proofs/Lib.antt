@@ -1,3 +1,4 @@
+pub mod Appended
 pub mod Applied
 pub mod Before
 pub mod Between

@@ -1,12 +1,14 @@
 -- Slots of which no two rows have one: as rows are taken out, put in and replaced.
-use Rattle.std.proofs.Common.{◌≡◌, refl, ap, ap₂, sym, ◌∙◌, subst, cond, ℕ, zero, suc, ◌+◌, ◌<◌, ◌≤◌, arith, List, [], ◌∷◌, ◌++◌, length, map, take, drop, get_or, set, reverse, ℤ, ◌==◌, inl, inr}
-use Rattle.std.specs.List.{AllByRecursion, insert, remove}
-use Rattle.std.proofs.lemmas.Bool.{cases_eq, eq-eqb, ne_eqb}
-use Rattle.std.proofs.lemmas.List.{drop-map, get_or-map, get_or-set_other, get_or-set_same, length-map, length-set, map-append, reverse-append, take-map}
+use Rattle.std.proofs.Common.{◌≡◌, refl, ap, ap₂, sym, ◌∙◌, subst, cond, ℕ, zero, suc, ◌+◌, ◌<◌, ◌≤◌, arith, List, [], ◌∷◌, ◌++◌, append_assoc, length, length-append, map, take, drop, get_or, set, reverse, ℤ, ◌==◌, inl, inr}
+use Rattle.std.specs.List.{AllByRecursion, insert, range_with_len, remove}
+use Rattle.std.proofs.Math.Seq.{get_or-append_seam}
+use Rattle.std.proofs.lemmas.Bool.{cases_eq, cases_lt, eq-eqb, ne_eqb}
+use Rattle.std.proofs.lemmas.List.{drop-map, get_or-map, get_or-set_other, get_or-set_same, get_or_append_left, length_push, length-map, length-set, map-append, reverse-append, take-map}
 use Rattle.std.proofs.lemmas.List.Sorted.{IsPermutation-reverse, sum_by-IsPermutation}
 use Rattle.std.proofs.lemmas.List.Sums.{sum_by-append, sum_by-cons, sum_by-insert, sum_by-remove}
 use Rattle.key_lists.proofs.Every.{every_both, every_weaker, every-append, map_same}
 use Rattle.key_lists.proofs.Parts.{every_at, every_front, every_insert, every_remove}
+use Rattle.key_lists.proofs.Ranges.{range_below}
 use Rattle.tick_table.specs.Placed.{AreOwn, cells_of, uses}
 use Rattle.tick_table.specs.Slots.{AreSlots, IsFilled, SlotCells}
 
@@ -244,3 +246,75 @@ module _ (slots : SlotCells) (places left : List ℕ) (h : AreOwn slots places l
     left_kept =
         let used = uses_at (get_or places n 0) places n within refl in
         cells_same (length slots.rows) (get_or places n 0) new.rows slots.rows left others_same h.left_slots (omega (arith, h.once (get_or places n 0), used))
+
+-- slots behind others
+uses_above : (slot count : ℕ) (xs : List ℕ) → count ≤ slot → AreSlots count xs → uses slot xs ≡ 0
+uses_above slot count xs most h = uses_past slot xs (every_weaker (λ other. other < count) (λ other. other < slot) xs (λ other own. omega (arith, own, most)) h)
+
+uses_below : (slot first n : ℕ) → slot < first → uses slot (range_with_len first n) ≡ 0
+uses_below slot first zero less = refl
+uses_below slot first (suc n) less =
+    uses-cons slot first (range_with_len (first + 1) n) ∙ ap₂ (λ (m n : ℕ). m + n) (used_other slot first (λ same. omega (arith, same, less))) (uses_below slot (first + 1) n (omega (arith, less)))
+
+uses_once : (slot first n : ℕ) → uses slot (range_with_len first n) ≤ 1
+uses_once slot first zero = omega arith
+uses_once slot first (suc n) =
+    let all = uses-cons slot first (range_with_len (first + 1) n) in
+    elim (cases_eq first slot) [
+      | inl same ↦ let own = used_own slot first same in let none = uses_below slot (first + 1) n (omega (arith, same)) in omega (arith, all, own, none)
+      | inr differs ↦ let other = used_other slot first differs in omega (arith, all, other, uses_once slot (first + 1) n)
+    ]
+
+cells_front : (rows more : List (List ℤ)) (xs : List ℕ) → AreSlots (length rows) xs → cells_of (rows ++ more) xs ≡ cells_of rows xs
+cells_front rows more [] h = refl
+cells_front rows more (x ∷ xs) h = ap₂ (λ (cells : List ℤ) (rest : List (List ℤ)). cells ∷ rest) (get_or_append_left rows more [] x h.0) (cells_front rows more xs h.1)
+
+cells_back : (rows more : List (List ℤ)) (first : ℕ) → first ≡ length rows → cells_of (rows ++ more) (range_with_len first (length more)) ≡ more
+cells_back rows [] first e = refl
+cells_back rows (row ∷ more) first e =
+    ap₂ (λ (cells : List ℤ) (rest : List (List ℤ)). cells ∷ rest)
+    (ap (λ n. get_or (rows ++ row ∷ more) n []) e ∙ get_or-append_seam rows row more [])
+    (ap (λ (all : List (List ℤ)). cells_of all (range_with_len (first + 1) (length more))) (sym (append_assoc rows (row ∷ []) more)) ∙ cells_back (rows ++ row ∷ []) more (first + 1) (omega (arith, e, length_push rows row)))
+
+-- rows were put into new slots
+module _ (slots : SlotCells) (places left : List ℕ) (h : AreOwn slots places left) (new : SlotCells) (more : List (List ℤ)) (rows : new.rows ≡ slots.rows ++ more) (free : new.free ≡ slots.free) where
+  within_more : (xs : List ℕ) → AreSlots (length slots.rows) xs → AreSlots (length new.rows) xs
+  within_more xs = every_weaker (λ other. other < length slots.rows) (λ other. other < length new.rows) xs (λ other own. omega (arith, own, ap length rows, length-append slots.rows more))
+
+  pub own_opened : AreOwn new places left
+  own_opened = record {
+    place_slots = within_more places h.place_slots;
+    left_slots = within_more left h.left_slots;
+    free_slots = within_more new.free (subst (AreSlots (length slots.rows)) (sym free) h.free_slots);
+    once = λ slot. let same = ap (uses slot) free in omega (arith, h.once slot, same);
+  }
+
+  pub own_appended : (n : ℕ) → n ≡ length more → AreOwn new (places ++ range_with_len (length slots.rows) n) left
+  own_appended n e =
+      let first = length slots.rows in record {
+        place_slots = every-append (λ slot. slot < length new.rows) places (range_with_len first n) (within_more places h.place_slots)
+            (every_weaker (λ slot. slot < first + n) (λ slot. slot < length new.rows) (range_with_len first n) (λ slot own. omega (arith, own, e, ap length rows, length-append slots.rows more)) (range_below first n));
+        left_slots = own_opened.left_slots;
+        free_slots = own_opened.free_slots;
+        once = λ slot.
+            let same = ap (uses slot) free in
+            let all = uses-append slot places (range_with_len first n) in
+            elim (cases_lt slot first) [
+              | inl old ↦ let none = uses_below slot first n old in omega (arith, h.once slot, same, all, none)
+              | inr past ↦
+                  let a = uses_above slot first places past h.place_slots in
+                  let b = uses_above slot first left past h.left_slots in
+                  let d = uses_above slot first slots.free past h.free_slots in
+                  omega (arith, same, all, a, b, d, uses_once slot first n)
+            ];
+      }
+
+  pub cells_stay : (xs : List ℕ) → AreSlots (length slots.rows) xs → cells_of new.rows xs ≡ cells_of slots.rows xs
+  cells_stay xs own = ap (λ (all : List (List ℤ)). cells_of all xs) rows ∙ cells_front slots.rows more xs own
+
+  pub cells_appended : (n : ℕ) → n ≡ length more → cells_of new.rows (places ++ range_with_len (length slots.rows) n) ≡ cells_of slots.rows places ++ more
+  cells_appended n e =
+      let first = length slots.rows in
+      map-append (λ slot. get_or new.rows slot []) places (range_with_len first n)
+      ∙ ap₂ (λ (front back : List (List ℤ)). front ++ back) (cells_stay places h.place_slots)
+      (ap₂ (λ (all : List (List ℤ)) (m : ℕ). cells_of all (range_with_len first m)) rows e ∙ cells_back slots.rows more first refl)

@@ -246,7 +246,7 @@ put_first row (other ∷ others) above =
     ap (λ b. cond b (other ∷ put_row row others) (cond (other.key == row.key) (row ∷ others) (row ∷ other ∷ others))) (le-ltb other.key row.key (omega (arith, above.0)))
     ∙ ap (λ b. cond b (row ∷ others) (row ∷ other ∷ others)) (ne_eqb other.key row.key (λ same. omega (arith, above.0, same)))
 
-put_behind : (row other : PlainRow) (others : List PlainRow) → other.key < row.key → put_row row (other ∷ others) ≡ other ∷ put_row row others
+pub put_behind : (row other : PlainRow) (others : List PlainRow) → other.key < row.key → put_row row (other ∷ others) ≡ other ∷ put_row row others
 put_behind row other others less = ap (λ b. cond b (other ∷ put_row row others) (cond (other.key == row.key) (row ∷ others) (row ∷ other ∷ others))) (lt-ltb other.key row.key less)
 
 pub paired-insert : (key : ℕ) (row : List ℤ) (ks : List ℕ) (rows : List (List ℤ)) → length rows ≡ length (without (key ∷ []) ks) → IsRising ks → is_among key ks ≡ true

@@ -1,13 +1,17 @@
 -- The cells of slots: as the cells of one are written, and as a new one comes.
-use Rattle.std.proofs.Common.{◌≡◌, ap, sym, ◌∙◌, ℕ, ◌+◌, ◌*◌, ◌<◌, ◌≤◌, arith, List, [], ◌∷◌, ◌++◌, length, take, drop, get_or, set, ℤ, inl, inr, length-append, length-drop}
+use Rattle.std.proofs.Common.{◌≡◌, refl, ap, ap₂, sym, zero, suc, map, ◌∙◌, ℕ, ◌+◌, ◌*◌, ◌<◌, ◌≤◌, arith, List, [], ◌∷◌, ◌++◌, length, take, drop, get_or, set, ℤ, inl, inr, length-append, length-drop}
 use Rattle.std.specs.List.{range_with_len}
+use Rattle.std.proofs.Math.Nat.{add-mul, mul-suc}
+use Rattle.std.proofs.Math.Seq.{drop-append-add}
 use Rattle.std.proofs.lemmas.Bool.{cases_lt}
 use Rattle.std.proofs.lemmas.Nat.{row_fits}
-use Rattle.std.proofs.lemmas.List.{drop-take, drop_at, take_at, take_all, take-append-le, length-map, length-set, length-take-le, get_or-set_same, get_or-set_other, get_or_append_left, get_or_push, length_push, same_lists}
+use Rattle.std.proofs.lemmas.List.{drop-take, drop_at, take_at, take_all, take-append-le, length-map, length-set, map-append, length-take-le, get_or-set_same, get_or-set_other, get_or_append_left, get_or_push, length_push, same_lists}
 use Rattle.std.proofs.lemmas.List.FromFn.{length-range_with_len, get_or-map-range_with_len}
 use Rattle.std.proofs.lemmas.Slice.{take-put_mid_below, drop-put_mid}
+use Rattle.key_lists.proofs.Every.{every_weaker, map_same}
+use Rattle.key_lists.proofs.Ranges.{each_from, range-append}
 use borrow.Rule.Slice.PartMut.{put_mid}
-use Rattle.tick_table.specs.Slots.{IsFilled, SlotCells, slot_cells, slot_list}
+use Rattle.tick_table.specs.Slots.{IsFilled, IsSlotList, SlotCells, slot_cells, slot_list}
 
 -- a slot ends where the next begins or before
 pub slot_fits : (slot count width : ℕ) → slot < count → slot * width + width ≤ count * width
@@ -97,6 +101,45 @@ module _ (width count : ℕ) (cells row : List ℤ) (whole : length cells ≡ co
             ∙ take_all width row (omega (arith, fits))
             ∙ sym (get_or_push (slot_list width count cells) row d k (length-slot_list width count cells ∙ sym same))
       ]))
+
+-- so do several
+module _ (width count n : ℕ) (cells rows : List ℤ) (whole : length cells ≡ count * width) where
+  pub slot_list-append : slot_list width (count + n) (cells ++ rows) ≡ slot_list width count cells ++ slot_list width n rows
+  slot_list-append =
+      let slot = slot_cells width in
+      ap (map (slot (cells ++ rows))) (range-append 0 count n)
+      ∙ map-append (slot (cells ++ rows)) (range_with_len 0 count) (range_with_len (0 + count) n)
+      ∙ ap₂ (λ (front back : List (List ℤ)). front ++ back)
+      (map_same (slot (cells ++ rows)) (slot cells) (range_with_len 0 count) (each_from (λ k. slot (cells ++ rows) k ≡ slot cells k) 0 count (λ k most below. first k (omega (arith, below)))))
+      (back n (0 + count) 0 (omega arith))
+    where
+      first : (k : ℕ) → k < count → slot_cells width (cells ++ rows) k ≡ slot_cells width cells k
+      first k below =
+          let ends = slot_fits k count width below in
+          sym (drop-take (k * width) width (cells ++ rows))
+          ∙ ap (drop (k * width)) (take-append-le (k * width + width) cells rows (omega (arith, ends, whole)))
+          ∙ drop-take (k * width) width cells
+
+      here : (a b : ℕ) → a ≡ count + b → slot_cells width (cells ++ rows) a ≡ slot_cells width rows b
+      here a b e =
+          let place : a * width ≡ length cells + b * width = omega (arith, ap (λ k. k * width) e, add-mul count b width, whole) in
+          ap (λ k. take width (drop k (cells ++ rows))) place ∙ ap (take width) (drop-append-add cells rows (b * width))
+
+      back : (n a b : ℕ) → a ≡ count + b → map (slot_cells width (cells ++ rows)) (range_with_len a n) ≡ map (slot_cells width rows) (range_with_len b n)
+      back zero a b e = refl
+      back (suc n) a b e = ap₂ (λ (row : List ℤ) (rest : List (List ℤ)). row ∷ rest) (here a b e) (back n (a + 1) (b + 1) (omega (arith, e)))
+
+-- there are no more slots than cells
+pub count_fits : (count width cells : ℕ) → 1 ≤ width → cells ≡ count * width → count ≤ cells
+count_fits count zero cells some e = absurd (omega arith)
+count_fits count (suc width) cells some e = omega (arith, e, mul-suc count width)
+
+pub more_slots : (width count n : ℕ) (cells rows : List ℤ) (vacant : List ℕ) → IsSlotList width count cells vacant → length rows ≡ n * width → IsSlotList width (count + n) (cells ++ rows) vacant
+more_slots width count n cells rows vacant are e = record {
+  wide = are.wide;
+  whole = omega (arith, length-append cells rows, are.whole, e, add-mul count n width);
+  free = every_weaker (λ slot. slot < count) (λ slot. slot < count + n) vacant (λ slot own. omega (arith, own)) are.free;
+}
 
 -- a row was put into a slot that was free, or into a new one
 pub filled_over : (row : List ℤ) (old new : SlotCells) (slot : ℕ) → new.width ≡ old.width → new.rows ≡ set old.rows slot row → old.free ≡ new.free ++ slot ∷ [] → slot < length old.rows → IsFilled row old new slot

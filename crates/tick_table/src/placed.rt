@@ -2,6 +2,7 @@
 
 ghost use Rattle.std.specs.Prelude.{◌≡◌, ◌+◌, ◌*◌, ◌<◌, ◌≤◌, [], ◌∷◌, ◌++◌, length, take, drop, insert, remove, set, slice_index, slice_index_or, IfOk, OnOk};
 ghost use Rattle.chunk_list.specs.Chunked.{joined};
+ghost use Rattle.tick_table.specs.Slots.{slot_list};
 
 use crate::slots::{Slots, row_at};
 use chunk_list::ChunkList;
@@ -143,6 +144,32 @@ impl PlacedRows {
         Ok(())
     }
 
+    /// How many rows there are.
+    pub(crate) fn len(&self) -> usize
+        ensures { result ≡ length self.now.rows }
+    {
+        self.places.len()
+    }
+
+    /// Whether a slot is free for a row that comes.
+    pub(crate) fn has_free_slot(&self) -> bool {
+        self.slots.has_free()
+    }
+
+    /// Puts rows, whose cells stand one after the other, in behind all others, into new slots. After a refusal the rows are to
+    /// be given up.
+    pub(crate) fn append(&mut self, count: usize, rows: &[i64]) -> Result<(), AllocError>
+        requires { length rows.now ≡ count * self.old.width }
+        ensures width { OnOk result (self.new.width ≡ self.old.width) }
+        ensures rows { OnOk result (self.new.rows ≡ self.old.rows ++ slot_list self.old.width count rows.now) }
+        ensures left { OnOk result (self.new.left ≡ self.old.left) }
+        ensures saved { OnOk result (self.new.saved ≡ self.old.saved) }
+    {
+        let slots = self.slots.open_all(count, rows)?;
+        self.places.extend_from_slice(&slots)?;
+        Ok(())
+    }
+
     /// Replaces the cells of the row at a position. After a refusal the rows are to be given up.
     pub(crate) fn replace(&mut self, position: usize, row: &[i64]) -> Result<(), AllocError>
         requires within { position < length self.old.rows }
@@ -164,7 +191,7 @@ impl PlacedRows {
     {
         let alloc = self.allocator();
         Ok(PlacedRows {
-            places: copy_places(alloc, &self.places)?,
+            places: self.places.copy()?,
             slots: self.slots.copy()?,
             left: Vec::from_slice(alloc, &self.left)?,
             saved: Vec::from_slice(alloc, &self.saved)?,
@@ -178,15 +205,4 @@ fn slot_at(places: &ChunkList<usize>, position: usize) -> usize
     ensures { result ≡ slice_index (joined places.now) position }
 {
     *places.get(position).unwrap()
-}
-
-/// The same slots.
-fn copy_places(alloc: Global, places: &ChunkList<usize>) -> Result<ChunkList<usize>, AllocError>
-    ensures { IfOk result (λ copy. joined copy ≡ joined places.now) }
-{
-    let mut slots = Vec::new(alloc);
-    while slots.len() < places.len() {
-        slots.extend_from_slice(places.run_at(slots.len()))?;
-    }
-    ChunkList::from_vec(slots)
 }

@@ -1,7 +1,8 @@
 //! Slots that hold the cells of rows, one slot after the other.
 
-ghost use Rattle.std.specs.Prelude.{◌≡◌, ◌+◌, ◌*◌, ◌<◌, ◌≤◌, [], ◌∷◌, ◌++◌, length, take, drop, set, slice_index_or, IfOk, OnOk, OnErr};
-ghost use Rattle.tick_table.specs.Slots.{AreSlots, IsFilled};
+ghost use Rattle.std.specs.Prelude.{◌≡◌, ◌+◌, ◌*◌, ◌^◌, ◌<◌, ◌≤◌, ◌==◌, [], ◌∷◌, ◌++◌, length, not, take, drop, set, slice_index_or, IfOk, OnOk, OnErr};
+ghost use Rattle.std.specs.List.{range_with_len};
+ghost use Rattle.tick_table.specs.Slots.{AreSlots, IsFilled, slot_list};
 
 use std::alloc::{AllocError, Global};
 use std::marker::Model;
@@ -108,6 +109,28 @@ impl Slots {
         Ok(slot)
     }
 
+    /// Whether a slot is free.
+    pub(crate) fn has_free(&self) -> bool
+        ensures { result ≡ not (length self.now.free == 0) }
+    {
+        !self.free.is_empty()
+    }
+
+    /// Puts the cells of rows, one row after the other, into new slots, and gives these. After a refusal all is as it was.
+    pub(crate) fn open_all(&mut self, count: usize, rows: &[i64]) -> Result<Vec<usize>, AllocError>
+        requires { length rows.now ≡ count * self.old.width }
+        ensures slots { IfOk result (λ slots. slots.items ≡ range_with_len (length self.old.rows) count) }
+        ensures width { self.new.width ≡ self.old.width }
+        ensures rows { OnOk result (self.new.rows ≡ self.old.rows ++ slot_list self.old.width count rows.now) }
+        ensures free { self.new.free ≡ self.old.free }
+        ensures refused { OnErr result (self.new ≡ self.old) }
+    {
+        let slots = slots_from(*self.cells.allocator(), self.count, count)?;
+        self.cells.extend_from_slice(rows)?;
+        self.count += count;
+        Ok(slots)
+    }
+
     /// Makes slots free: the last of them is taken first. After a refusal all is as it was.
     pub(crate) fn release(&mut self, slots: &[usize]) -> Result<(), AllocError>
         requires { AreSlots (length self.old.rows) slots.now }
@@ -131,6 +154,18 @@ impl Slots {
             free: Vec::from_slice(alloc, &self.free)?,
         })
     }
+}
+
+/// The slots from one on.
+fn slots_from(alloc: Global, first: usize, count: usize) -> Result<Vec<usize>, AllocError>
+    requires { first + count < 2 ^ 64 }
+    ensures { IfOk result (λ slots. slots.items ≡ range_with_len first count) }
+{
+    let mut slots = Vec::with_capacity(alloc, count)?;
+    for place in 0..count {
+        slots.push(first + place)?;
+    }
+    Ok(slots)
 }
 
 /// The cells of one of several rows of one width, which stand one after the other.

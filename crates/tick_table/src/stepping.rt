@@ -1,6 +1,7 @@
 //! Rows that a change brings on.
 
 ghost use Rattle.std.specs.Prelude.{◌≡◌, ◌*◌, ◌^◌, ◌≤◌, ◌++◌, [], IsTrue, None, length, map, drop, flat_map, IfOk, IfSome, OnOk};
+ghost use Rattle.std.specs.Bool.{OnTrue};
 ghost use Rattle.std.specs.List.{AllByRecursion};
 ghost use Rattle.key_lists.specs.Keys.{is_among, without};
 ghost use Rattle.row_set.specs.Sets.{IsKeySet};
@@ -98,6 +99,9 @@ fn add_rows<'a>(
     ensures saved { OnOk result (placed.new.saved ≡ placed.old.saved) }
     ensures rest { IfOk result (λ rest. rest.now ≡ drop (length added.now * placed.old.width) cells.now) }
 {
+    if come_behind(placed, rows, added) {
+        return append_rows(placed, rows, added, cells);
+    }
     let _ = rows.ranges();
     let mut rest = cells;
     let mut last = None;
@@ -108,6 +112,47 @@ fn add_rows<'a>(
         rest = others;
         last = Some(place);
     }
+    Ok(rest)
+}
+
+/// Whether the keys that have no row come behind all others, and each of their rows gets a new slot.
+fn come_behind(placed: &PlacedRows, rows: &RowSet, added: &RowSet) -> bool
+    requires own { AllByRecursion (λ key. IsTrue (is_among key rows.now)) added.now }
+    requires count { length placed.now.rows ≡ length (without added.now rows.now) }
+    ensures { OnTrue result (rows.now ≡ without added.now rows.now ++ added.now) }
+{
+    if placed.has_free_slot() {
+        return false;
+    }
+    match added.first() {
+        Some(first) => rows.count_below(first) == placed.len() as u64,
+        None => false,
+    }
+}
+
+/// Puts rows, whose cells stand one after the other, in under those of the keys that have none, where these are the last. It
+/// gives the cells behind those of the rows.
+fn append_rows<'a>(
+    placed: &mut PlacedRows,
+    rows: &RowSet,
+    added: &RowSet,
+    cells: &'a [i64],
+) -> Result<&'a [i64], AllocError>
+    requires behind { rows.now ≡ without added.now rows.now ++ added.now }
+    requires count { length placed.old.rows ≡ length (without added.now rows.now) }
+    requires whole { length added.now * placed.old.width ≤ length cells.now }
+    ensures width { OnOk result (placed.new.width ≡ placed.old.width) }
+    ensures count { OnOk result (length placed.new.rows ≡ length rows.now) }
+    ensures now { OnOk result (paired rows.now placed.new.rows
+        ≡ put_rows (rows_under placed.old.width added.now cells.now) (paired (without added.now rows.now) placed.old.rows)) }
+    ensures left { OnOk result (placed.new.left ≡ placed.old.left) }
+    ensures saved { OnOk result (placed.new.saved ≡ placed.old.saved) }
+    ensures rest { IfOk result (λ rest. rest.now ≡ drop (length added.now * placed.old.width) cells.now) }
+{
+    let _ = rows.ranges();
+    let count = added.len();
+    let (new, rest) = cells.split_at(count as usize * placed.width());
+    placed.append(count as usize, new)?;
     Ok(rest)
 }
 

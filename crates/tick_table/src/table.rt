@@ -1,6 +1,7 @@
 //! The table itself: what it is made of, what it answers and how a change is applied.
 
-ghost use Rattle.std.specs.Prelude.{◌++◌, ◌≡◌, ◌+◌, ◌*◌, ◌^◌, ◌<◌, ◌≤◌, IsTrue, None, false, length, slice_index, IfOk, OnErr, OnOk};
+ghost use Rattle.std.specs.Prelude.{◌++◌, ◌≡◌, ◌+◌, ◌*◌, ◌^◌, ◌<◌, ◌≤◌, IsTrue, None, false, length, map, slice_index, IfOk, OnErr, OnOk};
+ghost use Rattle.std.specs.List.{AllByRecursion};
 ghost use Rattle.key_lists.specs.Keys.{is_among};
 ghost use Rattle.table_update.specs.Kept.{old_modified};
 ghost use Rattle.tick_model.specs.Changes.{change_of, changed, told_keys};
@@ -15,6 +16,7 @@ use crate::placed::PlacedRows;
 use crate::slots::row_at;
 use crate::stepping::bring_on;
 use crate::steps::Steps;
+use new_counts::NewCopy;
 use row_set::RowSet;
 use std::alloc::{AllocError, Global};
 use std::marker::Model;
@@ -128,6 +130,27 @@ impl TickTable {
         self.row_now(key)[column as usize]
     }
 
+    /// Puts the cells of a row now in some of the columns behind others. Each is one read, and the row is searched for once.
+    pub fn put_cells<L: Ledger>(
+        &self,
+        columns: &[u32],
+        key: u64,
+        cells: &mut Vec<i64>,
+        reads: &mut Steps<L>,
+    ) -> Result<(), AllocError>
+        requires columns { AllByRecursion (λ column. column < self.now.new.width) columns.now }
+        requires here { IsTrue (is_among key (keys self.now.new.rows)) }
+        ensures cells { OnOk result (cells.new.items ≡ cells.old.items ++ map (cell_of (cells_at key self.now.new.rows)) columns.now) }
+        ensures reads { OnOk result (reads.new ≡ reads.old + length columns.now) }
+    {
+        let row = self.row_now(key);
+        for column in columns {
+            reads.tick();
+            cells.push(row[*column as usize])?;
+        }
+        Ok(())
+    }
+
     /// The cell that a row had before the step. It is one read.
     pub fn prev_cell<L: Ledger>(&self, column: u32, key: u64, reads: &mut Steps<L>) -> i64
         requires column { column < self.now.old.width }
@@ -238,8 +261,8 @@ impl TickTable {
         self.copies
     }
 
-    /// An equal table, with its rows before and its update. It is counted as a copy.
-    pub fn copy(&self) -> Result<TickTable, AllocError>
+    /// An equal table, with its rows before and its update. It is counted as a copy. Only a crate that lists `new_counts` has the leave.
+    pub fn copy(&self, _leave: NewCopy) -> Result<TickTable, AllocError>
         ensures { IfOk result (λ table. table ≡ self.now) }
     {
         let told = Vec::from_slice(self.placed.allocator(), self.told.as_slice())?;

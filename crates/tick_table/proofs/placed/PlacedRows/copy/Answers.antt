@@ -1,4 +1,4 @@
 use Rattle.tick_table.proofs.placed.PlacedRows.copy.Goals as goal
 
 pub invariant_of-result : goal.invariant_of-result
-invariant_of-result c = rw (c.in_ok-copy_places.ensures, c.in_ok-copy.ensures, c.in_ok-from_slice.ensures.items, c.deref.ensures.value) c.self.invariant
+invariant_of-result c = rw (c.in_ok-copy.ensures, c.in_ok-copy-2.ensures, c.in_ok-from_slice.ensures.items, c.deref.ensures.value) c.self.invariant
