@@ -1,6 +1,6 @@
 //! The operator: what it keeps, and its step.
 
-ghost use Rattle.std.specs.Prelude.{◌≡◌, ℕ, ◌+◌, ◌*◌, ◌≤◌, None, length, IfOk, OnOk};
+ghost use Rattle.std.specs.Prelude.{◌≡◌, ℕ, ◌+◌, ◌*◌, ◌≤◌, None, length, IfOk, OnErr, OnOk};
 ghost use Rattle.std.specs.List.{AllByRecursion, AllZip};
 ghost use Rattle.agg_by.specs.Aggregator.{IsAggregator, IsColumn, StandsFor, grouped};
 ghost use Rattle.agg_by.specs.Answers.{IsWithin};
@@ -102,7 +102,7 @@ impl AggOp {
     }
 
     /// The operator after the step that the input shows, and the change of its rows. It must stand for the input's rows before
-    /// the step; after a refusal it is given up.
+    /// the step; after a refusal it is given up, and no more is read than that change may take.
     pub fn step<L: Ledger>(
         self,
         alloc: Global,
@@ -119,6 +119,8 @@ impl AggOp {
         ensures change { IfOk result (λ out. out.1 ≡ change_of (grouped self.by self.aggs (tick_of input.now))) }
         ensures reads { IfOk result (λ out. reads.new ≤ reads.old
             + 4 * (input.now.new.width + (length self.by + length self.aggs)) * (counted input.now.update + counted out.1.update)) }
+        ensures refused { OnErr result (reads.new ≤ reads.old
+            + 4 * (input.now.new.width + (length self.by + length self.aggs)) * (counted input.now.update + counted (change_of (grouped self.by self.aggs (tick_of input.now))).update)) }
     {
         let AggOp {
             width,
@@ -173,7 +175,7 @@ fn grouped_step<L: Ledger>(
     ensures keeps { OnOk result (Keeps kept.new input.now.new.rows) }
     ensures shown { OnOk result (shown.new ≡ first_keys kept.old.by input.now.new.rows) }
     ensures change { IfOk result (λ out. out.0 ≡ change_of (grouped kept.old.by kept.old.aggs (tick_of input.now))) }
-    ensures reads { OnOk result (reads.new ≤ reads.old + 3 * (input.now.new.width + length kept.old.aggs) * counted input.now.update) }
+    ensures reads { reads.new ≤ reads.old + 3 * (input.now.new.width + length kept.old.aggs) * counted input.now.update }
 {
     kept.begin(alloc)?;
     let moving = Moving::of(alloc, kept, input)?;
@@ -214,7 +216,7 @@ fn noted_groups<L: Ledger>(
     ensures touched { OnOk result ((number : ℕ) → is_among number touched.new ≡ is_named (touched_cells kept.now.by input.now) kept.now.rows.names number) }
     ensures noted { IfOk result (λ notes. IsNoted notes (agg_table kept.now.by kept.now.aggs input.now.old)) }
     ensures keys { IfOk result (λ notes. notes.keys ≡ touched_firsts kept.now.by input.now input.now.old.rows) }
-    ensures reads { OnOk result (reads.new ≤ reads.old + (input.now.new.width + length kept.now.aggs) * (length moving.now.gone + length moving.now.come)) }
+    ensures reads { reads.new ≤ reads.old + (input.now.new.width + length kept.now.aggs) * (length moving.now.gone + length moving.now.come) }
 {
     touched.note_before(kept, input, moving, key_cells, reads)?;
     let before = firsts_of(alloc, &kept.rows, touched.numbers())?;
@@ -235,7 +237,7 @@ fn group_change<L: Ledger>(
     requires firsts { firsts ≡ touched_firsts rows.now.kept.now.by rows.now.input.now rows.now.input.now.new.rows }
     requires shown { shown.now ≡ first_keys rows.now.kept.now.by rows.now.input.now.old.rows }
     ensures change { IfOk result (λ change. change ≡ change_of (grouped rows.now.kept.now.by rows.now.kept.now.aggs (tick_of rows.now.input.now))) }
-    ensures reads { IfOk result (λ change. reads.new ≤ reads.old + 2 * length rows.now.kept.now.aggs * length firsts) }
+    ensures reads { reads.new ≤ reads.old + 2 * length rows.now.kept.now.aggs * length firsts }
 {
     let staying = staying_firsts(alloc, rows.kept, rows.input, rows.notes, &firsts)?;
     let (compared_before, compared_now) = staying.into_keys();

@@ -100,7 +100,7 @@ impl Kept {
         ensures keeps { OnOk result (Keeps self.new input.now.new.rows) }
         ensures firsts { OnOk result ((first : ℕ) → list_any (starts_numbered self.new.rows first) touched.new ≡ list_any (starts self.new.rows.members first) (touched_cells self.old.by input.now)) }
         ensures made { OnOk result (IsMade self.old self.new) }
-        ensures reads { OnOk result (reads.new ≤ reads.old + input.now.new.width * (length moving.now.gone + length moving.now.come)) }
+        ensures reads { reads.new ≤ reads.old + input.now.new.width * (length moving.now.gone + length moving.now.come) }
     {
         let numbers = moving.numbers.as_slice();
         self.take_rows(input, &moving.gone, numbers, reads)?;
@@ -123,7 +123,7 @@ impl Kept {
         ensures made { OnOk result (IsMade self.old self.new) }
         ensures rows { OnOk result (self.new.rows ≡ self.old.rows) }
         ensures running { OnOk result (AnswerAll self.old.by self.old.rows.names self.old.aggs (removing gone.now input.now.old.rows) self.new.running.items) }
-        ensures reads { OnOk result (reads.new ≤ reads.old + input.now.old.width * length gone.now) }
+        ensures reads { reads.new ≤ reads.old + input.now.old.width * length gone.now }
     {
         let mut rows = RowsBefore::of(input);
         let mut position = 0;
@@ -174,7 +174,7 @@ impl Kept {
         ensures keeps { OnOk result (Keeps self.new input.now.new.rows) }
         ensures names { OnOk result (IsPart self.old.rows self.new.rows) }
         ensures noted { OnOk result (AreNoted touched.old (map (key_at self.old.by input.now.new.rows) come.now) self.new.rows.names touched.new) }
-        ensures reads { OnOk result (reads.new ≤ reads.old + input.now.new.width * length come.now) }
+        ensures reads { reads.new ≤ reads.old + input.now.new.width * length come.now }
     {
         let mut rows = RowsNow::of(input);
         for key in come {
@@ -212,7 +212,7 @@ impl Kept {
         requires within { AllByRecursion (IsWithin (table_at moment input.now).width) self.now.running.items }
         requires here { IsTrue (is_among first (first_keys self.now.by (table_at moment input.now).rows)) }
         ensures cells { OnOk result (cells.new.items ≡ cells.old.items ++ cells_at first (agg_table self.now.by self.now.aggs (table_at moment input.now)).rows) }
-        ensures reads { OnOk result (reads.new ≤ reads.old + length self.now.aggs) }
+        ensures reads { reads.new ≤ reads.old + length self.now.aggs }
     {
         let number = self.rows.number_of(first);
         let group = self.rows.group_at(number).unwrap();

@@ -47,7 +47,7 @@ impl Notes {
         requires firsts { AllByRecursion (λ key. IsTrue (is_among key (first_keys kept.now.by input.now.old.rows))) keys }
         ensures noted { IfOk result (λ notes. IsNoted notes (agg_table kept.now.by kept.now.aggs input.now.old)) }
         ensures keys { IfOk result (λ notes. notes.keys ≡ keys) }
-        ensures reads { OnOk result (reads.new ≤ reads.old + length kept.now.aggs * length keys) }
+        ensures reads { reads.new ≤ reads.old + length kept.now.aggs * length keys }
     {
         cells.clear();
         put_groups(kept, input, &keys, &mut cells, reads)?;
@@ -98,7 +98,7 @@ fn put_groups<L: Ledger>(
     requires within { AllByRecursion (IsWithin input.now.old.width) kept.now.running.items }
     requires firsts { AllByRecursion (λ key. IsTrue (is_among key (first_keys kept.now.by input.now.old.rows))) keys.now }
     ensures cells { OnOk result (cells.new.items ≡ cells.old.items ++ cells_under (agg_table kept.now.by kept.now.aggs input.now.old) keys.now) }
-    ensures reads { OnOk result (reads.new ≤ reads.old + length kept.now.aggs * length keys.now) }
+    ensures reads { reads.new ≤ reads.old + length kept.now.aggs * length keys.now }
 {
     for first in keys {
         kept.put_group(Moment::Before, input, first, cells, reads)?;

@@ -154,7 +154,7 @@ pub(crate) fn put_values<L: Ledger>(
     requires here { AllByRecursion (λ key. IsTrue (is_among key (keys (table_at moment input.now).rows))) (keys_of group.now) }
     ensures cells { OnOk result (cells.new.items ≡ cells.old.items
         ++ map (λ running. answer running number group.now (table_at moment input.now).rows) all.now) }
-    ensures reads { OnOk result (reads.new ≤ reads.old + length all.now) }
+    ensures reads { reads.new ≤ reads.old + length all.now }
 {
     for running in all {
         cells.push(running.value(number, group, moment, input, reads))?;

@@ -95,7 +95,7 @@ impl TouchedGroups {
         requires come { moving.now.come ≡ come_of input.now }
         ensures named { OnOk result ((number : ℕ) → is_among number self.new ≡ is_named (touched_cells kept.now.by input.now) kept.now.rows.names number) }
         ensures firsts { OnOk result ((first : ℕ) → list_any (starts_numbered kept.now.rows first) self.new ≡ list_any (starts kept.now.rows.members first) (touched_cells kept.now.by input.now)) }
-        ensures reads { OnOk result (reads.new ≤ reads.old + input.now.new.width * length moving.now.come) }
+        ensures reads { reads.new ≤ reads.old + input.now.new.width * length moving.now.come }
     {
         self.clear();
         self.note_all(moving.numbers.as_slice())?;
@@ -127,7 +127,7 @@ impl TouchedGroups {
             ≡ (is_among number self.old || is_named (map (key_at kept.now.by input.now.new.rows) keys.now) kept.now.rows.names number)) }
         ensures firsts { OnOk result ((first : ℕ) → list_any (starts_numbered kept.now.rows first) self.new
             ≡ (list_any (starts_numbered kept.now.rows first) self.old || list_any (starts kept.now.rows.members first) (map (key_at kept.now.by input.now.new.rows) keys.now))) }
-        ensures reads { OnOk result (reads.new ≤ reads.old + input.now.new.width * length keys.now) }
+        ensures reads { reads.new ≤ reads.old + input.now.new.width * length keys.now }
     {
         if kept.rows.is_empty() {
             return Ok(());

@@ -3,7 +3,7 @@
 //! A row that is shown leaves where it is removed, or where rows that come behind it push it out; where rows behind it go, the ones
 //! before it come in. Every other row that is shown stays, and is modified where the input's is.
 
-ghost use Rattle.std.specs.Prelude.{◌≡◌, ◌+◌, ◌*◌, ◌≤◌, [], IfOk};
+ghost use Rattle.std.specs.Prelude.{◌≡◌, ◌+◌, ◌*◌, ◌≤◌, [], IfOk, OnErr};
 ghost use Rattle.head_tail.specs.Ends.{tailed};
 ghost use Rattle.tick_model.specs.Changes.{change_of};
 ghost use Rattle.tick_model.specs.HeadTail.{tail_table};
@@ -72,7 +72,7 @@ impl TailOp {
     }
 
     /// The operator after the step that the input shows, and the change of its rows. It must stand for the input's rows before
-    /// the step; after a refusal it is given up.
+    /// the step; after a refusal it is given up, and no more is read than that change may take.
     pub fn step<L: Ledger>(
         self,
         alloc: Global,
@@ -85,6 +85,7 @@ impl TailOp {
         ensures stands { IfOk result (λ out. out.0 ≡ record self { shown = keys (tail_table self.count input.now.new).rows }) }
         ensures change { IfOk result (λ out. out.1 ≡ change_of (tailed self.count (tick_of input.now))) }
         ensures reads { IfOk result (λ out. reads.new ≤ reads.old + 4 * (input.now.new.width + input.now.new.width) * (counted input.now.update + counted out.1.update)) }
+        ensures refused { OnErr result (reads.new ≤ reads.old + 4 * (input.now.new.width + input.now.new.width) * (counted input.now.update + counted (change_of (tailed self.count (tick_of input.now))).update)) }
     {
         let TailOp {
             count,

@@ -8,10 +8,11 @@ use Rattle.key_lists.proofs.Among.{each_among}
 use Rattle.key_lists.proofs.Every.{every_unmapped, every-filter}
 use Rattle.lookup_join.specs.Taken.{modified_pairs}
 use Rattle.shown_rows.proofs.Restricted.{is_modified, kept, modified_new}
+use Rattle.tick_model.specs.Changes.{Change}
 use Rattle.tick_model.specs.declared.update.KeyPair.{KeyPair}
 use Rattle.tick_model.specs.Tables.{keys}
 use Rattle.tick_model.specs.Updates.{Update, new_keys, old_keys}
-use Rattle.tick_table.specs.Exact.{IsExact}
+use Rattle.tick_table.specs.Exact.{IsExact, counted}
 use Rattle.tick_table.specs.Ticking.{Ticking}
 
 module _ (t : Ticking) (e : IsExact t) where
@@ -43,3 +44,8 @@ pub step_reads : (left right taken first second third fourth notes left_removed 
     → fourth ≤ first + 4 * (left + right + (left + taken)) * ((left_removed + left_added + 2 * left_modified) + (right_removed + right_added + 2 * right_modified) + (removed + added + 2 * modified))
 step_reads left right taken first second third fourth notes left_removed left_added left_modified right_removed right_added right_modified removed added modified h k m few =
     omega (arith, h, k, m, mul-le-mul_left (2 * taken) few)
+
+-- the reads of a step, in the words of the operator
+pub step_within : (reads first left right taken own_taken both : ℕ) (made own : Change) → reads ≤ first + 4 * (left + right + (left + taken)) * (both + counted made.update) → made ≡ own → taken ≡ own_taken → reads ≤ first + 4 * (left + right + (left + own_taken)) * (both + counted own.update)
+step_within reads first left right taken own_taken both made own h made_is taken_is =
+    subst (λ n. reads ≤ first + 4 * (left + right + (left + n)) * (both + counted own.update)) taken_is (subst (λ (change : Change). reads ≤ first + 4 * (left + right + (left + taken)) * (both + counted change.update)) made_is h)

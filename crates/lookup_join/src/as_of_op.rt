@@ -1,6 +1,6 @@
 //! The as-of join: what it keeps, and its step.
 
-ghost use Rattle.std.specs.Prelude.{◌≡◌, ◌+◌, ◌*◌, ◌<◌, ◌≤◌, length, IfOk};
+ghost use Rattle.std.specs.Prelude.{◌≡◌, ◌+◌, ◌*◌, ◌<◌, ◌≤◌, length, IfOk, OnErr};
 ghost use Rattle.std.specs.List.{AllByRecursion};
 ghost use Rattle.lookup_join.specs.Matcher.{Stands, matched_ticks, matcher_of, standing};
 ghost use Rattle.tick_model.specs.Changes.{change_of};
@@ -95,7 +95,8 @@ impl AsOfOp {
     }
 
     /// The operator after the step that the inputs show, and the change of its rows. It must stand for the inputs' rows before
-    /// the step; after a refusal, which comes where memory runs out, it is given up.
+    /// the step; after a refusal, which comes where memory runs out, it is given up, and no more is read than that change may
+    /// take.
     pub fn step<L: Ledger>(
         self,
         alloc: Global,
@@ -112,6 +113,8 @@ impl AsOfOp {
         ensures change { IfOk result (λ out. out.1 ≡ change_of (matched_ticks self.on self.at self.take (tick_of left.now) (tick_of right.now))) }
         ensures reads { IfOk result (λ out. reads.new ≤ reads.old
             + 4 * (left.now.new.width + right.now.new.width + (left.now.new.width + length self.take)) * (counted left.now.update + counted right.now.update + counted out.1.update)) }
+        ensures refused { OnErr result (reads.new ≤ reads.old
+            + 4 * (left.now.new.width + right.now.new.width + (left.now.new.width + length self.take)) * (counted left.now.update + counted right.now.update + counted (change_of (matched_ticks self.on self.at self.take (tick_of left.now) (tick_of right.now))).update)) }
     {
         let AsOfOp {
             on,

@@ -1,6 +1,6 @@
 //! The natural join: what it keeps, and its step.
 
-ghost use Rattle.std.specs.Prelude.{◌≡◌, ◌+◌, ◌*◌, ◌<◌, ◌≤◌, ◌++◌, None, length, map, true, IfErr, IfOk, OnOk};
+ghost use Rattle.std.specs.Prelude.{◌≡◌, ◌+◌, ◌*◌, ◌<◌, ◌≤◌, ◌++◌, None, length, map, true, IfErr, IfOk, OnErr, OnOk};
 ghost use Rattle.std.specs.List.{AllByRecursion};
 ghost use Rattle.key_lists.specs.Keys.{is_among};
 ghost use Rattle.lookup_join.specs.Duplicates.{cells_under, least_of};
@@ -125,7 +125,7 @@ impl JoinOp {
     }
 
     /// The operator after the step that the inputs show, and the change of its rows. It must stand for the inputs' rows before
-    /// the step; after a refusal it is given up.
+    /// the step; after a refusal it is given up, and no more is read than that change may take.
     pub fn step<L: Ledger>(
         self,
         alloc: Global,
@@ -144,6 +144,8 @@ impl JoinOp {
         ensures change { IfOk result (λ out. out.1 ≡ change_of (joined_ticks self.on self.take self.choice (tick_of left.now) (tick_of right.now))) }
         ensures reads { IfOk result (λ out. reads.new ≤ reads.old
             + 4 * (left.now.new.width + right.now.new.width + (left.now.new.width + length self.take)) * (counted left.now.update + counted right.now.update + counted out.1.update)) }
+        ensures refused { OnErr result (reads.new ≤ reads.old
+            + 4 * (left.now.new.width + right.now.new.width + (left.now.new.width + length self.take)) * (counted left.now.update + counted right.now.update + counted (change_of (joined_ticks self.on self.take self.choice (tick_of left.now) (tick_of right.now))).update)) }
     {
         let JoinOp {
             on,

@@ -113,7 +113,7 @@ pub(crate) fn rekeyed<L: Ledger>(
     requires before { AllByRecursion (λ pair. IsTrue (is_among pair.old (keys input.now.old.rows))) pairs.now }
     requires now { AllByRecursion (λ pair. IsTrue (is_among pair.new (keys input.now.new.rows))) pairs.now }
     ensures pairs { IfOk result (λ changed. changed ≡ filter (rekeys side on.now pick input.now.old input.now.new) pairs.now) }
-    ensures reads { OnOk result (reads.new ≤ reads.old + input.now.new.width * length pairs.now) }
+    ensures reads { reads.new ≤ reads.old + input.now.new.width * length pairs.now }
 {
     let mut changed = KeyPairs::new(alloc);
     let mut rows = RowsNow::of(input);
@@ -148,7 +148,7 @@ fn add_rows<L: Ledger>(
     ensures rising { OnOk result (IsRising (keys_of index.new.members)) }
     ensures rows { OnOk result (AllByRecursion (IsRowOf side on.now pick input.now.new.rows) index.new.members) }
     ensures keys { OnOk result ((key : ℕ) → is_among key (keys_of index.new.members) ≡ (is_among key keys.now || is_among key (keys_of index.old.members))) }
-    ensures reads { OnOk result (reads.new ≤ reads.old + input.now.new.width * length keys.now) }
+    ensures reads { reads.new ≤ reads.old + input.now.new.width * length keys.now }
 {
     let mut rows = RowsNow::of(input);
     for key in keys {
@@ -176,7 +176,7 @@ pub(crate) fn bring_on<L: Ledger>(
     requires rekeyed { rekeyed ≡ rekeyed_pairs side on.now pick input.now }
     ensures index { OnOk result (index.new ≡ indexed side on.now pick input.now.new.rows) }
     ensures came { IfOk result (λ came. came ≡ united (new_keys rekeyed) input.now.update.added) }
-    ensures reads { OnOk result (reads.new ≤ reads.old + input.now.new.width * (length rekeyed + length input.now.update.added)) }
+    ensures reads { reads.new ≤ reads.old + input.now.new.width * (length rekeyed + length input.now.update.added) }
 {
     let update = input.update();
     let (from, to) = rekeyed.into_keys();

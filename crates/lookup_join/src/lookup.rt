@@ -8,7 +8,7 @@ ghost use Rattle.lookup_join.specs.Matched.{matched_tick};
 ghost use Rattle.lookup_join.specs.Taken.{AreMatched, rekeyed_pairs, step_notes, turned_keys};
 ghost use Rattle.row_set.specs.Sets.{united};
 ghost use Rattle.tick_model.specs.Changes.{change_of};
-ghost use Rattle.tick_model.specs.Updates.{new_keys};
+ghost use Rattle.tick_model.specs.Updates.{between, new_keys};
 ghost use Rattle.tick_table.specs.Exact.{IsExact, counted, tick_of};
 
 use crate::keyed::{Side, bring_on, rekeyed};
@@ -59,8 +59,9 @@ pub(crate) fn lookup_step<L: Ledger>(
     ensures change { IfOk result (λ outcome. outcome.change ≡ change_of (matched_tick on.now pick take.now (tick_of left.now) (tick_of right.now))) }
     ensures notes { IfOk result (λ outcome. outcome.notes ≡ record { width = length on.now; notes = step_notes on.now pick right.now }) }
     ensures came { IfOk result (λ outcome. outcome.came ≡ united (new_keys (rekeyed_pairs Side.Left on.now pick left.now)) left.now.update.added) }
-    ensures reads { IfOk result (λ outcome. reads.new ≤ reads.old
-        + 4 * (left.now.new.width + right.now.new.width + (left.now.new.width + length take.now)) * (counted left.now.update + counted right.now.update + counted outcome.change.update)) }
+    ensures reads { reads.new ≤ reads.old
+        + 4 * (left.now.new.width + right.now.new.width + (left.now.new.width + length take.now))
+        * (counted left.now.update + counted right.now.update + counted (change_of (matched_tick on.now pick take.now (tick_of left.now) (tick_of right.now))).update) }
 {
     let notes = bring_right_on(alloc, on, pick, right_rows, right, buffer, reads)?;
     let came = bring_left_on(alloc, on, pick, left_rows, left, buffer, reads)?;
@@ -95,7 +96,7 @@ fn bring_right_on<L: Ledger>(
     requires index { index.old ≡ indexed Side.Right on.now pick right.now.old.rows }
     ensures index { OnOk result (index.new ≡ indexed Side.Right on.now pick right.now.new.rows) }
     ensures notes { IfOk result (λ notes. notes ≡ record { width = length on.now; notes = step_notes on.now pick right.now }) }
-    ensures reads { OnOk result (reads.new ≤ reads.old + right.now.new.width * (3 * length right.now.update.modified + 2 * length right.now.update.added)) }
+    ensures reads { reads.new ≤ reads.old + right.now.new.width * (3 * length right.now.update.modified + 2 * length right.now.update.added) }
 {
     let modified = KeyPairs::modified(right)?;
     let notes = touched_places(alloc, on, pick, index, right, &modified, buffer, reads)?;
@@ -128,7 +129,7 @@ fn bring_left_on<L: Ledger>(
     requires index { index.old ≡ indexed Side.Left on.now pick left.now.old.rows }
     ensures index { OnOk result (index.new ≡ indexed Side.Left on.now pick left.now.new.rows) }
     ensures came { IfOk result (λ came. came ≡ united (new_keys (rekeyed_pairs Side.Left on.now pick left.now)) left.now.update.added) }
-    ensures reads { OnOk result (reads.new ≤ reads.old + left.now.new.width * (2 * length left.now.update.modified + length left.now.update.added)) }
+    ensures reads { reads.new ≤ reads.old + left.now.new.width * (2 * length left.now.update.modified + length left.now.update.added) }
 {
     let modified = KeyPairs::modified(left)?;
     let changed = rekeyed(
@@ -157,7 +158,7 @@ fn turned_set<L: Ledger>(
     requires matched { AreMatched rows.now.on.now rows.now.pick rows.now.take.now rows.now.left.now rows.now.right.now rows.now.index.now rows.now.notes.now.notes }
     requires notes { rows.now.notes.now.notes ≡ step_notes rows.now.on.now rows.now.pick rows.now.right.now }
     ensures keys { IfOk result (λ set. (key : ℕ) → is_among key rows.now.left.now.update.added ≡ false → is_among key set ≡ is_among key (turned_keys rows.now.on.now rows.now.pick rows.now.take.now rows.now.left.now rows.now.right.now)) }
-    ensures reads { OnOk result (reads.new ≤ reads.old + 2 * length rows.now.take.now * length rows.now.notes.now.notes) }
+    ensures reads { reads.new ≤ reads.old + 2 * length rows.now.take.now * length rows.now.notes.now.notes }
 {
     if rows.left.prev_rows().is_empty() {
         return Ok(RowSet::new(alloc));
@@ -181,9 +182,11 @@ fn matched_change<L: Ledger>(
     requires matched { AreMatched rows.now.on.now rows.now.pick rows.now.take.now rows.now.left.now rows.now.right.now rows.now.index.now rows.now.notes.now.notes }
     requires notes { rows.now.notes.now.notes ≡ step_notes rows.now.on.now rows.now.pick rows.now.right.now }
     ensures change { IfOk result (λ change. change ≡ change_of (matched_tick rows.now.on.now rows.now.pick rows.now.take.now (tick_of rows.now.left.now) (tick_of rows.now.right.now))) }
-    ensures reads { IfOk result (λ change. reads.new ≤ reads.old
+    ensures reads { reads.new ≤ reads.old
         + 2 * length rows.now.take.now * length rows.now.notes.now.notes
-        + (rows.now.left.now.new.width + length rows.now.take.now) * (2 * (length rows.now.left.now.update.modified + length change.update.modified) + length rows.now.left.now.update.added)) }
+        + (rows.now.left.now.new.width + length rows.now.take.now)
+        * (2 * (length rows.now.left.now.update.modified + length (between (matched_tick rows.now.on.now rows.now.pick rows.now.take.now (tick_of rows.now.left.now) (tick_of rows.now.right.now))).modified)
+        + length rows.now.left.now.update.added) }
 {
     let set = turned_set(alloc, rows, left_rows, reads)?;
     let update = rows.left.update();

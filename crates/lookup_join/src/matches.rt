@@ -68,7 +68,7 @@ impl Match {
         requires there { IsThere right.now.old right.now.new self }
         requires take { AllByRecursion (λ column. column < right.now.new.width) take.now }
         ensures cells { OnOk result (cells.new.items ≡ cells.old.items ++ map (cell_of right.now.old.rows right.now.new.rows self) take.now) }
-        ensures reads { OnOk result (reads.new ≤ reads.old + length take.now) }
+        ensures reads { reads.new ≤ reads.old + length take.now }
     {
         let _ = right.width();
         for column in take {

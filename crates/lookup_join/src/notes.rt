@@ -196,7 +196,7 @@ fn note_modified<L: Ledger>(
       notes = noting pick index.now.members notes.old.notes
           (flat_map (λ pair. spot_at on.now pick right.now.old.rows pair.old ∷ spot_at on.now pick right.now.new.rows pair.new ∷ []) modified.now);
     }) }
-    ensures reads { OnOk result (reads.new ≤ reads.old + right.now.new.width * length modified.now) }
+    ensures reads { reads.new ≤ reads.old + right.now.new.width * length modified.now }
 {
     let mut rows = RowsNow::of(right);
     for place in 0..modified.len() {
@@ -223,7 +223,7 @@ fn note_added<L: Ledger>(
     requires width { notes.old.width ≡ length on.now }
     requires timed { AreTimed pick index.now.members }
     ensures notes { OnOk result (notes.new ≡ record notes.old { notes = noting pick index.now.members notes.old.notes (map (spot_at on.now pick right.now.new.rows) right.now.update.added) }) }
-    ensures reads { OnOk result (reads.new ≤ reads.old + right.now.new.width * length right.now.update.added) }
+    ensures reads { reads.new ≤ reads.old + right.now.new.width * length right.now.update.added }
 {
     let mut rows = RowsNow::of(right);
     for key in right.update().added() {
@@ -250,7 +250,7 @@ pub(crate) fn touched_places<L: Ledger>(
     requires before { AllByRecursion (λ pair. IsTrue (is_among pair.old (keys right.now.old.rows))) modified.now }
     requires now { AllByRecursion (λ pair. IsTrue (is_among pair.new (keys right.now.new.rows))) modified.now }
     ensures notes { IfOk result (λ notes. notes ≡ record { width = length on.now; notes = noting pick index.now.members [] (touched_spots on.now pick right.now.old.rows right.now.new.rows right.now.update modified.now) }) }
-    ensures reads { OnOk result (reads.new ≤ reads.old + right.now.new.width * (length modified.now + length right.now.update.added)) }
+    ensures reads { reads.new ≤ reads.old + right.now.new.width * (length modified.now + length right.now.update.added) }
 {
     let mut notes = Notes::new(alloc, on.len());
     note_removed(pick, index, right.update().removed(), &mut notes)?;

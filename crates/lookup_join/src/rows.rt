@@ -75,7 +75,7 @@ impl MatchedRows<'_> {
         ensures cells { OnOk result (cells.new.items ≡ cells.old.items
             ++ taken_cells self.now.on.now self.now.pick self.now.take.now self.now.right.now.new.rows
             (key_cells Side.Left self.now.on.now (drop start cells.old.items)) (time_of Side.Left self.now.pick (drop start cells.old.items))) }
-        ensures reads { OnOk result (reads.new ≤ reads.old + length self.now.take.now) }
+        ensures reads { reads.new ≤ reads.old + length self.now.take.now }
     {
         let end = cells.len();
         let time = time_from(Side::Left, self.pick, start, cells);

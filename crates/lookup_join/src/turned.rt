@@ -67,7 +67,7 @@ pub(crate) fn turned_rows<L: Ledger>(
     requires timed { AreTimed pick index.now.members }
     requires there { AllByRecursion (IsFrom pick index.now.members right.now.old right.now.new) notes.now.notes }
     ensures keys { IfOk result (λ keys. keys.items ≡ turned_members pick take.now left.now.members index.now.members notes.now.notes right.now.old.rows right.now.new.rows notes.now.notes) }
-    ensures reads { OnOk result (reads.new ≤ reads.old + 2 * length take.now * length notes.now.notes) }
+    ensures reads { reads.new ≤ reads.old + 2 * length take.now * length notes.now.notes }
 {
     let mut keys = Vec::new(alloc);
     for number in 0..notes.len() {

@@ -4,7 +4,7 @@ use Rattle.std.specs.Arc.{arc_value}
 use Rattle.std.specs.declared.alloc.Global.{Global}
 use Rattle.std.specs.declared.sync.Arc.{Arc}
 use Rattle.std.specs.List.{AllByRecursion}
-use Rattle.std.specs.Prelude.{Err, Ok, OnOk, Result}
+use Rattle.std.specs.Prelude.{Err, Ok, OnErr, OnOk, Result}
 use Rattle.std.proofs.lemmas.List.{drop_more}
 use Rattle.std.proofs.Math.ListN.{drop_of_length-le}
 use Rattle.tick_table.specs.Ticking.{Ticking}
@@ -28,6 +28,7 @@ tables_from shared i item table k is now =
 pub no_tables : (shared : List (Arc Ticking Global)) (i : ℕ) → length shared ≤ i → tables (drop i shared) ≡ []
 no_tables shared i past = ap tables (drop_of_length-le shared past)
 
-pub on_ok : {T E : Type 0} (P Q : Type 0) (result : Result T E) → (P → Q) → OnOk result P → OnOk result Q
-on_ok P Q (Ok x) f h = f h
-on_ok P Q (Err e) f h = tt
+-- a row is read whole, or after a refusal not at all
+pub read_or_not : {T E : Type 0} (answer : Result T E) (each so_far more : ℕ) → OnOk answer (more ≡ so_far + each) → OnErr answer (more ≡ so_far) → more ≤ so_far + each
+read_or_not (Ok x) each so_far more read unread = let all : more ≡ so_far + each = read in omega (arith, all)
+read_or_not (Err e) each so_far more read unread = let none : more ≡ so_far = unread in omega (arith, none)

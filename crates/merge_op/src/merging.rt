@@ -1,6 +1,6 @@
 //! The operator itself.
 
-ghost use Rattle.std.specs.Prelude.{◌≡◌, ◌+◌, ◌*◌, ◌^◌, ◌<◌, ◌≤◌, [], length, IfErr, IfOk};
+ghost use Rattle.std.specs.Prelude.{◌≡◌, ◌+◌, ◌*◌, ◌^◌, ◌<◌, ◌≤◌, [], length, IfErr, IfOk, OnErr};
 ghost use Rattle.std.specs.List.{AllByRecursion};
 ghost use Rattle.merge_op.specs.Merged.{counted_in, merged, rows_in, tables};
 ghost use Rattle.tick_model.specs.Changes.{change_of};
@@ -79,7 +79,8 @@ impl MergeOp {
     }
 
     /// The operator after the step that the inputs show, and the change of its rows. It must stand for the inputs' rows before
-    /// the step; after a refusal it is given up. It is refused where the inputs together have more than 4,194,304 rows.
+    /// the step; after a refusal it is given up, and no more is read than that change may take. It is refused where the inputs
+    /// together have more than 4,194,304 rows.
     pub fn step<L: Ledger>(
         self,
         alloc: Global,
@@ -95,6 +96,7 @@ impl MergeOp {
         ensures stands { IfOk result (λ out. out.0 ≡ record self { shown = keys (merged (tables inputs.now)).new.rows }) }
         ensures change { IfOk result (λ out. out.1 ≡ change_of (merged (tables inputs.now))) }
         ensures reads { IfOk result (λ out. reads.new ≤ reads.old + 4 * (self.count * self.width + self.width) * (counted_in (tables inputs.now) + counted out.1.update)) }
+        ensures refused { OnErr result (reads.new ≤ reads.old + 4 * (self.count * self.width + self.width) * (counted_in (tables inputs.now) + counted (change_of (merged (tables inputs.now))).update)) }
         ensures too_many { 4194304 < rows_in (tables inputs.now) → result ≡ Err (MergeFault.TooManyRows (rows_in (tables inputs.now))) }
         ensures fault { rows_in (tables inputs.now) ≤ 4194304 → IfErr result (λ fault. fault ≡ MergeFault.Memory) }
     {

@@ -25,7 +25,7 @@ sound : (op : Op) (agg : Aggregator) (table : ℕ → PlainTable) → IsMadeOf o
 sound (OpAgg input by aggs) agg table h = refl
 sound op agg table h = absurd h
 
-ticks : (op : Op) (agg : Aggregator) (own : Tick) (tick : ℕ → Tick) → IsMadeOf op (Agg agg) → map tick (inputs_of op) ≡ own ∷ [] → grouped agg.by agg.aggs own ≡ operated op tick
+pub ticks : (op : Op) (agg : Aggregator) (own : Tick) (tick : ℕ → Tick) → IsMadeOf op (Agg agg) → map tick (inputs_of op) ≡ own ∷ [] → grouped agg.by agg.aggs own ≡ operated op tick
 ticks (OpAgg input by aggs) agg own tick h e = ap₂ (λ (by : List ℕ) (aggs : List Aggregate). grouped by aggs own) h.0 h.1 ∙ agg_is by aggs input tick own e
 ticks op agg own tick h e = absurd h
 

@@ -26,7 +26,7 @@ pub filter_sound : (op : Op) (filter : Filter) (table : ℕ → PlainTable) → 
 filter_sound (Keep input test) filter table h = refl
 filter_sound op filter table h = absurd h
 
-ticks : (op : Op) (filter : Filter) (own : Tick) (tick : ℕ → Tick) → IsMadeOf op (Where filter) → map tick (inputs_of op) ≡ own ∷ [] → filtered filter.test own ≡ operated op tick
+pub ticks : (op : Op) (filter : Filter) (own : Tick) (tick : ℕ → Tick) → IsMadeOf op (Where filter) → map tick (inputs_of op) ≡ own ∷ [] → filtered filter.test own ≡ operated op tick
 ticks (Keep input test) filter own tick h e = keep_is filter.test test input tick own h e
 ticks op filter own tick h e = absurd h
 

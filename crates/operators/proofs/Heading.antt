@@ -26,7 +26,7 @@ pub head_sound : (op : Op) (head : End) (table : ℕ → PlainTable) → IsMadeO
 head_sound (OpHead input rows) head table h = refl
 head_sound op head table h = absurd h
 
-ticks : (op : Op) (head : End) (own : Tick) (tick : ℕ → Tick) → IsMadeOf op (Head head) → map tick (inputs_of op) ≡ own ∷ [] → headed head.count own ≡ operated op tick
+pub ticks : (op : Op) (head : End) (own : Tick) (tick : ℕ → Tick) → IsMadeOf op (Head head) → map tick (inputs_of op) ≡ own ∷ [] → headed head.count own ≡ operated op tick
 ticks (OpHead input rows) head own tick h e = ap (λ count. headed count own) h ∙ head_is rows input tick own e
 ticks op head own tick h e = absurd h
 

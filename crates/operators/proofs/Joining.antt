@@ -36,7 +36,7 @@ own_fault (Joined left right on take choice) join a b table h e =
     ap₂ (λ (on : List OnPair) (choice : Choice). join_fault on choice a b) h.0 h.2 ∙ ap₂ (join_fault on choice) (sym both.0) (sym both.1)
 own_fault op join a b table h e = absurd h
 
-ticks : (op : Op) (join : Joiner) (a b : Tick) (tick : ℕ → Tick) → IsMadeOf op (Join join) → map tick (inputs_of op) ≡ a ∷ b ∷ [] → joined_ticks join.on join.take join.choice a b ≡ operated op tick
+pub ticks : (op : Op) (join : Joiner) (a b : Tick) (tick : ℕ → Tick) → IsMadeOf op (Join join) → map tick (inputs_of op) ≡ a ∷ b ∷ [] → joined_ticks join.on join.take join.choice a b ≡ operated op tick
 ticks (Joined left right on take choice) join a b tick h e =
     ap₂ (λ (on : List OnPair) (take : List ℕ). joined_ticks on take join.choice a b) h.0 h.1 ∙ ap (λ (choice : Choice). joined_ticks on take choice a b) h.2 ∙ join_is on take choice left right tick a b e
 ticks op join a b tick h e = absurd h

@@ -26,7 +26,7 @@ sound : (op : Op) (join : Matcher) (table : ℕ → PlainTable) → IsMadeOf op 
 sound (Matched left right on at take) join table h = refl
 sound op join table h = absurd h
 
-ticks : (op : Op) (join : Matcher) (a b : Tick) (tick : ℕ → Tick) → IsMadeOf op (AsOf join) → map tick (inputs_of op) ≡ a ∷ b ∷ [] → matched_ticks join.on join.at join.take a b ≡ operated op tick
+pub ticks : (op : Op) (join : Matcher) (a b : Tick) (tick : ℕ → Tick) → IsMadeOf op (AsOf join) → map tick (inputs_of op) ≡ a ∷ b ∷ [] → matched_ticks join.on join.at join.take a b ≡ operated op tick
 ticks (Matched left right on at take) join a b tick h e =
     ap₂ (λ (on : List OnPair) (at : OnPair). matched_ticks on at join.take a b) h.0 h.1 ∙ ap (λ (take : List ℕ). matched_ticks on at take a b) h.2 ∙ as_of_is on at take left right tick a b e
 ticks op join a b tick h e = absurd h

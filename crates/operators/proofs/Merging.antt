@@ -53,7 +53,7 @@ is_over : (count : ℕ) → 4194304 < count → over count ≡ Some (ManyRows co
 unfolding over
 is_over count h = ap (λ b. cond b (Some (ManyRows count)) None) (lt-ltb 4194304 count h)
 
-ticks : (op : Op) (merge : Merger) (inputs : List Ticking) (tick : ℕ → Tick) → IsMadeOf op (Merge merge) → map tick (inputs_of op) ≡ map tick_of inputs → merged inputs ≡ operated op tick
+pub ticks : (op : Op) (merge : Merger) (inputs : List Ticking) (tick : ℕ → Tick) → IsMadeOf op (Merge merge) → map tick (inputs_of op) ≡ map tick_of inputs → merged inputs ≡ operated op tick
 ticks (Merging numbers) merge inputs tick h e =
     ap₂ (λ (old new : List PlainTable). let made : Tick = record { old = merge_table old; new = merge_table new; kept = merge_pairs (map tick_of inputs) } in made)
     (sym (map_map (λ (t : Tick). t.old) tick_of inputs)) (sym (map_map (λ (t : Tick). t.new) tick_of inputs))

@@ -27,7 +27,7 @@ pub sort_sound : (op : Op) (sort : Sorter) (table : ℕ → PlainTable) → IsMa
 sort_sound (OpSort input by) sort table h = refl
 sort_sound op sort table h = absurd h
 
-ticks : (op : Op) (sort : Sorter) (own : Tick) (tick : ℕ → Tick) → IsMadeOf op (Sort sort) → map tick (inputs_of op) ≡ own ∷ [] → sorted sort.by own ≡ operated op tick
+pub ticks : (op : Op) (sort : Sorter) (own : Tick) (tick : ℕ → Tick) → IsMadeOf op (Sort sort) → map tick (inputs_of op) ≡ own ∷ [] → sorted sort.by own ≡ operated op tick
 ticks (OpSort input by) sort own tick h e = ap (λ (by : List SortBy). sorted by own) h ∙ sort_is by input tick own e
 ticks op sort own tick h e = absurd h
 

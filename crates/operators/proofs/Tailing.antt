@@ -26,7 +26,7 @@ pub tail_sound : (op : Op) (tail : End) (table : ℕ → PlainTable) → IsMadeO
 tail_sound (OpTail input rows) tail table h = refl
 tail_sound op tail table h = absurd h
 
-ticks : (op : Op) (tail : End) (own : Tick) (tick : ℕ → Tick) → IsMadeOf op (Tail tail) → map tick (inputs_of op) ≡ own ∷ [] → tailed tail.count own ≡ operated op tick
+pub ticks : (op : Op) (tail : End) (own : Tick) (tick : ℕ → Tick) → IsMadeOf op (Tail tail) → map tick (inputs_of op) ≡ own ∷ [] → tailed tail.count own ≡ operated op tick
 ticks (OpTail input rows) tail own tick h e = ap (λ count. tailed count own) h ∙ tail_is rows input tick own e
 ticks op tail own tick h e = absurd h
 

@@ -20,7 +20,7 @@ pub view_sound : (op : Op) (view : Viewer) (table : ℕ → PlainTable) → IsMa
 view_sound (Viewed input exprs) view table h = refl
 view_sound op view table h = absurd h
 
-ticks : (op : Op) (view : Viewer) (own : Tick) (tick : ℕ → Tick) → IsMadeOf op (View view) → map tick (inputs_of op) ≡ own ∷ [] → viewed view.exprs own ≡ operated op tick
+pub ticks : (op : Op) (view : Viewer) (own : Tick) (tick : ℕ → Tick) → IsMadeOf op (View view) → map tick (inputs_of op) ≡ own ∷ [] → viewed view.exprs own ≡ operated op tick
 ticks (Viewed input exprs) view own tick h e = view_is view.exprs exprs input tick own h e
 ticks op view own tick h e = absurd h
 

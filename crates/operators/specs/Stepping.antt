@@ -3,6 +3,7 @@
 --     IsStep inputs old new told      it stands for their rows now, and the change is that of its own rows
 --     IsRefusal inputs running fault      it has no change, and why
 --     room_for inputs running change      how many cells it may read
+--     ReadsFew inputs running before after      between these counts it read no more than for the change that it would have made
 --     IsBegun op columns running      it is made of an operator for inputs of these widths, and stands for no rows
 use Rattle.std.specs.Prelude.{◌≡◌, ℕ, ◌+◌, ◌*◌, ◌^◌, ◌<◌, ◌≤◌, List, None, length, map, sum}
 use Rattle.std.specs.List.{AllByRecursion}
@@ -51,6 +52,9 @@ IsRefusal inputs running fault = (op : Op) → IsMadeOf op running → (table : 
 
 abbrev pub room_for : List Ticking → Running → Change → ℕ
 room_for inputs running change = 4 * (sum (widths_of running) + row_width running) * (counted_in inputs + counted change.update)
+
+abbrev pub ReadsFew : List Ticking → Running → ℕ → ℕ → Type 0
+ReadsFew inputs running before after = (op : Op) → IsMadeOf op running → (tick : ℕ → Tick) → AreTicks op tick inputs → after ≤ before + room_for inputs running (change_of (operated op tick))
 
 pub record IsBegun (op : Op) (columns : List ℕ) (running : Running) : Type 0 where
   pub made : IsMadeOf op running

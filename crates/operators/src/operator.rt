@@ -1,6 +1,6 @@
 //! One type for every operator of a plan.
 
-ghost use Rattle.std.specs.Prelude.{◌≡◌, ℕ, ◌+◌, ◌-◌, ◌*◌, ◌≤◌, ◌++◌, ◌∷◌, [], None, length, map, sum, IfErr, IfOk, OnOk};
+ghost use Rattle.std.specs.Prelude.{◌≡◌, ℕ, ◌+◌, ◌-◌, ◌*◌, ◌≤◌, ◌++◌, ◌∷◌, [], None, length, map, sum, IfErr, IfOk, OnErr, OnOk};
 ghost use Rattle.std.specs.List.{AllByRecursion};
 ghost use Rattle.merge_op.specs.Merged.{counted_in, news, olds, tables};
 ghost use Rattle.operators.specs.Inputs.{AreTables, AreTicks, HasKeys, IsCause};
@@ -79,7 +79,7 @@ impl Operator {
     }
 
     /// The operator after the step that the inputs show, and the change of its rows. It must stand for the inputs' rows before
-    /// the step; after a refusal it is given up. What it is over is said by the tables, or ticks, of all nodes by their numbers,
+    /// the step; after a refusal it is given up, and no more is read than that change may take. What it is over is said by the tables, or ticks, of all nodes by their numbers,
     /// of which it reads those of its inputs.
     pub fn step<L: Ledger>(
         self,
@@ -100,6 +100,8 @@ impl Operator {
         ensures change { IfOk result (λ out. (tick : ℕ → Tick) → AreTicks self.op tick (tables inputs.now) → out.1 ≡ change_of (operated self.op tick)) }
         ensures reads { IfOk result (λ out. reads.new ≤ reads.old
             + 4 * (sum self.widths + result_width self.op self.widths) * (counted_in (tables inputs.now) + counted out.1.update)) }
+        ensures refused { OnErr result ((tick : ℕ → Tick) → AreTicks self.op tick (tables inputs.now) → reads.new ≤ reads.old
+            + 4 * (sum self.widths + result_width self.op self.widths) * (counted_in (tables inputs.now) + counted (change_of (operated self.op tick)).update)) }
         ensures steps { IfOk result (λ out. out.0.reads ≡ self.reads ++ (reads.new - reads.old) ∷ []) }
     {
         let Operator {

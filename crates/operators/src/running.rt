@@ -1,9 +1,9 @@
 //! The operators by what they do.
 
-ghost use Rattle.std.specs.Prelude.{◌≡◌, ◌+◌, ◌≤◌, length, IfErr, IfOk};
+ghost use Rattle.std.specs.Prelude.{◌≡◌, ◌+◌, ◌≤◌, length, IfErr, IfOk, OnErr};
 ghost use Rattle.merge_op.specs.Merged.{tables};
 ghost use Rattle.operators.specs.Making.{CanBeMade};
-ghost use Rattle.operators.specs.Stepping.{IsBegun, IsReady, IsRefusal, IsStep, room_for};
+ghost use Rattle.operators.specs.Stepping.{IsBegun, IsReady, IsRefusal, IsStep, ReadsFew, room_for};
 ghost use Rattle.tick_model.specs.Evaluation.{inputs_of};
 
 use crate::fault::StepFault;
@@ -85,6 +85,7 @@ impl Running {
         ensures step { IfOk result (λ out. IsStep (tables inputs.now) self out.0 out.1) }
         ensures cause { IfErr result (λ fault. IsRefusal (tables inputs.now) self fault) }
         ensures reads { IfOk result (λ out. reads.new ≤ reads.old + room_for (tables inputs.now) self out.1) }
+        ensures refused { OnErr result (ReadsFew (tables inputs.now) self reads.old reads.new) }
     {
         match self {
             Running::Where(filter) => steps::filter(alloc, filter, inputs, reads),

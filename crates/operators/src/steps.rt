@@ -1,8 +1,8 @@
 //! A step of each operator, over inputs that are given as a list.
 
-ghost use Rattle.std.specs.Prelude.{◌≡◌, ◌+◌, ◌≤◌, IfErr, IfOk};
+ghost use Rattle.std.specs.Prelude.{◌≡◌, ◌+◌, ◌≤◌, IfErr, IfOk, OnErr};
 ghost use Rattle.merge_op.specs.Merged.{tables};
-ghost use Rattle.operators.specs.Stepping.{IsReady, IsRefusal, IsStep, room_for};
+ghost use Rattle.operators.specs.Stepping.{IsReady, IsRefusal, IsStep, ReadsFew, room_for};
 
 use crate::fault::StepFault;
 use crate::running::Running;
@@ -26,6 +26,7 @@ pub(crate) fn filter<L: Ledger>(
     ensures step { IfOk result (λ out. IsStep (tables inputs.now) (Running.Where filter) out.0 out.1) }
     ensures cause { IfErr result (λ fault. IsRefusal (tables inputs.now) (Running.Where filter) fault) }
     ensures reads { IfOk result (λ out. reads.new ≤ reads.old + room_for (tables inputs.now) (Running.Where filter) out.1) }
+    ensures refused { OnErr result (ReadsFew (tables inputs.now) (Running.Where filter) reads.old reads.new) }
 {
     let (filter, change) = filter.step(alloc, &inputs[0], reads)?;
     Ok((Running::Where(filter), change))
@@ -41,6 +42,7 @@ pub(crate) fn view<L: Ledger>(
     ensures step { IfOk result (λ out. IsStep (tables inputs.now) (Running.View view) out.0 out.1) }
     ensures cause { IfErr result (λ fault. IsRefusal (tables inputs.now) (Running.View view) fault) }
     ensures reads { IfOk result (λ out. reads.new ≤ reads.old + room_for (tables inputs.now) (Running.View view) out.1) }
+    ensures refused { OnErr result (ReadsFew (tables inputs.now) (Running.View view) reads.old reads.new) }
 {
     let (view, change) = view.step(alloc, &inputs[0], reads)?;
     Ok((Running::View(view), change))
@@ -56,6 +58,7 @@ pub(crate) fn join<L: Ledger>(
     ensures step { IfOk result (λ out. IsStep (tables inputs.now) (Running.Join join) out.0 out.1) }
     ensures cause { IfErr result (λ fault. IsRefusal (tables inputs.now) (Running.Join join) fault) }
     ensures reads { IfOk result (λ out. reads.new ≤ reads.old + room_for (tables inputs.now) (Running.Join join) out.1) }
+    ensures refused { OnErr result (ReadsFew (tables inputs.now) (Running.Join join) reads.old reads.new) }
 {
     let (join, change) = join.step(alloc, &inputs[0], &inputs[1], reads)?;
     Ok((Running::Join(join), change))
@@ -71,6 +74,7 @@ pub(crate) fn aggregation<L: Ledger>(
     ensures step { IfOk result (λ out. IsStep (tables inputs.now) (Running.Agg agg) out.0 out.1) }
     ensures cause { IfErr result (λ fault. IsRefusal (tables inputs.now) (Running.Agg agg) fault) }
     ensures reads { IfOk result (λ out. reads.new ≤ reads.old + room_for (tables inputs.now) (Running.Agg agg) out.1) }
+    ensures refused { OnErr result (ReadsFew (tables inputs.now) (Running.Agg agg) reads.old reads.new) }
 {
     let (agg, change) = agg.step(alloc, &inputs[0], reads)?;
     Ok((Running::Agg(agg), change))
@@ -86,6 +90,7 @@ pub(crate) fn merge<L: Ledger>(
     ensures step { IfOk result (λ out. IsStep (tables inputs.now) (Running.Merge merge) out.0 out.1) }
     ensures cause { IfErr result (λ fault. IsRefusal (tables inputs.now) (Running.Merge merge) fault) }
     ensures reads { IfOk result (λ out. reads.new ≤ reads.old + room_for (tables inputs.now) (Running.Merge merge) out.1) }
+    ensures refused { OnErr result (ReadsFew (tables inputs.now) (Running.Merge merge) reads.old reads.new) }
 {
     let (merge, change) = merge.step(alloc, inputs, reads)?;
     Ok((Running::Merge(merge), change))
@@ -101,6 +106,7 @@ pub(crate) fn sort<L: Ledger>(
     ensures step { IfOk result (λ out. IsStep (tables inputs.now) (Running.Sort sort) out.0 out.1) }
     ensures cause { IfErr result (λ fault. IsRefusal (tables inputs.now) (Running.Sort sort) fault) }
     ensures reads { IfOk result (λ out. reads.new ≤ reads.old + room_for (tables inputs.now) (Running.Sort sort) out.1) }
+    ensures refused { OnErr result (ReadsFew (tables inputs.now) (Running.Sort sort) reads.old reads.new) }
 {
     let (sort, change) = sort.step(alloc, &inputs[0], reads)?;
     Ok((Running::Sort(sort), change))
@@ -116,6 +122,7 @@ pub(crate) fn head<L: Ledger>(
     ensures step { IfOk result (λ out. IsStep (tables inputs.now) (Running.Head head) out.0 out.1) }
     ensures cause { IfErr result (λ fault. IsRefusal (tables inputs.now) (Running.Head head) fault) }
     ensures reads { IfOk result (λ out. reads.new ≤ reads.old + room_for (tables inputs.now) (Running.Head head) out.1) }
+    ensures refused { OnErr result (ReadsFew (tables inputs.now) (Running.Head head) reads.old reads.new) }
 {
     let (head, change) = head.step(alloc, &inputs[0], reads)?;
     Ok((Running::Head(head), change))
@@ -131,6 +138,7 @@ pub(crate) fn tail<L: Ledger>(
     ensures step { IfOk result (λ out. IsStep (tables inputs.now) (Running.Tail tail) out.0 out.1) }
     ensures cause { IfErr result (λ fault. IsRefusal (tables inputs.now) (Running.Tail tail) fault) }
     ensures reads { IfOk result (λ out. reads.new ≤ reads.old + room_for (tables inputs.now) (Running.Tail tail) out.1) }
+    ensures refused { OnErr result (ReadsFew (tables inputs.now) (Running.Tail tail) reads.old reads.new) }
 {
     let (tail, change) = tail.step(alloc, &inputs[0], reads)?;
     Ok((Running::Tail(tail), change))
@@ -146,6 +154,7 @@ pub(crate) fn as_of_join<L: Ledger>(
     ensures step { IfOk result (λ out. IsStep (tables inputs.now) (Running.AsOf join) out.0 out.1) }
     ensures cause { IfErr result (λ fault. IsRefusal (tables inputs.now) (Running.AsOf join) fault) }
     ensures reads { IfOk result (λ out. reads.new ≤ reads.old + room_for (tables inputs.now) (Running.AsOf join) out.1) }
+    ensures refused { OnErr result (ReadsFew (tables inputs.now) (Running.AsOf join) reads.old reads.new) }
 {
     let (join, change) = join.step(alloc, &inputs[0], &inputs[1], reads)?;
     Ok((Running::AsOf(join), change))

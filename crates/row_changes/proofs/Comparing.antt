@@ -1,5 +1,5 @@
 -- Rows that are compared, pair by pair.
-use Rattle.std.proofs.Common.{◌≡◌, refl, ap, sym, ◌∙◌, subst, Bool, true, false, not, ℕ, suc, ◌+◌, ◌<◌, arith, ◌-◌, ◌*◌, ◌≤◌, List, [], ◌∷◌, ◌++◌, filter, length, drop, cond, ◌&&◌, ◌||◌, ◌==◌, ap₂, append_assoc, append-nil, ℤ, inl, inr, length-append}
+use Rattle.std.proofs.Common.{◌≡◌, refl, ap, sym, ◌∙◌, subst, Bool, true, false, not, ℕ, suc, ◌+◌, ◌<◌, arith, ◌-◌, ◌*◌, ◌≤◌, List, [], ◌∷◌, ◌++◌, filter, length, drop, cond, ◌&&◌, ◌||◌, ◌==◌, ap₂, append_assoc, append-nil, ℤ, inl, inr, length-append, Result, Ok, Err, OnErr}
 use Rattle.std.specs.Cmp.{signed_Decides}
 use Rattle.std.specs.Cmp.Rules.{signed_items}
 use Rattle.std.specs.List.{AllByRecursion, range_with_len}
@@ -97,8 +97,20 @@ reads_next each first so_far more some key h e = subst (λ n. more ≤ first + e
     within : (n : ℕ) → so_far ≤ first + each * n → more ≤ first + each * (n + 1)
     within n h = omega (arith, h, e)
 
+-- where one more row is read of those of a set, no more are read than all of them
+pub reads_within : (each first so_far more : ℕ) (some : List ℕ) (key : ℕ) (others keys : List ℕ) → keys ≡ some ++ key ∷ others → so_far ≤ first + each * length some → more ≤ so_far + each → more ≤ first + each * length keys
+reads_within each first so_far more some key others keys all h e = subst (λ n. more ≤ first + each * n) (sym (ap length all ∙ length-append some (key ∷ others))) (within (length some) (length others) h)
+  where
+    within : (n rest : ℕ) → so_far ≤ first + each * n → more ≤ first + each * (n + suc rest)
+    within n rest h = omega (arith, h, e)
+
 pub pair_reads : (each so_far more total n : ℕ) → so_far + each * (2 * suc n) ≤ total → more ≤ so_far + each * 2 → more + each * (2 * n) ≤ total
 pair_reads each so_far more total n h e = omega (arith, h, e)
+
+-- what is true whatever a call answers is so after a refusal
+pub on_err : {X E P : Type 0} (answer : Result X E) → P → OnErr answer P
+on_err (Ok x) p = tt
+on_err (Err e) p = p
 
 -- a row that stands behind others
 pub behind : (others row cells now : List ℤ) (start : ℕ) → cells ≡ others ++ row → start ≡ length others → now ≡ drop start cells → now ≡ row

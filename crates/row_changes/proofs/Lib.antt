@@ -4,3 +4,4 @@ pub mod Differing
 pub mod MadeChange
 pub mod MadeRows
 pub mod MappedParts
+pub mod Placed

@@ -17,7 +17,7 @@ use tick_table::{Change, Steps};
 
 /// The change from the table before the step to the table now, made of the rows that the step touches: where they are the
 /// parts of the change along some pairs of rows that stay, it is the change along these pairs. It reads the added rows, and
-/// the rows that may differ twice, before and now.
+/// the rows that may differ twice, before and now; where it is refused, no more than these.
 pub fn change_of_touched<L: Ledger, R: Rows<L>>(
     alloc: Global,
     rows: &R,
@@ -33,7 +33,7 @@ pub fn change_of_touched<L: Ledger, R: Rows<L>>(
     requires before { AreThere (R.table_before rows.now) touched.compared_before }
     requires now { AreThere (R.table_now rows.now) touched.compared_now }
     ensures change { IfOk result (λ change. (kept : List KeyPair) → AreParts (R.table_before rows.now) (R.table_now rows.now) touched kept → change ≡ change_of (tick_along (R.table_before rows.now) (R.table_now rows.now) kept)) }
-    ensures reads { IfOk result (λ change. reads.new ≤ reads.old + R.row_reads rows.now * (2 * length touched.compared_now + length touched.added)) }
+    ensures reads { reads.new ≤ reads.old + R.row_reads rows.now * (2 * length touched.compared_now + length touched.added) }
 {
     let Touched {
         removed,
@@ -42,7 +42,8 @@ pub fn change_of_touched<L: Ledger, R: Rows<L>>(
         compared_before,
         compared_now,
     } = touched;
-    let mut cells = Vec::new(alloc);
+    let room = (added.len() as usize).saturating_mul(width as usize);
+    let mut cells = Vec::with_capacity(alloc, room)?;
     rows.all_now(&added, &mut cells, reads)?;
     let told = compare_rows(
         alloc,

@@ -16,7 +16,8 @@ use std::sync::ledger::Ledger;
 use tick_table::{Change, Steps, TickTable};
 
 /// The change of an operator that has a row for each row of its input, under its key, where `before` and `now` have the
-/// keys of the rows that stay and may differ, place by place. The rows that go, come and move are those of the input.
+/// keys of the rows that stay and may differ, place by place. The rows that go, come and move are those of the input. Where
+/// it is refused, no more rows are read.
 pub fn mapped<L: Ledger, R: Rows<L>>(
     alloc: Global,
     rows: &R,
@@ -33,7 +34,7 @@ pub fn mapped<L: Ledger, R: Rows<L>>(
     requires tables { IsMapped (tick_of input.now) (R.table_before rows.now) (R.table_now rows.now) }
     requires compared { AreCompared (R.table_before rows.now) (R.table_now rows.now) (pairs input.now.old input.now.update) before now }
     ensures change { IfOk result (λ change. change ≡ change_of (mapped_tick (R.table_before rows.now) (R.table_now rows.now) (tick_of input.now))) }
-    ensures reads { IfOk result (λ change. reads.new ≤ reads.old + R.row_reads rows.now * (2 * length now + length input.now.update.added)) }
+    ensures reads { reads.new ≤ reads.old + R.row_reads rows.now * (2 * length now + length input.now.update.added) }
 {
     let update = input.update();
     let removed = update.removed().copy()?;

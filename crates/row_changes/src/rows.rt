@@ -12,7 +12,7 @@ use std::sync::ledger::Ledger;
 use tick_table::{RowsNow, Steps, TickTable};
 
 /// Gives whole rows of a table, as it was before the step and as it is now. A table gives its own; an operator whose rows
-/// are computed gives them by a type of its own.
+/// are computed gives them by a type of its own. A refusal is told after no more reads than the rows would have taken.
 pub trait Rows<L: Ledger> {
     /// The table before the step.
     ghost table_before: { Self → PlainTable };
@@ -31,14 +31,14 @@ pub trait Rows<L: Ledger> {
         requires ready { ready self.now }
         requires here { IsTrue (is_among key (keys (table_before self.now).rows)) }
         ensures cells { OnOk result (cells.new.items ≡ cells.old.items ++ cells_at key (table_before self.now).rows) }
-        ensures reads { OnOk result (reads.new ≤ reads.old + row_reads self.now) };
+        ensures reads { reads.new ≤ reads.old + row_reads self.now };
 
     /// Puts the cells that a row has now behind others.
     fn now(&self, key: u64, cells: &mut Vec<i64>, reads: &mut Steps<L>) -> Result<(), AllocError>
         requires ready { ready self.now }
         requires here { IsTrue (is_among key (keys (table_now self.now).rows)) }
         ensures cells { OnOk result (cells.new.items ≡ cells.old.items ++ cells_at key (table_now self.now).rows) }
-        ensures reads { OnOk result (reads.new ≤ reads.old + row_reads self.now) };
+        ensures reads { reads.new ≤ reads.old + row_reads self.now };
 
     /// Puts the cells that rows have now behind others, one row after the other.
     fn all_now(
@@ -50,7 +50,7 @@ pub trait Rows<L: Ledger> {
         requires ready { ready self.now }
         requires there { AreThere (table_now self.now) rows.now }
         ensures cells { OnOk result (cells.new.items ≡ cells.old.items ++ cells_under (table_now self.now) rows.now) }
-        ensures reads { OnOk result (reads.new ≤ reads.old + row_reads self.now * length rows.now) }
+        ensures reads { reads.new ≤ reads.old + row_reads self.now * length rows.now }
     {
         for key in rows {
             self.now(key, cells, reads)?;

@@ -48,7 +48,7 @@ pub(crate) fn compare_rows<L: Ledger, R: Rows<L>>(
     ensures columns { IfOk result (λ told. (column : ℕ) → is_among column told.columns ≡ (nat_lt column width && list_any (differs_in (R.table_before rows.now) (R.table_now rows.now) column) (pairs_of before.now now.now))) }
     ensures rising { IfOk result (λ told. IsRising told.columns) }
     ensures cells { IfOk result (λ told. told.cells.items ≡ cells.items ++ cells_under (R.table_now rows.now) told.modified) }
-    ensures reads { OnOk result (reads.new ≤ reads.old + R.row_reads rows.now * (2 * length now.now)) }
+    ensures reads { reads.new ≤ reads.old + R.row_reads rows.now * (2 * length now.now) }
 {
     let mut told = Told {
         cells,
@@ -83,7 +83,7 @@ fn compare_row<L: Ledger, R: Rows<L>>(
     ensures columns { OnOk result ((column : ℕ) → is_among column told.new.columns ≡ (is_among column told.old.columns || (nat_lt column width && differs_in (R.table_before rows.now) (R.table_now rows.now) column pair))) }
     ensures rising { OnOk result (IsRising told.new.columns) }
     ensures cells { OnOk result (told.new.cells.items ≡ told.old.cells.items ++ cells_under (R.table_now rows.now) (new_keys (filter (differs (R.table_before rows.now) (R.table_now rows.now)) (pair ∷ [])))) }
-    ensures reads { OnOk result (reads.new ≤ reads.old + R.row_reads rows.now * 2) }
+    ensures reads { reads.new ≤ reads.old + R.row_reads rows.now * 2 }
 {
     row.clear();
     rows.before(pair.old, row, reads)?;

@@ -1,6 +1,6 @@
 //! Which rows begin to pass a test in a step, and which cease to.
 
-ghost use Rattle.std.specs.Prelude.{◌≡◌, ◌+◌, ◌*◌, ◌≤◌, ◌&&◌, filter, length, not, IfOk, OnOk};
+ghost use Rattle.std.specs.Prelude.{◌≡◌, ◌+◌, ◌*◌, ◌≤◌, ◌&&◌, filter, length, not, IfOk};
 ghost use Rattle.key_lists.specs.Keys.{is_among};
 ghost use Rattle.row_changes.specs.Parts.{AreThere};
 ghost use Rattle.shown_rows.specs.Shown.{through};
@@ -27,7 +27,7 @@ pub(crate) struct Crossing {
 }
 
 /// The rows that cross a test in a step, where `shown` has the keys of those that passed before it. It reads the added and
-/// the modified rows, each once.
+/// the modified rows, each once; where it is refused, no more than these.
 pub(crate) fn crossing_rows<L: Ledger>(
     alloc: Global,
     test: &Pred,
@@ -40,7 +40,7 @@ pub(crate) fn crossing_rows<L: Ledger>(
     requires shown { shown.now ≡ keys (where_table test.now input.now.old).rows }
     ensures leaving { IfOk result (λ crossing. crossing.leaving ≡ (between (through (where_table test.now) (tick_of input.now))).removed) }
     ensures coming { IfOk result (λ crossing. crossing.coming ≡ (between (through (where_table test.now) (tick_of input.now))).added) }
-    ensures reads { OnOk result (reads.new ≤ reads.old + input.now.new.width * (length input.now.update.added + length input.now.update.modified)) }
+    ensures reads { reads.new ≤ reads.old + input.now.new.width * (length input.now.update.added + length input.now.update.modified) }
 {
     let update = input.update();
     let gone = keys_among(alloc, update.removed(), shown)?;
@@ -67,7 +67,7 @@ fn changed_rows<L: Ledger>(
         ≡ old_keys (filter (λ pair. is_among pair.old shown.now && not (truth test.now (cells_at pair.new input.now.new.rows))) pairs.now)) }
     ensures coming { IfOk result (λ crossing. crossing.coming
         ≡ new_keys (filter (λ pair. not (is_among pair.old shown.now) && truth test.now (cells_at pair.new input.now.new.rows)) pairs.now)) }
-    ensures reads { OnOk result (reads.new ≤ reads.old + input.now.new.width * length pairs.now) }
+    ensures reads { reads.new ≤ reads.old + input.now.new.width * length pairs.now }
 {
     let mut leaving = RowSet::new(alloc);
     let mut coming = RowSet::new(alloc);

@@ -1,6 +1,6 @@
 //! Which rows pass a test, by reading them.
 
-ghost use Rattle.std.specs.Prelude.{◌≡◌, ◌+◌, ◌*◌, ◌≤◌, filter, length, IfOk, OnOk};
+ghost use Rattle.std.specs.Prelude.{◌≡◌, ◌+◌, ◌*◌, ◌≤◌, filter, length, IfOk};
 ghost use Rattle.row_changes.specs.Parts.{AreThere};
 ghost use Rattle.tick_model.specs.Formulas.{IsTestWithin, truth};
 ghost use Rattle.tick_model.specs.Tables.{cells_at};
@@ -24,7 +24,7 @@ pub(crate) fn passing_keys<L: Ledger>(
     requires within { IsTestWithin input.now.new.width test.now }
     requires here { AreThere input.now.new keys.now }
     ensures keys { IfOk result (λ found. found ≡ filter (λ key. truth test.now (cells_at key input.now.new.rows)) keys.now) }
-    ensures reads { OnOk result (reads.new ≤ reads.old + input.now.new.width * length keys.now) }
+    ensures reads { reads.new ≤ reads.old + input.now.new.width * length keys.now }
 {
     let mut found = RowSet::new(alloc);
     let mut rows = RowsNow::of(input);

@@ -3,7 +3,7 @@
 //! The rows that come, go and move are those of the input. A row is modified where the input's is, and where its values differ
 //! besides; so no row is read but the added and the modified ones.
 
-ghost use Rattle.std.specs.Prelude.{◌≡◌, ◌+◌, ◌*◌, ◌≤◌, ◌++◌, drop, length, map, vec_len, IfOk, OnOk};
+ghost use Rattle.std.specs.Prelude.{◌≡◌, ◌+◌, ◌*◌, ◌≤◌, ◌++◌, drop, length, map, vec_len, IfOk, OnErr, OnOk};
 ghost use Rattle.std.specs.List.{AllByRecursion};
 ghost use Rattle.row_ops.specs.Viewer.{viewed};
 ghost use Rattle.tick_model.specs.Changes.{change_of};
@@ -129,7 +129,8 @@ impl ViewOp {
         ViewOp { exprs, width }
     }
 
-    /// The operator after the step that the input shows, and the change of its rows. After a refusal it is given up.
+    /// The operator after the step that the input shows, and the change of its rows. After a refusal it is given up, and no
+    /// more is read than that change may take.
     pub fn step<L: Ledger>(
         self,
         alloc: Global,
@@ -141,6 +142,7 @@ impl ViewOp {
         ensures same { IfOk result (λ out. out.0 ≡ self) }
         ensures change { IfOk result (λ out. out.1 ≡ change_of (viewed self.exprs (tick_of input.now))) }
         ensures reads { IfOk result (λ out. reads.new ≤ reads.old + 4 * (input.now.new.width + (input.now.new.width + length self.exprs)) * (counted input.now.update + counted out.1.update)) }
+        ensures refused { OnErr result (reads.new ≤ reads.old + 4 * (input.now.new.width + (input.now.new.width + length self.exprs)) * (counted input.now.update + counted (change_of (viewed self.exprs (tick_of input.now))).update)) }
     {
         let change = view_change(alloc, self.exprs.as_slice(), input, reads)?;
         Ok((self, change))
@@ -158,7 +160,7 @@ fn view_change<L: Ledger>(
     requires few { input.now.new.width + length exprs.now ≤ 32 }
     requires within { AllByRecursion (IsWithin input.now.new.width) exprs.now }
     ensures change { IfOk result (λ change. change ≡ change_of (viewed exprs.now (tick_of input.now))) }
-    ensures reads { OnOk result (reads.new ≤ reads.old + input.now.new.width * (2 * length input.now.update.modified + length input.now.update.added)) }
+    ensures reads { reads.new ≤ reads.old + input.now.new.width * (2 * length input.now.update.modified + length input.now.update.added) }
 {
     let update = input.update();
     let before = update.modified_before(input.prev_rows())?;

@@ -3,7 +3,7 @@
 //! A row comes where it is added and passes, or is modified and passes now and did not before; it goes where it is removed and
 //! passed, or is modified and passes no more. Every other row that is shown stays, and is modified where the input's is.
 
-ghost use Rattle.std.specs.Prelude.{◌≡◌, ◌+◌, ◌*◌, ◌≤◌, [], IfOk, OnOk};
+ghost use Rattle.std.specs.Prelude.{◌≡◌, ◌+◌, ◌*◌, ◌≤◌, [], IfOk, OnErr, OnOk};
 ghost use Rattle.row_ops.specs.Filter.{filtered};
 ghost use Rattle.tick_model.specs.Changes.{change_of};
 ghost use Rattle.tick_model.specs.Formulas.{IsTestWithin};
@@ -81,7 +81,7 @@ impl WhereOp {
     }
 
     /// The operator after the step that the input shows, and the change of its rows. It must stand for the input's rows before
-    /// the step; after a refusal it is given up.
+    /// the step; after a refusal it is given up, and no more is read than that change may take.
     pub fn step<L: Ledger>(
         self,
         alloc: Global,
@@ -94,6 +94,7 @@ impl WhereOp {
         ensures stands { IfOk result (λ out. out.0 ≡ record self { shown = keys (where_table self.test input.now.new).rows }) }
         ensures change { IfOk result (λ out. out.1 ≡ change_of (filtered self.test (tick_of input.now))) }
         ensures reads { IfOk result (λ out. reads.new ≤ reads.old + 4 * (input.now.new.width + input.now.new.width) * (counted input.now.update + counted out.1.update)) }
+        ensures refused { OnErr result (reads.new ≤ reads.old + 4 * (input.now.new.width + input.now.new.width) * (counted input.now.update + counted (change_of (filtered self.test (tick_of input.now))).update)) }
     {
         let WhereOp {
             test,

@@ -1,6 +1,7 @@
 -- The tick from some rows of an exact input before to some of them now, and its parts.
-use Rattle.std.proofs.Common.{◌≡◌, refl, ap, ap₂, sym, ◌∙◌, subst, Bool, true, false, not, ◌&&◌, ℕ, ◌≤◌, ◌^◌, List, map, filter, length, None}
+use Rattle.std.proofs.Common.{◌≡◌, refl, ap, ap₂, sym, ◌∙◌, subst, Bool, true, false, not, ◌&&◌, ℕ, ◌+◌, ◌*◌, ◌≤◌, ◌^◌, arith, List, map, filter, length, None}
 use Rattle.std.specs.List.{AllByRecursion}
+use Rattle.std.proofs.Math.Nat.{mul-le-mul_left}
 use Rattle.std.proofs.lemmas.Bool.{and_parts}
 use Rattle.std.proofs.lemmas.List.{length-map}
 use Rattle.key_lists.specs.Keys.{is_among, IsRising, without}
@@ -189,3 +190,10 @@ module _ (t : Ticking) (e : IsExact t) where
     touched_few =
         subst (λ n. n ≤ length t.update.modified) (sym (length-map touched (λ (pair : KeyPair). pair.new)))
         (subst (λ n. length touched ≤ n) (sym (ap length modified_new ∙ length-map (filter is_modified kept) (λ (pair : KeyPair). pair.new))) (length-filter_most stays (filter is_modified kept)))
+
+    -- where the compared rows are these, no more are read than the modified ones twice, and the others
+    pub reads_few : (width first second coming : ℕ) (compared : List ℕ) → compared ≡ new_keys touched → second ≤ first + width * (2 * length compared + coming) → second ≤ first + width * (2 * length t.update.modified + coming)
+    reads_few width first second coming compared are h = omega (arith, h, mul-le-mul_left width few)
+      where
+        few : 2 * length compared + coming ≤ 2 * length t.update.modified + coming
+        few = omega (arith, ap length are, touched_few)

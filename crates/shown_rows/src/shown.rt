@@ -19,7 +19,7 @@ use tick_table::{Change, Steps, TickTable};
 /// The change from the rows that are chosen of the input before the step to those that are chosen now. `shown` has the keys
 /// of the former, and then those of the latter; `leaving` has the old keys of the rows that are shown no more, and `coming`
 /// the new keys of those that were not shown before. It reads the coming rows, and the modified rows that stay, before and
-/// now.
+/// now; where it is refused, no more than these.
 pub fn shown_change<L: Ledger, C: Chooses>(
     alloc: Global,
     choice: &C,
@@ -37,7 +37,7 @@ pub fn shown_change<L: Ledger, C: Chooses>(
     requires coming { coming ≡ (between (through (C.chosen choice.now) (tick_of input.now))).added }
     ensures shown { OnOk result (shown.new ≡ keys (C.chosen choice.now input.now.new).rows) }
     ensures change { IfOk result (λ change. change ≡ change_of (through (C.chosen choice.now) (tick_of input.now))) }
-    ensures reads { IfOk result (λ _. reads.new ≤ reads.old + input.now.new.width * (2 * length input.now.update.modified + length coming)) }
+    ensures reads { reads.new ≤ reads.old + input.now.new.width * (2 * length input.now.update.modified + length coming) }
 {
     let modified = KeyPairs::modified(input)?;
     let pairs = modified.within(alloc, shown, &leaving)?;

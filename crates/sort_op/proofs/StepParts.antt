@@ -1,6 +1,6 @@
 -- The parts of a step's change, from the positions that are found in the order before it and in the one now.
-use Rattle.std.proofs.Common.{◌≡◌, refl, ap, ap₂, sym, ◌∙◌, subst, true, false, not, ◌&&◌, ◌||◌, ◌==◌, ℕ, ◌+◌, ◌*◌, ◌^◌, ◌<◌, ◌≤◌, arith, List, [], ◌∷◌, map, filter, length, Option, Some, None, Result, Ok, Err}
-use Rattle.std.specs.Prelude.{IfOk, option_map, slice_get}
+use Rattle.std.proofs.Common.{◌≡◌, refl, ap, ap₂, sym, ◌∙◌, subst, true, false, not, ◌&&◌, ◌||◌, ◌==◌, ℕ, ◌+◌, ◌*◌, ◌^◌, ◌<◌, ◌≤◌, arith, List, [], ◌∷◌, map, filter, length, Option, Some, None}
+use Rattle.std.specs.Prelude.{option_map, slice_get}
 use Rattle.std.specs.List.{AllByRecursion}
 use Rattle.std.specs.Option.{option_map_or}
 use Rattle.std.proofs.Math.Nat.{mul-le-mul_left}
@@ -19,7 +19,6 @@ use Rattle.tick_model.specs.declared.table.PlainRow.{PlainRow}
 use Rattle.tick_model.specs.declared.table.PlainTable.{PlainTable}
 use Rattle.tick_model.specs.declared.update.KeyPair.{KeyPair}
 use Rattle.tick_model.specs.declared.update.ShiftRange.{ShiftRange}
-use Rattle.tick_model.specs.Changes.{Change}
 use Rattle.tick_model.specs.Shifts.{as_key, moved}
 use Rattle.tick_model.specs.Sort.{in_order, sort_pairs, sort_table}
 use Rattle.tick_model.specs.Tables.{IsTable, keys, same_cells}
@@ -51,24 +50,20 @@ pub staying_is : (by : List SortBy) (table : PlainTable) (order : List Entry) (c
 staying_is by table order crossing others o s = s ∙ ap (λ (entries : List Entry). other_places (length entries) crossing) o ∙ other_places_are by table crossing
 
 -- what a step reads is within the bound
-reads_within : (width first second third added modified removed out_removed out_added out_modified : ℕ) → second ≡ first + width * modified → third ≤ second + width * (3 * modified + added + out_added)
+reads_within : (width first second third added modified removed out_removed out_added out_modified : ℕ) → second ≤ first + width * modified → third ≤ second + width * (3 * modified + added + out_added)
     → third ≤ first + 4 * (width + width) * ((removed + added + 2 * modified) + (out_removed + out_added + 2 * out_modified))
 reads_within width first second third added modified removed out_removed out_added out_modified a b = omega (arith, a, b)
 
-pub reads_bounded : {E : Type 0} (result : Result Change E) (width first second third : ℕ) (input : Update) → second ≡ first + width * length input.modified
-    → IfOk result (λ change. third ≤ second + width * (3 * length input.modified + length input.added + length change.update.added)) → IfOk result (λ change. third ≤ first + 4 * (width + width) * (counted input + counted change.update))
-reads_bounded (Ok change) width first second third input a b =
-    reads_within width first second third (length input.added) (length input.modified) (length input.removed) (length change.update.removed) (length change.update.added) (length change.update.modified) a b
-reads_bounded (Err e) width first second third input a b = tt
+pub reads_bounded : (width first second third : ℕ) (input output : Update) → second ≤ first + width * length input.modified → third ≤ second + width * (3 * length input.modified + length input.added + length output.added) → third ≤ first + 4 * (width + width) * (counted input + counted output)
+reads_bounded width first second third input output a b = reads_within width first second third (length input.added) (length input.modified) (length input.removed) (length output.removed) (length output.added) (length output.modified) a b
 
 -- and so is what the rows that are compared and those that come take
-pub reads_fewer : {E : Type 0} (result : Result Change E) (width first second third added modified : ℕ) (came compared : List ℕ) (crossing : List ℕ) (change : Change) → IfOk result (λ made. made ≡ change) → crossing ≡ change.update.added → length came ≤ added + modified → length compared ≤ modified
-    → second ≡ first + width * length came → IfOk result (λ made. third ≤ second + width * (2 * length compared + length crossing)) → IfOk result (λ made. third ≤ first + width * (3 * modified + added + length made.update.added))
-reads_fewer (Ok made) width first second third added modified came compared crossing change is come few_came few read h =
-    let count : length crossing ≡ length made.update.added = ap length come ∙ sym (ap (λ (change : Change). length change.update.added) is) in
-    let most : width * (length came + (2 * length compared + length crossing)) ≤ width * (3 * modified + added + length made.update.added) = let fewer : length came + (2 * length compared + length crossing) ≤ 3 * modified + added + length made.update.added = omega (arith, few_came, few, count) in mul-le-mul_left width fewer in
-    omega (arith, read, h, most)
-reads_fewer (Err e) width first second third added modified came compared crossing change is come few_came few read h = tt
+pub reads_fewer : (width first second third added modified : ℕ) (came compared crossing : List ℕ) (output : Update) → crossing ≡ output.added → length came ≤ added + modified → length compared ≤ modified → second ≤ first + width * length came → third ≤ second + width * (2 * length compared + length crossing)
+    → third ≤ first + width * (3 * modified + added + length output.added)
+reads_fewer width first second third added modified came compared crossing output come few_came few read h = omega (arith, read, h, mul-le-mul_left width fewer)
+  where
+    fewer : length came + (2 * length compared + length crossing) ≤ 3 * modified + added + length output.added
+    fewer = omega (arith, few_came, few, ap length come)
 
 -- an entry whose key none of some has is none of them
 key_out : (entry : Entry) (some : List Entry) → is_among entry.key (keys_in some) ≡ false → is_in entry some ≡ false

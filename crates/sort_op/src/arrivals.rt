@@ -1,5 +1,5 @@
 //! Rows that come into an order.
-ghost use Rattle.std.specs.Prelude.{◌≡◌, ◌+◌, ◌*◌, ◌<◌, ◌^◌, ◌≢◌, ◌||◌, ◌==◌, ℕ, false, length, map, IfOk, IsPermutation, OnOk, Some};
+ghost use Rattle.std.specs.Prelude.{◌≡◌, ◌+◌, ◌*◌, ◌<◌, ◌≤◌, ◌^◌, ◌≢◌, ◌||◌, ◌==◌, ℕ, false, length, map, IfOk, IsPermutation, OnOk, Some};
 ghost use Rattle.std.specs.List.{AllByRecursion};
 ghost use Rattle.key_lists.specs.Keys.{IsRising, is_among};
 ghost use Rattle.row_changes.specs.Parts.{AreThere};
@@ -121,7 +121,7 @@ impl RowOrder {
         ensures listed { listed self.new ≡ listed self.old }
         ensures entered { IfOk result (λ rows. AreArrived self.new rows.items (entries_under self.old.by input.now.new keys.now)) }
         ensures keys { OnOk result ((key : ℕ) → is_among key (keys_of self.new.handles) ≡ (is_among key keys.now || is_among key (keys_of self.old.handles))) }
-        ensures reads { OnOk result (reads.new ≡ reads.old + input.now.new.width * length keys.now) }
+        ensures reads { reads.new ≤ reads.old + input.now.new.width * length keys.now }
     {
         let mut entered = Vec::new(alloc);
         let mut rows = RowsNow::of(input);

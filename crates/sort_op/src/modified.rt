@@ -1,5 +1,5 @@
 //! Which modified rows have other sort cells now.
-ghost use Rattle.std.specs.Prelude.{◌≡◌, ◌+◌, ◌*◌, length, IfOk, OnOk};
+ghost use Rattle.std.specs.Prelude.{◌≡◌, ◌+◌, ◌*◌, ◌≤◌, length, IfOk};
 ghost use Rattle.tick_table.specs.Exact.{IsExact};
 ghost use Rattle.sort_op.specs.Ranks.{listed};
 ghost use Rattle.sort_op.specs.Reading.{moving_pairs, staying_pairs};
@@ -31,7 +31,7 @@ pub(crate) fn modified_rows<L: Ledger>(
     requires stands { listed order.now ≡ entries_of order.now.by input.now.old.rows }
     ensures moving { IfOk result (λ modified. modified.moving ≡ moving_pairs order.now.by input.now) }
     ensures staying { IfOk result (λ modified. modified.staying ≡ staying_pairs order.now.by input.now) }
-    ensures reads { OnOk result (reads.new ≡ reads.old + input.now.new.width * length input.now.update.modified) }
+    ensures reads { reads.new ≤ reads.old + input.now.new.width * length input.now.update.modified }
 {
     let pairs = KeyPairs::modified(input)?;
     let mut moving = KeyPairs::new(alloc);

@@ -3,7 +3,7 @@
 //! The result's keys are positions. A step finds the old positions of the rows that leave the order or may differ while the
 //! order is the one before, takes out what stands there and puts in what comes, each row by one search. What lies between
 //! the positions moves by ranges.
-ghost use Rattle.std.specs.Prelude.{◌≡◌, ◌+◌, ◌*◌, ◌^◌, ◌≤◌, [], length, IfOk, IsTrue, OnOk};
+ghost use Rattle.std.specs.Prelude.{◌≡◌, ◌+◌, ◌*◌, ◌^◌, ◌≤◌, [], length, IfOk, IsTrue, OnErr, OnOk};
 ghost use Rattle.std.specs.List.{AllByRecursion};
 ghost use Rattle.key_lists.specs.Keys.{is_among, without};
 ghost use Rattle.row_changes.specs.Parts.{AreCompared};
@@ -83,7 +83,7 @@ impl SortOp {
     }
 
     /// The operator after the step that the input shows, and the change of its rows. It must stand for the input's rows before
-    /// the step; after a refusal it is given up.
+    /// the step; after a refusal it is given up, and no more is read than that change may take.
     pub fn step<L: Ledger>(
         self,
         alloc: Global,
@@ -96,6 +96,7 @@ impl SortOp {
         ensures stands { IfOk result (λ out. out.0 ≡ record self { entries = entries_of self.by input.now.new.rows }) }
         ensures change { IfOk result (λ out. out.1 ≡ change_of (sorted self.by (tick_of input.now))) }
         ensures reads { IfOk result (λ out. reads.new ≤ reads.old + 4 * (input.now.new.width + input.now.new.width) * (counted input.now.update + counted out.1.update)) }
+        ensures refused { OnErr result (reads.new ≤ reads.old + 4 * (input.now.new.width + input.now.new.width) * (counted input.now.update + counted (change_of (sorted self.by (tick_of input.now))).update)) }
     {
         let SortOp { mut order, width } = self;
         let change = step_order(alloc, input, &mut order, reads)?;
@@ -140,7 +141,7 @@ fn step_order<L: Ledger>(
     ensures settled { OnOk result (IsSettled order.new) }
     ensures stands { OnOk result (listed order.new ≡ entries_of order.old.by input.now.new.rows) }
     ensures change { IfOk result (λ change. change ≡ change_of (sorted order.old.by (tick_of input.now))) }
-    ensures reads { IfOk result (λ change. reads.new ≤ reads.old + 4 * (input.now.new.width + input.now.new.width) * (counted input.now.update + counted change.update)) }
+    ensures reads { reads.new ≤ reads.old + 4 * (input.now.new.width + input.now.new.width) * (counted input.now.update + counted (between (sorted order.old.by (tick_of input.now)))) }
 {
     let edits = edits_of(alloc, input, order, reads)?;
     edited(alloc, input, order, edits, reads)
@@ -159,7 +160,7 @@ fn edits_of<L: Ledger>(
     ensures coming { IfOk result (λ edits. edits.coming ≡ coming order.now.by input.now) }
     ensures compared_before { IfOk result (λ edits. edits.compared_before ≡ old_keys (staying_pairs order.now.by input.now)) }
     ensures compared_now { IfOk result (λ edits. edits.compared_now ≡ new_keys (staying_pairs order.now.by input.now)) }
-    ensures reads { OnOk result (reads.new ≡ reads.old + input.now.new.width * length input.now.update.modified) }
+    ensures reads { reads.new ≤ reads.old + input.now.new.width * length input.now.update.modified }
 {
     let Modified { moving, staying } = modified_rows(alloc, input, order, reads)?;
     let (moving_from, moving_to) = moving.into_keys();
@@ -192,7 +193,7 @@ fn edited<L: Ledger>(
     ensures settled { OnOk result (IsSettled order.new) }
     ensures stands { OnOk result (listed order.new ≡ entries_of order.old.by input.now.new.rows) }
     ensures change { IfOk result (λ change. change ≡ change_of (sorted order.old.by (tick_of input.now))) }
-    ensures reads { IfOk result (λ change. reads.new ≤ reads.old + input.now.new.width * (3 * length input.now.update.modified + length input.now.update.added + length change.update.added)) }
+    ensures reads { reads.new ≤ reads.old + input.now.new.width * (3 * length input.now.update.modified + length input.now.update.added + length (between (sorted order.old.by (tick_of input.now))).added) }
 {
     let before = before_edits(alloc, order, &edits)?;
     let crossing = bring_on(
@@ -252,7 +253,7 @@ fn bring_on<L: Ledger>(
     ensures stands { OnOk result (listed order.new ≡ entries_of order.old.by input.now.new.rows) }
     ensures places { IfOk result (λ positions. AreUnder (keys_in (listed order.new)) came.now positions) }
     ensures set { IfOk result (λ positions. IsKeySet positions) }
-    ensures reads { OnOk result (reads.new ≡ reads.old + input.now.new.width * length came.now) }
+    ensures reads { reads.new ≤ reads.old + input.now.new.width * length came.now }
 {
     take_out(order, input, left)?;
     put_in(alloc, order, input, came, reads)
@@ -291,7 +292,7 @@ fn put_in<L: Ledger>(
     ensures stands { OnOk result (listed order.new ≡ entries_of order.old.by input.now.new.rows) }
     ensures places { IfOk result (λ positions. AreUnder (keys_in (listed order.new)) came.now positions) }
     ensures set { IfOk result (λ positions. IsKeySet positions) }
-    ensures reads { OnOk result (reads.new ≡ reads.old + input.now.new.width * length came.now) }
+    ensures reads { reads.new ≤ reads.old + input.now.new.width * length came.now }
 {
     let rows = order.enter_rows(alloc, input, came, reads)?;
     let positions = order.insert_rows(rows)?;
@@ -342,7 +343,7 @@ fn sorted_change<L: Ledger>(
     requires touched { before.touched ≡ united before.places.crossing before.places.compared }
     requires touched_keys { before.touched_keys.items ≡ keys_at (entries_of order.now.by input.now.old.rows) before.touched }
     ensures change { IfOk result (λ change. change ≡ change_of (sorted order.now.by (tick_of input.now))) }
-    ensures reads { IfOk result (λ change. reads.new ≤ reads.old + input.now.new.width * (2 * length now.compared + length now.crossing)) }
+    ensures reads { reads.new ≤ reads.old + input.now.new.width * (2 * length now.compared + length now.crossing) }
 {
     let Before {
         places: before,

@@ -40,7 +40,7 @@ impl SortedRows<'_> {
         requires rising { IsRising (keys self.now.input.now.new.rows) }
         requires order { listed self.now.order.now ≡ entries_of self.now.order.now.by self.now.input.now.new.rows }
         ensures cells { OnOk result (cells.new.items ≡ cells.old.items ++ cells_at position (sort_table self.now.order.now.by self.now.input.now.new).rows) }
-        ensures reads { OnOk result (reads.new ≤ reads.old + self.now.input.now.new.width) }
+        ensures reads { reads.new ≤ reads.old + self.now.input.now.new.width }
     {
         let key = self.order.key_at(position);
         self.input.row(key, cells, reads)

@@ -1,4 +1,4 @@
-use Rattle.std.proofs.Common.{◌≡◌, sym, ◌∙◌, ap, ap₂, subst, ◌+◌, ◌*◌, ◌≤◌, List, ℕ, length}
+use Rattle.std.proofs.Common.{◌≡◌, sym, ◌∙◌, ap, ap₂, subst, ◌+◌, List, ℕ, length}
 use Rattle.std.proofs.lemmas.Result.{IfOk-weaker}
 use Rattle.key_lists.specs.Keys.{without}
 use Rattle.row_changes.specs.Parts.{Parts, AreParts, tick_along}
@@ -7,7 +7,7 @@ use Rattle.shift_data.specs.Moves.{IsLawful, canonical}
 use Rattle.tick_model.specs.declared.update.KeyPair.{KeyPair}
 use Rattle.tick_model.specs.declared.update.ShiftRange.{ShiftRange}
 use Rattle.tick_model.specs.Agg.{agg_table}
-use Rattle.tick_model.specs.Changes.{Change, change_of}
+use Rattle.tick_model.specs.Changes.{change_of}
 use Rattle.tick_model.specs.Updates.{Update, between, new_keys, old_keys}
 use Rattle.agg_by.specs.Steps.{staying}
 use Rattle.agg_by.proofs.GroupParts.{parts_are, removed_is, shift_lawful, tick}
@@ -93,6 +93,4 @@ returns-clause-reads g c =
     let news : c.into_keys-compared_before.result.1 ≡ new_keys (staying by t) = c.into_keys-compared_before.ensures.new ∙ ap new_keys c.in_ok-staying.ensures in
     let few : length c.into_keys-compared_before.result.1 + length c.in_ok-added.added ≡ length c.args.firsts =
     ap₂ (λ (compared added : List ℕ). length compared + length added) news (c.in_ok-added.ensures ∙ ap₂ without news c.requires.firsts) ∙ read_few by aggs t e ∙ ap length (sym c.requires.firsts) in
-    IfOk-weaker c.change_of_touched.result (λ (change : Change). c.change_of_touched.new.reads ≤ c.args.reads.now + length aggs * (2 * length c.into_keys-compared_before.result.1 + length c.in_ok-added.added))
-    (λ (change : Change). c.change_of_touched.new.reads ≤ c.args.reads.now + 2 * length aggs * length c.args.firsts)
-    (λ change reads. change_reads (length aggs) c.args.reads.now c.change_of_touched.new.reads (length c.into_keys-compared_before.result.1) (length c.in_ok-added.added) (length c.args.firsts) reads few) c.change_of_touched.ensures.reads
+    change_reads (length aggs) c.args.reads.now c.change_of_touched.new.reads (length c.into_keys-compared_before.result.1) (length c.in_ok-added.added) (length c.args.firsts) c.change_of_touched.ensures.reads few

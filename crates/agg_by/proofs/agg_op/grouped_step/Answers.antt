@@ -1,4 +1,4 @@
-use Rattle.std.proofs.Common.{◌≡◌, ap, ap₂, sym, ◌∙◌, subst, ◌+◌, ◌*◌, ◌≤◌, List, ℕ, length}
+use Rattle.std.proofs.Common.{◌≡◌, ap, ap₂, sym, ◌∙◌, subst, ◌+◌, ◌*◌, ◌≤◌, arith, List, ℕ, length}
 use Rattle.std.specs.List.{AllByRecursion, list_any}
 use Rattle.row_groups.specs.Members.{groups_of}
 use Rattle.tick_laws.specs.Checked.{keys_after}
@@ -90,6 +90,81 @@ returns-clause-change g c =
     c.in_ok-change.ensures.change
     ∙ ap₂ (λ (by : List ℕ) (aggs : List Agg). change_of (grouped by aggs (tick_of c.args.input.now))) (c.in_ok-bring_on.ensures.made.by ∙ c.in_ok-begin.ensures.made.by) (c.in_ok-bring_on.ensures.made.aggs ∙ c.in_ok-begin.ensures.made.aggs)
 
+pub returns-in_err-notes-clause-reads : goal.returns-in_err-notes-clause-reads
+returns-in_err-notes-clause-reads g c =
+    let t = c.args.input.now in
+    let width = t.new.width in
+    let aggs = c.args.kept.now.aggs in
+    let touched = length c.in_ok-moving.moving.gone + length c.in_ok-moving.moving.come in
+    let first : c.noted_groups.new.reads ≤ c.args.reads.now + (width + length aggs) * touched =
+    subst (λ (aggs : List Agg). c.noted_groups.new.reads ≤ c.args.reads.now + (width + length aggs) * touched) c.in_ok-begin.ensures.made.aggs c.noted_groups.ensures.reads in
+    let most : touched ≤ counted t.update = subst (λ (n : ℕ). n ≤ counted t.update) (sym (ap₂ (λ (gone come : List ℕ). length gone + length come) c.in_ok-moving.ensures.gone c.in_ok-moving.ensures.come)) (touched_count t c.requires.exact) in
+    step_reads width (length aggs) c.args.reads.now c.noted_groups.new.reads c.noted_groups.new.reads c.noted_groups.new.reads touched 0 (counted t.update) first (omega arith) (omega arith) (omega arith) most
+
+pub returns-in_err-bring_on-clause-reads : goal.returns-in_err-bring_on-clause-reads
+returns-in_err-bring_on-clause-reads g c =
+    let t = c.args.input.now in
+    let width = t.new.width in
+    let aggs = c.args.kept.now.aggs in
+    let touched = length c.in_ok-moving.moving.gone + length c.in_ok-moving.moving.come in
+    let first : c.noted_groups.new.reads ≤ c.args.reads.now + (width + length aggs) * touched =
+    subst (λ (aggs : List Agg). c.noted_groups.new.reads ≤ c.args.reads.now + (width + length aggs) * touched) c.in_ok-begin.ensures.made.aggs c.noted_groups.ensures.reads in
+    let most : touched ≤ counted t.update = subst (λ (n : ℕ). n ≤ counted t.update) (sym (ap₂ (λ (gone come : List ℕ). length gone + length come) c.in_ok-moving.ensures.gone c.in_ok-moving.ensures.come)) (touched_count t c.requires.exact) in
+    step_reads width (length aggs) c.args.reads.now c.noted_groups.new.reads c.bring_on.new.reads c.bring_on.new.reads touched 0 (counted t.update) first c.bring_on.ensures.reads (omega arith) (omega arith) most
+
+pub returns-in_err-firsts-clause-reads : goal.returns-in_err-firsts-clause-reads
+returns-in_err-firsts-clause-reads g c =
+    let t = c.args.input.now in
+    let width = t.new.width in
+    let aggs = c.args.kept.now.aggs in
+    let touched = length c.in_ok-moving.moving.gone + length c.in_ok-moving.moving.come in
+    let first : c.noted_groups.new.reads ≤ c.args.reads.now + (width + length aggs) * touched =
+    subst (λ (aggs : List Agg). c.noted_groups.new.reads ≤ c.args.reads.now + (width + length aggs) * touched) c.in_ok-begin.ensures.made.aggs c.noted_groups.ensures.reads in
+    let most : touched ≤ counted t.update = subst (λ (n : ℕ). n ≤ counted t.update) (sym (ap₂ (λ (gone come : List ℕ). length gone + length come) c.in_ok-moving.ensures.gone c.in_ok-moving.ensures.come)) (touched_count t c.requires.exact) in
+    step_reads width (length aggs) c.args.reads.now c.noted_groups.new.reads c.bring_on.new.reads c.bring_on.new.reads touched 0 (counted t.update) first c.bring_on.ensures.reads (omega arith) (omega arith) most
+
+pub returns-in_err-change-clause-reads : goal.returns-in_err-change-clause-reads
+returns-in_err-change-clause-reads g c =
+    let t = c.args.input.now in
+    let width = t.new.width in
+    let aggs = c.args.kept.now.aggs in
+    let made = c.in_ok-begin.ensures.made in
+    let brought = c.in_ok-bring_on.ensures.made in
+    let touched = length c.in_ok-moving.moving.gone + length c.in_ok-moving.moving.come in
+    let first : c.noted_groups.new.reads ≤ c.args.reads.now + (width + length aggs) * touched =
+    subst (λ (aggs : List Agg). c.noted_groups.new.reads ≤ c.args.reads.now + (width + length aggs) * touched) made.aggs c.noted_groups.ensures.reads in
+    let last : c.group_change.new.reads ≤ c.bring_on.new.reads + 2 * length aggs * length c.in_ok-firsts.firsts =
+    subst (λ (aggs : List Agg). c.group_change.new.reads ≤ c.bring_on.new.reads + 2 * length aggs * length c.in_ok-firsts.firsts) (brought.aggs ∙ made.aggs) c.group_change.ensures.reads in
+    let most : touched ≤ counted t.update = subst (λ (n : ℕ). n ≤ counted t.update) (sym (ap₂ (λ (gone come : List ℕ). length gone + length come) c.in_ok-moving.ensures.gone c.in_ok-moving.ensures.come)) (touched_count t c.requires.exact) in
+    let rows = c.bring_on.new.self.rows in
+    let few : length c.in_ok-firsts.firsts ≤ length (touched_cells c.begin.new.self.by t) =
+    few_firsts rows.members (touched_cells c.begin.new.self.by t) c.in_ok-firsts.firsts c.in_ok-firsts.ensures.rising
+    (λ first. c.in_ok-firsts.ensures.firsts first ∙ ap (list_any (starts_numbered rows first)) c.numbers.ensures ∙ c.in_ok-bring_on.ensures.firsts first) in
+    let count : length (touched_cells c.begin.new.self.by t) ≡ touched =
+    touched_few c.begin.new.self.by t ∙ sym (ap₂ (λ (gone come : List ℕ). length gone + length come) c.in_ok-moving.ensures.gone c.in_ok-moving.ensures.come) in
+    step_reads width (length aggs) c.args.reads.now c.noted_groups.new.reads c.bring_on.new.reads c.group_change.new.reads touched (length c.in_ok-firsts.firsts) (counted t.update) first c.bring_on.ensures.reads last (subst (λ (n : ℕ). length c.in_ok-firsts.firsts ≤ n) count few) most
+
+pub returns-in_err-shown-clause-reads : goal.returns-in_err-shown-clause-reads
+returns-in_err-shown-clause-reads g c =
+    let t = c.args.input.now in
+    let width = t.new.width in
+    let aggs = c.args.kept.now.aggs in
+    let made = c.in_ok-begin.ensures.made in
+    let brought = c.in_ok-bring_on.ensures.made in
+    let touched = length c.in_ok-moving.moving.gone + length c.in_ok-moving.moving.come in
+    let first : c.noted_groups.new.reads ≤ c.args.reads.now + (width + length aggs) * touched =
+    subst (λ (aggs : List Agg). c.noted_groups.new.reads ≤ c.args.reads.now + (width + length aggs) * touched) made.aggs c.noted_groups.ensures.reads in
+    let last : c.group_change.new.reads ≤ c.bring_on.new.reads + 2 * length aggs * length c.in_ok-firsts.firsts =
+    subst (λ (aggs : List Agg). c.group_change.new.reads ≤ c.bring_on.new.reads + 2 * length aggs * length c.in_ok-firsts.firsts) (brought.aggs ∙ made.aggs) c.group_change.ensures.reads in
+    let most : touched ≤ counted t.update = subst (λ (n : ℕ). n ≤ counted t.update) (sym (ap₂ (λ (gone come : List ℕ). length gone + length come) c.in_ok-moving.ensures.gone c.in_ok-moving.ensures.come)) (touched_count t c.requires.exact) in
+    let rows = c.bring_on.new.self.rows in
+    let few : length c.in_ok-firsts.firsts ≤ length (touched_cells c.begin.new.self.by t) =
+    few_firsts rows.members (touched_cells c.begin.new.self.by t) c.in_ok-firsts.firsts c.in_ok-firsts.ensures.rising
+    (λ first. c.in_ok-firsts.ensures.firsts first ∙ ap (list_any (starts_numbered rows first)) c.numbers.ensures ∙ c.in_ok-bring_on.ensures.firsts first) in
+    let count : length (touched_cells c.begin.new.self.by t) ≡ touched =
+    touched_few c.begin.new.self.by t ∙ sym (ap₂ (λ (gone come : List ℕ). length gone + length come) c.in_ok-moving.ensures.gone c.in_ok-moving.ensures.come) in
+    step_reads width (length aggs) c.args.reads.now c.noted_groups.new.reads c.bring_on.new.reads c.group_change.new.reads touched (length c.in_ok-firsts.firsts) (counted t.update) first c.bring_on.ensures.reads last (subst (λ (n : ℕ). length c.in_ok-firsts.firsts ≤ n) count few) most
+
 pub returns-clause-reads : goal.returns-clause-reads
 returns-clause-reads g c =
     let t = c.args.input.now in
@@ -99,9 +174,9 @@ returns-clause-reads g c =
     let brought = c.in_ok-bring_on.ensures.made in
     let touched = length c.in_ok-moving.moving.gone + length c.in_ok-moving.moving.come in
     let first : c.noted_groups.new.reads ≤ c.args.reads.now + (width + length aggs) * touched =
-    subst (λ (aggs : List Agg). c.noted_groups.new.reads ≤ c.args.reads.now + (width + length aggs) * touched) made.aggs c.in_ok-notes.ensures.reads in
+    subst (λ (aggs : List Agg). c.noted_groups.new.reads ≤ c.args.reads.now + (width + length aggs) * touched) made.aggs c.noted_groups.ensures.reads in
     let last : c.group_change.new.reads ≤ c.bring_on.new.reads + 2 * length aggs * length c.in_ok-firsts.firsts =
-    subst (λ (aggs : List Agg). c.group_change.new.reads ≤ c.bring_on.new.reads + 2 * length aggs * length c.in_ok-firsts.firsts) (brought.aggs ∙ made.aggs) c.in_ok-change.ensures.reads in
+    subst (λ (aggs : List Agg). c.group_change.new.reads ≤ c.bring_on.new.reads + 2 * length aggs * length c.in_ok-firsts.firsts) (brought.aggs ∙ made.aggs) c.group_change.ensures.reads in
     let most : touched ≤ counted t.update = subst (λ (n : ℕ). n ≤ counted t.update) (sym (ap₂ (λ (gone come : List ℕ). length gone + length come) c.in_ok-moving.ensures.gone c.in_ok-moving.ensures.come)) (touched_count t c.requires.exact) in
     let rows = c.bring_on.new.self.rows in
     let few : length c.in_ok-firsts.firsts ≤ length (touched_cells c.begin.new.self.by t) =
@@ -109,4 +184,4 @@ returns-clause-reads g c =
     (λ first. c.in_ok-firsts.ensures.firsts first ∙ ap (list_any (starts_numbered rows first)) c.numbers.ensures ∙ c.in_ok-bring_on.ensures.firsts first) in
     let count : length (touched_cells c.begin.new.self.by t) ≡ touched =
     touched_few c.begin.new.self.by t ∙ sym (ap₂ (λ (gone come : List ℕ). length gone + length come) c.in_ok-moving.ensures.gone c.in_ok-moving.ensures.come) in
-    step_reads width (length aggs) c.args.reads.now c.noted_groups.new.reads c.bring_on.new.reads c.group_change.new.reads touched (length c.in_ok-firsts.firsts) (counted t.update) first c.in_ok-bring_on.ensures.reads last (subst (λ (n : ℕ). length c.in_ok-firsts.firsts ≤ n) count few) most
+    step_reads width (length aggs) c.args.reads.now c.noted_groups.new.reads c.bring_on.new.reads c.group_change.new.reads touched (length c.in_ok-firsts.firsts) (counted t.update) first c.bring_on.ensures.reads last (subst (λ (n : ℕ). length c.in_ok-firsts.firsts ≤ n) count few) most

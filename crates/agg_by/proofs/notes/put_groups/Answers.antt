@@ -1,8 +1,8 @@
 use Rattle.std.proofs.Common.{◌≡◌, ap, sym, ◌∙◌, subst, arith, true, ◌++◌, ℕ, ℤ, List, length, append-nil, ◌≤◌, ◌+◌, ◌*◌}
 use Rattle.key_lists.specs.Keys.{is_among}
-use Rattle.row_changes.proofs.Comparing.{cells_next, reads_next}
+use Rattle.row_changes.proofs.Comparing.{cells_next, reads_next, reads_within}
 use Rattle.row_changes.specs.Parts.{cells_under}
-use Rattle.row_set.proofs.Yielded.{next_has, yielded_all}
+use Rattle.row_set.proofs.Yielded.{next_has, yielded_all, yielded_next}
 use Rattle.tick_model.specs.Agg.{agg_table}
 use Rattle.tick_model.specs.Tables.{cells_at}
 use Rattle.agg_by.specs.Steps.{first_keys}
@@ -27,6 +27,11 @@ loop-first-preserved g c =
       cells = c.in_ok-put_group.ensures.cells ∙ ap (λ (cells : List ℤ). cells ++ cells_at first table.rows) c.loop-first.invariant.cells ∙ cells_next table c.args.cells.now.items yielded first;
       reads = reads_next (length kept.aggs) c.args.reads.now c.loop-first.reads c.put_group.new.reads yielded first c.loop-first.invariant.reads c.in_ok-put_group.ensures.reads;
     }
+
+pub returns-in_err-put_group-clause-reads : goal.returns-in_err-put_group-clause-reads
+returns-in_err-put_group-clause-reads g c =
+    reads_within (length c.args.kept.now.aggs) c.args.reads.now c.loop-first.reads c.put_group.new.reads c.loop-first.yielded c.in-Some.first _ _
+    (yielded_next c.loop-first.yielded c.into_iter-first-iterator.ensures.into_iter_gives c.loop-first.yielded_by c.in-Some.ensures.steps) c.loop-first.invariant.reads c.put_group.ensures.reads
 
 pub returns : goal.returns
 returns g c =

@@ -5,10 +5,10 @@ use Rattle.key_lists.specs.Keys.{IsRising, is_among}
 use Rattle.lookup_join.specs.Keyed.{IsRowOf, key_cells, time_at, time_of}
 use Rattle.lookup_join.proofs.Brought.{every-with_member, none_under, with_member_keys}
 use Rattle.lookup_join.proofs.Walks.{came_next, reader_has, row_given, row_read}
-use Rattle.row_changes.proofs.Comparing.{reads_next}
+use Rattle.row_changes.proofs.Comparing.{reads_next, reads_within}
 use Rattle.row_groups.specs.Members.{Grouped, Member, keys_of, member_of, with_member}
 use Rattle.row_set.proofs.United.{among-with_key, with_key_rises}
-use Rattle.row_set.proofs.Yielded.{next_has, next_new, next_small, yielded_all}
+use Rattle.row_set.proofs.Yielded.{next_has, next_new, next_small, yielded_all, yielded_next}
 use Rattle.row_set.specs.Sets.{with_key}
 use Rattle.tick_model.specs.Tables.{keys}
 use Rattle.lookup_join.proofs.keyed.add_rows.Goals as goal
@@ -56,6 +56,16 @@ loop-key-preserved g c =
       keys = λ k. ap (is_among k) keys_are ∙ among-with_key k key (keys_of before) ∙ came_next k key (keys_of c.args.index.now.members) (keys_of before) yielded (c.loop-key.invariant.keys k);
       reads = reads_next c.args.input.now.new.width c.args.reads.now c.loop-key.reads c.row-row.new.reads yielded key c.loop-key.invariant.reads (row_read c.loop-key.reads c.loop-key.invariant.rows c.row-row.ensures.reads);
     }
+
+pub returns-in_err-time-clause-reads : goal.returns-in_err-time-clause-reads
+returns-in_err-time-clause-reads g c =
+    reads_within c.args.input.now.new.width c.args.reads.now c.loop-key.reads c.row-row.new.reads c.loop-key.yielded c.in-Some.key _ _
+    (yielded_next c.loop-key.yielded c.into_iter-key-iterator.ensures.into_iter_gives c.loop-key.yielded_by c.in-Some.ensures.steps) c.loop-key.invariant.reads (row_read c.loop-key.reads c.loop-key.invariant.rows c.row-row.ensures.reads)
+
+pub returns-in_err-add-clause-reads : goal.returns-in_err-add-clause-reads
+returns-in_err-add-clause-reads g c =
+    reads_within c.args.input.now.new.width c.args.reads.now c.loop-key.reads c.row-row.new.reads c.loop-key.yielded c.in-Some.key _ _
+    (yielded_next c.loop-key.yielded c.into_iter-key-iterator.ensures.into_iter_gives c.loop-key.yielded_by c.in-Some.ensures.steps) c.loop-key.invariant.reads (row_read c.loop-key.reads c.loop-key.invariant.rows c.row-row.ensures.reads)
 
 pub returns-clause-keys : goal.returns-clause-keys
 returns-clause-keys g c =

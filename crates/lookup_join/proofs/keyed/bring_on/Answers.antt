@@ -24,6 +24,9 @@ left_is from removed from' removed' first second third rows one two three r f =
 moved_is : (shifts shifts' : List ShiftRange) (before after : Grouped) (members : List Member) → before.members ≡ members → after ≡ (record before { members = moved_members shifts before.members }) → shifts ≡ shifts' → after.members ≡ moved_members shifts' members
 moved_is shifts shifts' before after members b a s = ap (λ (g : Grouped). g.members) a ∙ ap₂ moved_members s b
 
+within : (width first last came rekeyed added : ℕ) → last ≤ first + width * came → came ≤ rekeyed + added → last ≤ first + width * (rekeyed + added)
+within width first last came rekeyed added h k = omega (arith, h, mul-le-mul_left width k)
+
 pub shift-requires : goal.shift-requires
 shift-requires g c =
     let t = c.args.input.now in
@@ -82,14 +85,20 @@ returns-clause-index g c =
     grouped_is c.args.side c.args.on.now c.args.pick t e c.add_rows.new.index c.in_ok-add_rows.ensures.width c.in_ok-add_rows.ensures.rows c.in_ok-add_rows.ensures.rising
     (λ key. c.in_ok-add_rows.ensures.keys key ∙ ap₂ (λ (ks : List ℕ) (members : List Member). is_among key ks || is_among key (keys_of members)) came_are moved)
 
+pub returns-in_err-add_rows-clause-reads : goal.returns-in_err-add_rows-clause-reads
+returns-in_err-add_rows-clause-reads g c =
+    let t = c.args.input.now in
+    let e = c.requires.exact in
+    within t.new.width c.args.reads.now c.add_rows.new.reads (length c.in_ok-came.came) (length c.args.rekeyed) (length t.update.added) c.add_rows.ensures.reads
+    (subst (λ (n : ℕ). length c.in_ok-came.came ≤ n + length t.update.added) (length-map c.args.rekeyed (λ (pair : KeyPair). pair.new))
+    (subst (λ (ks : List ℕ). length ks ≤ length (new_keys c.args.rekeyed) + length t.update.added) (sym (c.in_ok-came.ensures ∙ ap₂ united c.into_keys-from.ensures.new (c.added.ensures.keys ∙ ap (λ (update : Update). update.added) c.update-update.ensures)))
+    (length-united (new_keys c.args.rekeyed) t.update.added)))
+
 pub returns-clause-reads : goal.returns-clause-reads
 returns-clause-reads g c =
     let t = c.args.input.now in
     let e = c.requires.exact in
-    within t.new.width c.args.reads.now c.add_rows.new.reads (length c.in_ok-came.came) (length c.args.rekeyed) (length t.update.added) c.in_ok-add_rows.ensures.reads
+    within t.new.width c.args.reads.now c.add_rows.new.reads (length c.in_ok-came.came) (length c.args.rekeyed) (length t.update.added) c.add_rows.ensures.reads
     (subst (λ (n : ℕ). length c.in_ok-came.came ≤ n + length t.update.added) (length-map c.args.rekeyed (λ (pair : KeyPair). pair.new))
     (subst (λ (ks : List ℕ). length ks ≤ length (new_keys c.args.rekeyed) + length t.update.added) (sym (c.in_ok-came.ensures ∙ ap₂ united c.into_keys-from.ensures.new (c.added.ensures.keys ∙ ap (λ (update : Update). update.added) c.update-update.ensures)))
     (length-united (new_keys c.args.rekeyed) t.update.added)))
-  where
-    within : (width first last came rekeyed added : ℕ) → last ≤ first + width * came → came ≤ rekeyed + added → last ≤ first + width * (rekeyed + added)
-    within width first last came rekeyed added h k = omega (arith, h, mul-le-mul_left width k)

@@ -1,8 +1,9 @@
-use Rattle.std.proofs.Common.{◌≡◌, sym, ◌∙◌, ap, ap₂, true, false, not, rules, w64, SFits}
+use Rattle.std.proofs.Common.{◌≡◌, sym, ◌∙◌, ap, ap₂, arith, length, true, false, not, rules, w64, SFits}
 use Rattle.std.proofs.lemmas.Int.{to_z-of_z}
 use Rattle.key_lists.specs.Keys.{is_among}
 use Rattle.lookup_join.specs.Keyed.{key_cells, member_at, rekeys, same_spot, time_of}
 use Rattle.lookup_join.proofs.Walks.{member_known, reader_has, reads_more, row_given, row_read}
+use Rattle.row_changes.proofs.Placed.{reads_placed}
 use Rattle.row_groups.specs.Members.{Grouped, Member, member_of, member_under}
 use Rattle.shown_rows.proofs.Walks.{below_some, none_more, of_place, one_more}
 use Rattle.std.specs.Option.{option_map_or}
@@ -47,3 +48,13 @@ loop-place-preserved g c =
           ];
       reads = reads_more c.args.input.now.new.width c.loop-place.reads c.row-row.new.reads c.args.reads.now c.loop-place.place c.loop-place.invariant.reads (row_read c.loop-place.reads c.loop-place.invariant.rows c.row-row.ensures.reads);
     }
+
+pub returns-in_err-time-clause-reads : goal.returns-in_err-time-clause-reads
+returns-in_err-time-clause-reads g c =
+    reads_placed c.args.input.now.new.width c.args.reads.now c.loop-place.reads c.row-row.new.reads c.loop-place.place (length c.args.pairs.now) c.loop-place.invariant.reads (row_read c.loop-place.reads c.loop-place.invariant.rows c.row-row.ensures.reads)
+    (omega (arith, c.len-place-end.ensures.count))
+
+pub returns-in_err-changed-clause-reads : goal.returns-in_err-changed-clause-reads
+returns-in_err-changed-clause-reads g c =
+    reads_placed c.args.input.now.new.width c.args.reads.now c.loop-place.reads c.row-row.new.reads c.loop-place.place (length c.args.pairs.now) c.loop-place.invariant.reads (row_read c.loop-place.reads c.loop-place.invariant.rows c.row-row.ensures.reads)
+    (omega (arith, c.len-place-end.ensures.count))

@@ -1,4 +1,4 @@
-use Rattle.std.proofs.Common.{◌≡◌, ap, ap₂, sym, ◌∙◌, subst, true, List, ◌≤◌, [], filter, length}
+use Rattle.std.proofs.Common.{◌≡◌, ap, ap₂, sym, ◌∙◌, subst, arith, true, List, ◌≤◌, [], filter, length}
 use Rattle.std.specs.List.{AllByRecursion}
 use Rattle.key_lists.specs.Keys.{is_among}
 use Rattle.lookup_join.specs.declared.keyed.Side.TheVariants.{Right}
@@ -34,12 +34,38 @@ returns-clause-notes g c =
     ∙ ap₂ (λ (members : List Member) (modified : List KeyPair). let noted : NoteList = record { width = length c.args.on.now; notes = noting c.args.pick members [] (touched_spots c.args.on.now c.args.pick right.old.rows right.new.rows right.update modified) } in noted)
     (ap (λ (index : Grouped). index.members) c.requires.index) c.in_ok-modified.ensures
 
+pub returns-in_err-notes-clause-reads : goal.returns-in_err-notes-clause-reads
+returns-in_err-notes-clause-reads g c =
+    let right = c.args.right.now in
+    let pairs = c.in_ok-modified.modified in
+    let count : length pairs ≡ length right.update.modified = ap length c.in_ok-modified.ensures ∙ modified_count right c.requires.exact in
+    noted_reads right.new.width c.args.reads.now c.touched_places.new.reads c.touched_places.new.reads (length right.update.modified) (length pairs) (length right.update.added) c.touched_places.ensures.reads (omega arith) count
+
+pub returns-in_err-changed-clause-reads : goal.returns-in_err-changed-clause-reads
+returns-in_err-changed-clause-reads g c =
+    let right = c.args.right.now in
+    let pairs = c.in_ok-modified.modified in
+    let count : length pairs ≡ length right.update.modified = ap length c.in_ok-modified.ensures ∙ modified_count right c.requires.exact in
+    noted_reads right.new.width c.args.reads.now c.touched_places.new.reads c.rekeyed.new.reads (length right.update.modified) (length pairs) (length right.update.added) c.touched_places.ensures.reads
+    (brought_reads right.new.width c.touched_places.new.reads c.rekeyed.new.reads c.rekeyed.new.reads (length right.update.modified) (length pairs) 0 (length right.update.added) c.rekeyed.ensures.reads (omega arith) (omega arith) count)
+    count
+
+pub returns-in_err-bring_on-clause-reads : goal.returns-in_err-bring_on-clause-reads
+returns-in_err-bring_on-clause-reads g c =
+    let right = c.args.right.now in
+    let pairs = c.in_ok-modified.modified in
+    let count : length pairs ≡ length right.update.modified = ap length c.in_ok-modified.ensures ∙ modified_count right c.requires.exact in
+    let few : length c.in_ok-changed.changed ≤ length pairs = subst (λ (changed : List KeyPair). length changed ≤ length pairs) (sym c.in_ok-changed.ensures.pairs) (length-filter_most (rekeys Right c.args.on.now c.args.pick right.old right.new) pairs) in
+    noted_reads right.new.width c.args.reads.now c.touched_places.new.reads c.bring_on.new.reads (length right.update.modified) (length pairs) (length right.update.added) c.touched_places.ensures.reads
+    (brought_reads right.new.width c.touched_places.new.reads c.rekeyed.new.reads c.bring_on.new.reads (length right.update.modified) (length pairs) (length c.in_ok-changed.changed) (length right.update.added) c.rekeyed.ensures.reads c.bring_on.ensures.reads few count)
+    count
+
 pub returns-clause-reads : goal.returns-clause-reads
 returns-clause-reads g c =
     let right = c.args.right.now in
     let pairs = c.in_ok-modified.modified in
     let count : length pairs ≡ length right.update.modified = ap length c.in_ok-modified.ensures ∙ modified_count right c.requires.exact in
     let few : length c.in_ok-changed.changed ≤ length pairs = subst (λ (changed : List KeyPair). length changed ≤ length pairs) (sym c.in_ok-changed.ensures.pairs) (length-filter_most (rekeys Right c.args.on.now c.args.pick right.old right.new) pairs) in
-    noted_reads right.new.width c.args.reads.now c.touched_places.new.reads c.bring_on.new.reads (length right.update.modified) (length pairs) (length right.update.added) c.in_ok-notes.ensures.reads
-    (brought_reads right.new.width c.touched_places.new.reads c.rekeyed.new.reads c.bring_on.new.reads (length right.update.modified) (length pairs) (length c.in_ok-changed.changed) (length right.update.added) c.in_ok-changed.ensures.reads c.in_ok-bring_on.ensures.reads few count)
+    noted_reads right.new.width c.args.reads.now c.touched_places.new.reads c.bring_on.new.reads (length right.update.modified) (length pairs) (length right.update.added) c.touched_places.ensures.reads
+    (brought_reads right.new.width c.touched_places.new.reads c.rekeyed.new.reads c.bring_on.new.reads (length right.update.modified) (length pairs) (length c.in_ok-changed.changed) (length right.update.added) c.rekeyed.ensures.reads c.bring_on.ensures.reads few count)
     count

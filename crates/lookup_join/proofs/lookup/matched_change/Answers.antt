@@ -1,22 +1,17 @@
 use Rattle.std.proofs.Common.{◌≡◌, ap, ap₂, sym, ◌∙◌, subst, ◌+◌, ◌*◌, ◌≤◌, arith, ℕ, List, length}
-use Rattle.std.specs.Prelude.{IfOk, Result, Ok, Err}
 use Rattle.key_lists.specs.Keys.{without}
-use Rattle.lookup_join.specs.Matched.{matched_table}
+use Rattle.lookup_join.specs.Matched.{matched_table, matched_tick}
 use Rattle.lookup_join.proofs.Compared.{are_compared, are_mapped, compared_few}
 use Rattle.row_changes.specs.Parts.{AreCompared}
 use Rattle.row_set.specs.Sets.{united}
 use Rattle.shift_data.specs.Moves.{IsLawful, unapplied}
 use Rattle.shown_rows.proofs.Restricted.{exact_shift}
-use Rattle.tick_model.specs.Changes.{Change}
 use Rattle.tick_model.specs.declared.update.ShiftRange.{ShiftRange}
 use Rattle.tick_model.specs.Tables.{keys}
-use Rattle.tick_model.specs.Updates.{Update, pairs}
+use Rattle.tick_model.specs.Updates.{Update, between, pairs}
 use Rattle.std.proofs.Math.Nat.{mul-le-mul_left}
+use Rattle.tick_table.specs.Exact.{tick_of}
 use Rattle.lookup_join.proofs.lookup.matched_change.Goals as goal
-
-IfOk_both : {X E : Type 0} (r : Result X E) (P Q R : X → Type 0) → ((x : X) → P x → Q x → R x) → IfOk r P → IfOk r Q → IfOk r R
-IfOk_both (Ok x) P Q R f p q = f x p q
-IfOk_both (Err e) P Q R f p q = tt
 
 reads_within : (row first second last modified added out taken notes compared : ℕ) → second ≤ first + 2 * taken * notes → last ≤ second + row * (2 * compared + added) → compared ≤ modified + out → last ≤ first + 2 * taken * notes + row * (2 * (modified + out) + added)
 reads_within row first second last modified added out taken notes compared h k m =
@@ -53,6 +48,34 @@ mapped-requires-clause-compared g c =
     subst (λ (before : List ℕ). AreCompared (matched_table rows.on.now rows.pick rows.take.now left.old right.old) (matched_table rows.on.now rows.pick rows.take.now left.new right.new) (pairs left.old left.update) before c.in_ok-now.now) (sym before_are)
     (are_compared rows.on.now rows.pick rows.take.now left e right f c.in_ok-set.set c.in_ok-now.now set_is now_are)
 
+pub returns-in_err-set-clause-reads : goal.returns-in_err-set-clause-reads
+returns-in_err-set-clause-reads g c =
+    let rows = c.args.rows.now in
+    let left = rows.left.now in
+    let own = (between (matched_tick rows.on.now rows.pick rows.take.now (tick_of left) (tick_of rows.right.now))).modified in
+    reads_within (left.new.width + length rows.take.now) c.args.reads.now c.turned_set.new.reads c.turned_set.new.reads (length left.update.modified) (length left.update.added) (length own) (length rows.take.now) (length rows.notes.now.notes) 0 c.turned_set.ensures.reads (omega arith) (omega arith)
+
+pub returns-in_err-touched-clause-reads : goal.returns-in_err-touched-clause-reads
+returns-in_err-touched-clause-reads g c =
+    let rows = c.args.rows.now in
+    let left = rows.left.now in
+    let own = (between (matched_tick rows.on.now rows.pick rows.take.now (tick_of left) (tick_of rows.right.now))).modified in
+    reads_within (left.new.width + length rows.take.now) c.args.reads.now c.turned_set.new.reads c.turned_set.new.reads (length left.update.modified) (length left.update.added) (length own) (length rows.take.now) (length rows.notes.now.notes) 0 c.turned_set.ensures.reads (omega arith) (omega arith)
+
+pub returns-in_err-now-clause-reads : goal.returns-in_err-now-clause-reads
+returns-in_err-now-clause-reads g c =
+    let rows = c.args.rows.now in
+    let left = rows.left.now in
+    let own = (between (matched_tick rows.on.now rows.pick rows.take.now (tick_of left) (tick_of rows.right.now))).modified in
+    reads_within (left.new.width + length rows.take.now) c.args.reads.now c.turned_set.new.reads c.turned_set.new.reads (length left.update.modified) (length left.update.added) (length own) (length rows.take.now) (length rows.notes.now.notes) 0 c.turned_set.ensures.reads (omega arith) (omega arith)
+
+pub returns-in_err-before-clause-reads : goal.returns-in_err-before-clause-reads
+returns-in_err-before-clause-reads g c =
+    let rows = c.args.rows.now in
+    let left = rows.left.now in
+    let own = (between (matched_tick rows.on.now rows.pick rows.take.now (tick_of left) (tick_of rows.right.now))).modified in
+    reads_within (left.new.width + length rows.take.now) c.args.reads.now c.turned_set.new.reads c.turned_set.new.reads (length left.update.modified) (length left.update.added) (length own) (length rows.take.now) (length rows.notes.now.notes) 0 c.turned_set.ensures.reads (omega arith) (omega arith)
+
 pub returns-clause-reads : goal.returns-clause-reads
 returns-clause-reads g c =
     let rows = c.args.rows.now in
@@ -63,8 +86,6 @@ returns-clause-reads g c =
     let set_is = c.in_ok-set.ensures.keys in
     let now_are : c.in_ok-now.now ≡ without left.update.added (united c.in_ok-set.set left.update.modified) =
     c.in_ok-now.ensures ∙ ap₂ without (c.added.ensures.keys ∙ ap (λ (update : Update). update.added) c.update-update.ensures) (c.in_ok-touched.ensures ∙ ap (united c.in_ok-set.set) (c.modified.ensures.keys ∙ ap (λ (update : Update). update.modified) c.update-update.ensures)) in
-    let few = compared_few rows.on.now rows.pick rows.take.now left e right f c.in_ok-set.set c.in_ok-now.now set_is now_are in
-    IfOk_both c.mapped.result _ _ _ (λ (change : Change) is reads.
-    reads_within (left.new.width + length rows.take.now) c.args.reads.now c.turned_set.new.reads c.mapped.new.reads (length left.update.modified) (length left.update.added) (length change.update.modified) (length rows.take.now) (length rows.notes.now.notes) (length c.in_ok-now.now)
-    c.in_ok-set.ensures.reads reads (subst (λ n. length c.in_ok-now.now ≤ length left.update.modified + n) (sym (ap (λ (change : Change). length change.update.modified) is)) few))
-    c.mapped.ensures.change c.mapped.ensures.reads
+    let own = (between (matched_tick rows.on.now rows.pick rows.take.now (tick_of left) (tick_of right))).modified in
+    reads_within (left.new.width + length rows.take.now) c.args.reads.now c.turned_set.new.reads c.mapped.new.reads (length left.update.modified) (length left.update.added) (length own) (length rows.take.now) (length rows.notes.now.notes) (length c.in_ok-now.now)
+    c.turned_set.ensures.reads c.mapped.ensures.reads (compared_few rows.on.now rows.pick rows.take.now left e right f c.in_ok-set.set c.in_ok-now.now set_is now_are)

@@ -7,8 +7,8 @@ use Rattle.lookup_join.specs.declared.keyed.Side.TheVariants.{Right}
 use Rattle.lookup_join.specs.Notes.{NoteList, noting}
 use Rattle.lookup_join.specs.Taken.{spot_at}
 use Rattle.lookup_join.proofs.Walks.{length-key_cells, noted_next, reader_has, row_given, row_read, spot_is}
-use Rattle.row_changes.proofs.Comparing.{reads_next}
-use Rattle.row_set.proofs.Yielded.{next_has, yielded_all}
+use Rattle.row_changes.proofs.Comparing.{reads_next, reads_within}
+use Rattle.row_set.proofs.Yielded.{next_has, yielded_all, yielded_next}
 use Rattle.tick_model.specs.Tables.{keys}
 use Rattle.tick_model.specs.Updates.{Update}
 use Rattle.lookup_join.proofs.Stepping.{added_there}
@@ -39,6 +39,18 @@ loop-key-preserved g c =
           (spot_is c.deref.result.now (key_at Right on right.new.rows key) _ (time_at Right c.args.pick right.new.rows key) (c.deref.ensures.value ∙ c.in_ok-time.ensures.cells ∙ ap (key_cells Right on) row) (to_z-of_z w64 c.in_ok-time.time fits ∙ c.in_ok-time.ensures.time ∙ ap (time_of Right c.args.pick) row)) c.in_ok-note.ensures;
       reads = reads_next right.new.width c.args.reads.now c.loop-key.reads c.row-row.new.reads c.loop-key.yielded key c.loop-key.invariant.reads (row_read c.loop-key.reads c.loop-key.invariant.rows c.row-row.ensures.reads);
     }
+
+pub returns-in_err-time-clause-reads : goal.returns-in_err-time-clause-reads
+returns-in_err-time-clause-reads g c =
+    reads_within c.args.right.now.new.width c.args.reads.now c.loop-key.reads c.row-row.new.reads c.loop-key.yielded c.in-Some.key _ _
+    (sym (c.added-key-items.ensures.keys ∙ ap (λ (update : Update). update.added) c.update.ensures) ∙ yielded_next c.loop-key.yielded c.into_iter-key-iterator.ensures.into_iter_gives c.loop-key.yielded_by c.in-Some.ensures.steps)
+    c.loop-key.invariant.reads (row_read c.loop-key.reads c.loop-key.invariant.rows c.row-row.ensures.reads)
+
+pub returns-in_err-note-clause-reads : goal.returns-in_err-note-clause-reads
+returns-in_err-note-clause-reads g c =
+    reads_within c.args.right.now.new.width c.args.reads.now c.loop-key.reads c.row-row.new.reads c.loop-key.yielded c.in-Some.key _ _
+    (sym (c.added-key-items.ensures.keys ∙ ap (λ (update : Update). update.added) c.update.ensures) ∙ yielded_next c.loop-key.yielded c.into_iter-key-iterator.ensures.into_iter_gives c.loop-key.yielded_by c.in-Some.ensures.steps)
+    c.loop-key.invariant.reads (row_read c.loop-key.reads c.loop-key.invariant.rows c.row-row.ensures.reads)
 
 pub returns-clause-notes : goal.returns-clause-notes
 returns-clause-notes g c =

@@ -1,4 +1,4 @@
-use Rattle.std.proofs.Common.{◌≡◌, ap, sym, ◌∙◌, true, length, List, rules, w64, SFits}
+use Rattle.std.proofs.Common.{◌≡◌, ap, sym, ◌∙◌, arith, true, length, List, rules, w64, SFits}
 use Rattle.std.proofs.lemmas.Int.{to_z-of_z}
 use Rattle.key_lists.specs.Keys.{is_among}
 use Rattle.lookup_join.specs.declared.keyed.Side.TheVariants.{Right}
@@ -7,6 +7,7 @@ use Rattle.lookup_join.specs.Notes.{Note, NoteList, spot_under}
 use Rattle.lookup_join.specs.Taken.{spot_at}
 use Rattle.lookup_join.proofs.Latests.{timed_index}
 use Rattle.lookup_join.proofs.Walks.{length-key_cells, member_is, note_put, noting_two, reader_has, reads_more, row_given, row_read, spot_is, spot_known}
+use Rattle.row_changes.proofs.Placed.{reads_placed}
 use Rattle.row_groups.specs.Members.{Grouped}
 use Rattle.shown_rows.proofs.Walks.{of_place}
 use Rattle.tick_model.specs.declared.update.KeyPair.{KeyPair}
@@ -56,3 +57,17 @@ loop-place-preserved g c =
           (noting_two c.args.pick members c.args.notes.now.notes (λ (pair : KeyPair). spot_at on c.args.pick right.old.rows pair.old) (λ (pair : KeyPair). spot_at on c.args.pick right.new.rows pair.new) c.args.modified.now c.loop-place.place pair c.at-pair.ensures.pair);
       reads = reads_more right.new.width c.loop-place.reads c.row-row.new.reads c.args.reads.now c.loop-place.place c.loop-place.invariant.reads (row_read c.loop-place.reads c.loop-place.invariant.rows c.row-row.ensures.reads);
     }
+
+pub returns-in_err-note_old-clause-reads : goal.returns-in_err-note_old-clause-reads
+returns-in_err-note_old-clause-reads g c =
+    reads_placed c.args.right.now.new.width c.args.reads.now c.loop-place.reads c.loop-place.reads c.loop-place.place (length c.args.modified.now) c.loop-place.invariant.reads (omega arith) (omega (arith, c.len-place-end.ensures.count))
+
+pub returns-in_err-time-clause-reads : goal.returns-in_err-time-clause-reads
+returns-in_err-time-clause-reads g c =
+    reads_placed c.args.right.now.new.width c.args.reads.now c.loop-place.reads c.row-row.new.reads c.loop-place.place (length c.args.modified.now) c.loop-place.invariant.reads (row_read c.loop-place.reads c.loop-place.invariant.rows c.row-row.ensures.reads)
+    (omega (arith, c.len-place-end.ensures.count))
+
+pub returns-in_err-note-clause-reads : goal.returns-in_err-note-clause-reads
+returns-in_err-note-clause-reads g c =
+    reads_placed c.args.right.now.new.width c.args.reads.now c.loop-place.reads c.row-row.new.reads c.loop-place.place (length c.args.modified.now) c.loop-place.invariant.reads (row_read c.loop-place.reads c.loop-place.invariant.rows c.row-row.ensures.reads)
+    (omega (arith, c.len-place-end.ensures.count))

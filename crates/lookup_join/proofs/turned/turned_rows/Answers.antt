@@ -1,4 +1,4 @@
-use Rattle.std.proofs.Common.{◌≡◌, ap, ap₂, sym, ◌∙◌, subst, cond, ℕ, ◌*◌, List, ◌++◌, [], map, filter, length, rules, w64, SFits}
+use Rattle.std.proofs.Common.{◌≡◌, ap, ap₂, sym, ◌∙◌, subst, arith, cond, ℕ, ◌*◌, List, ◌++◌, [], map, filter, length, rules, w64, SFits}
 use Rattle.std.proofs.lemmas.Int.{to_z-of_z}
 use Rattle.std.proofs.lemmas.List.{append-nil}
 use Rattle.lookup_join.specs.declared.matches.Match.{Match}
@@ -6,6 +6,7 @@ use Rattle.lookup_join.specs.Latest.{during}
 use Rattle.lookup_join.specs.Notes.{Note, taken_key}
 use Rattle.lookup_join.specs.Taken.{IsFrom, IsThere, cell_of, end_of, match_before, match_now, turned_note}
 use Rattle.lookup_join.proofs.Walks.{note_at, reads_more, told_next}
+use Rattle.row_changes.proofs.Placed.{reads_placed}
 use Rattle.row_groups.specs.Members.{group_of, keys_of}
 use Rattle.shown_rows.proofs.Walks.{of_place}
 use Rattle.tick_model.specs.Tables.{same_cells}
@@ -60,3 +61,7 @@ loop-number-preserved g c =
           ];
       reads = reads_more (2 * length c.args.take.now) c.loop-number.reads c.gives_as.new.reads c.args.reads.now c.loop-number.number c.loop-number.invariant.reads c.gives_as.ensures.reads;
     }
+
+pub returns-in_err-put_keys-clause-reads : goal.returns-in_err-put_keys-clause-reads
+returns-in_err-put_keys-clause-reads g c =
+    reads_placed (2 * length c.args.take.now) c.args.reads.now c.loop-number.reads c.gives_as.new.reads c.loop-number.number (length c.args.notes.now.notes) c.loop-number.invariant.reads c.gives_as.ensures.reads (omega arith)

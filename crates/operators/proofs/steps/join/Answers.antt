@@ -1,14 +1,18 @@
-use Rattle.std.proofs.Common.{◌≡◌, sym, subst, ◌+◌, ◌≤◌, arith, List, [], ◌∷◌, map, length}
+use Rattle.std.proofs.Common.{◌≡◌, ap, sym, subst, ◌+◌, ◌≤◌, arith, List, [], ◌∷◌, map, length}
 use Rattle.std.specs.Prelude.{sum, IfErr}
 use Rattle.std.specs.List.{AllByRecursion}
 use Rattle.std.proofs.lemmas.Result.{err_from_is_err_and}
-use Rattle.tick_table.specs.Exact.{IsExact, counted}
+use Rattle.tick_table.specs.Exact.{IsExact, counted, tick_of}
 use Rattle.tick_table.specs.Ticking.{Ticking}
 use Rattle.merge_op.specs.Merged.{counted_in, tables}
+use Rattle.lookup_join.specs.Joiner.{joined_ticks}
+use Rattle.tick_model.specs.Changes.{Change, change_of}
+use Rattle.row_changes.proofs.Comparing.{on_err}
+use Rattle.operators.specs.Inputs.{AreTicks}
 use Rattle.operators.specs.declared.running.Running.TheVariants.{Join}
 use Rattle.operators.specs.Faults.{of_join}
 use Rattle.operators.specs.Stepping.{IsRefusal, IsStep, room_for}
-use Rattle.operators.proofs.Joining.{join_refusal, join_step}
+use Rattle.operators.proofs.Joining.{join_refusal, join_step, ticks}
 use Rattle.operators.proofs.Listed.{count_is, counted_two, first_is, reads_in, second_is, sum_two, two_tables}
 use Rattle.operators.proofs.steps.join.Goals as goal
 
@@ -56,3 +60,22 @@ returns-clause-reads g c =
     (reads_in c.step.new.reads c.args.reads.now (left.new.width + right.new.width + (left.new.width + length join.take)) (counted left.update + counted right.update + own)
     (sum widths + (join.left_width + length join.take)) (counted_in (left ∷ right ∷ []) + own)
     c.in_ok-join.ensures.reads (omega (arith, wide, also, sum_two join.left_width join.right_width)) (omega (arith, counted_two left right)))
+
+pub returns-in_err-join-clause-refused : goal.returns-in_err-join-clause-refused
+returns-in_err-join-clause-refused g c =
+    on_err c.from_residual.result (λ op made tick those.
+    let join = c.args.join in
+    let left = c.deref.result.now in
+    let right = c.deref-2.result.now in
+    let widths = join.left_width ∷ join.right_width ∷ [] in
+    let two = two_tables c.args.inputs.now c.index-inputs-0.result c.index-inputs-1.result left right (count_is (tables c.args.inputs.now) widths c.requires.widths) c.index-inputs-0.is c.index-inputs-1.is c.deref.ensures c.deref-2.ensures in
+    let both = subst (λ (inputs : List Ticking). map (λ (input : Ticking). input.new.width) inputs ≡ widths) two c.requires.widths in
+    let wide : left.new.width ≡ join.left_width = first_is left.new.width join.left_width (right.new.width ∷ []) (join.right_width ∷ []) both in
+    let also : right.new.width ≡ join.right_width = second_is left.new.width right.new.width join.left_width join.right_width both in
+    let change = change_of (joined_ticks join.on join.take join.choice (tick_of left) (tick_of right)) in
+    let own = counted change.update in
+    subst (λ (change : Change). c.step.new.reads ≤ c.args.reads.now + room_for (tables c.args.inputs.now) (Join join) change) (ap change_of (ticks op join (tick_of left) (tick_of right) tick made (subst (AreTicks op tick) two those)))
+    (subst (λ (inputs : List Ticking). c.step.new.reads ≤ c.args.reads.now + room_for inputs (Join join) change) (sym two)
+    (reads_in c.step.new.reads c.args.reads.now (left.new.width + right.new.width + (left.new.width + length join.take)) (counted left.update + counted right.update + own)
+    (sum widths + (join.left_width + length join.take)) (counted_in (left ∷ right ∷ []) + own)
+    c.in_err-join.ensures.refused (omega (arith, wide, also, sum_two join.left_width join.right_width)) (omega (arith, counted_two left right)))))

@@ -17,4 +17,4 @@ returns-clause-change g c kept h =
     change_is old new parts kept (subst (λ (parts : Parts). AreParts old new parts kept) (sym c.touched.view_is) h) told.modified told.columns c.of.result
     c.in_ok-told.ensures.modified c.in_ok-told.ensures.rising
     (λ (column : ℕ). c.in_ok-told.ensures.columns column ∙ ap (λ width. nat_lt column width && list_any (differs_in old new column) (pairs_of touched.compared_before touched.compared_now)) c.requires.width)
-    (c.of.ensures ∙ c.in_ok-told.ensures.cells ∙ ap (λ (cells : List ℤ). cells ++ cells_under new told.modified) (c.in_ok-all_now.ensures.cells ∙ ap (λ (cells : List ℤ). cells ++ cells_under new touched.added) c.new-cells.ensures.items))
+    (c.of.ensures ∙ c.in_ok-told.ensures.cells ∙ ap (λ (cells : List ℤ). cells ++ cells_under new told.modified) (c.in_ok-all_now.ensures.cells ∙ ap (λ (cells : List ℤ). cells ++ cells_under new touched.added) c.in_ok-cells.ensures.items))

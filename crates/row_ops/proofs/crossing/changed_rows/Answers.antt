@@ -1,7 +1,8 @@
-use Rattle.std.proofs.Common.{◌≡◌, sym, ◌∙◌, true, ap, ap₂, ◌&&◌, not}
+use Rattle.std.proofs.Common.{◌≡◌, sym, ◌∙◌, true, ap, ap₂, arith, ◌&&◌, length, not}
 use Rattle.key_lists.specs.Keys.{is_among}
 use Rattle.tick_model.specs.Formulas.{truth}
 use Rattle.tick_model.specs.Tables.{cells_at, keys}
+use Rattle.row_changes.proofs.Placed.{reads_placed}
 use Rattle.row_ops.proofs.Walked.{named_below, named_next, new_at, reads_next}
 use Rattle.row_ops.proofs.crossing.changed_rows.Goals as goal
 use Rattle.row_ops.proofs.crossing.changed_rows.Goals.{then-before, else-before, then-not-before, else-not-before}
@@ -37,3 +38,13 @@ loop-place-preserved g c =
           c.at-pair.ensures.pair c.loop-place.invariant.coming (comes ∙ ap₂ (λ a b. not a && b) c.contains-before.ensures.member passing) c.in_ok-put_last_if-2.ensures.keys;
       reads = reads_next c.args.input.now.new.width c.loop-place.reads c.row.new.reads c.args.reads.now c.loop-place.place c.loop-place.invariant.reads row.reads;
     }
+
+pub returns-in_err-put_last_if-clause-reads : goal.returns-in_err-put_last_if-clause-reads
+returns-in_err-put_last_if-clause-reads g c =
+    let row = rw c.loop-place.invariant.rows at c.row.ensures in
+    reads_placed c.args.input.now.new.width c.args.reads.now c.loop-place.reads c.row.new.reads c.loop-place.place (length c.args.pairs.now) c.loop-place.invariant.reads (omega (arith, row.reads)) (omega (arith, c.len-place-end.ensures.count, c.loop-place-test.true))
+
+pub returns-in_err-put_last_if-2-clause-reads : goal.returns-in_err-put_last_if-2-clause-reads
+returns-in_err-put_last_if-2-clause-reads g c =
+    let row = rw c.loop-place.invariant.rows at c.row.ensures in
+    reads_placed c.args.input.now.new.width c.args.reads.now c.loop-place.reads c.row.new.reads c.loop-place.place (length c.args.pairs.now) c.loop-place.invariant.reads (omega (arith, row.reads)) (omega (arith, c.len-place-end.ensures.count, c.loop-place-test.true))

@@ -1,4 +1,4 @@
-use Rattle.std.proofs.Common.{◌≡◌, sym, ◌∙◌, ap, length, filter}
+use Rattle.std.proofs.Common.{◌≡◌, refl, sym, ◌∙◌, ap, arith, length, filter}
 use Rattle.std.proofs.lemmas.List.{length-map}
 use Rattle.tick_model.specs.declared.update.KeyPair.{KeyPair}
 use Rattle.tick_model.specs.Updates.{Update}
@@ -24,10 +24,46 @@ returns-clause-coming g c =
     rw (c.in_ok-coming.ensures, c.in_ok-new.ensures.keys, c.in_ok-changed.ensures.coming, c.in_ok-modified.ensures, c.added.ensures.keys, c.update-update.ensures, c.requires.shown)
     (coming_is (truth c.args.test.now) c.args.input.now c.requires.exact)
 
+pub returns-in_err-new-clause-reads : goal.returns-in_err-new-clause-reads
+returns-in_err-new-clause-reads g c =
+    let t = c.args.input.now in
+    crossing_reads t.new.width c.args.reads.now c.passing_keys.new.reads c.passing_keys.new.reads (length t.update.added) (length t.update.modified) (length c.added.result.now) (length t.update.modified)
+    c.passing_keys.ensures.reads (omega arith) (ap length (c.added.ensures.keys ∙ ap (λ (update : Update). update.added) c.update-update.ensures)) refl
+
+pub returns-in_err-modified-clause-reads : goal.returns-in_err-modified-clause-reads
+returns-in_err-modified-clause-reads g c =
+    let t = c.args.input.now in
+    crossing_reads t.new.width c.args.reads.now c.passing_keys.new.reads c.passing_keys.new.reads (length t.update.added) (length t.update.modified) (length c.added.result.now) (length t.update.modified)
+    c.passing_keys.ensures.reads (omega arith) (ap length (c.added.ensures.keys ∙ ap (λ (update : Update). update.added) c.update-update.ensures)) refl
+
+pub returns-in_err-changed-clause-reads : goal.returns-in_err-changed-clause-reads
+returns-in_err-changed-clause-reads g c =
+    let t = c.args.input.now in
+    let pairs : length c.in_ok-modified.modified ≡ length t.update.modified =
+    ap length c.in_ok-modified.ensures ∙ sym (length-map (filter (is_modified t c.requires.exact) (kept t c.requires.exact)) (λ (pair : KeyPair). pair.new)) ∙ ap length (sym (modified_new t c.requires.exact)) in
+    crossing_reads t.new.width c.args.reads.now c.passing_keys.new.reads c.changed_rows.new.reads (length t.update.added) (length t.update.modified) (length c.added.result.now) (length c.in_ok-modified.modified)
+    c.passing_keys.ensures.reads c.changed_rows.ensures.reads (ap length (c.added.ensures.keys ∙ ap (λ (update : Update). update.added) c.update-update.ensures)) pairs
+
+pub returns-in_err-leaving-clause-reads : goal.returns-in_err-leaving-clause-reads
+returns-in_err-leaving-clause-reads g c =
+    let t = c.args.input.now in
+    let pairs : length c.in_ok-modified.modified ≡ length t.update.modified =
+    ap length c.in_ok-modified.ensures ∙ sym (length-map (filter (is_modified t c.requires.exact) (kept t c.requires.exact)) (λ (pair : KeyPair). pair.new)) ∙ ap length (sym (modified_new t c.requires.exact)) in
+    crossing_reads t.new.width c.args.reads.now c.passing_keys.new.reads c.changed_rows.new.reads (length t.update.added) (length t.update.modified) (length c.added.result.now) (length c.in_ok-modified.modified)
+    c.passing_keys.ensures.reads c.changed_rows.ensures.reads (ap length (c.added.ensures.keys ∙ ap (λ (update : Update). update.added) c.update-update.ensures)) pairs
+
+pub returns-in_err-coming-clause-reads : goal.returns-in_err-coming-clause-reads
+returns-in_err-coming-clause-reads g c =
+    let t = c.args.input.now in
+    let pairs : length c.in_ok-modified.modified ≡ length t.update.modified =
+    ap length c.in_ok-modified.ensures ∙ sym (length-map (filter (is_modified t c.requires.exact) (kept t c.requires.exact)) (λ (pair : KeyPair). pair.new)) ∙ ap length (sym (modified_new t c.requires.exact)) in
+    crossing_reads t.new.width c.args.reads.now c.passing_keys.new.reads c.changed_rows.new.reads (length t.update.added) (length t.update.modified) (length c.added.result.now) (length c.in_ok-modified.modified)
+    c.passing_keys.ensures.reads c.changed_rows.ensures.reads (ap length (c.added.ensures.keys ∙ ap (λ (update : Update). update.added) c.update-update.ensures)) pairs
+
 pub returns-clause-reads : goal.returns-clause-reads
 returns-clause-reads g c =
     let t = c.args.input.now in
     let pairs : length c.in_ok-modified.modified ≡ length t.update.modified =
     ap length c.in_ok-modified.ensures ∙ sym (length-map (filter (is_modified t c.requires.exact) (kept t c.requires.exact)) (λ (pair : KeyPair). pair.new)) ∙ ap length (sym (modified_new t c.requires.exact)) in
     crossing_reads t.new.width c.args.reads.now c.passing_keys.new.reads c.changed_rows.new.reads (length t.update.added) (length t.update.modified) (length c.added.result.now) (length c.in_ok-modified.modified)
-    c.in_ok-new.ensures.reads c.in_ok-changed.ensures.reads (ap length (c.added.ensures.keys ∙ ap (λ (update : Update). update.added) c.update-update.ensures)) pairs
+    c.passing_keys.ensures.reads c.changed_rows.ensures.reads (ap length (c.added.ensures.keys ∙ ap (λ (update : Update). update.added) c.update-update.ensures)) pairs

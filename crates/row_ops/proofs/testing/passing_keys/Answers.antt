@@ -1,10 +1,10 @@
 use Rattle.std.proofs.Common.{arith, IsTrue, ap, ◌∙◌, filter, subst, ℕ, List, length, ◌≤◌, ◌+◌, ◌*◌}
 use Rattle.key_lists.specs.Keys.{is_among}
-use Rattle.row_set.proofs.Yielded.{next_above, next_has, next_small, yielded_all}
+use Rattle.row_set.proofs.Yielded.{next_above, next_has, next_small, yielded_all, yielded_next}
 use Rattle.shown_rows.proofs.Walks.{chosen_below, chosen_more}
 use Rattle.tick_model.specs.Formulas.{truth}
 use Rattle.tick_model.specs.Tables.{cells_at, keys}
-use Rattle.row_changes.proofs.Comparing.{reads_next}
+use Rattle.row_changes.proofs.Comparing.{reads_next, reads_within}
 use Rattle.row_ops.proofs.testing.passing_keys.Goals as goal
 
 pub row-requires : goal.row-requires
@@ -34,6 +34,12 @@ loop-key-preserved g c =
           c.loop-key.invariant.found (c.passes-passing.ensures ∙ ap (truth c.args.test.now) row.cells) c.in_ok-put_last_if.ensures.keys;
       reads = reads_next c.args.input.now.new.width c.args.reads.now c.loop-key.reads c.row.new.reads yielded key c.loop-key.invariant.reads (omega (arith, row.reads));
     }
+
+pub returns-in_err-put_last_if-clause-reads : goal.returns-in_err-put_last_if-clause-reads
+returns-in_err-put_last_if-clause-reads g c =
+    let row = rw c.loop-key.invariant.rows at c.row.ensures in
+    reads_within c.args.input.now.new.width c.args.reads.now c.loop-key.reads c.row.new.reads c.loop-key.yielded c.in-Some.key _ _
+    (yielded_next c.loop-key.yielded c.into_iter-key-iterator.ensures.into_iter_gives c.loop-key.yielded_by c.in-Some.ensures.steps) c.loop-key.invariant.reads (omega (arith, row.reads))
 
 pub returns-clause-keys : goal.returns-clause-keys
 returns-clause-keys g c = c.loop-key.invariant.found ∙ ap (filter (λ key. truth c.args.test.now (cells_at key c.args.input.now.new.rows))) (yielded_all c.loop-key.yielded c.into_iter-key-iterator.ensures.into_iter_gives c.loop-key.yielded_by c.in-None.ensures.steps.0)

@@ -1,5 +1,4 @@
-use Rattle.std.proofs.Common.{◌≡◌, refl, ap, ap₂, ◌∙◌, subst, sym, arith, ◌+◌, ◌*◌, ◌≤◌, length}
-use Rattle.std.proofs.Math.Nat.{mul-le-mul_left}
+use Rattle.std.proofs.Common.{◌≡◌, refl, ap, ap₂, ◌∙◌, length}
 use Rattle.tick_model.specs.Changes.{Change, change_of}
 use Rattle.tick_model.specs.Updates.{between, new_keys, old_keys}
 use Rattle.tick_model.specs.Tables.{keys}
@@ -8,7 +7,7 @@ use Rattle.shift_data.specs.Moves.{canonical}
 use Rattle.tick_laws.specs.Checked.{keys_after}
 use Rattle.tick_table.specs.Exact.{tick_of}
 use Rattle.shown_rows.specs.Shown.{through}
-use Rattle.shown_rows.proofs.Restricted.{added_new, keys_shown, lawful_shown, parts_shown, shift_lawful_shown, touched, touched_few, touched_new, touched_old}
+use Rattle.shown_rows.proofs.Restricted.{added_new, keys_shown, lawful_shown, parts_shown, reads_few, shift_lawful_shown, touched, touched_new, touched_old}
 use Rattle.shown_rows.proofs.shown.shown_change.Goals as goal
 
 pub canonical_without-requires : goal.canonical_without-requires
@@ -72,13 +71,23 @@ returns-clause-change g c =
     rw (c.into_keys-compared_before.ensures.new, c.in_ok-pairs.ensures, c.in_ok-modified.ensures, c.requires.shown, c.requires.leaving) refl in
     c.in_ok-change.ensures.change (through choice (tick_of t)).kept (parts_shown t c.requires.exact choice c.requires.old_part c.requires.new_part _ c.requires.leaving c.requires.coming shifts olds news)
 
+pub returns-in_err-change-clause-reads : goal.returns-in_err-change-clause-reads
+returns-in_err-change-clause-reads g c =
+    let t = c.args.input.now in
+    let choice = g.C.Chooses.chosen c.args.choice.now in
+    reads_few t c.requires.exact choice c.requires.old_part c.requires.new_part t.new.width c.args.reads.now c.change_of_touched.new.reads (length c.args.coming) c.into_keys-compared_before.result.1
+    (rw (c.into_keys-compared_before.ensures.new, c.in_ok-pairs.ensures, c.in_ok-modified.ensures, c.requires.shown, c.requires.leaving) refl) c.change_of_touched.ensures.reads
+
+pub returns-in_err-shown-clause-reads : goal.returns-in_err-shown-clause-reads
+returns-in_err-shown-clause-reads g c =
+    let t = c.args.input.now in
+    let choice = g.C.Chooses.chosen c.args.choice.now in
+    reads_few t c.requires.exact choice c.requires.old_part c.requires.new_part t.new.width c.args.reads.now c.change_of_touched.new.reads (length c.args.coming) c.into_keys-compared_before.result.1
+    (rw (c.into_keys-compared_before.ensures.new, c.in_ok-pairs.ensures, c.in_ok-modified.ensures, c.requires.shown, c.requires.leaving) refl) c.change_of_touched.ensures.reads
+
 pub returns-clause-reads : goal.returns-clause-reads
 returns-clause-reads g c =
     let t = c.args.input.now in
     let choice = g.C.Chooses.chosen c.args.choice.now in
-    let news : c.into_keys-compared_before.result.1 ≡ new_keys (touched t c.requires.exact choice c.requires.old_part c.requires.new_part) =
-    rw (c.into_keys-compared_before.ensures.new, c.in_ok-pairs.ensures, c.in_ok-modified.ensures, c.requires.shown, c.requires.leaving) refl in
-    let few : length c.into_keys-compared_before.result.1 ≤ length t.update.modified =
-    subst (λ ks. length ks ≤ length t.update.modified) (sym news) (touched_few t c.requires.exact choice c.requires.old_part c.requires.new_part) in
-    let bound : 2 * length c.into_keys-compared_before.result.1 + length c.args.coming ≤ 2 * length t.update.modified + length c.args.coming = omega (arith, few) in
-    omega (arith, c.in_ok-change.ensures.reads, mul-le-mul_left t.new.width bound)
+    reads_few t c.requires.exact choice c.requires.old_part c.requires.new_part t.new.width c.args.reads.now c.change_of_touched.new.reads (length c.args.coming) c.into_keys-compared_before.result.1
+    (rw (c.into_keys-compared_before.ensures.new, c.in_ok-pairs.ensures, c.in_ok-modified.ensures, c.requires.shown, c.requires.leaving) refl) c.change_of_touched.ensures.reads

@@ -1,5 +1,6 @@
 use Rattle.std.proofs.Common.{◌≡◌, ◌∙◌, ◌+◌, ◌*◌, ap, arith, filter, length, not, subst, sym, take_all, true, List, ℕ, Some}
 use Rattle.std.specs.Prelude.{slice_get}
+use Rattle.row_changes.proofs.Placed.{reads_placed}
 use Rattle.key_lists.specs.Keys.{IsRising, is_among}
 use Rattle.shown_rows.proofs.Walks.{below_some, none_more, of_place, one_more}
 use Rattle.tick_model.specs.declared.update.KeyPair.{KeyPair}
@@ -112,9 +113,23 @@ returns-clause-staying g c =
     let count : c.len-place-end.result ≡ length (modified_pairs t) = c.len-place-end.ensures.count ∙ ap length c.in_ok-pairs.ensures in
     c.loop-place.invariant.staying ∙ ap (filter (same_place c.args.order.now.by (tick_of t))) (take_all c.loop-place.place (modified_pairs t) (omega (arith, count)))
 
+pub returns-in_err-staying-clause-reads : goal.returns-in_err-staying-clause-reads
+returns-in_err-staying-clause-reads g c =
+    let t = c.args.input.now in
+    let read = c.row.ensures.reads ∙ ap (λ (table : Ticking). c.loop-place.reads + table.new.width) c.loop-place.invariant.table in
+    let count : c.len-place-end.result ≡ length t.update.modified = c.len-place-end.ensures.count ∙ ap length c.in_ok-pairs.ensures ∙ modified_count t c.requires.exact in
+    reads_placed t.new.width c.args.reads.now c.loop-place.reads c.row.new.reads c.loop-place.place (length t.update.modified) (omega (arith, c.loop-place.invariant.reads)) (omega (arith, read)) (omega (arith, count))
+
+pub returns-in_err-moving-clause-reads : goal.returns-in_err-moving-clause-reads
+returns-in_err-moving-clause-reads g c =
+    let t = c.args.input.now in
+    let read = c.row.ensures.reads ∙ ap (λ (table : Ticking). c.loop-place.reads + table.new.width) c.loop-place.invariant.table in
+    let count : c.len-place-end.result ≡ length t.update.modified = c.len-place-end.ensures.count ∙ ap length c.in_ok-pairs.ensures ∙ modified_count t c.requires.exact in
+    reads_placed t.new.width c.args.reads.now c.loop-place.reads c.row.new.reads c.loop-place.place (length t.update.modified) (omega (arith, c.loop-place.invariant.reads)) (omega (arith, read)) (omega (arith, count))
+
 pub returns-clause-reads : goal.returns-clause-reads
 returns-clause-reads g c =
     let t = c.args.input.now in
     let count : c.len-place-end.result ≡ length (modified_pairs t) = c.len-place-end.ensures.count ∙ ap length c.in_ok-pairs.ensures in
     let end : c.loop-place.place ≡ length (modified_pairs t) = omega (arith, count) in
-    c.loop-place.invariant.reads ∙ ap (λ (n : ℕ). c.args.reads.now + t.new.width * n) (end ∙ modified_count t c.requires.exact)
+    omega (arith, c.loop-place.invariant.reads, ap (λ (n : ℕ). t.new.width * n) (end ∙ modified_count t c.requires.exact))

@@ -1,4 +1,4 @@
-use Rattle.std.proofs.Common.{◌≡◌, ◌∙◌, ap, length, subst, sym, true, List, ℕ}
+use Rattle.std.proofs.Common.{◌≡◌, ◌∙◌, ap, arith, length, refl, subst, sym, true, [], List, ℕ}
 use Rattle.std.specs.List.{AllByRecursion}
 use Rattle.std.proofs.lemmas.Result.{IfOk-weaker}
 use Rattle.key_lists.specs.Keys.{is_among, without}
@@ -94,14 +94,29 @@ returns-clause-change g c =
     IfOk-weaker c.sorted_change.result (λ change. change ≡ change_of (sorted c.bring_on.new.order.by tick)) (λ change. change ≡ change_of (sorted c.args.order.now.by tick))
     (λ change is. is ∙ ap (λ by. change_of (sorted by tick)) c.bring_on.ensures.by) c.sorted_change.ensures.change
 
+pub returns-in_err-crossing-clause-reads : goal.returns-in_err-crossing-clause-reads
+returns-in_err-crossing-clause-reads g c =
+    let t = c.args.input.now in
+    let by = c.args.order.now.by in
+    let own = between (sorted by (tick_of t)) in
+    reads_fewer t.new.width c.args.reads.now c.bring_on.new.reads c.bring_on.new.reads (length t.update.added) (length t.update.modified) c.args.edits.coming [] own.added own
+    refl (few_coming_in by t c.requires.exact c.args.edits.coming c.requires.coming) (omega arith) c.bring_on.ensures.reads (omega arith)
+
+pub returns-in_err-now-clause-reads : goal.returns-in_err-now-clause-reads
+returns-in_err-now-clause-reads g c =
+    let t = c.args.input.now in
+    let by = c.args.order.now.by in
+    let own = between (sorted by (tick_of t)) in
+    reads_fewer t.new.width c.args.reads.now c.bring_on.new.reads c.bring_on.new.reads (length t.update.added) (length t.update.modified) c.args.edits.coming [] own.added own
+    refl (few_coming_in by t c.requires.exact c.args.edits.coming c.requires.coming) (omega arith) c.bring_on.ensures.reads (omega arith)
+
 pub returns-clause-reads : goal.returns-clause-reads
 returns-clause-reads g c =
     let t = c.args.input.now in
     let by = c.args.order.now.by in
-    let came =
+    let come =
     c.in_ok-now.ensures.crossing
     ∙ added_found by t c.requires.exact (listed c.bring_on.new.order) c.in_ok-crossing.crossing c.in_ok-crossing.ensures.stands c.in_ok-crossing.ensures.set
-    (subst (λ (some : List ℕ). AreUnder (keys_in (listed c.bring_on.new.order)) some c.in_ok-crossing.crossing) c.requires.coming c.in_ok-crossing.ensures.places)
-    ∙ ap (λ by. (between (sorted by (tick_of t))).added) (sym c.bring_on.ensures.by) in
-    reads_fewer c.sorted_change.result t.new.width c.args.reads.now c.bring_on.new.reads c.sorted_change.new.reads (length t.update.added) (length t.update.modified) c.args.edits.coming c.in_ok-now.now.compared c.in_ok-now.now.crossing (change_of (sorted c.bring_on.new.order.by (tick_of t)))
-    c.sorted_change.ensures.change came (few_coming_in by t c.requires.exact c.args.edits.coming c.requires.coming) (few_compared_in by t c.requires.exact c.args.edits.compared_now c.in_ok-now.now.compared c.requires.compared_now c.in_ok-now.ensures.no_more) c.in_ok-crossing.ensures.reads c.sorted_change.ensures.reads
+    (subst (λ (some : List ℕ). AreUnder (keys_in (listed c.bring_on.new.order)) some c.in_ok-crossing.crossing) c.requires.coming c.in_ok-crossing.ensures.places) in
+    reads_fewer t.new.width c.args.reads.now c.bring_on.new.reads c.sorted_change.new.reads (length t.update.added) (length t.update.modified) c.args.edits.coming c.in_ok-now.now.compared c.in_ok-now.now.crossing (between (sorted by (tick_of t)))
+    come (few_coming_in by t c.requires.exact c.args.edits.coming c.requires.coming) (few_compared_in by t c.requires.exact c.args.edits.compared_now c.in_ok-now.now.compared c.requires.compared_now c.in_ok-now.ensures.no_more) c.bring_on.ensures.reads c.sorted_change.ensures.reads

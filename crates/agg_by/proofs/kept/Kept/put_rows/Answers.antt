@@ -4,7 +4,7 @@ use Rattle.std.proofs.lemmas.List.{length-map, map-append, with_items_is}
 use Rattle.key_lists.specs.Keys.{is_among, IsRising}
 use Rattle.key_lists.proofs.Among.{among_below}
 use Rattle.key_lists.proofs.Every.{every_weaker, filter_all}
-use Rattle.row_changes.proofs.Comparing.{reads_next}
+use Rattle.row_changes.proofs.Comparing.{reads_next, reads_within}
 use Rattle.row_groups.specs.Members.{Grouped, IsNumberOf, groups_of, member_of, with_member}
 use Rattle.row_set.proofs.Windows.{rising_back}
 use Rattle.row_set.proofs.Yielded.{next_has, next_small, yielded_all, yielded_next}
@@ -109,6 +109,30 @@ loop-key-preserved g c =
           (noted_more c.args.touched.now c.loop-key.touched (map noted yielded) (noted key) kept more number c.add.ensures.names (subst (λ (by : List ℕ). IsNumberOf number (key_at by rows key) more.names) c.loop-key.invariant.by is) c.loop-key.invariant.noted));
       reads = reads_next c.args.input.now.new.width c.args.reads.now c.loop-key.reads c.row-row.new.reads yielded key c.loop-key.invariant.reads (omega (arith, c.row-row.ensures.reads, width));
     }
+
+pub returns-in_err-read_key_cells-clause-reads : goal.returns-in_err-read_key_cells-clause-reads
+returns-in_err-read_key_cells-clause-reads g c =
+    reads_within c.args.input.now.new.width c.args.reads.now c.loop-key.reads c.row-row.new.reads c.loop-key.yielded c.in-Some.key _ _
+    (yielded_next c.loop-key.yielded c.into_iter-key-iterator.ensures.into_iter_gives c.loop-key.yielded_by c.in-Some.ensures.steps) c.loop-key.invariant.reads
+    (omega (arith, c.row-row.ensures.reads, ap (λ (table : Ticking). table.new.width) c.loop-key.invariant.table))
+
+pub returns-in_err-number-clause-reads : goal.returns-in_err-number-clause-reads
+returns-in_err-number-clause-reads g c =
+    reads_within c.args.input.now.new.width c.args.reads.now c.loop-key.reads c.row-row.new.reads c.loop-key.yielded c.in-Some.key _ _
+    (yielded_next c.loop-key.yielded c.into_iter-key-iterator.ensures.into_iter_gives c.loop-key.yielded_by c.in-Some.ensures.steps) c.loop-key.invariant.reads
+    (omega (arith, c.row-row.ensures.reads, ap (λ (table : Ticking). table.new.width) c.loop-key.invariant.table))
+
+pub returns-in_err-note-clause-reads : goal.returns-in_err-note-clause-reads
+returns-in_err-note-clause-reads g c =
+    reads_within c.args.input.now.new.width c.args.reads.now c.loop-key.reads c.row-row.new.reads c.loop-key.yielded c.in-Some.key _ _
+    (yielded_next c.loop-key.yielded c.into_iter-key-iterator.ensures.into_iter_gives c.loop-key.yielded_by c.in-Some.ensures.steps) c.loop-key.invariant.reads
+    (omega (arith, c.row-row.ensures.reads, ap (λ (table : Ticking). table.new.width) c.loop-key.invariant.table))
+
+pub returns-in_err-put_all-clause-reads : goal.returns-in_err-put_all-clause-reads
+returns-in_err-put_all-clause-reads g c =
+    reads_within c.args.input.now.new.width c.args.reads.now c.loop-key.reads c.row-row.new.reads c.loop-key.yielded c.in-Some.key _ _
+    (yielded_next c.loop-key.yielded c.into_iter-key-iterator.ensures.into_iter_gives c.loop-key.yielded_by c.in-Some.ensures.steps) c.loop-key.invariant.reads
+    (omega (arith, c.row-row.ensures.reads, ap (λ (table : Ticking). table.new.width) c.loop-key.invariant.table))
 
 pub returns : goal.returns
 returns g c =

@@ -3,7 +3,7 @@ use Rattle.std.specs.List.{AllByRecursion}
 use Rattle.std.proofs.lemmas.List.{with_items_is}
 use Rattle.key_lists.specs.Keys.{is_among}
 use Rattle.key_lists.proofs.Every.{every_weaker, filter_all}
-use Rattle.row_changes.proofs.Comparing.{reads_next}
+use Rattle.row_changes.proofs.Comparing.{reads_next, reads_within}
 use Rattle.row_groups.specs.Members.{IsNumberOf, IsNumberUnder, groups_of}
 use Rattle.row_groups.proofs.Departing.{zipped_next, zipped_within}
 use Rattle.row_set.proofs.Yielded.{next_has, next_new, yielded_all, yielded_next}
@@ -110,6 +110,12 @@ loop-key-preserved g c =
       position = omega (arith, c.loop-key.invariant.position, length-append yielded (key ∷ []));
       reads = reads_next c.args.input.now.old.width c.args.reads.now c.loop-key.reads c.row-row.new.reads yielded key c.loop-key.invariant.reads (omega (arith, c.row-row.ensures.reads, width));
     }
+
+pub returns-in_err-take_all-clause-reads : goal.returns-in_err-take_all-clause-reads
+returns-in_err-take_all-clause-reads g c =
+    reads_within c.args.input.now.old.width c.args.reads.now c.loop-key.reads c.row-row.new.reads c.loop-key.yielded c.in-Some.key _ _
+    (yielded_next c.loop-key.yielded c.into_iter-key-iterator.ensures.into_iter_gives c.loop-key.yielded_by c.in-Some.ensures.steps) c.loop-key.invariant.reads
+    (omega (arith, c.row-row.ensures.reads, ap (λ (table : Ticking). table.old.width) c.loop-key.invariant.table))
 
 pub returns-clause-running : goal.returns-clause-running
 returns-clause-running g c =

@@ -1,8 +1,8 @@
 use Rattle.std.proofs.Common.{◌≡◌, ◌≢◌, ap, sym, ◌∙◌, subst, arith, [], IsTrue, ℕ, List, ℤ, Some, length, ◌≤◌, ◌+◌, ◌*◌}
 use Rattle.key_lists.specs.Keys.{is_among}
-use Rattle.row_changes.proofs.Comparing.{reads_next}
+use Rattle.row_changes.proofs.Comparing.{reads_next, reads_within}
 use Rattle.row_groups.specs.Members.{IsNumberOf, group_of, name_at}
-use Rattle.row_set.proofs.Yielded.{next_has, yielded_all}
+use Rattle.row_set.proofs.Yielded.{next_has, yielded_all, yielded_next}
 use Rattle.tick_model.specs.Agg.{key_cells}
 use Rattle.tick_model.specs.Tables.{cells_at, keys as keys_of}
 use Rattle.tick_table.specs.Ticking.{Ticking}
@@ -56,6 +56,18 @@ loop-key-preserved g c =
           (subst (λ (cells : List ℤ). group_of cells kept.members ≡ []) cells (c.find.ensures.empty c.in_default.is));
       reads = reads_next c.args.input.now.new.width c.args.reads.now c.loop-key.reads c.row.new.reads c.loop-key.yielded key c.loop-key.invariant.reads (omega (arith, c.row.ensures.reads, width));
     }
+
+pub returns-in_err-read_key_cells-clause-reads : goal.returns-in_err-read_key_cells-clause-reads
+returns-in_err-read_key_cells-clause-reads g c =
+    reads_within c.args.input.now.new.width c.args.reads.now c.loop-key.reads c.row.new.reads c.loop-key.yielded c.in-Some.key _ _
+    (yielded_next c.loop-key.yielded c.into_iter-key-iterator.ensures.into_iter_gives c.loop-key.yielded_by c.in-Some.ensures.steps) c.loop-key.invariant.reads
+    (omega (arith, c.row.ensures.reads, ap (λ (table : Ticking). table.new.width) c.loop-key.invariant.table))
+
+pub returns-in_err-note-clause-reads : goal.returns-in_err-note-clause-reads
+returns-in_err-note-clause-reads g c =
+    reads_within c.args.input.now.new.width c.args.reads.now c.loop-key.reads c.row.new.reads c.loop-key.yielded c.in-Some.key _ _
+    (yielded_next c.loop-key.yielded c.into_iter-key-iterator.ensures.into_iter_gives c.loop-key.yielded_by c.in-Some.ensures.steps) c.loop-key.invariant.reads
+    (omega (arith, c.row.ensures.reads, ap (λ (table : Ticking). table.new.width) c.loop-key.invariant.table))
 
 pub returns-then-is_empty : goal.returns-then-is_empty
 returns-then-is_empty g c =

@@ -1,9 +1,10 @@
-use Rattle.std.proofs.Common.{◌≡◌, ap, sym, ◌∙◌, subst, length, ℕ, List}
+use Rattle.std.proofs.Common.{◌≡◌, ap, sym, ◌∙◌, subst, length, ℕ, ◌+◌, ◌*◌, ◌≤◌, List}
 use Rattle.head_tail.specs.Ends.{End, headed}
 use Rattle.tick_model.specs.Changes.{Change, change_of}
 use Rattle.tick_model.specs.HeadTail.{head_table}
 use Rattle.tick_model.specs.Tables.{keys}
-use Rattle.tick_table.specs.Exact.{tick_of}
+use Rattle.row_changes.proofs.Comparing.{on_err}
+use Rattle.tick_table.specs.Exact.{counted, tick_of}
 use Rattle.head_tail.proofs.Parts.{head_part}
 use Rattle.head_tail.proofs.ReadRows.{end_reads}
 use Rattle.head_tail.proofs.head_op.HeadOp.step.Goals as goal
@@ -31,3 +32,11 @@ returns-clause-reads g c =
     ap (λ (change : Change). length change.update.added) c.in_ok-change.ensures.change ∙ ap length (sym c.in_ok-crossing.ensures.coming) in
     end_reads c.args.input.now.new.width c.args.reads.now c.shown_change.new.reads c.args.input.now.update c.in_ok-change.change.update (length c.in_ok-crossing.crossing.coming)
     c.in_ok-change.ensures.reads came
+
+pub returns-in_err-change-clause-refused : goal.returns-in_err-change-clause-refused
+returns-in_err-change-clause-refused g c =
+    let input = c.args.input.now in
+    on_err c.from_residual-in_err-change.result
+    (subst (λ (end : End). c.shown_change.new.reads ≤ c.args.reads.now + 4 * (input.new.width + input.new.width) * (counted input.update + counted (change_of (headed end.count (tick_of input))).update)) c.self.view_is
+    (end_reads input.new.width c.args.reads.now c.shown_change.new.reads input.update (change_of (headed c.self.inside.count (tick_of input))).update (length c.in_ok-crossing.crossing.coming)
+    c.shown_change.ensures.reads (ap length (sym c.in_ok-crossing.ensures.coming))))

@@ -4,10 +4,13 @@ use Rattle.lookup_join.specs.declared.keyed.Side.TheVariants.{Left, Right}
 use Rattle.lookup_join.specs.declared.pick.Pick.TheVariants.{Latest}
 use Rattle.lookup_join.specs.Matcher.{Matcher, Stands, matched_ticks, standing}
 use Rattle.lookup_join.specs.Keyed.{indexed}
+use Rattle.lookup_join.specs.Matched.{matched_tick}
+use Rattle.lookup_join.proofs.Stepping.{step_within}
+use Rattle.row_changes.proofs.Comparing.{on_err}
 use Rattle.row_groups.specs.Members.{Grouped}
 use Rattle.tick_model.specs.Changes.{change_of}
 use Rattle.tick_model.specs.declared.plan.OnPair.{OnPair}
-use Rattle.tick_table.specs.Exact.{tick_of}
+use Rattle.tick_table.specs.Exact.{counted, tick_of}
 use Rattle.lookup_join.proofs.as_of_op.AsOfOp.step.Goals as goal
 
 pub lookup_step-requires-clause-few : goal.lookup_step-requires-clause-few
@@ -42,3 +45,20 @@ returns-clause-change g c =
     c.in_ok-change.ensures.change
     ∙ ap₂ (λ (on : List OnPair) (take : List ℕ). change_of (matched_ticks on c.self.inside.at take (tick_of c.args.left.now) (tick_of c.args.right.now))) c.as_slice.ensures c.as_slice-2.ensures
     ∙ ap (λ (matcher : Matcher). change_of (matched_ticks matcher.on matcher.at matcher.take (tick_of c.args.left.now) (tick_of c.args.right.now))) c.self.view_is
+
+pub returns-in_err-change-clause-refused : goal.returns-in_err-change-clause-refused
+returns-in_err-change-clause-refused g c =
+    on_err c.from_residual.result
+    (step_within c.lookup_step.new.reads c.args.reads.now c.args.left.now.new.width c.args.right.now.new.width (length c.as_slice-2.result.now) (length c.args.self.take) (counted c.args.left.now.update + counted c.args.right.now.update)
+    (change_of (matched_tick c.as_slice.result.now (Latest c.self.inside.at) c.as_slice-2.result.now (tick_of c.args.left.now) (tick_of c.args.right.now)))
+    (change_of (matched_ticks c.args.self.on c.args.self.at c.args.self.take (tick_of c.args.left.now) (tick_of c.args.right.now)))
+    c.lookup_step.ensures.reads
+    (ap₂ (λ (on : List OnPair) (take : List ℕ). change_of (matched_ticks on c.self.inside.at take (tick_of c.args.left.now) (tick_of c.args.right.now))) c.as_slice.ensures c.as_slice-2.ensures
+    ∙ ap (λ (matcher : Matcher). change_of (matched_ticks matcher.on matcher.at matcher.take (tick_of c.args.left.now) (tick_of c.args.right.now))) c.self.view_is)
+    (ap length c.as_slice-2.ensures ∙ ap (λ (matcher : Matcher). length matcher.take) c.self.view_is))
+
+pub returns-clause-reads : goal.returns-clause-reads
+returns-clause-reads g c =
+    step_within c.lookup_step.new.reads c.args.reads.now c.args.left.now.new.width c.args.right.now.new.width (length c.as_slice-2.result.now) (length c.args.self.take) (counted c.args.left.now.update + counted c.args.right.now.update)
+    (change_of (matched_tick c.as_slice.result.now (Latest c.self.inside.at) c.as_slice-2.result.now (tick_of c.args.left.now) (tick_of c.args.right.now))) _
+    c.lookup_step.ensures.reads (sym c.in_ok-change.ensures.change) (ap length c.as_slice-2.ensures ∙ ap (λ (matcher : Matcher). length matcher.take) c.self.view_is)

@@ -7,6 +7,8 @@ use Rattle.lookup_join.specs.Joiner.{Joiner, Stands, joined_ticks, standing}
 use Rattle.lookup_join.specs.Keyed.{indexed}
 use Rattle.lookup_join.specs.Matched.{matched_tick, pick_of}
 use Rattle.lookup_join.proofs.Faults.{came_members, node_of, told_is}
+use Rattle.lookup_join.proofs.Stepping.{step_within}
+use Rattle.row_changes.proofs.Comparing.{on_err}
 use Rattle.row_groups.specs.Members.{Grouped}
 use Rattle.tick_model.specs.Changes.{change_of}
 use Rattle.tick_model.specs.declared.plan.OnPair.{OnPair}
@@ -14,7 +16,7 @@ use Rattle.tick_model.specs.declared.plan.Choice.{Choice}
 use Rattle.tick_model.specs.declared.plan.Choice.TheVariants.{Error, First, Last}
 use Rattle.tick_model.specs.Join.{join_fault}
 use Rattle.tick_model.specs.Updates.{Tick}
-use Rattle.tick_table.specs.Exact.{tick_of}
+use Rattle.tick_table.specs.Exact.{counted, tick_of}
 use Rattle.lookup_join.proofs.join_op.JoinOp.step.Goals as goal
 
 -- what a choice takes makes the join's own table
@@ -78,3 +80,34 @@ returns-clause-change g c =
     ∙ ap change_of (ticks c.self.inside.choice c.as_slice.result.now c.as_slice-2.result.now (tick_of c.args.left.now) (tick_of c.args.right.now))
     ∙ ap₂ (λ (on : List OnPair) (take : List ℕ). change_of (joined_ticks on take c.self.inside.choice (tick_of c.args.left.now) (tick_of c.args.right.now))) c.as_slice.ensures c.as_slice-2.ensures
     ∙ ap (λ (joiner : Joiner). change_of (joined_ticks joiner.on joiner.take joiner.choice (tick_of c.args.left.now) (tick_of c.args.right.now))) c.self.view_is
+
+pub returns-in_err-change-clause-refused : goal.returns-in_err-change-clause-refused
+returns-in_err-change-clause-refused g c =
+    on_err c.from_residual.result
+    (step_within c.lookup_step.new.reads c.args.reads.now c.args.left.now.new.width c.args.right.now.new.width (length c.as_slice-2.result.now) (length c.args.self.take) (counted c.args.left.now.update + counted c.args.right.now.update)
+    (change_of (matched_tick c.as_slice.result.now c.of.result c.as_slice-2.result.now (tick_of c.args.left.now) (tick_of c.args.right.now)))
+    (change_of (joined_ticks c.args.self.on c.args.self.take c.args.self.choice (tick_of c.args.left.now) (tick_of c.args.right.now)))
+    c.lookup_step.ensures.reads
+    (ap (λ (pick : Pick). change_of (matched_tick c.as_slice.result.now pick c.as_slice-2.result.now (tick_of c.args.left.now) (tick_of c.args.right.now))) c.of.ensures
+    ∙ ap change_of (ticks c.self.inside.choice c.as_slice.result.now c.as_slice-2.result.now (tick_of c.args.left.now) (tick_of c.args.right.now))
+    ∙ ap₂ (λ (on : List OnPair) (take : List ℕ). change_of (joined_ticks on take c.self.inside.choice (tick_of c.args.left.now) (tick_of c.args.right.now))) c.as_slice.ensures c.as_slice-2.ensures
+    ∙ ap (λ (joiner : Joiner). change_of (joined_ticks joiner.on joiner.take joiner.choice (tick_of c.args.left.now) (tick_of c.args.right.now))) c.self.view_is)
+    (ap length c.as_slice-2.ensures ∙ ap (λ (joiner : Joiner). length joiner.take) c.self.view_is))
+
+pub returns-in-Some-clause-refused : goal.returns-in-Some-clause-refused
+returns-in-Some-clause-refused g c =
+    step_within c.lookup_step.new.reads c.args.reads.now c.args.left.now.new.width c.args.right.now.new.width (length c.as_slice-2.result.now) (length c.args.self.take) (counted c.args.left.now.update + counted c.args.right.now.update)
+    (change_of (matched_tick c.as_slice.result.now c.of.result c.as_slice-2.result.now (tick_of c.args.left.now) (tick_of c.args.right.now)))
+    (change_of (joined_ticks c.args.self.on c.args.self.take c.args.self.choice (tick_of c.args.left.now) (tick_of c.args.right.now)))
+    c.lookup_step.ensures.reads
+    (ap (λ (pick : Pick). change_of (matched_tick c.as_slice.result.now pick c.as_slice-2.result.now (tick_of c.args.left.now) (tick_of c.args.right.now))) c.of.ensures
+    ∙ ap change_of (ticks c.self.inside.choice c.as_slice.result.now c.as_slice-2.result.now (tick_of c.args.left.now) (tick_of c.args.right.now))
+    ∙ ap₂ (λ (on : List OnPair) (take : List ℕ). change_of (joined_ticks on take c.self.inside.choice (tick_of c.args.left.now) (tick_of c.args.right.now))) c.as_slice.ensures c.as_slice-2.ensures
+    ∙ ap (λ (joiner : Joiner). change_of (joined_ticks joiner.on joiner.take joiner.choice (tick_of c.args.left.now) (tick_of c.args.right.now))) c.self.view_is)
+    (ap length c.as_slice-2.ensures ∙ ap (λ (joiner : Joiner). length joiner.take) c.self.view_is)
+
+pub returns-clause-reads : goal.returns-clause-reads
+returns-clause-reads g c =
+    step_within c.lookup_step.new.reads c.args.reads.now c.args.left.now.new.width c.args.right.now.new.width (length c.as_slice-2.result.now) (length c.args.self.take) (counted c.args.left.now.update + counted c.args.right.now.update)
+    (change_of (matched_tick c.as_slice.result.now c.of.result c.as_slice-2.result.now (tick_of c.args.left.now) (tick_of c.args.right.now))) _
+    c.lookup_step.ensures.reads (sym c.in_ok-change.ensures.change) (ap length c.as_slice-2.ensures ∙ ap (λ (joiner : Joiner). length joiner.take) c.self.view_is)

@@ -4,9 +4,9 @@ use Rattle.lookup_join.specs.Matched.{matched_table}
 use Rattle.lookup_join.proofs.Compared.{cells_new, matched_keys}
 use Rattle.lookup_join.proofs.Reading.{row_behind}
 use Rattle.lookup_join.proofs.Walks.{reader_has, row_given, row_read}
-use Rattle.row_changes.proofs.Comparing.{cells_more, reads_next}
+use Rattle.row_changes.proofs.Comparing.{cells_more, reads_next, reads_within}
 use Rattle.row_changes.specs.Parts.{cells_under}
-use Rattle.row_set.proofs.Yielded.{next_has, yielded_all}
+use Rattle.row_set.proofs.Yielded.{next_has, yielded_all, yielded_next}
 use Rattle.tick_model.specs.Tables.{cells_at, keys}
 use Rattle.lookup_join.proofs.rows.MatchedRowsRows.all_now.Goals as goal
 
@@ -43,6 +43,20 @@ loop-key-preserved g c =
           ∙ ap (λ (row : List ℤ). others ++ row) (sym (append-nil (cells_at key table.rows) ∙ cells_new rows.on.now rows.pick rows.take.now left ready.left_exact right ready.right_exact key there)));
       reads = reads_next (left.new.width + length rows.take.now) c.args.reads.now c.loop-key.reads c.put_taken_now.new.reads yielded key c.loop-key.invariant.reads (omega (arith, row_read c.loop-key.reads c.loop-key.invariant.left c.row.ensures.reads, c.in_ok-put_taken_now.ensures.reads));
     }
+
+pub returns-in_err-extend_from_slice-clause-reads : goal.returns-in_err-extend_from_slice-clause-reads
+returns-in_err-extend_from_slice-clause-reads g c =
+    let rows = c.args.self.now in
+    reads_within (rows.left.now.new.width + length rows.take.now) c.args.reads.now c.loop-key.reads c.row.new.reads c.loop-key.yielded c.in-Some.key _ _
+    (yielded_next c.loop-key.yielded c.into_iter-key-iterator.ensures.into_iter_gives c.loop-key.yielded_by c.in-Some.ensures.steps) c.loop-key.invariant.reads
+    (omega (arith, row_read c.loop-key.reads c.loop-key.invariant.left c.row.ensures.reads))
+
+pub returns-in_err-put_taken_now-clause-reads : goal.returns-in_err-put_taken_now-clause-reads
+returns-in_err-put_taken_now-clause-reads g c =
+    let rows = c.args.self.now in
+    reads_within (rows.left.now.new.width + length rows.take.now) c.args.reads.now c.loop-key.reads c.put_taken_now.new.reads c.loop-key.yielded c.in-Some.key _ _
+    (yielded_next c.loop-key.yielded c.into_iter-key-iterator.ensures.into_iter_gives c.loop-key.yielded_by c.in-Some.ensures.steps) c.loop-key.invariant.reads
+    (omega (arith, row_read c.loop-key.reads c.loop-key.invariant.left c.row.ensures.reads, c.put_taken_now.ensures.reads))
 
 pub returns-clause-cells : goal.returns-clause-cells
 returns-clause-cells g c =

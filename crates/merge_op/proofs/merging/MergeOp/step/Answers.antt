@@ -4,6 +4,7 @@ use Rattle.std.specs.declared.sync.Arc.{Arc}
 use Rattle.std.specs.Arc.{arc_value}
 use Rattle.std.specs.List.{AllByRecursion}
 use Rattle.std.proofs.lemmas.List.{length-map}
+use Rattle.row_changes.proofs.Comparing.{on_err}
 use Rattle.row_changes.specs.Parts.{AreParts, Parts}
 use Rattle.tick_laws.specs.Checked.{keys_after}
 use Rattle.tick_model.specs.Changes.{Change, change_of}
@@ -98,3 +99,21 @@ returns-clause-reads g c =
     subst (λ (merger : Merger). c.change_of_touched.new.reads ≤ c.args.reads.now + 4 * (merger.count * merger.width + merger.width) * (counted_in (tables c.args.inputs.now) + counted c.in_ok-change.change.update)) c.self.view_is
     (reads_few c.self.inside.count c.self.inside.width c.args.reads.now c.change_of_touched.new.reads (length c.in_ok-touched.touched.compared_now) (length c.in_ok-touched.touched.added) (tables c.args.inputs.now) c.in_ok-change.change.update
     c.in_ok-change.ensures.reads c.in_ok-touched.ensures.modified c.in_ok-touched.ensures.added)
+
+pub returns-in_err-change-clause-refused : goal.returns-in_err-change-clause-refused
+returns-in_err-change-clause-refused g c =
+    let ts = tables c.args.inputs.now in
+    let own = (change_of (merged ts)).update in
+    on_err c.from_residual-in_err-change.result
+    (subst (λ (merger : Merger). c.change_of_touched.new.reads ≤ c.args.reads.now + 4 * (merger.count * merger.width + merger.width) * (counted_in ts + counted own)) c.self.view_is
+    (reads_few c.self.inside.count c.self.inside.width c.args.reads.now c.change_of_touched.new.reads (length c.in_ok-touched.touched.compared_now) (length c.in_ok-touched.touched.added) ts own
+    c.change_of_touched.ensures.reads c.in_ok-touched.ensures.modified c.in_ok-touched.ensures.added))
+
+pub returns-in_err-shown-clause-refused : goal.returns-in_err-shown-clause-refused
+returns-in_err-shown-clause-refused g c =
+    let ts = tables c.args.inputs.now in
+    let own = (change_of (merged ts)).update in
+    on_err c.from_residual-in_err-shown.result
+    (subst (λ (merger : Merger). c.change_of_touched.new.reads ≤ c.args.reads.now + 4 * (merger.count * merger.width + merger.width) * (counted_in ts + counted own)) c.self.view_is
+    (reads_few c.self.inside.count c.self.inside.width c.args.reads.now c.change_of_touched.new.reads (length c.in_ok-touched.touched.compared_now) (length c.in_ok-touched.touched.added) ts own
+    c.change_of_touched.ensures.reads c.in_ok-touched.ensures.modified c.in_ok-touched.ensures.added))

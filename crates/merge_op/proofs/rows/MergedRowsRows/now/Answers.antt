@@ -1,4 +1,4 @@
-use Rattle.std.proofs.Common.{◌≡◌, true, ap, sym, ◌∙◌, refl, subst, ℕ, ◌+◌, ◌-◌, ◌<◌, ◌≤◌, ◌^◌, arith, List, [], ◌∷◌, ◌++◌, drop, length, ℤ}
+use Rattle.std.proofs.Common.{◌≡◌, true, ap, sym, ◌∙◌, refl, subst, ℕ, ◌+◌, ◌-◌, ◌<◌, ◌^◌, arith, List, [], ◌∷◌, ◌++◌, drop, length, ℤ}
 use Rattle.std.specs.Prelude.{OnOk}
 use Rattle.key_lists.specs.Keys.{is_among}
 use Rattle.tick_model.specs.Tables.{cells_at, keys}
@@ -8,7 +8,7 @@ use Rattle.merge_op.specs.Merged.{tables}
 use Rattle.merge_op.specs.Regions.{room_now}
 use Rattle.merge_op.proofs.Found.{IsAheadNow, ahead_now, first_now, none_now, others_now}
 use Rattle.merge_op.proofs.Roomy.{room_is, room_small}
-use Rattle.merge_op.proofs.Sharing.{no_tables, on_ok, table_at, tables_from}
+use Rattle.merge_op.proofs.Sharing.{no_tables, read_or_not, table_at, tables_from}
 use Rattle.merge_op.proofs.rows.MergedRowsRows.now.Goals as goal
 
 pub loop-input-init : goal.loop-input-init
@@ -54,7 +54,7 @@ returns-then-key-end-clause-reads g c =
     let wide : t.new.width ≡ c.args.self.now.width = table_at (λ t. t.new.width ≡ c.args.self.now.width) c.args.self.now.inputs.now c.loop-input.input-index c.input-item.result t c.requires.ready.2 c.loop-input-test.true c.input-item.is c.deref.ensures in
     let same : c.deref-then-key-end.result.now ≡ t = c.deref-then-key-end.ensures ∙ sym c.deref.ensures in
     let width : c.deref-then-key-end.result.now.new.width ≡ c.args.self.now.width = ap (λ (t : Ticking). t.new.width) same ∙ wide in
-    on_ok (c.row.new.reads ≡ c.loop-input.reads + c.deref-then-key-end.result.now.new.width) (c.row.new.reads ≤ c.args.reads.now + c.args.self.now.width) c.row.result (λ e. omega (arith, e, width, c.loop-input.invariant.reads)) c.row.ensures.reads
+    omega (arith, read_or_not c.row.result c.deref-then-key-end.result.now.new.width c.loop-input.reads c.row.new.reads c.row.ensures.reads c.row.ensures.unread, width, c.loop-input.invariant.reads)
 
 pub loop-input-preserved : goal.loop-input-preserved
 loop-input-preserved g c =

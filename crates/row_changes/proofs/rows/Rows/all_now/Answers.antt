@@ -1,10 +1,10 @@
 use Rattle.std.proofs.Common.{ap, ◌∙◌, ◌++◌, List, ℤ, subst, ℕ, length, ◌≤◌, ◌+◌, ◌*◌}
 use Rattle.std.specs.Prelude.{IsTrue}
 use Rattle.key_lists.specs.Keys.{is_among}
-use Rattle.row_set.proofs.Yielded.{next_has, yielded_all}
+use Rattle.row_set.proofs.Yielded.{next_has, yielded_all, yielded_next}
 use Rattle.tick_model.specs.Tables.{cells_at, keys}
 use Rattle.row_changes.specs.Parts.{cells_under}
-use Rattle.row_changes.proofs.Comparing.{cells_next, reads_next}
+use Rattle.row_changes.proofs.Comparing.{cells_next, reads_next, reads_within}
 use Rattle.row_changes.proofs.rows.Rows.all_now.Goals as goal
 
 pub now-requires-clause-here : goal.now-requires-clause-here
@@ -19,6 +19,11 @@ loop-key-preserved g c =
       cells = c.in_ok-now.ensures.cells ∙ ap (λ (cells : List ℤ). cells ++ cells_at key table.rows) c.loop-key.invariant.cells ∙ cells_next table c.args.cells.now.items yielded key;
       reads = reads_next (g.Self.Rows.row_reads c.args.self.now) c.args.reads.now c.loop-key.reads c.now.new.reads yielded key c.loop-key.invariant.reads c.in_ok-now.ensures.reads;
     }
+
+pub returns-in_err-now-clause-reads : goal.returns-in_err-now-clause-reads
+returns-in_err-now-clause-reads g c =
+    reads_within (g.Self.Rows.row_reads c.args.self.now) c.args.reads.now c.loop-key.reads c.now.new.reads c.loop-key.yielded c.in-Some.key _ _
+    (yielded_next c.loop-key.yielded c.into_iter-key-iterator.ensures.into_iter_gives c.loop-key.yielded_by c.in-Some.ensures.steps) c.loop-key.invariant.reads c.now.ensures.reads
 
 pub returns-clause-cells : goal.returns-clause-cells
 returns-clause-cells g c =

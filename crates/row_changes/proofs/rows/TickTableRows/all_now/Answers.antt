@@ -1,11 +1,11 @@
 use Rattle.std.proofs.Common.{ap, ap₂, sym, ◌∙◌, arith, ◌++◌, List, ℤ, subst, ℕ, length, ◌≤◌, ◌+◌, ◌*◌}
 use Rattle.std.specs.Prelude.{IsTrue}
 use Rattle.key_lists.specs.Keys.{is_among}
-use Rattle.row_set.proofs.Yielded.{next_has, yielded_all}
+use Rattle.row_set.proofs.Yielded.{next_has, yielded_all, yielded_next}
 use Rattle.tick_model.specs.Tables.{cells_at, keys}
 use Rattle.tick_table.specs.Ticking.{Ticking}
 use Rattle.row_changes.specs.Parts.{cells_under}
-use Rattle.row_changes.proofs.Comparing.{cells_next, reads_next}
+use Rattle.row_changes.proofs.Comparing.{cells_next, reads_next, reads_within}
 use Rattle.row_changes.proofs.rows.TickTableRows.all_now.Goals as goal
 
 pub row-requires : goal.row-requires
@@ -26,6 +26,13 @@ loop-key-preserved g c =
           ∙ cells_next table.new c.args.cells.now.items yielded key;
       reads = reads_next table.new.width c.args.reads.now c.loop-key.reads c.row.new.reads yielded key c.loop-key.invariant.reads (omega (arith, c.row.ensures.reads, ap (λ (table : Ticking). table.new.width) same));
     }
+
+pub returns-in_err-extend_from_slice-clause-reads : goal.returns-in_err-extend_from_slice-clause-reads
+returns-in_err-extend_from_slice-clause-reads g c =
+    let table = c.args.self.now in
+    reads_within table.new.width c.args.reads.now c.loop-key.reads c.row.new.reads c.loop-key.yielded c.in-Some.key _ _
+    (yielded_next c.loop-key.yielded c.into_iter-key-iterator.ensures.into_iter_gives c.loop-key.yielded_by c.in-Some.ensures.steps) c.loop-key.invariant.reads
+    (omega (arith, c.row.ensures.reads, ap (λ (table : Ticking). table.new.width) c.loop-key.invariant.same))
 
 pub returns-clause-cells : goal.returns-clause-cells
 returns-clause-cells g c =

@@ -1,12 +1,12 @@
 use Rattle.std.proofs.Common.{◌≡◌, refl, ap, sym, ◌∙◌, subst, rules, arith, append-nil, true, ℕ, ◌+◌, ◌*◌, ◌≤◌, List, [], ◌∷◌, ◌++◌, ℤ, drop, length}
 use Rattle.std.specs.List.{AllByRecursion}
 use Rattle.key_lists.specs.Keys.{is_among}
-use Rattle.row_set.proofs.Yielded.{next_has, yielded_all}
+use Rattle.row_set.proofs.Yielded.{next_has, yielded_all, yielded_next}
 use Rattle.tick_model.specs.Formulas.{IsWithin}
 use Rattle.tick_model.specs.Tables.{cells_at, keys}
 use Rattle.tick_model.specs.View.{view_table}
 use Rattle.row_changes.specs.Parts.{cells_under}
-use Rattle.row_changes.proofs.Comparing.{behind, cells_more, reads_next}
+use Rattle.row_changes.proofs.Comparing.{behind, cells_more, reads_next, reads_within}
 use Rattle.row_ops.proofs.Viewed.{keys-view, row_viewed}
 use Rattle.row_ops.proofs.view_op.ViewRowsRows.all_now.Goals as goal
 
@@ -40,6 +40,18 @@ loop-key-preserved g c =
           (c.in_ok-put_values.ensures ∙ row_viewed exprs table key others c.extend_from_slice.new.self.items c.len-start.result own (search rules) read ∙ ap (λ (row : List ℤ). others ++ row) (sym (append-nil (cells_at key view.rows))));
       reads = reads_next table.width c.args.reads.now c.loop-key.reads c.row.new.reads yielded key c.loop-key.invariant.reads (omega (arith, row.reads));
     }
+
+pub returns-in_err-extend_from_slice-clause-reads : goal.returns-in_err-extend_from_slice-clause-reads
+returns-in_err-extend_from_slice-clause-reads g c =
+    let row = rw c.loop-key.invariant.input at c.row.ensures in
+    reads_within c.args.self.now.input.now.new.width c.args.reads.now c.loop-key.reads c.row.new.reads c.loop-key.yielded c.in-Some.key _ _
+    (yielded_next c.loop-key.yielded c.into_iter-key-iterator.ensures.into_iter_gives c.loop-key.yielded_by c.in-Some.ensures.steps) c.loop-key.invariant.reads (omega (arith, row.reads))
+
+pub returns-in_err-put_values-clause-reads : goal.returns-in_err-put_values-clause-reads
+returns-in_err-put_values-clause-reads g c =
+    let row = rw c.loop-key.invariant.input at c.row.ensures in
+    reads_within c.args.self.now.input.now.new.width c.args.reads.now c.loop-key.reads c.row.new.reads c.loop-key.yielded c.in-Some.key _ _
+    (yielded_next c.loop-key.yielded c.into_iter-key-iterator.ensures.into_iter_gives c.loop-key.yielded_by c.in-Some.ensures.steps) c.loop-key.invariant.reads (omega (arith, row.reads))
 
 pub returns-clause-cells : goal.returns-clause-cells
 returns-clause-cells g c =

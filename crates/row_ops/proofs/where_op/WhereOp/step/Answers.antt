@@ -1,10 +1,11 @@
-use Rattle.std.proofs.Common.{◌≡◌, ap, sym, ◌∙◌, subst, length, ℕ, List}
+use Rattle.std.proofs.Common.{◌≡◌, refl, ap, sym, ◌∙◌, subst, arith, length, ℕ, ◌+◌, ◌*◌, ◌≤◌, List}
+use Rattle.row_changes.proofs.Comparing.{on_err}
 use Rattle.row_ops.specs.Filter.{Filter, filtered}
 use Rattle.tick_model.specs.Changes.{Change, change_of}
 use Rattle.tick_model.specs.Formulas.{IsTestWithin, truth}
 use Rattle.tick_model.specs.Tables.{keys}
 use Rattle.tick_model.specs.Where.{where_table}
-use Rattle.tick_table.specs.Exact.{tick_of}
+use Rattle.tick_table.specs.Exact.{counted, tick_of}
 use Rattle.row_ops.proofs.Crossed.{new_part, old_part}
 use Rattle.row_ops.proofs.Walked.{where_reads}
 use Rattle.row_ops.proofs.where_op.WhereOp.step.Goals as goal
@@ -38,3 +39,20 @@ returns-clause-reads g c =
     ap (λ (change : Change). length change.update.added) c.in_ok-change.ensures.change ∙ ap length (sym c.in_ok-crossing.ensures.coming) in
     where_reads c.args.input.now.new.width c.args.reads.now c.crossing_rows.new.reads c.shown_change.new.reads c.args.input.now.update c.in_ok-change.change.update (length c.in_ok-crossing.crossing.coming)
     c.in_ok-crossing.ensures.reads c.in_ok-change.ensures.reads came
+
+pub returns-in_err-crossing-clause-refused : goal.returns-in_err-crossing-clause-refused
+returns-in_err-crossing-clause-refused g c =
+    let input = c.args.input.now in
+    let own = (change_of (filtered c.self.inside.test (tick_of input))).update in
+    on_err c.from_residual.result
+    (subst (λ (filter : Filter). c.crossing_rows.new.reads ≤ c.args.reads.now + 4 * (input.new.width + input.new.width) * (counted input.update + counted (change_of (filtered filter.test (tick_of input))).update)) c.self.view_is
+    (where_reads input.new.width c.args.reads.now c.crossing_rows.new.reads c.crossing_rows.new.reads input.update own (length own.added) c.crossing_rows.ensures.reads (omega arith) refl))
+
+pub returns-in_err-change-clause-refused : goal.returns-in_err-change-clause-refused
+returns-in_err-change-clause-refused g c =
+    let input = c.args.input.now in
+    let own = (change_of (filtered c.self.inside.test (tick_of input))).update in
+    on_err c.from_residual-in_err-change.result
+    (subst (λ (filter : Filter). c.shown_change.new.reads ≤ c.args.reads.now + 4 * (input.new.width + input.new.width) * (counted input.update + counted (change_of (filtered filter.test (tick_of input))).update)) c.self.view_is
+    (where_reads input.new.width c.args.reads.now c.crossing_rows.new.reads c.shown_change.new.reads input.update own (length c.in_ok-crossing.crossing.coming)
+    c.crossing_rows.ensures.reads c.shown_change.ensures.reads (ap length (sym c.in_ok-crossing.ensures.coming))))

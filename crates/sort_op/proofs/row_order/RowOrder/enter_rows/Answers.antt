@@ -1,8 +1,9 @@
 use Rattle.std.proofs.Common.{◌≡◌, ◌∙◌, ◌+◌, ◌*◌, ◌++◌, ◌∷◌, ◌||◌, [], ap, ap₂, arith, false, length, refl, subst, sym, true, List, ℕ, ℤ}
 use Rattle.std.proofs.lemmas.List.{map-append}
 use Rattle.key_lists.specs.Keys.{is_among}
+use Rattle.row_changes.proofs.Comparing.{reads_within}
 use Rattle.row_handles.specs.Entries.{keys_of}
-use Rattle.row_set.proofs.Yielded.{next_has, next_new, next_small, yielded_all}
+use Rattle.row_set.proofs.Yielded.{next_has, next_new, next_small, yielded_all, yielded_next}
 use Rattle.tick_model.specs.declared.plan.SortBy.{SortBy}
 use Rattle.tick_model.specs.Tables.{cells_at, keys}
 use Rattle.tick_table.specs.Ticking.{Ticking}
@@ -70,7 +71,18 @@ returns-clause-keys g c = λ key.
     c.loop-key.invariant.keys key
     ∙ ap (λ (some : List ℕ). is_among key some || is_among key (keys_of c.args.self.now.handles)) (yielded_all c.loop-key.yielded c.into_iter-key-iterator.ensures.into_iter_gives c.loop-key.yielded_by c.in-None.ensures.steps.0)
 
+pub returns-in_err-enter-clause-reads : goal.returns-in_err-enter-clause-reads
+returns-in_err-enter-clause-reads g c =
+    let read = c.row.ensures.reads ∙ ap (λ (t : Ticking). c.loop-key.reads + t.new.width) c.loop-key.invariant.table in
+    reads_within c.args.input.now.new.width c.args.reads.now c.loop-key.reads c.row.new.reads c.loop-key.yielded c.in-Some.key _ _
+    (yielded_next c.loop-key.yielded c.into_iter-key-iterator.ensures.into_iter_gives c.loop-key.yielded_by c.in-Some.ensures.steps) (omega (arith, c.loop-key.invariant.reads)) (omega (arith, read))
+
+pub returns-in_err-push-clause-reads : goal.returns-in_err-push-clause-reads
+returns-in_err-push-clause-reads g c =
+    let read = c.row.ensures.reads ∙ ap (λ (t : Ticking). c.loop-key.reads + t.new.width) c.loop-key.invariant.table in
+    reads_within c.args.input.now.new.width c.args.reads.now c.loop-key.reads c.row.new.reads c.loop-key.yielded c.in-Some.key _ _
+    (yielded_next c.loop-key.yielded c.into_iter-key-iterator.ensures.into_iter_gives c.loop-key.yielded_by c.in-Some.ensures.steps) (omega (arith, c.loop-key.invariant.reads)) (omega (arith, read))
+
 pub returns-clause-reads : goal.returns-clause-reads
 returns-clause-reads g c =
-    c.loop-key.invariant.reads
-    ∙ ap (λ (some : List ℕ). c.args.reads.now + c.args.input.now.new.width * length some) (yielded_all c.loop-key.yielded c.into_iter-key-iterator.ensures.into_iter_gives c.loop-key.yielded_by c.in-None.ensures.steps.0)
+    omega (arith, c.loop-key.invariant.reads, ap (λ (some : List ℕ). c.args.input.now.new.width * length some) (yielded_all c.loop-key.yielded c.into_iter-key-iterator.ensures.into_iter_gives c.loop-key.yielded_by c.in-None.ensures.steps.0))
