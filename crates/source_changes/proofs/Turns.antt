@@ -4,7 +4,7 @@ use Rattle.std.specs.Prelude.{sum_by}
 use Rattle.std.specs.List.{AllByRecursion}
 use Rattle.std.proofs.Math.ListN.{drop_of_length-le}
 use Rattle.std.proofs.lemmas.List.{append-nil, length-map, get_or-map}
-use Rattle.std.proofs.lemmas.List.Sums.{sum_by-drop_more, sum_by-set}
+use Rattle.std.proofs.lemmas.List.Sums.{sum_by-drop_more, sum_by-set, sum_by_more_le}
 use Rattle.key_lists.proofs.Every.{map_map}
 use Rattle.key_lists.proofs.Parts.{map_set}
 use Rattle.tick_model.specs.declared.feed.Block.{Block}
@@ -112,6 +112,17 @@ news_follow f tables sources e =
     sym (map_map (λ (tick : Tick). tick.new) (λ source. ticked (taking source)) sources)
     ∙ ap (map (λ (tick : Tick). tick.new)) e
     ∙ map_map (λ (tick : Tick). tick.new) (λ table. unchanged (f table)) tables
+
+-- where one more of some is read for, no more is read than for all of them
+pub reads_within : {X : Type 0} (f : X → ℕ) (all yielded : List X) (x : X) (first so_far more : ℕ) → map (λ y. y) yielded ≡ take (length yielded) all → length yielded < length all → x ≡ get_or all (length yielded) x → so_far ≤ first + sum_by f yielded → more ≤ so_far + f x → more ≤ first + sum_by f all
+reads_within {X = X} f all yielded x first so_far more are less is h e = omega (arith, h, e, most)
+  where
+    own : (xs : List X) → map (λ y. y) xs ≡ xs
+    own [] = refl
+    own (y ∷ ys) = ap (λ rest. y ∷ rest) (own ys)
+
+    most : sum_by f yielded + f x ≤ sum_by f all
+    most = omega (arith, ap (sum_by f) (sym (own yielded) ∙ are), ap f is, sum_by_more_le f all (length yielded) x less)
 
 -- a list that was written over as a whole
 pub whole : {X : Type 0} (n : ℕ) (new items : List X) → length new ≡ length items → n ≡ length items → take n (new ++ drop (length new) items) ≡ new

@@ -92,7 +92,7 @@ fn close_steps<L: Ledger>(
     requires { AllByRecursion IsTaking steps.items }
     ensures changes { IfOk result (λ closed. closed.changes.items ≡ map (λ step. change_of (ticked (taking step))) steps.entry.items) }
     ensures keys { IfOk result (λ closed. closed.sets.items ≡ map (λ step. keys (ticked (taking step)).new.rows) steps.entry.items) }
-    ensures reads { OnOk result (reads.new ≤ reads.old + sum_by (λ step. step_reads (taking step)) steps.entry.items) }
+    ensures reads { reads.new ≤ reads.old + sum_by (λ step. step_reads (taking step)) steps.entry.items }
 {
     let mut changes = Vec::with_capacity(alloc, steps.len())?;
     let mut sets = Vec::with_capacity(alloc, steps.len())?;
@@ -144,7 +144,8 @@ impl SourceKeys {
     }
 
     /// The change that a batch makes of each source, in order of the sources, where these are their tables before the step. It
-    /// reads the rows that the blocks add, and twice those that they modify. After a refusal no keys are left.
+    /// reads the rows that the blocks add, and twice those that they modify; where it is refused, no more than these. After a
+    /// refusal no keys are left.
     pub fn changes<'t, 'b, L: Ledger>(
         &mut self,
         alloc: Global,
@@ -159,7 +160,7 @@ impl SourceKeys {
         ensures lawful { OnOk result (blocks_fault plan.now (map (λ table. unchanged table.now.new) tables.now) batch.now.blocks ≡ None) }
         ensures changes { IfOk result (λ changes. changes.items ≡ map change_of (after_blocks plan.now (map (λ table. unchanged table.now.new) tables.now) batch.now.blocks)) }
         ensures keys { OnOk result (self.new ≡ map (λ tick. keys tick.new.rows) (after_blocks plan.now (map (λ table. unchanged table.now.new) tables.now) batch.now.blocks)) }
-        ensures reads { OnOk result (reads.new ≤ reads.old + sum_by (block_reads plan.now) batch.now.blocks) }
+        ensures reads { reads.new ≤ reads.old + sum_by (block_reads plan.now) batch.now.blocks }
         ensures refused { OnErr result (self.new ≡ []) }
         ensures cause { IfErr result (IsFault (blocks_fault plan.now (map (λ table. unchanged table.now.new) tables.now) batch.now.blocks)) }
     {

@@ -30,7 +30,11 @@ pub(crate) fn first_keys(alloc: Global, count: usize) -> Result<RowSet, AllocErr
 fn all_cells(alloc: Global, rows: &[PlainRow]) -> Result<Vec<i64>, AllocError>
     ensures { IfOk result (λ cells. cells.items ≡ flat_map (λ row. row.cells) rows.now) }
 {
-    let mut cells = Vec::new(alloc);
+    let width = match rows.first() {
+        Some(row) => row.cells.len(),
+        None => 0,
+    };
+    let mut cells = Vec::with_capacity(alloc, rows.len().saturating_mul(width))?;
     for row in rows {
         cells.extend_from_slice(row.cells.as_slice())?;
     }

@@ -1,6 +1,6 @@
 //! A source after the blocks of a step, whose rows are read.
 
-ghost use Rattle.std.specs.Prelude.{◌≡◌, ◌+◌, ◌^◌, ◌<◌, ◌≤◌, option_map, IfOk, OnOk};
+ghost use Rattle.std.specs.Prelude.{◌≡◌, ◌+◌, ◌^◌, ◌<◌, ◌≤◌, option_map, IfOk};
 ghost use Rattle.key_lists.specs.Keys.{without};
 ghost use Rattle.shift_data.specs.Moves.{IsLawful};
 ghost use Rattle.source_changes.specs.Reads.{step_reads};
@@ -89,7 +89,7 @@ impl<'t, 'b> SourceStep<'t, 'b> {
     ) -> Result<Change, AllocError>
         requires { IsStepping self.now }
         ensures change { IfOk result (λ change. change ≡ change_of (ticked self.now)) }
-        ensures reads { OnOk result (reads.new ≤ reads.old + step_reads self.now) }
+        ensures reads { reads.new ≤ reads.old + step_reads self.now }
     {
         let width = self.table.width();
         let touched = self.touched()?;

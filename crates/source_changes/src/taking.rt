@@ -89,7 +89,7 @@ impl<'t, 'b> TakenBlocks<'t, 'b> {
         requires { IsTaking self }
         ensures change { IfOk result (λ closed. closed.change ≡ change_of (ticked (taking self.entry))) }
         ensures keys { IfOk result (λ closed. closed.keys ≡ table_keys (ticked (taking self.entry)).new.rows) }
-        ensures reads { OnOk result (reads.new ≤ reads.old + step_reads (taking self.entry)) }
+        ensures reads { reads.new ≤ reads.old + step_reads (taking self.entry) }
     {
         let old = self.table.rows();
         self.gathered.settle(alloc, old)?;

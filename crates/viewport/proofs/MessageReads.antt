@@ -1,10 +1,8 @@
 -- How many rows a message reads.
-use Rattle.std.proofs.Common.{refl, ap, not, ℕ, ◌+◌, ◌*◌, ◌≤◌, arith, List, length, Result}
+use Rattle.std.proofs.Common.{refl, ap, not, ℕ, ◌+◌, ◌*◌, ◌≤◌, arith, List, length}
 use Rattle.std.proofs.Math.Nat.{mul-le-mul_left}
 use Rattle.std.proofs.lemmas.List.{length-map}
 use Rattle.std.proofs.lemmas.List.Filters.{length-filter_both}
-use Rattle.std.proofs.lemmas.Result.{IfOk-weaker}
-use Rattle.std.specs.Prelude.{IfOk}
 use Rattle.key_lists.specs.Keys.{is_among}
 use Rattle.key_lists.proofs.Rising.{as_filter}
 use Rattle.row_changes.specs.Parts.{AreParts, Parts}
@@ -38,6 +36,5 @@ module _ (old new : PlainTable) (parts : Parts) (kept : List KeyPair) (h : ArePa
         length-filter_most (λ (pair : KeyPair). is_among pair.new parts.compared_now) kept,
       )
 
-  pub few_reads : {X E : Type 0} (width before : ℕ) (result : Result X E) (after : ℕ) → IfOk result (λ _. after ≤ before + width * (2 * length parts.compared_now + length parts.added))
-      → IfOk result (λ _. after ≤ before + width * (2 * length new.rows))
-  few_reads width before result after = IfOk-weaker result _ _ (λ _ most. let few : 2 * length parts.compared_now + length parts.added ≤ 2 * length new.rows = omega (arith, each_once) in omega (arith, most, mul-le-mul_left width few))
+  pub few_reads : (width before after : ℕ) → after ≤ before + width * (2 * length parts.compared_now + length parts.added) → after ≤ before + width * (2 * length new.rows)
+  few_reads width before after most = let few : 2 * length parts.compared_now + length parts.added ≤ 2 * length new.rows = omega (arith, each_once) in omega (arith, most, mul-le-mul_left width few)

@@ -1,6 +1,6 @@
 //! Where the rows of a message are read: those that the last message left, and those of the slice now.
 
-ghost use Rattle.std.specs.Prelude.{◌≡◌, ◌+◌, ◌++◌, IsTrue, length, map, OnOk};
+ghost use Rattle.std.specs.Prelude.{◌≡◌, ◌+◌, ◌≤◌, ◌++◌, IsTrue, length, map, OnOk};
 ghost use Rattle.key_lists.specs.Keys.{is_among};
 ghost use Rattle.tick_model.specs.Tables.{cell as cell_of, cells_at, keys};
 ghost use Rattle.viewport.specs.Slices.{AreColumns};
@@ -57,7 +57,7 @@ fn put_cells<L: Ledger>(
     requires here { IsTrue (is_among key (keys table.now.new.rows)) }
     requires columns { AreColumns table.now.new.width columns.now }
     ensures cells { OnOk result (cells.new.items ≡ cells.old.items ++ map (cell_of (cells_at key table.now.new.rows)) columns.now) }
-    ensures reads { OnOk result (reads.new ≡ reads.old + length columns.now) }
+    ensures reads { reads.new ≤ reads.old + length columns.now }
 {
     for column in columns {
         cells.push(table.cell(*column, key, reads))?;

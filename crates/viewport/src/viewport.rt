@@ -1,6 +1,6 @@
 //! The viewport itself: what it keeps between two messages, and what it tells.
 
-ghost use Rattle.std.specs.Prelude.{◌≡◌, ◌+◌, ◌*◌, ◌≤◌, List, IfOk, OnOk, length};
+ghost use Rattle.std.specs.Prelude.{◌≡◌, ◌+◌, ◌*◌, ◌≤◌, List, IfOk, length};
 ghost use Rattle.row_changes.specs.Parts.{AreParts, tick_along};
 ghost use Rattle.tick_model.specs.declared.update.KeyPair.{KeyPair};
 ghost use Rattle.tick_model.specs.Changes.{change_of};
@@ -77,7 +77,7 @@ impl Viewport {
         requires { IsSlice table.now.new.width slice }
         ensures stands { IfOk result (λ out. out.0 ≡ started slice table.now.new) }
         ensures message { IfOk result (λ out. out.1 ≡ change_of (opened (cut slice table.now.new))) }
-        ensures reads { OnOk result (reads.new ≤ reads.old + length slice.columns * (2 * length (cut slice table.now.new).rows)) }
+        ensures reads { reads.new ≤ reads.old + length slice.columns * (2 * length (cut slice table.now.new).rows) }
     {
         let _rows = table.rows();
         let last = TickTable::new(alloc, width_of(&slice, table))?;
@@ -116,7 +116,8 @@ impl Viewport {
     }
 
     /// The subscription after a message, and the message: how the slice changed since the last one. It must stand for the rows
-    /// of the table. Only rows of the slice are read, each at most twice. After a refusal it is given up.
+    /// of the table. Only rows of the slice are read, each at most twice, also before a
+    /// refusal. After a refusal it is given up.
     pub fn message<L: Ledger>(
         self,
         table: &TickTable,
@@ -125,7 +126,7 @@ impl Viewport {
         requires { self.table ≡ table.now.new }
         ensures stands { IfOk result (λ out. out.0 ≡ started self.slice table.now.new) }
         ensures change { IfOk result (λ out. out.1 ≡ change_of (message_tick self)) }
-        ensures reads { OnOk result (reads.new ≤ reads.old + length self.slice.columns * (2 * length (cut self.slice table.now.new).rows)) }
+        ensures reads { reads.new ≤ reads.old + length self.slice.columns * (2 * length (cut self.slice table.now.new).rows) }
     {
         let Viewport {
             alloc,
@@ -175,7 +176,7 @@ fn changed<L: Ledger>(
     requires parts { (kept : List KeyPair) × AreParts last.now.new (cut slice.now table.now.new) touched kept }
     ensures change { IfOk result (λ change. (kept : List KeyPair) → AreParts last.now.new (cut slice.now table.now.new) touched kept
         → change ≡ change_of (tick_along last.now.new (cut slice.now table.now.new) kept)) }
-    ensures reads { OnOk result (reads.new ≤ reads.old + length slice.now.columns * (2 * length (cut slice.now table.now.new).rows)) }
+    ensures reads { reads.new ≤ reads.old + length slice.now.columns * (2 * length (cut slice.now table.now.new).rows) }
 {
     let rows = SliceRows { last, table, slice };
     change_of_touched(alloc, &rows, last.width(), touched, reads)

@@ -29,4 +29,4 @@ pub returns-clause-change : goal.returns-clause-change
 returns-clause-change g c = c.change_of_touched.ensures.change
 
 pub returns-clause-reads : goal.returns-clause-reads
-returns-clause-reads g c = few_reads c.args.last.now.new (cut c.args.slice.now c.args.table.now.new) c.args.touched c.requires.parts.0 c.requires.parts.1 (length c.args.slice.now.columns) c.args.reads.now c.change_of_touched.result c.change_of_touched.new.reads c.change_of_touched.ensures.reads
+returns-clause-reads g c = few_reads c.args.last.now.new (cut c.args.slice.now c.args.table.now.new) c.args.touched c.requires.parts.0 c.requires.parts.1 (length c.args.slice.now.columns) c.args.reads.now c.change_of_touched.new.reads c.change_of_touched.ensures.reads

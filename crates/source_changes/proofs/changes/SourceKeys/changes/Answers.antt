@@ -54,6 +54,24 @@ returns-clause-keys g c =
     ∙ sym (map_map (λ (tick : Tick). keys tick.new.rows) (λ (step : TakenBlocks). ticked (taking step)) new)
     ∙ ap (map (λ (tick : Tick). keys tick.new.rows)) ticks
 
+pub returns-in_err-changes-clause-reads : goal.returns-in_err-changes-clause-reads
+returns-in_err-changes-clause-reads g c =
+    let items = c.in_ok-steps.steps.items in
+    let new = c.take_blocks.new.steps in
+    let cost = sum_by (λ (step : TakenBlocks). step_reads (taking step)) in
+    let was : length c.deref_mut.result.now ≡ length items = ap length c.deref_mut.ensures.value in
+    let same : length new ≡ length items = omega (arith, was, c.take_blocks.auto.steps) in
+    let len : c.in_ok-steps.steps.len ≡ length items = omega arith in
+    omega (
+      arith,
+      c.close_steps.ensures.reads,
+      ap cost (whole c.in_ok-steps.steps.len new items same len),
+      c.in_ok-take_blocks.ensures.reads,
+      ap cost c.deref_mut.ensures.value,
+      c.in_ok-steps.ensures.reads,
+      ap (sum_by (block_reads c.args.plan.now)) c.as_slice.ensures,
+    )
+
 pub returns-clause-reads : goal.returns-clause-reads
 returns-clause-reads g c =
     let items = c.in_ok-steps.steps.items in
@@ -64,7 +82,7 @@ returns-clause-reads g c =
     let len : c.in_ok-steps.steps.len ≡ length items = omega arith in
     omega (
       arith,
-      c.in_ok-changes.ensures.reads,
+      c.close_steps.ensures.reads,
       ap cost (whole c.in_ok-steps.steps.len new items same len),
       c.in_ok-take_blocks.ensures.reads,
       ap cost c.deref_mut.ensures.value,

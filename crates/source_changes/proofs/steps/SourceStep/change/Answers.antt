@@ -25,6 +25,10 @@ returns-clause-change g c =
     c.in_ok-change.ensures.change tick.kept
     (subst (λ (parts : Parts). AreParts tick.old tick.new parts tick.kept) (sym c.in_ok-touched.ensures) (parts_are c.args.self.now c.requires))
 
+pub returns-in_err-change-clause-reads : goal.returns-in_err-change-clause-reads
+returns-in_err-change-clause-reads g c =
+    subst (λ (parts : Parts). c.change_of_touched.new.reads ≤ c.args.reads.now + c.args.self.now.old.width * (2 * length parts.compared_now + length parts.added)) c.in_ok-touched.ensures c.change_of_touched.ensures.reads
+
 pub returns-clause-reads : goal.returns-clause-reads
 returns-clause-reads g c =
-    subst (λ (parts : Parts). c.change_of_touched.new.reads ≤ c.args.reads.now + c.args.self.now.old.width * (2 * length parts.compared_now + length parts.added)) c.in_ok-touched.ensures c.in_ok-change.ensures.reads
+    subst (λ (parts : Parts). c.change_of_touched.new.reads ≤ c.args.reads.now + c.args.self.now.old.width * (2 * length parts.compared_now + length parts.added)) c.in_ok-touched.ensures c.change_of_touched.ensures.reads

@@ -109,6 +109,18 @@ returns-clause-change g c =
     ∙ ap (λ (table : PlainTable). let watching : Watching = record { slice = inside.slice; last = last; table = table; kept = key_pairs (keys last.rows) inside.kept } in change_of (message_tick watching)) (sym table_is)
     ∙ ap (λ (watching : Watching). change_of (message_tick watching)) c.self.view_is
 
+pub returns-in_err-change-clause-reads : goal.returns-in_err-change-clause-reads
+returns-in_err-change-clause-reads g c =
+    subst (λ (slice : Slice). c.changed.new.reads ≤ c.args.reads.now + length slice.columns * (2 * length (cut slice c.args.table.now.new).rows)) (ap (λ (watching : Watching). watching.slice) c.self.view_is) c.changed.ensures.reads
+
+pub returns-in_err-told-clause-reads : goal.returns-in_err-told-clause-reads
+returns-in_err-told-clause-reads g c =
+    subst (λ (slice : Slice). c.changed.new.reads ≤ c.args.reads.now + length slice.columns * (2 * length (cut slice c.args.table.now.new).rows)) (ap (λ (watching : Watching). watching.slice) c.self.view_is) c.changed.ensures.reads
+
+pub returns-in_err-last-clause-reads : goal.returns-in_err-last-clause-reads
+returns-in_err-last-clause-reads g c =
+    subst (λ (slice : Slice). c.changed.new.reads ≤ c.args.reads.now + length slice.columns * (2 * length (cut slice c.args.table.now.new).rows)) (ap (λ (watching : Watching). watching.slice) c.self.view_is) c.changed.ensures.reads
+
 pub returns-clause-reads : goal.returns-clause-reads
 returns-clause-reads g c =
-    subst (λ (slice : Slice). c.changed.new.reads ≤ c.args.reads.now + length slice.columns * (2 * length (cut slice c.args.table.now.new).rows)) (ap (λ (watching : Watching). watching.slice) c.self.view_is) c.in_ok-change.ensures.reads
+    subst (λ (slice : Slice). c.changed.new.reads ≤ c.args.reads.now + length slice.columns * (2 * length (cut slice c.args.table.now.new).rows)) (ap (λ (watching : Watching). watching.slice) c.self.view_is) c.changed.ensures.reads
