@@ -2,7 +2,7 @@
 --     node_seen, out_seen, in_seen      the mark that a seat has of a node or of an edge
 --     awaited key s n      how many input edges of the node are not delivered
 --     IsWaiting, IsOnOffer, IsHadBySeat      the three ways in which a node can stand
-use Rattle.std.specs.Prelude.{◌≡◌, ◌≢◌, ◌⊎◌, ℕ, suc, ◌+◌, ◌<◌, ◌==◌, List, [], ◌∷◌, slice_index, Some}
+use Rattle.std.specs.Prelude.{◌≡◌, ◌≢◌, ◌⊎◌, ℕ, suc, ◌+◌, ◌<◌, ◌==◌, List, [], ◌∷◌, slice_index, length, true, Some}
 use mathlib.Core.Option.{some}
 use lib.ListN.{get_elem?}
 use Rattle.atomic_table.specs.Table.{State}
@@ -10,10 +10,11 @@ use Rattle.graph_words.specs.declared.graph.Edge.{Edge}
 use Rattle.graph_words.specs.declared.graph.Plan.{Plan}
 use Rattle.graph_words.specs.declared.table.Mark.{Mark}
 use Rattle.graph_words.specs.declared.table.Slot.{Slot}
+use Rattle.graph_words.specs.declared.table.Slot.TheVariants.{Done}
 use Rattle.graph_words.specs.declared.table.View.{View}
-use Rattle.graph_words.specs.declared.table.Mark.TheVariants.{Unmarked, Delivered}
+use Rattle.graph_words.specs.declared.table.Mark.TheVariants.{Unmarked, Drawn, Delivered}
 use Rattle.graph_words.specs.Marks.{at, either_mark, when, inputs, IsHadMark}
-use Rattle.graph_words.specs.Rule.{EdgeState, EdgeHome, Home, MarkHome, OFFERED, OldWork, Tags, in_mark, out_mark}
+use Rattle.graph_words.specs.Rule.{EdgeState, EdgeHome, Home, MarkHome, OFFERED, OldWork, Tags, in_mark, is_drawn, out_mark}
 use Rattle.graph_words.specs.Seats.{AtEdge, Has}
 
 -- 1 where the mark is not that of a delivered edge
@@ -96,13 +97,29 @@ module _ {W H : Type 0} (key : Plan W) (s : State (Slot W H) (View W)) where
     pub none : awaited n ≡ 0
     pub had : IsHadMark (node_seen s.views n)
 
+  -- the slot of the node has a work that was put back, with this ticket
+  abbrev pub IsDoneWith : ℕ → ℕ → Type 0
+  IsDoneWith n q = (w : W) × (get_elem? s.homes n ≡ some (some (Done w q)))
+
+  -- no two nodes have one ticket, and each ticket is below the tickets' word
+  abbrev pub IsTicketedOnce : Type 0
+  IsTicketedOnce = (n m q : ℕ) → n < key.nodes → m < key.nodes → IsDoneWith n q → (q < slice_index s.words (key.nodes + length key.edges.items)) × (IsDoneWith m q → n ≡ m)
+
+  -- where a seat handed an edge on late, it has drawn a ticket for `from`, which is less than that of `to`
+  abbrev pub IsTicketedInOrder : Type 0
+  IsTicketedInOrder = (e : ℕ) → OfEach s.views (λ v. AtEdge key e (λ x. at v.late e ≡ Delivered → (is_drawn (at v.nodes x.from) ≡ true) × ((q t : ℕ) → IsDoneWith x.from q → IsDoneWith x.to t → q < t)))
+
+  -- the ticket of a node that a seat was told is that of the node's slot
+  abbrev pub IsToldTruly : Type 0
+  IsToldTruly = (n q t : ℕ) → n < key.nodes → OfEach s.views (λ v. at v.tickets n ≡ Drawn q → IsDoneWith n t → t ≡ q)
+
   abbrev pub IsInOneState : Type 0
   IsInOneState = (n : ℕ) → n < key.nodes → IsWaiting n ⊎ (IsOnOffer n ⊎ IsHadBySeat n)
 
 module _ {R W H : Type 0} (tw : Tags R W) (th : Tags R H) (key : Plan W) (s : State (Slot W H) (View W)) where
   -- The slot of a node that no seat has is there, with the work of the step before. Else the mark that a seat has of the node tells what is in it.
   abbrev pub WorksLie : Type 0
-  WorksLie = (n : ℕ) → n < key.nodes → (node_seen s.views n ≡ Unmarked → Home tw th key (OldWork tw th key n) (get_elem? s.homes n)) × (IsHadMark (node_seen s.views n) → MarkHome tw th key n (node_seen s.views n) (get_elem? s.homes n))
+  WorksLie = (n : ℕ) → n < key.nodes → (node_seen s.views n ≡ Unmarked → Home tw th key (OldWork tw th key n) (get_elem? s.homes n)) × (IsHadMark (node_seen s.views n) → (q : ℕ) × MarkHome tw th key n q (node_seen s.views n) (get_elem? s.homes n))
 
   -- the marks that seats have of an edge, as an output edge and as an input edge, and its slot are those of one state of the edge
   abbrev pub SharesLie : Type 0

@@ -6,7 +6,7 @@ use Rattle.graph_words.specs.declared.graph.Edge.{Edge}
 use Rattle.graph_words.specs.declared.graph.Plan.{Plan}
 use Rattle.graph_words.specs.declared.table.View.{View}
 use Rattle.graph_words.specs.declared.table.Mark.{Mark}
-use Rattle.graph_words.specs.declared.table.Mark.TheVariants.{Unmarked, Untaken, Delivered}
+use Rattle.graph_words.specs.declared.table.Mark.TheVariants.{Unmarked, Drawn, Untaken, Delivered}
 use Rattle.graph_words.specs.Marks.{at, put, merge, starting}
 
 module _ {W : Type 0} where
@@ -18,9 +18,22 @@ module _ {W : Type 0} where
   abbrev pub mark_out : View W → ℕ → Mark → View W
   mark_out v e m = record v { outs = put v.outs e m }
 
+  -- another mark of an edge, for the seat that has its `from` node and may have put that node's work back
+  abbrev pub mark_late : View W → ℕ → Mark → View W
+  mark_late v e m = record v { late = put v.late e m }
+
   -- another mark of an edge, for the seat that has its `to` node
   abbrev pub mark_in : View W → ℕ → Mark → View W
   mark_in v e m = record v { ins = put v.ins e m }
+
+  -- the ticket of a node, for the seat that has put its work back
+  abbrev pub mark_ticket : View W → ℕ → ℕ → View W
+  mark_ticket v n q = record v { tickets = put v.tickets n (Drawn q) }
+
+  -- the seat is told the ticket of the node too, where the test is true
+  abbrev pub tells : Bool → ℕ → ℕ → View W → View W
+  tells true n q v = mark_ticket v n q
+  tells false n q v = v
 
   -- the seat has the node too, with its work not taken, where the test is true
   abbrev pub gets : Bool → ℕ → View W → View W
@@ -37,7 +50,7 @@ module _ {W : Type 0} where
 
   -- the view of the first seat: all parts, and each node without input edges
   abbrev pub first_view : Plan W → View W
-  first_view k = record { plan = Some k; parts = 1024; nodes = starting k.nodes k.edges.items; outs = []; ins = [] }
+  first_view k = record { plan = Some k; parts = 1024; nodes = starting k.nodes k.edges.items; outs = []; late = []; ins = []; tickets = [] }
 
   -- one part less
   abbrev pub less_one : View W → View W
@@ -45,12 +58,12 @@ module _ {W : Type 0} where
 
   -- one part, and no node
   abbrev pub one_part : View W → View W
-  one_part v = record { plan = v.plan; parts = 1; nodes = []; outs = []; ins = [] }
+  one_part v = record { plan = v.plan; parts = 1; nodes = []; outs = []; late = []; ins = []; tickets = [] }
 
   -- all that either view has
   abbrev pub both_views : View W → View W → View W
-  both_views v w = record { plan = v.plan; parts = v.parts + w.parts; nodes = merge v.nodes w.nodes; outs = merge v.outs w.outs; ins = merge v.ins w.ins }
+  both_views v w = record { plan = v.plan; parts = v.parts + w.parts; nodes = merge v.nodes w.nodes; outs = merge v.outs w.outs; late = merge v.late w.late; ins = merge v.ins w.ins; tickets = merge v.tickets w.tickets }
 
   -- the view of a seat that was joined to another: it has nothing
   abbrev pub spent_view : View W
-  spent_view = record { plan = None; parts = 0; nodes = []; outs = []; ins = [] }
+  spent_view = record { plan = None; parts = 0; nodes = []; outs = []; late = []; ins = []; tickets = [] }

@@ -12,7 +12,8 @@ use std::marker::Model;
 pub struct Claims<W: Tagged, H: Tagged> {
     pub(crate) nodes: u32,
     pub(crate) edges: Vec<Edge>,
-    /// The table's words at the start: for each node how many of the edges go to it, then 0 for each edge.
+    /// The table's words at the start: for each node how many of the edges go to it, then 0 for each edge
+    /// and for the tickets.
     pub(crate) inputs: Vec<u64>,
     pub(crate) alloc: Global,
     pub(crate) table: Table<Slot<W, H>, View<W>, Plan<W>, ClaimRule, Global>,

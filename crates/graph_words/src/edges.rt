@@ -1,15 +1,15 @@
 //! The edges of the nodes that a seat has: shares are delivered and taken.
 
 ghost use Rattle.std.specs.Prelude.{◌≡◌, ◌<◌, ◌+◌, IsTrue, length};
-ghost use Rattle.graph_words.specs.declared.table.Mark.TheVariants.{Unmarked, Taken, Delivered};
+ghost use Rattle.graph_words.specs.declared.table.Mark.TheVariants.{Unmarked, Taken, PutBack, Delivered};
 ghost use Rattle.graph_words.specs.Marks.{at};
 ghost use Rattle.graph_words.specs.Rule.{IsTagged, tags};
-ghost use Rattle.graph_words.specs.Views.{mark_out, mark_in, gets, InputsDelivered, IsUntouched};
+ghost use Rattle.graph_words.specs.Views.{mark_out, mark_late, mark_in, gets, InputsDelivered, IsUntouched};
 ghost use Rattle.graph_words.specs.Seats.{IsSeatOf, AtEdge, Has};
 
 use crate::claims::{ClaimSeat, Claims};
 use crate::graph::Tagged;
-use crate::plays::{Deliver, LayIn, LiftIn, LiftOut};
+use crate::plays::{Deliver, HandOn, LayIn, LiftIn, LiftOut};
 use crate::table::Slot;
 
 impl<W: Tagged, H: Tagged> Claims<W, H> {
@@ -38,6 +38,25 @@ impl<W: Tagged, H: Tagged> Claims<W, H> {
         let found = table.fetch_sub::<Deliver>(&mut seat.seat, to, 1);
         let Slot::Empty = empty else { unreachable!() };
         found == 1
+    }
+
+    /// Delivers the share of an edge as `deliver` does, where the seat has put the work of the `from` node back. So the ticket
+    /// of `from` is less than the one that is drawn for `to`, and `finish_in_order` gives `from` before `to`.
+    pub fn hand_on(&self, seat: &mut ClaimSeat<W, H>, edge: u32, share: H) -> bool
+        requires of { IsSeatOf self.now seat.old }
+        requires edge { edge < length self.now.plan.edges.items }
+        requires from { AtEdge self.now.plan edge (λ x. at seat.old.view.nodes x.from ≡ PutBack) }
+        requires fresh { at seat.old.view.outs edge ≡ Unmarked }
+        requires tag { AtEdge self.now.plan edge (λ x. IsTagged (tags H.run H.node H.step) (W.run self.now.plan.first.value) x.from (W.step self.now.plan.first.value + 1) share) }
+        ensures of { IsSeatOf self.now seat.new }
+        ensures view { AtEdge self.now.plan edge (λ x. seat.new.view ≡ gets result x.to (mark_out (mark_late seat.old.view edge Delivered) edge Delivered)) }
+        ensures fresh { AtEdge self.now.plan edge (λ x. (at seat.old.view.nodes x.to ≡ Unmarked) × IsUntouched self.now.plan seat.old.view x.to) }
+        ensures last { AtEdge self.now.plan edge (λ x. InputsDelivered self.now.plan seat.new.view x.to → IsTrue result) }
+    {
+        // Before the delivery, since until then no seat has `to`, which so has no ticket.
+        let slot = self.nodes as usize + edge as usize;
+        self.table.shared.load::<HandOn>(&mut seat.seat, slot);
+        self.deliver(seat, edge, share)
     }
 
     /// Takes the share of an input edge of a node that the seat has, which is not taken yet. It is of the edge's `from` node

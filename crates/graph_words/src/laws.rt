@@ -6,8 +6,8 @@ ghost use Rattle.graph_words.specs.declared.graph.Plan.{Plan};
 ghost use Rattle.graph_words.specs.declared.table.Slot.{Slot};
 ghost use Rattle.graph_words.specs.declared.table.View.{View};
 ghost use Rattle.graph_words.specs.Rule.{all_parts, tags};
-ghost use Rattle.graph_words.specs.Seats.{IsMarkedByFrom, IsMarkedByTo};
-ghost use Rattle.graph_words.specs.Sentences.{IsAloneWithAllParts, IsDeliveredByFrom, IsDeliveredOnce, IsHadAfterInputs, IsHadOnce, IsInOneState, IsSharedInParts, OfEach, SharesLie, WorksLie};
+ghost use Rattle.graph_words.specs.Seats.{IsLateByFrom, IsMarkedByFrom, IsMarkedByTo};
+ghost use Rattle.graph_words.specs.Sentences.{IsAloneWithAllParts, IsDeliveredByFrom, IsDeliveredOnce, IsHadAfterInputs, IsHadOnce, IsInOneState, IsSharedInParts, IsTicketedInOrder, IsTicketedOnce, IsToldTruly, OfEach, SharesLie, WorksLie};
 
 use crate::graph::{Plan, Tagged};
 use crate::plays::ClaimRule;
@@ -37,14 +37,16 @@ pub fn deliveries_stand_once<W: Tagged, H: Tagged>()
     ensures from { (plan : Plan W) (s : State (Slot W H) (View W)) → ⟦<ClaimRule as TableRule<Slot<W, H>, View<W>, Plan<W>>>⟧.holds plan s → IsDeliveredByFrom plan s.views }
 {}
 
-/// A seat has a mark of an edge, as an output edge or as an input edge, only where it has that edge's node.
+/// A seat has a mark of an edge, as an output edge, as one that was handed on late or as an input edge, only where it has that
+/// edge's node.
 pub fn marks_go_with_nodes<W: Tagged, H: Tagged>()
     ensures from { (plan : Plan W) (s : State (Slot W H) (View W)) → ⟦<ClaimRule as TableRule<Slot<W, H>, View<W>, Plan<W>>>⟧.holds plan s → OfEach s.views (IsMarkedByFrom plan) }
+    ensures late { (plan : Plan W) (s : State (Slot W H) (View W)) → ⟦<ClaimRule as TableRule<Slot<W, H>, View<W>, Plan<W>>>⟧.holds plan s → OfEach s.views (IsLateByFrom plan) }
     ensures to { (plan : Plan W) (s : State (Slot W H) (View W)) → ⟦<ClaimRule as TableRule<Slot<W, H>, View<W>, Plan<W>>>⟧.holds plan s → OfEach s.views (IsMarkedByTo plan) }
 {}
 
 /// The slot of a node has the work of the step before until a seat that has the node takes it, nothing until that seat puts
-/// it back, and then the work of this step.
+/// it back, and then the work of this step and the ticket that was drawn for the node.
 pub fn works_lie_in_slots<W: Tagged, H: Tagged>()
     ensures { (plan : Plan W) (s : State (Slot W H) (View W)) → ⟦<ClaimRule as TableRule<Slot<W, H>, View<W>, Plan<W>>>⟧.holds plan s → WorksLie (tags W.run W.node W.step) (tags H.run H.node H.step) plan s }
 {}
@@ -65,4 +67,20 @@ pub fn parts_stay_together<W: Tagged, H: Tagged>()
 /// Where a seat has all parts, no other seat has a node.
 pub fn all_parts_are_alone<W: Tagged, H: Tagged>()
     ensures { (plan : Plan W) (s : State (Slot W H) (View W)) → ⟦<ClaimRule as TableRule<Slot<W, H>, View<W>, Plan<W>>>⟧.holds plan s → IsAloneWithAllParts plan s.views }
+{}
+
+/// No two nodes have one ticket, and each ticket is below the word of the tickets.
+pub fn tickets_are_drawn_once<W: Tagged, H: Tagged>()
+    ensures { (plan : Plan W) (s : State (Slot W H) (View W)) → ⟦<ClaimRule as TableRule<Slot<W, H>, View<W>, Plan<W>>>⟧.holds plan s → IsTicketedOnce plan s }
+{}
+
+/// Where an edge was handed on after its `from` node was put back, a ticket was drawn for `from`, which is less than that of
+/// `to` once `to` has one.
+pub fn tickets_follow_late_edges<W: Tagged, H: Tagged>()
+    ensures { (plan : Plan W) (s : State (Slot W H) (View W)) → ⟦<ClaimRule as TableRule<Slot<W, H>, View<W>, Plan<W>>>⟧.holds plan s → IsTicketedInOrder plan s }
+{}
+
+/// The ticket of a node that a seat was told is that of the node's slot.
+pub fn told_tickets_are_drawn<W: Tagged, H: Tagged>()
+    ensures { (plan : Plan W) (s : State (Slot W H) (View W)) → ⟦<ClaimRule as TableRule<Slot<W, H>, View<W>, Plan<W>>>⟧.holds plan s → IsToldTruly plan s }
 {}

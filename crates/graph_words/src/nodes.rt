@@ -4,12 +4,14 @@ ghost use Rattle.std.specs.Prelude.{◌≡◌, ◌<◌, ◌+◌, ℕ, IsTrue};
 ghost use Rattle.graph_words.specs.declared.table.Mark.TheVariants.{Unmarked, Untaken, Taken, PutBack};
 ghost use Rattle.graph_words.specs.Marks.{at, inputs};
 ghost use Rattle.graph_words.specs.Rule.{IsTagged, tags};
-ghost use Rattle.graph_words.specs.Views.{mark_node, gets, InputsDelivered, IsUntouched};
+ghost use Rattle.graph_words.specs.Views.{mark_node, mark_ticket, gets, tells, InputsDelivered, IsUntouched};
 ghost use Rattle.graph_words.specs.Seats.{IsSeatOf, Has};
 
 use crate::claims::{ClaimSeat, Claims};
 use crate::graph::Tagged;
-use crate::plays::{Accept, LayBack, LayTaken, LiftEmpty, LiftWork, Offer, Peek};
+use crate::plays::{
+    Accept, Draw, LayBack, LayTaken, LiftEmpty, LiftWork, Offer, Peek, Telling, Told, Untold,
+};
 use crate::table::Slot;
 
 // The word of a node on offer.
@@ -42,8 +44,28 @@ impl<W: Tagged, H: Tagged> Claims<W, H> {
         work
     }
 
-    /// Puts the work of a node back for the next step. The seat has taken the node's work and not put it back, and the work
-    /// is of the step of the claims.
+    /// Puts the work of a node back, with the ticket that it draws, which the answer is.
+    fn draw_back<T: Telling>(&self, seat: &mut ClaimSeat<W, H>, node: u32, work: W) -> u64
+        requires of { IsSeatOf self.now seat.old }
+        requires node { node < self.now.plan.nodes }
+        requires taken { at seat.old.view.nodes node ≡ Taken }
+        requires tag { IsTagged (tags W.run W.node W.step) (W.run self.now.plan.first.value) node (W.step self.now.plan.first.value + 1) work }
+        ensures of { IsSeatOf self.now seat.new }
+        ensures view { seat.new.view ≡ tells T.told node result (mark_node seat.old.view node PutBack) }
+    {
+        let table = &self.table.shared;
+        let tickets = self.nodes as usize + self.edges.len();
+        table.load::<LiftEmpty>(&mut seat.seat, node as usize);
+        let ticket = table.fetch_add::<Draw<T>>(&mut seat.seat, tickets, 1);
+        let found = table.exchange(&mut seat.seat, node as usize, Slot::Done(work, ticket));
+        table.load::<LayBack>(&mut seat.seat, node as usize);
+        let Slot::Empty = found else { unreachable!() };
+        ticket
+    }
+
+    /// Puts the work of a node back for the next step, with a ticket that no other node has: tickets rise from 0 by one, in the
+    /// order in which they are drawn. The seat has taken the node's work and not put it back, and the work is of the step of
+    /// the claims.
     pub fn put_back(&self, seat: &mut ClaimSeat<W, H>, node: u32, work: W)
         requires of { IsSeatOf self.now seat.old }
         requires node { node < self.now.plan.nodes }
@@ -52,11 +74,20 @@ impl<W: Tagged, H: Tagged> Claims<W, H> {
         ensures of { IsSeatOf self.now seat.new }
         ensures view { seat.new.view ≡ mark_node seat.old.view node PutBack }
     {
-        let table = &self.table.shared;
-        table.load::<LiftEmpty>(&mut seat.seat, node as usize);
-        let found = table.exchange(&mut seat.seat, node as usize, Slot::Work(work));
-        table.load::<LayBack>(&mut seat.seat, node as usize);
-        let Slot::Empty = found else { unreachable!() };
+        self.draw_back::<Untold>(seat, node, work);
+    }
+
+    /// Puts the work of a node back as `put_back` does, and tells its ticket, which is the node's place in the list that
+    /// `finish_in_order` gives.
+    pub fn settle(&self, seat: &mut ClaimSeat<W, H>, node: u32, work: W) -> u64
+        requires of { IsSeatOf self.now seat.old }
+        requires node { node < self.now.plan.nodes }
+        requires taken { at seat.old.view.nodes node ≡ Taken }
+        requires tag { IsTagged (tags W.run W.node W.step) (W.run self.now.plan.first.value) node (W.step self.now.plan.first.value + 1) work }
+        ensures of { IsSeatOf self.now seat.new }
+        ensures view { seat.new.view ≡ mark_ticket (mark_node seat.old.view node PutBack) node result }
+    {
+        self.draw_back::<Told>(seat, node, work)
     }
 
     /// Puts a node on offer, which any seat may then accept. The seat has the node, which has input edges, and has touched

@@ -1,8 +1,11 @@
 //! The rule of the claims, and what each step on a word tells. These types have no values: they are for proofs alone.
 
+ghost use Rattle.std.specs.Prelude.{Bool};
+
 use crate::graph::{Plan, Tagged};
 use crate::table::{Slot, View};
 use atomic_table::{Join, Play, Split, TableRule};
+use std::marker::PhantomData;
 
 /// The rule that the table keeps.
 pub struct ClaimRule;
@@ -36,6 +39,40 @@ impl<W, H> Play<Slot<W, H>, View<W>> for LayBack {
     ghost then = { lays_work PutBack };
 }
 
+/// Whether the ticket that is drawn for a node is told.
+pub trait Telling {
+    ghost told: { Bool };
+}
+
+/// It is told.
+pub struct Told;
+
+impl Telling for Told {
+    ghost use Rattle.std.specs.Prelude.{true};
+
+    ghost told = { true };
+}
+
+/// It is not told.
+pub struct Untold;
+
+impl Telling for Untold {
+    ghost use Rattle.std.specs.Prelude.{false};
+
+    ghost told = { false };
+}
+
+/// Draws a ticket for the node whose slot the seat has.
+pub struct Draw<T> {
+    marker: PhantomData<T>,
+}
+
+impl<W, H, T: Telling> Play<Slot<W, H>, View<W>> for Draw<T> {
+    ghost use Rattle.graph_words.specs.Plays.{draws};
+
+    ghost then = { draws T.told };
+}
+
 /// Lifts the empty slot of a node.
 pub struct LiftEmpty;
 
@@ -52,6 +89,15 @@ impl<W, H> Play<Slot<W, H>, View<W>> for LiftOut {
     ghost use Rattle.graph_words.specs.Plays.{lifts_out};
 
     ghost then = { lifts_out };
+}
+
+/// Marks an edge as one that is handed on after its `from` node had its ticket.
+pub struct HandOn;
+
+impl<W, H> Play<Slot<W, H>, View<W>> for HandOn {
+    ghost use Rattle.graph_words.specs.Plays.{hands_on};
+
+    ghost then = { hands_on };
 }
 
 /// Lays the slot of an edge down, delivered.

@@ -5,7 +5,7 @@ ghost use Rattle.atomic_table.specs.Table.{Seen, State};
 ghost use Rattle.graph_words.specs.declared.table.Slot.{Slot};
 ghost use Rattle.graph_words.specs.declared.table.View.{View};
 ghost use Rattle.graph_words.specs.Views.{less_one, one_part, both_views};
-ghost use Rattle.graph_words.specs.Seats.{IsMarkedByFrom, IsSeatOf, IsUpward};
+ghost use Rattle.graph_words.specs.Seats.{IsLateByFrom, IsMarkedByFrom, IsSeatOf, IsUpward};
 
 use crate::claims::{ClaimSeat, Claims};
 use crate::graph::{Plan, Tagged};
@@ -21,6 +21,7 @@ impl<W: Tagged, H: Tagged> Claims<W, H> {
         ensures same { seat.new ≡ seat.old }
         ensures upward { IsUpward self.now.plan }
         ensures marks { IsMarkedByFrom self.now.plan seat.old.view }
+        ensures late { IsLateByFrom self.now.plan seat.old.view }
         ensures met { (id : ℕ) × (s : State (Slot W H) (View W)) × Seen (⟦<ClaimRule as TableRule<Slot<W, H>, View<W>, Plan<W>>>⟧.holds self.now.plan) id seat.old.view s }
     {
         self.table.shared.load::<Look>(&mut seat.seat, 0);

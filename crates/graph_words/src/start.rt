@@ -18,13 +18,13 @@ use atomic_table::Table;
 use std::alloc::{AllocError, Global};
 use std::snapshot::Snapshot;
 
-// The table's words: for each node how many of the edges go to it, and 0 for each edge.
+// The table's words: for each node how many of the edges go to it, and 0 for each edge and for the tickets.
 fn count_inputs(alloc: Global, edges: &[Edge], nodes: u32) -> Result<Vec<u64>, AllocError>
     requires few { length edges.now < 2 ^ 32 }
     requires ends { (e : ℕ) (x : Edge) → get_elem? edges.now e ≡ some x → x.to < nodes }
-    ensures { IfOk result (λ v. (length v.items ≡ nodes + length edges.now) × ((n : ℕ) → n < length v.items → slice_index v.items n ≡ count_by (λ x. x.to == n) edges.now)) }
+    ensures { IfOk result (λ v. (length v.items ≡ nodes + length edges.now + 1) × ((n : ℕ) → n < length v.items → slice_index v.items n ≡ count_by (λ x. x.to == n) edges.now)) }
 {
-    let mut counts = vec![in alloc; 0u64; nodes as usize + edges.len()]?;
+    let mut counts = vec![in alloc; 0u64; nodes as usize + edges.len() + 1]?;
     for edge in edges {
         counts[edge.to as usize] += 1;
     }

@@ -7,7 +7,10 @@ use std::collections::LinkedList;
 #[derive(Drop)]
 pub enum Slot<W, H> {
     Empty,
+    /// The work of the step before.
     Work(W),
+    /// The work of this step, and the ticket that was drawn for its node.
+    Done(W, u64),
     Share(H),
 }
 
@@ -17,6 +20,8 @@ pub enum Mark {
     Unmarked,
     /// The slot is out with the seat, between two steps of one call.
     InHand,
+    /// It is out with the seat, which has drawn this ticket for the node.
+    Drawn(u64),
     /// The seat has the node, and has not taken its work.
     Untaken,
     /// The seat has the node and has taken its work, or has taken the edge's share.
@@ -27,12 +32,15 @@ pub enum Mark {
     Delivered,
 }
 
-/// What a seat knows: the plan, its parts, and its marks of the nodes, of the edges as output edges and of the edges as
-/// input edges. No value of it is made.
+/// What a seat knows: the plan, its parts, and its marks of the nodes, of the edges as output edges, of those that it handed
+/// on after it had put the node's work back, and of the edges as input edges, and the tickets that it was told. No value of it
+/// is made.
 pub struct View<W> {
     pub plan: Option<Plan<W>>,
     pub parts: u64,
     pub nodes: LinkedList<Mark>,
     pub outs: LinkedList<Mark>,
+    pub late: LinkedList<Mark>,
     pub ins: LinkedList<Mark>,
+    pub tickets: LinkedList<Mark>,
 }
