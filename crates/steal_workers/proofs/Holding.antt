@@ -9,16 +9,16 @@ use lib.ListN.{get_elem?}
 use Rattle.graph_words.specs.declared.graph.Edge.{Edge}
 use Rattle.graph_words.specs.declared.graph.Plan.{Plan}
 use Rattle.graph_words.specs.declared.table.Mark.{Mark}
-use Rattle.graph_words.specs.declared.table.Mark.TheVariants.{Unmarked, InHand, Untaken, Taken, PutBack, Delivered}
+use Rattle.graph_words.specs.declared.table.Mark.TheVariants.{Unmarked, InHand, Drawn, Untaken, Taken, PutBack, Delivered}
 use Rattle.graph_words.specs.declared.table.View.{View}
 use Rattle.graph_words.specs.Marks.{IsHadMark, at, either_mark, inputs, put, when}
 use Rattle.graph_words.specs.Models.{SeatModel}
-use Rattle.graph_words.specs.Seats.{Has, IsMarkedByFrom}
+use Rattle.graph_words.specs.Seats.{Has, IsLateByFrom, IsMarkedByFrom}
 use Rattle.graph_words.specs.Views.{InputsDelivered, IsUntouched, both_views, gets, less_one, mark_node, one_part}
 use Rattle.graph_words.proofs.Marks.{at_merge, at_put, at_put_else}
 use Rattle.steal_workers.specs.Lists.{IsListed}
 use Rattle.steal_workers.proofs.Listing.{listed_cases, listed_first, listed_last, listed_where, moved_in, moved_out, true_false}
-use Rattle.steal_workers.specs.Holdings.{IsGoneOn, IsHeld, IsReady, IsSettled, KeepsOthers, IsJoined, NoNode, OnlyNode, SourcesBack}
+use Rattle.steal_workers.specs.Holdings.{AllBack, AllLate, IsGoneOn, IsHeld, IsReady, IsSettled, KeepsOthers, IsJoined, NoNode, OnlyNode, SourcesBack}
 
 pub has_mark : (m n : Mark) → m ≡ n → IsHadMark n → IsHadMark m
 has_mark m n e has = subst IsHadMark (sym e) has
@@ -130,18 +130,18 @@ module _ {W : Type 0} (plan : Plan W) where
   found_cases u (Some n) kept eq held = found_held u n kept eq held
 
   -- other marks of nodes that are ready
-  pub held_through : (u v : View W) (P Q : ℕ → Type 0) → IsHeld plan u P → ((e : ℕ) → at v.outs e ≡ at u.outs e) → ((e : ℕ) → at v.ins e ≡ at u.ins e)
+  pub held_through : (u v : View W) (P Q : ℕ → Type 0) → IsHeld plan u P → ((e : ℕ) → at v.outs e ≡ at u.outs e) → ((e : ℕ) → at v.late e ≡ at u.late e) → ((e : ℕ) → at v.ins e ≡ at u.ins e)
       → ((m : ℕ) → Q m → P m × (at v.nodes m ≡ Untaken))
       → ((m : ℕ) → Has v m → Q m ⊎ ((at v.nodes m ≡ at u.nodes m) × (P m → Q m)))
       → IsHeld plan v Q
-  held_through u v P Q held outs ins stay others = record {
+  held_through u v P Q held outs lates ins stay others = record {
     settled = λ m below has. settle m below has (others m has);
     ready = λ m is. let own = held.ready m (stay m is).0 in record { within = own.within; input = own.input; untaken = (stay m is).1; untouched = λ e x there. let clean = own.untouched e x there in (λ from. outs e ∙ clean.0 from, λ to. ins e ∙ clean.1 to) };
   }
     where
       settle_same : (m : ℕ) → at v.nodes m ≡ at u.nodes m → (P m → Q m) → P m ⊎ IsSettled plan u m → Q m ⊎ IsSettled plan v m
       settle_same m same named (inl is) = inl (named is)
-      settle_same m same named (inr own) = inr (record { back = same ∙ own.back; delivered = λ e x there from. outs e ∙ own.delivered e x there from })
+      settle_same m same named (inr own) = inr (record { back = same ∙ own.back; delivered = λ e x there from. outs e ∙ own.delivered e x there from; late = λ e x there from. lates e ∙ own.late e x there from })
 
       settle : (m : ℕ) → m < plan.nodes → Has v m → Q m ⊎ ((at v.nodes m ≡ at u.nodes m) × (P m → Q m)) → Q m ⊎ IsSettled plan v m
       settle m below has (inl is) = inl is
@@ -159,7 +159,7 @@ module _ {W : Type 0} (plan : Plan W) where
     where
       settle : (m : ℕ) → at (put u.nodes n Untaken) m ≡ at u.nodes m → NoNode m ⊎ IsSettled plan u m → OnlyNode n m ⊎ IsSettled plan (mark_node u n Untaken) m
       settle m same (inl none) = absurd none
-      settle m same (inr own) = inr (record { back = same ∙ own.back; delivered = own.delivered })
+      settle m same (inr own) = inr (record { back = same ∙ own.back; delivered = own.delivered; late = own.late })
 
   pub accepted_on : (u v : View W) (n : ℕ) → v ≡ gets true n u → at u.nodes n ≡ Unmarked → IsGoneOn u v
   accepted_on u v n eq fresh =
@@ -178,7 +178,7 @@ module _ {W : Type 0} (plan : Plan W) where
 
     pub offered_held : v ≡ gets false n (mark_node u n Unmarked) → IsHeld plan v P
     offered_held eq =
-        subst (λ z. IsHeld plan z P) (sym eq) (held_through u (mark_node u n Unmarked) (λ m. (m ≡ n) ⊎ P m) P held (λ e. refl) (λ e. refl)
+        subst (λ z. IsHeld plan z P) (sym eq) (held_through u (mark_node u n Unmarked) (λ m. (m ≡ n) ⊎ P m) P held (λ e. refl) (λ e. refl) (λ e. refl)
         (λ m is. (inr is, at_put_else u.nodes n m Unmarked (apart_from m is) ∙ (held.ready m (inr is)).untaken))
         (λ m has. dite (ℕ_discrete m n)
         (λ e. absurd (subst IsHadMark (ap (λ k. at (put u.nodes n Unmarked) k) e ∙ at_put u.nodes n Unmarked) has))
@@ -195,7 +195,7 @@ module _ {W : Type 0} (plan : Plan W) where
 
     pub taken_back_held : v ≡ gets true n (mark_node u n Unmarked) → IsHeld plan v (λ m. (m ≡ n) ⊎ P m)
     taken_back_held eq =
-        subst (λ z. IsHeld plan z (λ m. (m ≡ n) ⊎ P m)) (sym eq) (held_through u (mark_node (mark_node u n Unmarked) n Untaken) (λ m. (m ≡ n) ⊎ P m) (λ m. (m ≡ n) ⊎ P m) held (λ e. refl) (λ e. refl)
+        subst (λ z. IsHeld plan z (λ m. (m ≡ n) ⊎ P m)) (sym eq) (held_through u (mark_node (mark_node u n Unmarked) n Untaken) (λ m. (m ≡ n) ⊎ P m) (λ m. (m ≡ n) ⊎ P m) held (λ e. refl) (λ e. refl) (λ e. refl)
         (λ m is. (is, same_marks m ∙ (held.ready m is).untaken))
         (λ m has. inr (same_marks m, λ is. is)))
 
@@ -212,7 +212,7 @@ module _ {W : Type 0} (plan : Plan W) where
   -- seats are split and joined
   pub less_held : (u v : View W) (P : ℕ → Type 0) → IsHeld plan u P → v ≡ less_one u → IsHeld plan v P
   less_held u v P held eq =
-      subst (λ z. IsHeld plan z P) (sym eq) (held_through u (less_one u) P P held (λ e. refl) (λ e. refl) (λ m is. (is, (held.ready m is).untaken)) (λ m has. inr (refl, λ is. is)))
+      subst (λ z. IsHeld plan z P) (sym eq) (held_through u (less_one u) P P held (λ e. refl) (λ e. refl) (λ e. refl) (λ m is. (is, (held.ready m is).untaken)) (λ m has. inr (refl, λ is. is)))
 
   pub part_held : (u v : View W) → v ≡ one_part u → IsHeld plan v NoNode
   part_held u v eq =
@@ -225,32 +225,32 @@ module _ {W : Type 0} (plan : Plan W) where
   either_cases : (P : Mark → Type 0) (a b : Mark) → (a ≡ Unmarked → P b) → (a ≢ Unmarked → P a) → P (either_mark a b)
   either_cases P Unmarked b none some_mark = none refl
   either_cases P InHand b none some_mark = some_mark (λ e. cc)
+  either_cases P (Drawn t) b none some_mark = some_mark (λ e. cc)
   either_cases P Untaken b none some_mark = some_mark (λ e. cc)
   either_cases P Taken b none some_mark = some_mark (λ e. cc)
   either_cases P PutBack b none some_mark = some_mark (λ e. cc)
   either_cases P Delivered b none some_mark = some_mark (λ e. cc)
 
-  module _ (u v : View W) (one : IsHeld plan u NoNode) (two : IsHeld plan v NoNode) (marks : IsMarkedByFrom plan u) where
+  module _ (u v : View W) (one : IsHeld plan u NoNode) (two : IsHeld plan v NoNode) (marks : IsMarkedByFrom plan u) (lates : IsLateByFrom plan u) where
     -- an output edge of a node that the first does not have
-    free_out : (m : ℕ) → at u.nodes m ≡ Unmarked → (e : ℕ) (x : Edge) → get_elem? plan.edges.items e ≡ some x → x.from ≡ m → at u.outs e ≡ Unmarked
-    free_out m free e x there from = go (marks e x there)
-      where
-        go : Has u x.from ⊎ (at u.outs e ≡ Unmarked) → at u.outs e ≡ Unmarked
-        go (inl has) = absurd (subst IsHadMark (ap (λ k. at u.nodes k) from ∙ free) has)
-        go (inr none) = none
+    free_edge : (m : ℕ) → at u.nodes m ≡ Unmarked → (x : Edge) → x.from ≡ m → (mark : Mark) → Has u x.from ⊎ (mark ≡ Unmarked) → mark ≡ Unmarked
+    free_edge m free x from mark (inl has) = absurd (subst IsHadMark (ap (λ k. at u.nodes k) from ∙ free) has)
+    free_edge m free x from mark (inr none) = none
 
     settled_first : (m : ℕ) → NoNode m ⊎ IsSettled plan u m → NoNode m ⊎ IsSettled plan (both_views u v) m
     settled_first m (inl none) = absurd none
     settled_first m (inr own) = inr record {
       back = at_merge u.nodes v.nodes m ∙ ap (λ a. either_mark a (at v.nodes m)) own.back;
       delivered = λ e x there from. at_merge u.outs v.outs e ∙ ap (λ a. either_mark a (at v.outs e)) (own.delivered e x there from);
+      late = λ e x there from. at_merge u.late v.late e ∙ ap (λ a. either_mark a (at v.late e)) (own.late e x there from);
     }
 
     settled_second : (m : ℕ) → at u.nodes m ≡ Unmarked → NoNode m ⊎ IsSettled plan v m → NoNode m ⊎ IsSettled plan (both_views u v) m
     settled_second m free (inl none) = absurd none
     settled_second m free (inr own) = inr record {
       back = at_merge u.nodes v.nodes m ∙ ap (λ a. either_mark a (at v.nodes m)) free ∙ own.back;
-      delivered = λ e x there from. at_merge u.outs v.outs e ∙ ap (λ a. either_mark a (at v.outs e)) (free_out m free e x there from) ∙ own.delivered e x there from;
+      delivered = λ e x there from. at_merge u.outs v.outs e ∙ ap (λ a. either_mark a (at v.outs e)) (free_edge m free x from (at u.outs e) (marks e x there)) ∙ own.delivered e x there from;
+      late = λ e x there from. at_merge u.late v.late e ∙ ap (λ a. either_mark a (at v.late e)) (free_edge m free x from (at u.late e) (lates e x there)) ∙ own.late e x there from;
     }
 
     pub joined_held : (w : View W) → w ≡ both_views u v → IsHeld plan w NoNode
@@ -283,13 +283,13 @@ module _ {W : Type 0} (plan : Plan W) where
   pub joined_result_held : {E : Type 0} → (one other result : Result (SeatModel W) E) → IfOk one (λ (s : SeatModel W). IsHeld plan s.view NoNode) → IfOk other (λ (s : SeatModel W). IsHeld plan s.view NoNode)
       → IfOk result (IsJoined plan one other) → IfOk result (λ (s : SeatModel W). IsHeld plan s.view NoNode)
   joined_result_held one other (Ok s) mine theirs told =
-      joined_held told.0.view told.1.view (subst (λ r. IfOk r (λ (t : SeatModel W). IsHeld plan t.view NoNode)) told.2 mine) (subst (λ r. IfOk r (λ (t : SeatModel W). IsHeld plan t.view NoNode)) told.3 theirs) told.4 s.view told.5
+      joined_held told.0.view told.1.view (subst (λ r. IfOk r (λ (t : SeatModel W). IsHeld plan t.view NoNode)) told.2 mine) (subst (λ r. IfOk r (λ (t : SeatModel W). IsHeld plan t.view NoNode)) told.3 theirs) told.4 told.5 s.view told.6
   joined_result_held one other (Err e) mine theirs told = tt
 
   pub joined_result_on : {E : Type 0} → (u v part : View W) (one other result : Result (SeatModel W) E) → v ≡ less_one u → 1 < u.parts → part ≡ one_part u → IfOk one (λ (s : SeatModel W). IsGoneOn v s.view) → IfOk other (λ (s : SeatModel W). IsGoneOn part s.view)
       → IfOk result (IsJoined plan one other) → IfOk result (λ (s : SeatModel W). IsGoneOn u s.view)
   joined_result_on u v part one other (Ok s) cut some_parts single mine theirs told =
-      gone_apart u v told.0.view part told.1.view s.view cut some_parts single (subst (λ r. IfOk r (λ (t : SeatModel W). IsGoneOn v t.view)) told.2 mine) (subst (λ r. IfOk r (λ (t : SeatModel W). IsGoneOn part t.view)) told.3 theirs) told.5
+      gone_apart u v told.0.view part told.1.view s.view cut some_parts single (subst (λ r. IfOk r (λ (t : SeatModel W). IsGoneOn v t.view)) told.2 mine) (subst (λ r. IfOk r (λ (t : SeatModel W). IsGoneOn part t.view)) told.3 theirs) told.6
   joined_result_on u v part one other (Err e) cut some_parts single mine theirs told = tt
 
   -- a node that was worked
@@ -313,7 +313,7 @@ module _ {W : Type 0} (plan : Plan W) where
         }
 
     still_settled : (m : ℕ) → m ≢ node → Has u m → IsSettled plan u m → IsSettled plan v m
-    still_settled m ne had own = record { back = others.nodes m ne had ∙ own.back; delivered = λ e x there from. others.outs m e ne had x there from ∙ own.delivered e x there from }
+    still_settled m ne had own = record { back = others.nodes m ne had ∙ own.back; delivered = λ e x there from. others.outs m e ne had x there from ∙ own.delivered e x there from; late = λ e x there from. others.lates m e ne had x there from ∙ own.late e x there from }
 
     pub worked_held : IsHeld plan v (λ m. P m ⊎ IsListed found m)
     worked_held = record {
@@ -372,6 +372,17 @@ module _ {W : Type 0} (plan : Plan W) where
 
     pub more_done : IsGoneOn u v → at v.nodes n ≡ PutBack → (m : ℕ) → m < n + 1 → at v.nodes m ≡ PutBack
     more_done on here m less = dite (ℕ_discrete m n) (λ e. ap (λ k. at v.nodes k) e ∙ here) (λ ne. on.back m (done m (omega arith)))
+
+  -- with each work put back, each edge was handed on late
+  pub all_late : (u : View W) → ((e : ℕ) (x : Edge) → get_elem? plan.edges.items e ≡ some x → (x.from < x.to) × (x.to < plan.nodes)) → IsHeld plan u NoNode → AllBack plan u → AllLate plan u
+  all_late u ends held all e x there =
+      let up = ends e x there in
+      let below : x.from < plan.nodes = omega (arith, up) in
+      settle (held.settled x.from below (has_mark (at u.nodes x.from) PutBack (all x.from below) tt))
+    where
+      settle : NoNode x.from ⊎ IsSettled plan u x.from → at u.late e ≡ Delivered
+      settle (inl none) = absurd none
+      settle (inr own) = own.late e x there refl
 
   pub sources_still : (u v : View W) → IsGoneOn u v → SourcesBack plan u → SourcesBack plan v
   sources_still u v on sources m below is = on.back m (sources m below is)

@@ -1,6 +1,5 @@
 pub mod Listing
 pub mod Holding
-pub mod Examples
 pub mod Tallies
 pub mod Mustering
 pub mod Marking

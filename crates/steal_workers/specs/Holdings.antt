@@ -1,13 +1,14 @@
 -- What a seat has of the claims of a step.
 --     IsFor names run step edges plan      the claims have this run, this step and these edges
 --     IsReady plan view node      the seat has the node, which has input edges, and has touched nothing of it
---     IsSettled plan view node      its work is put back, and its output edges are delivered
+--     IsSettled plan view node      its work is put back, and after that its output edges were handed on
 --     IsHeld plan view P      the nodes of P are ready, and every other node that the seat has is settled
 --     KeepsOthers plan old new node came      the other nodes that the seat had are as before, and it has none but those and the ones that came
 --     IsGoneOn old new      the seat has no other parts, and what it had put back is put back
 --     IsJoined plan one other seat      both are seats, and this seat has all that they have
 --     SourcesBack plan view      the work of each node without input edges is put back
 --     AllBack plan view      the work of each node is put back
+--     AllLate plan view      each edge was handed on after the work of its `from` node was put back
 use Rattle.std.specs.Prelude.{◌≡◌, ◌≢◌, ◌⊎◌, ℕ, ◌+◌, ◌<◌, List, Result, Ok}
 use mathlib.Core.Option.{some}
 use lib.ListN.{get_elem?}
@@ -17,7 +18,7 @@ use Rattle.graph_words.specs.declared.table.Mark.TheVariants.{Untaken, PutBack, 
 use Rattle.graph_words.specs.declared.table.View.{View}
 use Rattle.graph_words.specs.Marks.{at, inputs}
 use Rattle.graph_words.specs.Rule.{Tags}
-use Rattle.graph_words.specs.Seats.{AtEdge, Has, IsMarkedByFrom}
+use Rattle.graph_words.specs.Seats.{AtEdge, Has, IsLateByFrom, IsMarkedByFrom}
 use Rattle.graph_words.specs.Models.{SeatModel}
 use Rattle.graph_words.specs.Views.{IsUntouched, both_views}
 use Rattle.steal_workers.specs.Lists.{IsListed}
@@ -45,6 +46,7 @@ module _ {W : Type 0} where
   pub record IsSettled (plan : Plan W) (view : View W) (node : ℕ) : Type 0 where
     pub back : at view.nodes node ≡ PutBack
     pub delivered : (e : ℕ) (x : Edge) → get_elem? plan.edges.items e ≡ some x → x.from ≡ node → at view.outs e ≡ Delivered
+    pub late : (e : ℕ) (x : Edge) → get_elem? plan.edges.items e ≡ some x → x.from ≡ node → at view.late e ≡ Delivered
 
   pub record IsHeld (plan : Plan W) (view : View W) (P : ℕ → Type 0) : Type 0 where
     pub settled : (node : ℕ) → node < plan.nodes → Has view node → P node ⊎ IsSettled plan view node
@@ -53,6 +55,7 @@ module _ {W : Type 0} where
   pub record KeepsOthers (plan : Plan W) (old new : View W) (node : ℕ) (came : List ℕ) : Type 0 where
     pub nodes : (m : ℕ) → m ≢ node → Has old m → at new.nodes m ≡ at old.nodes m
     pub outs : (m e : ℕ) → m ≢ node → Has old m → AtEdge plan e (λ x. x.from ≡ m → at new.outs e ≡ at old.outs e)
+    pub lates : (m e : ℕ) → m ≢ node → Has old m → AtEdge plan e (λ x. x.from ≡ m → at new.late e ≡ at old.late e)
     pub ins : (m e : ℕ) → m ≢ node → Has old m → AtEdge plan e (λ x. x.to ≡ m → at new.ins e ≡ at old.ins e)
     pub only : (m : ℕ) → Has new m → Has old m ⊎ IsListed came m
 
@@ -63,8 +66,11 @@ module _ {W : Type 0} where
   abbrev pub AllBack : Plan W → View W → Type 0
   AllBack plan view = (node : ℕ) → node < plan.nodes → at view.nodes node ≡ PutBack
 
+  abbrev pub AllLate : Plan W → View W → Type 0
+  AllLate plan view = (e : ℕ) → AtEdge plan e (λ x. at view.late e ≡ Delivered)
+
   abbrev pub IsJoined : {E : Type 0} → Plan W → Result (SeatModel W) E → Result (SeatModel W) E → SeatModel W → Type 0
-  IsJoined plan one other seat = (a : SeatModel W) × (b : SeatModel W) × (one ≡ Ok a) × (other ≡ Ok b) × IsMarkedByFrom plan a.view × (seat.view ≡ both_views a.view b.view)
+  IsJoined plan one other seat = (a : SeatModel W) × (b : SeatModel W) × (one ≡ Ok a) × (other ≡ Ok b) × IsMarkedByFrom plan a.view × IsLateByFrom plan a.view × (seat.view ≡ both_views a.view b.view)
 
   abbrev pub SourcesBack : Plan W → View W → Type 0
   SourcesBack plan view = (node : ℕ) → node < plan.nodes → inputs node plan.edges.items ≡ 0 → at view.nodes node ≡ PutBack

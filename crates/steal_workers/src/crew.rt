@@ -4,7 +4,7 @@ ghost use Rattle.std.specs.Prelude.{◌≡◌, ◌≤◌, IfOk, vec_capacity, ve
 ghost use Rattle.graph_words.specs.Rule.{tags};
 ghost use Rattle.graph_words.specs.Seats.{IsSeatOf};
 ghost use Rattle.steal_workers.specs.Lists.{IsListed};
-ghost use Rattle.steal_workers.specs.Holdings.{AllBack, IsFor, IsGoneOn, IsHeld, NoNode, SourcesBack};
+ghost use Rattle.steal_workers.specs.Holdings.{AllBack, AllLate, IsFor, IsGoneOn, IsHeld, NoNode, SourcesBack};
 ghost use Rattle.steal_workers.specs.Hands.{AllEmpty, AllRested, hand_marks};
 ghost use Rattle.steal_workers.specs.Musters.{IsCrewed, nothing};
 
@@ -65,8 +65,8 @@ impl Crew {
         self.size
     }
 
-    /// Works the nodes with input edges, and gives the seat back with every work put back. All threads have ended then. An
-    /// error is that memory ran out, and then the claims are given up.
+    /// Works the nodes with input edges, and gives the seat back with every work put back, and each edge handed on after that.
+    /// All threads have ended then. An error is that memory ran out, and then the claims are given up.
     ///
     /// Each deque is empty before and after, after an error too, and its log begins anew: nothing was pushed or taken then.
     ///
@@ -92,6 +92,7 @@ impl Crew {
         ensures rested { AllRested self.new.hands.items }
         ensures of { IfOk result (λ worked. IsSeatOf claims.now worked) }
         ensures all { IfOk result (λ worked. AllBack claims.now.plan worked.view) }
+        ensures late { IfOk result (λ worked. AllLate claims.now.plan worked.view) }
     {
         let mut hands = mem::replace(&mut self.hands, Vec::new(self.alloc));
         arm(&mut hands);

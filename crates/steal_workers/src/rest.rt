@@ -5,7 +5,7 @@ ghost use Rattle.graph_words.specs.declared.table.Mark.TheVariants.{PutBack};
 ghost use Rattle.graph_words.specs.Marks.{at};
 ghost use Rattle.graph_words.specs.Rule.{tags};
 ghost use Rattle.graph_words.specs.Seats.{IsSeatOf};
-ghost use Rattle.steal_workers.specs.Holdings.{AllBack, IsFor, IsGoneOn, IsHeld, NoNode, OnlyNode, SourcesBack};
+ghost use Rattle.steal_workers.specs.Holdings.{AllBack, AllLate, IsFor, IsGoneOn, IsHeld, NoNode, OnlyNode, SourcesBack};
 
 use crate::hand::{accept_node, offer_all, work_node};
 use crate::ready::Ready;
@@ -48,6 +48,7 @@ pub(crate) fn work_rest<W: Tagged, H: Tagged, N: NodeWork<W, H>>(
     requires sources { SourcesBack claims.now.plan seat.old.view }
     ensures of { OnOk result (IsSeatOf claims.now seat.new) }
     ensures all { OnOk result (AllBack claims.now.plan seat.new.view) }
+    ensures late { OnOk result (AllLate claims.now.plan seat.new.view) }
 {
     claims.look(seat);
     for node in 0..claims.nodes() {

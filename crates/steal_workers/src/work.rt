@@ -22,8 +22,8 @@ pub trait NodeWork<W: Tagged, H: Tagged>: Sync {
 
     ghost edges: { Self → List Edge };
 
-    /// Works a node that the seat has and has not begun: its work is put back for the next step, and its output edges are
-    /// delivered. The nodes that this makes ready are added to the list, which is empty before.
+    /// Works a node that the seat has and has not begun: its work is put back for the next step, and then its output edges are
+    /// handed on. The nodes that this makes ready are added to the list, which is empty before.
     ///
     /// The seat keeps its other nodes as they were. After an error, which is that memory ran out, the claims are given up.
     fn work(

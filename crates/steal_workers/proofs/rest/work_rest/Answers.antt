@@ -5,7 +5,7 @@ use Rattle.graph_words.specs.Models.{SeatModel}
 use Rattle.graph_words.specs.Seats.{Has, IsSeatOf}
 use Rattle.graph_words.specs.declared.table.Mark.TheVariants.{PutBack}
 use Rattle.steal_workers.specs.Holdings.{IsGoneOn, IsHeld, NoNode, OnlyNode, SourcesBack}
-use Rattle.steal_workers.proofs.Holding.{gone_on, more_done, rest_back, sources_still}
+use Rattle.steal_workers.proofs.Holding.{all_late, gone_on, more_done, rest_back, sources_still}
 use Rattle.steal_workers.proofs.rest.work_rest.Goals.{in-Some+in_ok-work_alone-in-Some, in-None}
 use Rattle.steal_workers.proofs.rest.work_rest.Goals as goal
 
@@ -55,3 +55,8 @@ loop-node-preserved g c =
             done = more_done plan u v n i.held i.done within on here;
           }
     ]
+
+pub returns-clause-late : goal.returns-clause-late
+returns-clause-late g c =
+    let done = c.loop-node.invariant.done in
+    all_late c.args.claims.now.plan c.loop-node.seat.view c.look.ensures.upward c.loop-node.invariant.held (λ m below. done m (omega (arith, below, c.loop-node-test.false, c.nodes-node-end.ensures)))
