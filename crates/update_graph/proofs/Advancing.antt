@@ -1,12 +1,11 @@
 -- The work of a node at the step before one that a run enters.
 use Rattle.std.proofs.Common.{◌≡◌, ap, ap₂, sym, ◌∙◌, subst, ℕ, ◌+◌, ◌-◌, ◌<◌, ◌≤◌, arith, true, List, map, length}
-use Rattle.std.specs.Prelude.{IfOk, Result, Ok, Err}
 use Rattle.tick_model.specs.declared.feed.Run.{Run}
 use Rattle.tick_model.specs.Evaluation.{inputs_of}
 use Rattle.update_graph.specs.Entered.{IsEntered}
-use Rattle.update_graph.specs.Tags.{Tag, is_operator, op_at, tag}
+use Rattle.update_graph.specs.Tags.{Kept, Tag, is_operator, named, op_at, tag}
 
-module _ (run : Run) (step n : ℕ) (later : 1 ≤ step) (work : Tag) (same : work ≡ tag run (step - 1) n) where
+module _ (run : Run) (step n : ℕ) (later : 1 ≤ step) (work : Kept) (same : named work ≡ tag run (step - 1) n) where
   pub old_run : work.run ≡ run
   old_run = ap (λ (t : Tag). t.run) same
 

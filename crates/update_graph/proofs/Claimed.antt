@@ -13,13 +13,13 @@ use Rattle.update_graph.specs.Crews.{IsStepWork, StepView}
 use Rattle.update_graph.specs.Edges.{froms_to}
 use Rattle.update_graph.specs.Entered.{IsEntered}
 use Rattle.update_graph.specs.Holdings.{IsClaimed, IsForStep}
-use Rattle.update_graph.specs.Tags.{Tag, is_operator, no_node, op_at, tag}
+use Rattle.update_graph.specs.Tags.{Kept, Tag, is_operator, named, no_node, op_at, tag}
 use Rattle.update_graph.proofs.ClaimedWorks.{as_tag}
 use Rattle.update_graph.proofs.PlanEdges.{edge_ends, edge_into, few_edges, goes_to_operator, input_froms, no_inputs}
 use Rattle.update_graph.proofs.PlanLimits.{few_nodes}
 
 -- claims for a step of a run
-module _ (run : Run) (plan : Plan Tag) (s : IsForStep run plan) where
+module _ (run : Run) (plan : Plan Kept) (s : IsForStep run plan) where
   pub few_of_step : length plan.edges.items < 2 ^ 32
   few_of_step = subst (λ l. length l < 2 ^ 32) (sym s.edges) (few_edges run s.entered.lawful)
 
@@ -50,8 +50,8 @@ module _ (run : Run) (plan : Plan Tag) (s : IsForStep run plan) where
   froms_of_step n within = ap (froms_to n) s.edges ∙ input_froms run s.entered.lawful n within
 
   -- what is taken
-  pub work_taken : (work : Tag) (n : ℕ) → work.run ≡ plan.first.value.run → work.node ≡ n → work.step ≡ plan.first.value.step → work ≡ tag run plan.first.value.step n
-  work_taken work n of_run of_node of_step = as_tag work run plan.first.value.step n (of_run ∙ s.of_run) of_node of_step
+  pub work_taken : (work : Kept) (n : ℕ) → work.run ≡ plan.first.value.run → work.node ≡ n → work.step ≡ plan.first.value.step → named work ≡ tag run plan.first.value.step n
+  work_taken work n of_run of_node of_step = as_tag (named work) run plan.first.value.step n (of_run ∙ s.of_run) of_node of_step
 
   pub shares_taken : (shares : List Tag) (n : ℕ) → n < length run.plan.nodes → shares ≡ map (tag plan.first.value.run (plan.first.value.step + 1)) (froms_to n plan.edges.items) → shares ≡ map (tag run (plan.first.value.step + 1)) (inputs_of (op_at run n))
   shares_taken shares n within same =
@@ -60,7 +60,7 @@ module _ (run : Run) (plan : Plan Tag) (s : IsForStep run plan) where
       ∙ ap (λ r. map (tag r (plan.first.value.step + 1)) (inputs_of (op_at run n))) s.of_run
 
   -- a work that was taken
-  module _ (work : Tag) (n : ℕ) (same : work ≡ tag run plan.first.value.step n) where
+  module _ (work : Kept) (n : ℕ) (same : named work ≡ tag run plan.first.value.step n) where
     pub work_within : n < length run.plan.nodes → work.node < length run.plan.nodes
     work_within within = subst (λ (t : Tag). t.node < length run.plan.nodes) (sym same) within
 
@@ -68,11 +68,11 @@ module _ (run : Run) (plan : Plan Tag) (s : IsForStep run plan) where
     work_operator is = subst (λ (t : Tag). is_operator run t.node ≡ true) (sym same) is
 
   -- what is put back
-  pub next_tagged : (next : Tag) (n : ℕ) → next ≡ tag run (plan.first.value.step + 1) n → (next.run ≡ plan.first.value.run) × (next.node ≡ n) × (next.step ≡ plan.first.value.step + 1)
+  pub next_tagged : (next : Kept) (n : ℕ) → named next ≡ tag run (plan.first.value.step + 1) n → (next.run ≡ plan.first.value.run) × (next.node ≡ n) × (next.step ≡ plan.first.value.step + 1)
   next_tagged next n same = (ap (λ (t : Tag). t.run) same ∙ sym s.of_run, ap (λ (t : Tag). t.node) same, ap (λ (t : Tag). t.step) same)
 
 -- what the hands of a crew work by is for the step of the claims
-pub step_of_view : (plan : Plan Tag) (run own : Run) (step : ℕ) (edges : List Edge) (view : StepView) → run ≡ own → record { run = own; step = step; edges = edges } ≡ view → IsStepWork own step edges
+pub step_of_view : (plan : Plan Kept) (run own : Run) (step : ℕ) (edges : List Edge) (view : StepView) → run ≡ own → record { run = own; step = step; edges = edges } ≡ view → IsStepWork own step edges
     → plan.first.value.run ≡ view.run → plan.first.value.step + 1 ≡ view.step → plan.edges.items ≡ view.edges → IsForStep run plan
 step_of_view plan run own step edges view same seen work run_is step_is edges_is =
     subst (λ r. IsForStep r plan) (sym same) record {
@@ -81,7 +81,7 @@ step_of_view plan run own step edges view same seen work run_is step_is edges_is
       edges = edges_is ∙ sym (ap (λ (v : StepView). v.edges) seen) ∙ work.edges_are;
     }
 
-module _ (run : Run) (plan : Plan Tag) (c : IsClaimed run plan) where
+module _ (run : Run) (plan : Plan Kept) (c : IsClaimed run plan) where
   pub run_is : plan.first.value.run ≡ run
   run_is = ap (λ (t : Tag). t.run) c.first
 

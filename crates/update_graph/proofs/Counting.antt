@@ -1,10 +1,11 @@
 -- How much a step of an operator reads, in the words of the run.
-use Rattle.std.proofs.Common.{◌≡◌, sym, ap, ◌∙◌, subst, ℕ, ◌+◌, ◌-◌, ◌*◌, ◌<◌, ◌≤◌, inl, inr, arith, true, false, true≢false, List, [], ◌∷◌, ◌++◌, length, map}
-use Rattle.std.specs.Prelude.{sum, Result, Ok, Err, OnOk}
-use Rattle.std.specs.List.{AllByRecursion}
+use Rattle.std.proofs.Common.{◌≡◌, sym, ap, ◌∙◌, subst, ℕ, ◌+◌, ◌*◌, ◌<◌, ◌≤◌, inl, inr, arith, true, false, true≢false, List, [], ◌∷◌, ◌++◌, length, map}
+use Rattle.std.specs.Prelude.{slice_index, sum}
+use Rattle.std.specs.List.{AllByRecursion, range_with_len, sum_by}
 use Rattle.std.proofs.lemmas.Bool.{cases_lt}
 use Rattle.std.proofs.lemmas.List.{get_or_append_left, get_or_push, length_push}
-use Rattle.key_lists.proofs.Every.{pass_all}
+use Rattle.std.proofs.lemmas.List.Sums.{sum_by-cons}
+use Rattle.key_lists.proofs.Every.{every-filter, every_both, filter_passes, pass_all}
 use Rattle.merge_op.specs.Merged.{counted_in}
 use Rattle.operators.specs.Operating.{result_width}
 use Rattle.operators.specs.Planned.{input_widths}
@@ -15,8 +16,10 @@ use Rattle.tick_model.specs.Evaluation.{inputs_of}
 use Rattle.tick_model.specs.States.{tick}
 use Rattle.tick_table.specs.Exact.{counted}
 use Rattle.tick_table.specs.Ticking.{Ticking}
+use Rattle.update_graph.specs.Graphs.{HaveStepped, SteppedOnce, most_in, read_in, reads_at}
 use Rattle.update_graph.specs.Stands.{HasStepped, all_defined, is_defined, most_reads, shown}
-use Rattle.update_graph.specs.Tags.{Tag, op_at}
+use Rattle.update_graph.specs.Tags.{Tag, is_operator, op_at, operators}
+use Rattle.update_graph.proofs.Numbering.{range_all}
 
 pub counted_reads : (run : Run) (step n before after : ℕ) (op : Op) (widths : List ℕ) (all : List Ticking) (change : Change) → op ≡ op_at run n → widths ≡ input_widths run.plan (op_at run n) → all ≡ map (shown run step) (inputs_of (op_at run n)) → change ≡ change_of (tick run step n)
     → after ≤ before + 4 * (sum widths + result_width op widths) * (counted_in all + counted change.update) → after ≤ before + most_reads run step n
@@ -38,11 +41,28 @@ stepped_once run steps node count reads h few = record {
   ];
 }
 
+-- what all operators read in a step is within the sum of their bounds
+sums_within : (f g : ℕ → ℕ) (nodes : List ℕ) → AllByRecursion (λ node. f node ≤ g node) nodes → sum_by f nodes ≤ sum_by g nodes
+sums_within f g [] h = omega arith
+sums_within f g (node ∷ nodes) h =
+    let first = sum_by-cons f node nodes in
+    let bound = sum_by-cons g node nodes in
+    let own = h.0 in
+    let others = sums_within f g nodes h.1 in
+    omega (arith, first, bound, own, others)
+
+pub all_within : (run : Run) (step : ℕ) (reads : List (List ℕ)) → HaveStepped run (step + 1) reads → read_in run step reads ≤ most_in run step
+all_within run step reads h =
+    sums_within (λ node. slice_index (reads_at reads node) step) (most_reads run step) (operators run (length run.plan.nodes))
+    (every_both (λ node. is_operator run node ≡ true) (λ node. node < length run.plan.nodes) (λ node. slice_index (reads_at reads node) step ≤ most_reads run step node) (operators run (length run.plan.nodes))
+    (λ node is within. (h node within is).within step (omega arith))
+    (filter_passes (is_operator run) (range_with_len 0 (length run.plan.nodes)))
+    (every-filter (λ node. node < length run.plan.nodes) (is_operator run) (range_with_len 0 (length run.plan.nodes)) (range_all (λ node. node < length run.plan.nodes) 0 (length run.plan.nodes) (λ k less. omega (arith, less)))))
+
+-- each operator has taken exactly one step more
+pub all_once : (run : Run) (steps : ℕ) (old new : List (List ℕ)) → HaveStepped run steps old → HaveStepped run (steps + 1) new → SteppedOnce run old new
+all_once run steps old new before after node within is = (after node within is).each ∙ ap (λ k. k + 1) (sym (before node within is).each)
+
 -- where all shares have tables, it is not so that one has none
 pub defined_all : (shares : List Tag) → AllByRecursion (λ (share : Tag). is_defined share.run share.step share.node ≡ true) shares → all_defined shares ≡ false → ⊥
 defined_all shares h none = true≢false (sym (pass_all (λ (share : Tag). is_defined share.run share.step share.node) shares h) ∙ none)
-
--- what is true whatever a call answers, and what follows from what is true where it gives a value
-pub always : {X E P : Type 0} (answer : Result X E) → P → OnOk answer P
-always (Ok value) p = p
-always (Err error) p = tt

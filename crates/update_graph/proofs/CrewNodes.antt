@@ -22,9 +22,9 @@ use Rattle.steal_workers.proofs.Listing.{listed_cases, listed_first, listed_last
 use Rattle.steal_workers.proofs.Holding.{has_mark}
 use Rattle.update_graph.specs.Edges.{comes_from}
 use Rattle.update_graph.specs.Steps.{IsDelivered, IsHandedOver, IsHanding, IsListing, IsWorked}
-use Rattle.update_graph.specs.Tags.{Tag}
-use Rattle.update_graph.proofs.Handing.{apart, had_marked, out_at, still_untaken, untouched_still}
-use Rattle.update_graph.proofs.PlanEdges.{edge_there}
+use Rattle.update_graph.specs.Tags.{Kept}
+use Rattle.update_graph.proofs.Handing.{apart, had_marked, late_apart, out_at, still_untaken, untouched_still}
+use Rattle.update_graph.proofs.PlanEdges.{item_there}
 use Rattle.update_graph.proofs.Walking.{no_edge}
 
 -- what is listed in either of two lists
@@ -48,14 +48,16 @@ module _ (xs : List ℕ) where
   grown_last found m is = subst (λ o. IsListed (xs ++ option_to_list o) m) (sym is) (listed_last xs m)
 
 -- the edges of a node are delivered
-module _ (plan : Plan Tag) (u : View Tag) (node : ℕ) where
+module _ (plan : Plan Kept) (u : View Kept) (node : ℕ) where
   pub listing_none : IsListing plan u u node 0 []
   listing_none = record {
     ins = refl;
     parts = refl;
     delivered = λ e x there less from. absurd (omega arith);
+    late = λ e x there less from. absurd (omega arith);
     later = λ e more. refl;
     others = λ e x there other. refl;
+    other_lates = λ e x there other. refl;
     stays = λ m has. refl;
     came = λ m. inl refl;
     above = λ m is. absurd (true_false (sym is));
@@ -63,24 +65,27 @@ module _ (plan : Plan Tag) (u : View Tag) (node : ℕ) where
     ready = λ m is. absurd (true_false (sym is));
   }
 
-  pub listing_skip : (v : View Tag) (count : ℕ) (x : Edge) (xs : List ℕ) → IsListing plan u v node count xs → get_elem? plan.edges.items count ≡ some x → x.from ≢ node → IsListing plan u v node (count + 1) xs
+  pub listing_skip : (v : View Kept) (count : ℕ) (x : Edge) (xs : List ℕ) → IsListing plan u v node count xs → get_elem? plan.edges.items count ≡ some x → x.from ≢ node → IsListing plan u v node (count + 1) xs
   listing_skip v count x xs h there other_from = record {
     ins = h.ins;
     parts = h.parts;
-    delivered = λ e y at_y less from.
-        let other : e ≢ count = λ c. other_from (ap (λ (z : Edge). z.from) (some-injective x y (sym there ∙ ap (λ k. get_elem? plan.edges.items k) (sym c) ∙ at_y)) ∙ from) in
-        h.delivered e y at_y (omega arith) from;
+    delivered = λ e y at_y less from. let other = elsewhere e y at_y from in h.delivered e y at_y (omega arith) from;
+    late = λ e y at_y less from. let other = elsewhere e y at_y from in h.late e y at_y (omega arith) from;
     later = λ e more. h.later e (omega arith);
     others = h.others;
+    other_lates = h.other_lates;
     stays = h.stays;
     came = h.came;
     above = h.above;
     fresh = h.fresh;
     ready = h.ready;
   }
+    where
+      elsewhere : (e : ℕ) (y : Edge) → get_elem? plan.edges.items e ≡ some y → y.from ≡ node → e ≢ count
+      elsewhere e y at_y from c = other_from (ap (λ (z : Edge). z.from) (some-injective x y (sym there ∙ ap (λ k. get_elem? plan.edges.items k) (sym c) ∙ at_y)) ∙ from)
 
   -- one more edge is delivered
-  module _ (v w : View Tag) (count to : ℕ) (x : Edge) (xs : List ℕ) (found : Option ℕ) (h : IsListing plan u v node count xs) (o : IsDelivered plan v w count to found)
+  module _ (v w : View Kept) (count to : ℕ) (x : Edge) (xs : List ℕ) (found : Option ℕ) (h : IsListing plan u v node count xs) (o : IsDelivered plan v w count to found)
       (there : get_elem? plan.edges.items count ≡ some x) (from_is : x.from ≡ node) (to_is : x.to ≡ to) (up : x.from < x.to) (below : x.to < plan.nodes) where
     abbrev ys : List ℕ
     ys = xs ++ option_to_list found
@@ -145,8 +150,12 @@ module _ (plan : Plan Tag) (u : View Tag) (node : ℕ) where
       delivered = λ e y at_y less from. outs_are e ∙ dite (ℕ_discrete e count)
           (λ c. ap (λ k. at (put v.outs count Delivered) k) c ∙ at_put v.outs count Delivered)
           (λ ne. at_put_else v.outs count e Delivered ne ∙ h.delivered e y at_y (omega arith) from);
+      late = λ e y at_y less from. ap (λ l. at l e) o.late ∙ dite (ℕ_discrete e count)
+          (λ c. ap (λ k. at (put v.late count Delivered) k) c ∙ at_put v.late count Delivered)
+          (λ ne. at_put_else v.late count e Delivered ne ∙ h.late e y at_y (omega arith) from);
       later = λ e more. outs_are e ∙ at_put_else v.outs count e Delivered (λ c. omega arith) ∙ h.later e (omega arith);
       others = λ e y at_y other. other_outs y.from other e y at_y refl ∙ h.others e y at_y other;
+      other_lates = λ e y at_y other. late_apart plan node v w count to x found o there from_is y.from other e y at_y refl ∙ h.other_lates e y at_y other;
       stays = λ m has. o.stays m (subst IsHadMark (sym (h.stays m has)) has) ∙ h.stays m has;
       came = λ m. came_more m found refl;
       above = λ m is. above_more m (grown_cases xs found m is);
@@ -155,7 +164,7 @@ module _ (plan : Plan Tag) (u : View Tag) (node : ℕ) where
     }
 
   -- what is listed is had
-  pub listing_had : (v : View Tag) (count : ℕ) (xs : List ℕ) → IsListing plan u v node count xs → (m : ℕ) → IsListed xs m → Has v m
+  pub listing_had : (v : View Kept) (count : ℕ) (xs : List ℕ) → IsListing plan u v node count xs → (m : ℕ) → IsListed xs m → Has v m
   listing_had v count xs h m is = has_mark (at v.nodes m) Untaken (h.ready m is).untaken tt
 
   -- and the nodes that this makes ready are added to a list
@@ -163,12 +172,12 @@ module _ (plan : Plan Tag) (u : View Tag) (node : ℕ) where
     pub handing_none : IsHanding plan u u node 0 xs xs
     handing_none = record { found = []; listing = listing_none; listed = sym (append-nil xs) }
 
-    pub handing_past : (v : View Tag) (zs : List ℕ) (e : ℕ) → e < length plan.edges.items → comes_from node (get_or plan.edges.items e no_edge) ≡ false → IsHanding plan u v node e xs zs → IsHanding plan u v node (e + 1) xs zs
+    pub handing_past : (v : View Kept) (zs : List ℕ) (e : ℕ) → e < length plan.edges.items → comes_from node (get_or plan.edges.items e no_edge) ≡ false → IsHanding plan u v node e xs zs → IsHanding plan u v node (e + 1) xs zs
     handing_past v zs e within other h =
         let edge = get_or plan.edges.items e no_edge in
-        record { found = h.found; listing = listing_skip v e edge h.found h.listing (edge_there plan.edges.items e no_edge within) (eqb-false edge.from node other); listed = h.listed }
+        record { found = h.found; listing = listing_skip v e edge h.found h.listing (item_there plan.edges.items e no_edge within) (eqb-false edge.from node other); listed = h.listed }
 
-    pub handing_more : (v w : View Tag) (count to : ℕ) (x : Edge) (zs more : List ℕ) → IsHanding plan u v node count xs zs → IsHandedOver plan v w count to zs more
+    pub handing_more : (v w : View Kept) (count to : ℕ) (x : Edge) (zs more : List ℕ) → IsHanding plan u v node count xs zs → IsHandedOver plan v w count to zs more
         → get_elem? plan.edges.items count ≡ some x → x.from ≡ node → x.to ≡ to → x.from < x.to → x.to < plan.nodes → IsHanding plan u w node (count + 1) xs more
     handing_more v w count to x zs more h over there from_is to_is up below = record {
       found = h.found ++ option_to_list over.found;
@@ -176,7 +185,7 @@ module _ (plan : Plan Tag) (u : View Tag) (node : ℕ) where
       listed = over.listed ∙ ap (λ l. l ++ option_to_list over.found) h.listed ∙ append_assoc xs h.found (option_to_list over.found);
     }
 
-    pub handing_had : (v : View Tag) (count : ℕ) (zs : List ℕ) → IsHanding plan u v node count xs zs → ((m : ℕ) → IsListed xs m → Has u m) → (m : ℕ) → IsListed zs m → Has v m
+    pub handing_had : (v : View Kept) (count : ℕ) (zs : List ℕ) → IsHanding plan u v node count xs zs → ((m : ℕ) → IsListed xs m → Has u m) → (m : ℕ) → IsListed zs m → Has v m
     handing_had v count zs h had m is = go (listed_either xs h.found m (subst (λ l. IsListed l m) h.listed is))
       where
         go : IsListed xs m ⊎ IsListed h.found m → Has v m
@@ -184,15 +193,16 @@ module _ (plan : Plan Tag) (u : View Tag) (node : ℕ) where
         go (inr own) = listing_had v count h.found h.listing m own
 
     -- from the empty list on
-    pub handing_all : (v : View Tag) (count : ℕ) (zs : List ℕ) → IsHanding plan u v node count xs zs → xs ≡ [] → IsListing plan u v node count zs
+    pub handing_all : (v : View Kept) (count : ℕ) (zs : List ℕ) → IsHanding plan u v node count xs zs → xs ≡ [] → IsListing plan u v node count zs
     handing_all v count zs h empty = subst (IsListing plan u v node count) (sym (h.listed ∙ ap (λ l. l ++ h.found) empty)) h.listing
 
 -- a node whose work is put back and whose edges are delivered
-module _ (plan : Plan Tag) (node : ℕ) (u c d : View Tag) (found : List ℕ) (own : IsReady plan u node) (w : IsWorked plan u c node) (l : IsListing plan c d node (length plan.edges.items) found) where
+module _ (plan : Plan Kept) (node : ℕ) (u c d : View Kept) (found : List ℕ) (own : IsReady plan u node) (w : IsWorked plan u c node) (l : IsListing plan c d node (length plan.edges.items) found) where
   pub listed_settled : IsSettled plan d node
   listed_settled = record {
     back = l.stays node (has_mark (at c.nodes node) PutBack w.back tt) ∙ w.back;
     delivered = λ e x there from. l.delivered e x there (below_of plan.edges.items e x there) from;
+    late = λ e x there from. l.late e x there (below_of plan.edges.items e x there) from;
   }
 
   pub listed_came : (m : ℕ) → IsListed found m → at u.nodes m ≡ Unmarked
@@ -207,6 +217,7 @@ module _ (plan : Plan Tag) (node : ℕ) (u c d : View Tag) (found : List ℕ) (o
   listed_others = record {
     nodes = λ m ne had. l.stays m (has_mark (at c.nodes m) (at u.nodes m) (w.nodes m ne) had) ∙ w.nodes m ne;
     outs = λ m e ne had x there from. l.others e x there (λ f. ne (sym from ∙ f)) ∙ ap (λ k. at k e) w.outs;
+    lates = λ m e ne had x there from. l.other_lates e x there (λ f. ne (sym from ∙ f)) ∙ ap (λ k. at k e) w.late;
     ins = λ m e ne had x there goes. ap (λ k. at k e) l.ins ∙ w.ins e x there (λ g. ne (sym goes ∙ g));
     only = λ m has. known m has (l.came m);
   }

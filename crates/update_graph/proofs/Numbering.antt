@@ -1,5 +1,5 @@
 -- The numbers of nodes, counted and listed.
-use Rattle.std.proofs.Common.{◌≡◌, refl, ap, ap₂, sym, ◌∙◌, ℕ, zero, suc, ◌+◌, ◌<◌, ◌≤◌, ◌==◌, arith, inl, inr, Bool, true, false, cond, List, [], ◌∷◌, ◌++◌, append-nil, take, length, get_or}
+use Rattle.std.proofs.Common.{◌≡◌, ◌≢◌, refl, ap, ap₂, sym, ◌∙◌, ℕ, zero, suc, ◌+◌, ◌<◌, ◌≤◌, ◌==◌, arith, inl, inr, Bool, true, false, cond, List, [], ◌∷◌, ◌++◌, append-nil, take, length, get_or}
 use Rattle.std.specs.Prelude.{count_by, filter}
 use Rattle.std.specs.List.{AllByRecursion, range_with_len}
 use Rattle.std.proofs.lemmas.Bool.{cases_lt, eq-eqb, ne_eqb}
@@ -7,6 +7,10 @@ use Rattle.std.proofs.lemmas.List.{take_more, map-id}
 use Rattle.std.proofs.lemmas.List.Elements.{filter-append}
 use Rattle.std.proofs.lemmas.List.FromFn.{map-range_with_len_more}
 use Rattle.std.proofs.lemmas.List.Sums.{sum_by-append, sum_by-cons}
+use mathlib.Core.Logic.{dite}
+use mathlib.Core.Option.{some, some-injective, some-ne-none}
+use native.Mathlib.Decide.{ℕ_discrete}
+use lib.ListN.{get_elem?}
 use Rattle.tick_model.specs.declared.plan.Node.{Node}
 use Rattle.tick_model.specs.Evaluation.{is_source, source_number}
 use Rattle.update_graph.specs.Tags.{no_node}
@@ -88,3 +92,46 @@ counted_once p a (suc n) m low high =
             | false ↦ λ e. none ∙ sym (ap (λ b. cond b 1 0) (ap p (sym same) ∙ e))
           ]) refl
     ]
+
+-- how often a number stands in a list
+pub count_none : (m : ℕ) (xs : List ℕ) → ((i : ℕ) → get_elem? xs i ≡ some m → ⊥) → count_by (λ k. k == m) xs ≡ 0
+count_none m [] none = refl
+count_none m (x ∷ xs) none = count_cons m x xs ∙ ap₂ (λ b k. cond b 1 0 + k) (ne_eqb x m (λ e. none 0 (ap some e))) (count_none m xs (λ i at_i. none (suc i) at_i))
+
+pub count_only : (m : ℕ) (xs : List ℕ) (i : ℕ) → get_elem? xs i ≡ some m → ((a b : ℕ) → get_elem? xs a ≡ some m → get_elem? xs b ≡ some m → a ≡ b) → count_by (λ k. k == m) xs ≡ 1
+count_only m [] i at_i once = absurd (some-ne-none m (sym at_i))
+count_only m (x ∷ xs) zero at_i once = count_cons m x xs ∙ ap₂ (λ b k. cond b 1 0 + k) (eq-eqb x m (some-injective x m at_i)) (count_none m xs (λ k at_k. let same : 0 ≡ suc k = once 0 (suc k) at_i at_k in omega (arith, same)))
+count_only m (x ∷ xs) (suc i) at_i once =
+    count_cons m x xs
+    ∙ ap₂ (λ b k. cond b 1 0 + k) (ne_eqb x m (λ e. let same : 0 ≡ suc i = once 0 (suc i) (ap some e) at_i in omega (arith, same)))
+    (count_only m xs i at_i (λ a b at_a at_b. let same : suc a ≡ suc b = once (suc a) (suc b) at_a at_b in omega (arith, same)))
+
+-- and in a list of those that pass
+count_here : (p : ℕ → Bool) (m x : ℕ) (xs rest : List ℕ) → x ≡ m → count_by (λ k. k == m) rest ≡ cond (p m) (count_by (λ k. k == m) xs) 0
+    → count_by (λ k. k == m) (cond (p x) (x ∷ rest) rest) ≡ cond (p m) (count_by (λ k. k == m) (x ∷ xs)) 0
+count_here p m x xs rest e so_far =
+    ap (λ b. count_by (λ k. k == m) (cond b (x ∷ rest) rest)) (ap p e)
+    ∙ (elim (p m) as (λ b. count_by (λ k. k == m) rest ≡ cond b (count_by (λ k. k == m) xs) 0 → count_by (λ k. k == m) (cond b (x ∷ rest) rest) ≡ cond b (count_by (λ k. k == m) (x ∷ xs)) 0) [
+      | true ↦ λ same. count_cons m x rest ∙ ap (λ k. cond (x == m) 1 0 + k) same ∙ sym (count_cons m x xs)
+      | false ↦ λ same. same
+    ]) so_far
+
+count_skip : (m x : ℕ) (xs : List ℕ) → x ≢ m → count_by (λ k. k == m) (x ∷ xs) ≡ count_by (λ k. k == m) xs
+count_skip m x xs ne = count_cons m x xs ∙ ap (λ b. cond b 1 0 + count_by (λ k. k == m) xs) (ne_eqb x m ne) ∙ omega arith
+
+count_apart : (p : ℕ → Bool) (m x : ℕ) (xs rest : List ℕ) → x ≢ m → count_by (λ k. k == m) rest ≡ cond (p m) (count_by (λ k. k == m) xs) 0
+    → count_by (λ k. k == m) (cond (p x) (x ∷ rest) rest) ≡ cond (p m) (count_by (λ k. k == m) (x ∷ xs)) 0
+count_apart p m x xs rest ne so_far =
+    (elim (p x) as (λ b. count_by (λ k. k == m) (cond b (x ∷ rest) rest) ≡ count_by (λ k. k == m) rest) [
+      | true ↦ count_skip m x rest ne
+      | false ↦ refl
+    ])
+    ∙ so_far
+    ∙ ap (λ k. cond (p m) k 0) (sym (count_skip m x xs ne))
+
+pub count_filter : (p : ℕ → Bool) (m : ℕ) (xs : List ℕ) → count_by (λ k. k == m) (filter p xs) ≡ cond (p m) (count_by (λ k. k == m) xs) 0
+count_filter p m [] = elim (p m) as (λ b. ◌≡◌ {A = ℕ} 0 (cond b 0 0)) [
+  | true ↦ refl
+  | false ↦ refl
+]
+count_filter p m (x ∷ xs) = dite (ℕ_discrete x m) (λ e. count_here p m x xs (filter p xs) e (count_filter p m xs)) (λ ne. count_apart p m x xs (filter p xs) ne (count_filter p m xs))

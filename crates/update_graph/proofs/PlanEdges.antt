@@ -141,10 +141,10 @@ froms_at n start (own ∷ others) (suc k) less is =
     froms-append n (input_edges start 0 (inputs_of own.op)) (edges_from (start + 1) others)
     ∙ ap₂ (λ a b. a ++ b) (froms_other n start 0 (inputs_of own.op) (λ e. omega arith)) (froms_at n (start + 1) others k (omega arith) (omega arith))
 
-pub edge_there : (edges : List Edge) (k : ℕ) (d : Edge) → k < length edges → get_elem? edges k ≡ some (get_or edges k d)
-edge_there [] k d less = absurd (omega arith)
-edge_there (x ∷ xs) zero d less = refl
-edge_there (x ∷ xs) (suc k) d less = edge_there xs k d (omega arith)
+pub item_there : {X : Type 0} (items : List X) (k : ℕ) (d : X) → k < length items → get_elem? items k ≡ some (get_or items k d)
+item_there [] k d less = absurd (omega arith)
+item_there (x ∷ xs) zero d less = refl
+item_there (x ∷ xs) (suc k) d less = item_there xs k d (omega arith)
 
 -- one more edge goes to the node, or does not
 pub froms_more : (n k : ℕ) (edges : List Edge) (d : Edge) → k < length edges → (get_or edges k d).to ≡ n → froms_to n (take (k + 1) edges) ≡ froms_to n (take k edges) ++ (get_or edges k d).from ∷ []

@@ -137,11 +137,14 @@ module _ (run : Run) (step : ℕ) (e : IsEntered run step) (n : ℕ) (within : n
               failed fault
               (ap (λ o. fault_of o (table_at (state run step))) (sym own_is) ∙ h (table_at (state run step)) (subst (λ o. AreTables o (table_at (state run step)) all) (sym own_is) tables_are))
 
+          pub own_ticks : AreTicks own (tick run step) all
+          own_ticks = subst (λ o. AreTicks o (tick run step) all) (sym own_is) ticks_shown
+
+          pub made_change : is_defined run step n ≡ true → change_of (operated own (tick run step)) ≡ change_of (tick run step n)
+          made_change here = ap (λ o. change_of (operated o (tick run step))) own_is ∙ ap change_of (operated_is run step e n within is here ticks_are)
+
           pub own_change : (change : Change) → ((tick : ℕ → Tick) → AreTicks own tick all → change ≡ change_of (operated own tick)) → fault_of op (table_at (state run step)) ≡ None → change ≡ change_of (tick run step n)
-          own_change change h f =
-              h (tick run step) (subst (λ o. AreTicks o (tick run step) all) (sym own_is) ticks_shown)
-              ∙ ap (λ o. change_of (operated o (tick run step))) own_is
-              ∙ ap change_of (operated_own f)
+          own_change change h f = h (tick run step) own_ticks ∙ made_change (has f)
 
 -- what is said of a call's value is true of the value that it gave
 pub ok_is : {X E : Type 0} (Holds : X → Type 0) {answer : Result X E} {value : X} → answer ≡ Ok value → IfOk answer Holds → Holds value

@@ -1,13 +1,13 @@
 -- A step's nodes, one more at a time.
 use Rattle.std.proofs.Common.{◌≡◌, refl, ap, ap₂, sym, ◌∙◌, subst, ℕ, suc, ◌+◌, ◌<◌, ◌≤◌, ◌==◌, arith, inl, inr, Bool, true, false, cond, not, true≢false, List, [], ◌∷◌, ◌++◌, map, drop, length, get_or, Option, Some, None}
 use Rattle.std.specs.Arc.{arc_value}
-use Rattle.std.specs.Prelude.{count_by, option_map}
+use Rattle.std.specs.Prelude.{count_by, filter, option_map}
 use Rattle.std.specs.List.{list_all, range_with_len}
 use Rattle.std.specs.declared.alloc.Global.{Global}
 use Rattle.std.specs.declared.sync.Arc.{Arc}
 use Rattle.std.proofs.Math.Seq.{drop-cons}
 use Rattle.std.proofs.lemmas.Bool.{cases_lt}
-use Rattle.std.proofs.lemmas.List.{drop_all, get_or-map, get_or_past, length-map}
+use Rattle.std.proofs.lemmas.List.{drop_all, get_or-map, get_or_past, length-map, map_push}
 use Rattle.std.proofs.lemmas.List.FromFn.{get_or-map-range_with_len, length-map-range_with_len, map-range_with_len_more}
 use Rattle.key_lists.proofs.Every.{every-map, map_map, pass_all}
 use Rattle.merge_op.specs.Merged.{tables}
@@ -22,25 +22,38 @@ use Rattle.tick_model.specs.declared.plan.Node.{Node}
 use Rattle.tick_model.specs.declared.table.NodeFault.{NodeFault}
 use Rattle.tick_model.specs.declared.table.PlainTable.{PlainTable}
 use Rattle.tick_model.specs.Evaluation.{Outcome, Table, Fault, NoInput, is_source, outcome_at, source_number}
-use Rattle.tick_model.specs.LawfulRuns.{sources_of}
+use Rattle.tick_model.specs.LawfulRuns.{IsLawfulRun, sources_of}
 use Rattle.tick_model.specs.Sources.{new_table, no_tick, source_ticks, sources}
 use Rattle.tick_model.specs.Spoiled.{ByNode, Cause, node_fault}
 use Rattle.tick_model.specs.States.{state}
 use Rattle.tick_table.specs.Exact.{ticking}
 use Rattle.tick_table.specs.Ticking.{Ticking}
+use mathlib.Core.Option.{some}
+use lib.ListN.{get_elem?}
+use Rattle.std.proofs.lemmas.List.FromFn.{get_or-range_with_len, length-range_with_len}
+use Rattle.std.proofs.lemmas.List.Kept.{AllPairs-filter}
+use Rattle.graph_words.specs.declared.graph.Edge.{Edge}
+use Rattle.graph_words.specs.Seats.{HasEachOnce}
+use Rattle.update_graph.specs.declared.sweep.Sweep.{Sweep}
+use Rattle.update_graph.specs.Edges.{edges_of}
 use Rattle.update_graph.specs.Entered.{IsEntered}
 use Rattle.update_graph.specs.Faults.{fault_in}
-use Rattle.update_graph.specs.Graphs.{RanOnce, nodes_shown, sources_shown}
-use Rattle.update_graph.specs.Stands.{AreHanded, is_defined, shown}
-use Rattle.update_graph.specs.Sweeps.{operators}
-use Rattle.update_graph.specs.Tags.{Tag, is_operator, no_node, node_at, tag, tags}
+use Rattle.update_graph.specs.Graphs.{RanInOrder, RanOnce, nodes_shown, reads_at, sources_shown}
+use Rattle.update_graph.specs.Stands.{AreHanded, HasStepped, is_defined, shown}
+use Rattle.update_graph.specs.Sweeps.{IsSwept, IsWhole}
+use Rattle.update_graph.specs.Tags.{Kept, Tag, all_reads, is_operator, named, no_node, node_at, operators, tag, tags}
+use Rattle.update_graph.proofs.ClaimedWorks.{count_works}
 use Rattle.update_graph.proofs.EnteredTicks.{source_table_at, tick_of_source}
-use Rattle.update_graph.proofs.Numbering.{counted_once, counted_past, range_all}
+use Rattle.update_graph.proofs.PlanEdges.{edge_ends, item_there}
+use Rattle.update_graph.proofs.Numbering.{count_filter, count_none, count_only, counted_once, counted_past, range_all}
 
 -- one more tag
 pub tags_more : (run : Run) (step n : ℕ) (before after : List Tag) (next : Tag) → after ≡ before ++ next ∷ [] → before ≡ tags run step n → next ≡ tag run step n → after ≡ tags run step (n + 1)
 tags_more run step n before after next pushed so_far own =
     pushed ∙ ap₂ (λ these last. these ++ last ∷ []) so_far own ∙ sym (map-range_with_len_more (tag run step) 0 n n (omega arith))
+
+pub works_more : (run : Run) (step n : ℕ) (before after : List Kept) (next : Kept) → after ≡ before ++ next ∷ [] → map named before ≡ tags run step n → named next ≡ tag run step n → map named after ≡ tags run step (n + 1)
+works_more run step n before after next pushed = tags_more run step n (map named before) (map named after) (named next) (ap (map named) pushed ∙ map_push named before next)
 
 pub length-tags : (run : Run) (step n : ℕ) → length (tags run step n) ≡ n
 length-tags run step n = length-map-range_with_len (tag run step) 0 n
@@ -54,6 +67,11 @@ is_tag run step n k all one same within there =
     let a = ap length same in
     let b = length-tags run step n in
     there ∙ ap (λ these. get_or these k one) same ∙ tag_at run step n k one (omega arith)
+
+pub is_named : (run : Run) (step n k : ℕ) (all : List Kept) (one : Kept) → map named all ≡ tags run step n → k < length all → one ≡ get_or all k one → named one ≡ tag run step k
+is_named run step n k all one same within there =
+    let long = length-map all named in
+    is_tag run step n k (map named all) (named one) same (omega (arith, long, within)) (ap named there ∙ sym (get_or-map named all k one (named one) within))
 
 -- the place of a source
 as_many : (sources : List Node) (tables : List PlainTable) → AreSourceTables sources tables → length tables ≡ length sources
@@ -92,6 +110,14 @@ module _ (run : Run) (step : ℕ) (e : IsEntered run step) (own : List (Arc Tick
       ∙ get_or-map ticking (source_ticks run step) place no_tick (ticking no_tick) place_within
       ∙ ap ticking (sym (tick_of_source run e.lawful step n within is))
 
+-- how often a node is worked: its operator tells
+turn : (b : Bool) → ◌≡◌ {A = ℕ} (cond (not b) 1 0) (cond b 0 1)
+turn true = refl
+turn false = refl
+
+past : (node : Node) → node ≡ no_node → ◌≡◌ {A = ℕ} 0 (cond (is_source node) 0 1)
+past node e = subst (λ (node : Node). ◌≡◌ {A = ℕ} 0 (cond (is_source node) 0 1)) (sym e) refl
+
 -- each node with an operator was worked once
 pub ran_once : (run : Run) (ran : List ℕ) → ran ≡ operators run (length run.plan.nodes) → RanOnce run.plan ran
 ran_once run ran same m =
@@ -102,13 +128,54 @@ ran_once run ran same m =
           counted_past (is_operator run) 0 (length run.plan.nodes) m (omega (arith, more))
           ∙ past (node_at run m) (get_or_past run.plan.nodes m no_node (omega (arith, more)))
     ]
-  where
-    turn : (b : Bool) → ◌≡◌ {A = ℕ} (cond (not b) 1 0) (cond b 0 1)
-    turn true = refl
-    turn false = refl
 
-    past : (node : Node) → node ≡ no_node → ◌≡◌ {A = ℕ} 0 (cond (is_source node) 0 1)
-    past node e = subst (λ (node : Node). ◌≡◌ {A = ℕ} 0 (cond (is_source node) 0 1)) (sym e) refl
+neither : (b : Bool) → ◌≡◌ {A = ℕ} (cond b 0 0) 0
+neither true = refl
+neither false = refl
+
+-- and so it is where each node stands once in the list
+pub each_once : (run : Run) (order ran : List ℕ) → ran ≡ filter (is_operator run) order → HasEachOnce (length run.plan.nodes) order → RanOnce run.plan ran
+each_once run order ran same each m =
+    ap (count_by (λ k. k == m)) same
+    ∙ count_filter (is_operator run) m order
+    ∙ elim (cases_lt m (length run.plan.nodes)) [
+      | inl less ↦
+          let there = each.each m less in
+          ap (λ k. cond (is_operator run m) k 0) (count_only m order there.0 there.1 (λ a b at_a at_b. each.once a b m at_a at_b)) ∙ turn (is_source (node_at run m))
+      | inr more ↦
+          ap (λ k. cond (is_operator run m) k 0) (count_none m order (λ i at_i. let low = each.below i m at_i in omega (arith, low, more)))
+          ∙ (neither (is_operator run m) ∙ past (node_at run m) (get_or_past run.plan.nodes m no_node (omega (arith, more))))
+    ]
+
+-- none is worked before one of its inputs, where they are worked in order of their numbers
+pub numbers_in_order : (run : Run) → IsLawfulRun run → (ran : List ℕ) → ran ≡ operators run (length run.plan.nodes) → RanInOrder run.plan ran
+numbers_in_order run lawful ran same =
+    subst (RanInOrder run.plan) (sym same)
+    (AllPairs-filter (λ first later. (e : ℕ) (x : Edge) → get_elem? (edges_of run.plan) e ≡ some x → x.from ≡ later → x.to ≡ first → ⊥) (is_operator run) (range_with_len 0 (length run.plan.nodes)) (λ i j d less within e x there from to.
+    let long = length-range_with_len 0 (length run.plan.nodes) in
+    let first = get_or-range_with_len 0 (length run.plan.nodes) i d (omega arith) in
+    let later = get_or-range_with_len 0 (length run.plan.nodes) j d (omega arith) in
+    let up = edge_ends run lawful e x there in
+    omega (arith, less, first, later, up, from, to)))
+
+-- and where the edges were handed on late, and the nodes stand in order of their tickets
+pub tickets_in_order : (run : Run) (order ran : List ℕ) → ran ≡ filter (is_operator run) order → ((e i j : ℕ) (x : Edge) → get_elem? (edges_of run.plan) e ≡ some x → get_elem? order i ≡ some x.from → get_elem? order j ≡ some x.to → i < j) → RanInOrder run.plan ran
+tickets_in_order run order ran same before =
+    subst (RanInOrder run.plan) (sym same)
+    (AllPairs-filter (λ first later. (e : ℕ) (x : Edge) → get_elem? (edges_of run.plan) e ≡ some x → x.from ≡ later → x.to ≡ first → ⊥) (is_operator run) order (λ i j d less within e x there from to.
+    let first : get_elem? order j ≡ some x.from = item_there order j d within ∙ ap some (sym from) in
+    let later : get_elem? order i ≡ some x.to = item_there order i d (omega arith) ∙ ap some (sym to) in
+    let up = before e j i x there first later in
+    omega (arith, less, up)))
+
+-- a sweep of all nodes
+pub whole_swept : (run : Run) (step : ℕ) (sweep : Sweep) → IsLawfulRun run → IsSwept run step (length run.plan.nodes) sweep → IsWhole run step sweep
+whole_swept run step sweep lawful s = record {
+  works = s.works;
+  shares = s.shares;
+  ran = ran_once run sweep.ran.items s.ran;
+  order = numbers_in_order run lawful sweep.ran.items s.ran;
+}
 
 -- the least fault, from one node on
 fault_passed : (k : ℕ) (o : Outcome) (others : List Outcome) → fault_in o ≡ None → node_fault k (o ∷ others) ≡ node_fault (k + 1) others
@@ -121,19 +188,19 @@ fault_here k (Table table) others kind h = absurd (cc)
 fault_here k (Fault fault) others kind h = let same : fault ≡ kind = cc in ap (λ fault. Some (ByNode k fault)) same
 fault_here k NoInput others kind h = absurd (cc)
 
-module _ (run : Run) (step k : ℕ) (works : List Tag) (work : Tag) (own : works ≡ tags run step (length run.plan.nodes)) (within : k < length works) (there : work ≡ get_or works k work) where
+-- the operators of the first so many nodes that have tables have taken their steps
+abbrev pub SteppedBelow : Run → ℕ → ℕ → List (List ℕ) → Type 0
+SteppedBelow run step count reads = (node : ℕ) → node < count → is_operator run node ≡ true → is_defined run step node ≡ true → HasStepped run (step + 1) node (reads_at reads node)
+
+module _ (run : Run) (step k : ℕ) (works : List Kept) (work : Kept) (own : map named works ≡ tags run step (length run.plan.nodes)) (within : k < length works) (there : work ≡ get_or works k work) where
   node_within : k < length (state run step)
   node_within =
-      let a = ap length own in
-      let b = length-tags run step (length run.plan.nodes) in
+      let b = count_works run step (length run.plan.nodes) works own in
       let c = length_outcomes run.plan.nodes no_node (sources run step) in
       omega arith
 
-  here : work ≡ tag run step k
-  here =
-      let a = ap length own in
-      let b = length-tags run step (length run.plan.nodes) in
-      there ∙ ap (λ all. get_or all k work) own ∙ tag_at run step (length run.plan.nodes) k work (omega arith)
+  here : named work ≡ tag run step k
+  here = is_named run step (length run.plan.nodes) k works work own within there
 
   dropped : drop k (state run step) ≡ outcome_at (state run step) k ∷ drop (k + 1) (state run step)
   dropped = let next : suc k ≡ k + 1 = omega arith in drop-cons (state run step) k NoInput node_within ∙ ap (λ m. outcome_at (state run step) k ∷ drop m (state run step)) next
@@ -146,6 +213,24 @@ module _ (run : Run) (step k : ℕ) (works : List Tag) (work : Tag) (own : works
 
   pub found_here : (kind : NodeFault) → fault_in (outcome_at (state work.run work.step) work.node) ≡ Some kind → node_fault k (drop k (state run step)) ≡ Some (ByNode k kind)
   found_here kind h = ap (node_fault k) dropped ∙ fault_here k (outcome_at (state run step) k) (drop (k + 1) (state run step)) kind (outcome_here (Some kind) (sym h))
+
+  -- and the operator here has taken its steps
+  stepped_here : (is_operator work.run work.node ≡ true → is_defined work.run work.step work.node ≡ true → HasStepped work.run (work.step + 1) work.node work.reads)
+      → is_operator run k ≡ true → is_defined run step k ≡ true → HasStepped run (step + 1) k (reads_at (all_reads works) k)
+  stepped_here h is defined =
+      subst (HasStepped run (step + 1) k) (ap (λ (w : Kept). w.reads) there ∙ sym (get_or-map (λ (w : Kept). w.reads) works k work [] within))
+      (subst (λ (t : Tag). HasStepped t.run (t.step + 1) t.node work.reads) here
+      (h (subst (λ (t : Tag). is_operator t.run t.node ≡ true) (sym here) is) (subst (λ (t : Tag). is_defined t.run t.step t.node ≡ true) (sym here) defined)))
+
+  pub stepped_more : (is_operator work.run work.node ≡ true → is_defined work.run work.step work.node ≡ true → HasStepped work.run (work.step + 1) work.node work.reads)
+      → SteppedBelow run step k (all_reads works) → SteppedBelow run step (k + 1) (all_reads works)
+  stepped_more h before node below is defined = elim (cases_lt node k) [
+    | inl less ↦ before node less is defined
+    | inr more ↦
+        let same : k ≡ node = omega (arith, below, more) in
+        subst (λ n. HasStepped run (step + 1) n (reads_at (all_reads works) n)) same
+        (stepped_here h (subst (λ n. is_operator run n ≡ true) (sym same) is) (subst (λ n. is_defined run step n ≡ true) (sym same) defined))
+  ]
 
 pub no_fault_left : (run : Run) (step k : ℕ) → length run.plan.nodes ≤ k → node_fault k (drop k (state run step)) ≡ None
 no_fault_left run step k past = ap (node_fault k) (drop_all k (state run step) (let c = length_outcomes run.plan.nodes no_node (sources run step) in omega arith))

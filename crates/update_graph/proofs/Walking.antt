@@ -5,7 +5,7 @@ use mathlib.Core.Option.{some, some-injective}
 use lib.ListN.{get_elem?}
 use Rattle.graph_words.specs.declared.graph.Edge.{Edge}
 use Rattle.update_graph.specs.Edges.{numbers_of}
-use Rattle.update_graph.proofs.PlanEdges.{edge_there}
+use Rattle.update_graph.proofs.PlanEdges.{item_there}
 
 abbrev pub no_edge : Edge
 no_edge = record { from = 0; to = 0; port = 0 }
@@ -96,7 +96,7 @@ module _ {test : Edge → Bool} {edges : List Edge} {Holds : ℕ → Type 0} whe
   along_end numbers k past a skip = end_holds test edges Holds skip a.more a.place a.all (a.before ∙ drop_all k numbers past) a.holds
 
   pub next_there : {rest : List ℕ} {number : ℕ} → IsNext test edges rest Holds number → get_elem? edges number ≡ some (get_or edges number no_edge)
-  next_there {number = number} n = edge_there edges number no_edge n.within
+  next_there {number = number} n = item_there edges number no_edge n.within
 
   pub next_passes : {rest : List ℕ} {number : ℕ} → IsNext test edges rest Holds number → (x : Edge) → get_elem? edges number ≡ some x → test x ≡ true
   next_passes {number = number} n x there = subst (λ z. test z ≡ true) (some-injective (get_or edges number no_edge) x (sym (next_there n) ∙ there)) n.passes

@@ -1,11 +1,19 @@
 -- What contracts see of a graph, and what it keeps.
---     GraphView      its run, the step at which every node stands, and the nodes with an operator that were worked for it
+--     GraphView      its run, the step at which every node stands, the nodes with an operator that were worked for it, and what the operator of each node has read in each of its steps
 --     times nodes node      how often a node is worked in a step: once where it has an operator
 --     RanOnce plan ran      each node with an operator was worked once, and no other
+--     RanInOrder plan ran      and none before one of its inputs
+--     reads_at reads node      what the operator of a node has read in each of its steps
+--     read_in run step reads      how much all operators have read in a step
+--     most_in run step      how much they may read in it, taken together
+--     HaveStepped run steps reads      each operator has taken so many steps, each within its bound
+--     SteppedOnce run old new      each operator has taken exactly one step more than before
 --     AreSources run step tables      these are the tables of the sources, in order of the nodes
 --     IsGraph run step edges sources keys works tables      all that a graph keeps is of this step
-use Rattle.std.specs.Prelude.{◌≡◌, ℕ, ◌==◌, ◌≤◌, List, count_by, length, map, if◌then◌else◌, slice_index_or}
-use Rattle.std.specs.List.{range_with_len}
+use Rattle.std.specs.Prelude.{◌≡◌, ℕ, ◌+◌, ◌==◌, ◌<◌, ◌≤◌, AllPairs, List, [], count_by, length, map, if◌then◌else◌, slice_index, slice_index_or, true}
+use mathlib.Core.Option.{some}
+use lib.ListN.{get_elem?}
+use Rattle.std.specs.List.{range_with_len, sum_by}
 use Rattle.std.specs.declared.alloc.Global.{Global}
 use Rattle.std.specs.declared.sync.Arc.{Arc}
 use Rattle.graph_words.specs.declared.graph.Edge.{Edge}
@@ -21,19 +29,38 @@ use Rattle.tick_model.specs.Tables.{keys}
 use Rattle.tick_table.specs.Exact.{ticking}
 use Rattle.tick_table.specs.Ticking.{Ticking}
 use Rattle.update_graph.specs.Edges.{edges_of}
-use Rattle.update_graph.specs.Stands.{shown}
-use Rattle.update_graph.specs.Tags.{Tag, no_node, tags}
+use Rattle.update_graph.specs.Stands.{HasStepped, most_reads, shown}
+use Rattle.update_graph.specs.Tags.{Kept, all_reads, is_operator, named, no_node, operators, tags}
 
 pub record GraphView : Type 0 where
   pub run : Run
   pub step : ℕ
   pub ran : List ℕ
+  pub reads : List (List ℕ)
 
 abbrev pub times : List Node → ℕ → ℕ
 times nodes node = if is_source (slice_index_or nodes node no_node) then 0 else 1
 
 abbrev pub RanOnce : Plan → List ℕ → Type 0
 RanOnce plan ran = (node : ℕ) → count_by (λ n. n == node) ran ≡ times plan.nodes node
+
+abbrev pub RanInOrder : Plan → List ℕ → Type 0
+RanInOrder plan ran = AllPairs (λ first later. (e : ℕ) (x : Edge) → get_elem? (edges_of plan) e ≡ some x → x.from ≡ later → x.to ≡ first → ⊥) ran
+
+abbrev pub reads_at : List (List ℕ) → ℕ → List ℕ
+reads_at reads node = slice_index_or reads node []
+
+abbrev pub read_in : Run → ℕ → List (List ℕ) → ℕ
+read_in run step reads = sum_by (λ node. slice_index (reads_at reads node) step) (operators run (length run.plan.nodes))
+
+abbrev pub most_in : Run → ℕ → ℕ
+most_in run step = sum_by (most_reads run step) (operators run (length run.plan.nodes))
+
+abbrev pub HaveStepped : Run → ℕ → List (List ℕ) → Type 0
+HaveStepped run steps reads = (node : ℕ) → node < length run.plan.nodes → is_operator run node ≡ true → HasStepped run steps node (reads_at reads node)
+
+abbrev pub SteppedOnce : Run → List (List ℕ) → List (List ℕ) → Type 0
+SteppedOnce run old new = (node : ℕ) → node < length run.plan.nodes → is_operator run node ≡ true → length (reads_at new node) ≡ length (reads_at old node) + 1
 
 -- each source's table at a step, with its update; and each node's
 abbrev pub sources_shown : Run → ℕ → List Ticking
@@ -45,12 +72,13 @@ nodes_shown run step = map (shown run step) (range_with_len 0 (length run.plan.n
 abbrev pub AreSources : Run → ℕ → List (Arc Ticking Global) → Type 0
 AreSources run step own = tables own ≡ sources_shown run step
 
-pub record IsGraph (run : Run) (step : ℕ) (edges : List Edge) (source_keys : List (List ℕ)) (own : List (Arc Ticking Global)) (works : List Tag) (all : List (Arc Ticking Global)) : Type 0 where
+pub record IsGraph (run : Run) (step : ℕ) (edges : List Edge) (source_keys : List (List ℕ)) (own : List (Arc Ticking Global)) (works : List Kept) (all : List (Arc Ticking Global)) : Type 0 where
   pub lawful : IsLawfulRun run
   pub within : step ≤ length run.batches
   pub reached : IsReached run step
   pub edges_are : edges ≡ edges_of run.plan
   pub keys_are : source_keys ≡ map (λ table. keys table.rows) (sources run step)
   pub sources_are : tables own ≡ sources_shown run step
-  pub works_are : works ≡ tags run step (length run.plan.nodes)
+  pub works_are : map named works ≡ tags run step (length run.plan.nodes)
+  pub stepped : HaveStepped run (step + 1) (all_reads works)
   pub tables_are : tables all ≡ nodes_shown run step

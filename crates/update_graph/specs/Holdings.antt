@@ -15,29 +15,29 @@ use Rattle.steal_workers.specs.Lists.{IsListed}
 use Rattle.tick_model.specs.declared.feed.Run.{Run}
 use Rattle.update_graph.specs.Edges.{edges_of}
 use Rattle.update_graph.specs.Entered.{IsEntered}
-use Rattle.update_graph.specs.Tags.{Tag, is_operator, tag}
+use Rattle.update_graph.specs.Tags.{Kept, is_operator, named, tag}
 
-pub record IsForStep (run : Run) (plan : Plan Tag) : Type 0 where
+pub record IsForStep (run : Run) (plan : Plan Kept) : Type 0 where
   pub entered : IsEntered run (plan.first.value.step + 1)
   pub of_run : plan.first.value.run ≡ run
   pub edges : plan.edges.items ≡ edges_of run.plan
 
-pub record IsClaimed (run : Run) (plan : Plan Tag) : Type 0 where
+pub record IsClaimed (run : Run) (plan : Plan Kept) : Type 0 where
   pub entered : IsEntered run (plan.first.value.step + 1)
   pub nodes : plan.nodes ≡ length run.plan.nodes
   pub edges : plan.edges.items ≡ edges_of run.plan
-  pub first : plan.first.value ≡ tag run plan.first.value.step 0
+  pub first : named plan.first.value ≡ tag run plan.first.value.step 0
 
-pub record IsNew (plan : Plan Tag) (view : View Tag) (node : ℕ) : Type 0 where
+pub record IsNew (plan : Plan Kept) (view : View Kept) (node : ℕ) : Type 0 where
   pub untaken : at view.nodes node ≡ Untaken
   pub untouched : IsUntouched plan view node
 
 -- a source that the seat has and has not begun
-pub record IsUnopened (run : Run) (plan : Plan Tag) (view : View Tag) (node : ℕ) : Type 0 where
+pub record IsUnopened (run : Run) (plan : Plan Kept) (view : View Kept) (node : ℕ) : Type 0 where
   pub source : is_operator run node ≡ false
   pub new : IsNew plan view node
 
-pub record IsOpened (run : Run) (plan : Plan Tag) (view : View Tag) (count : ℕ) (xs : List ℕ) : Type 0 where
+pub record IsOpened (run : Run) (plan : Plan Kept) (view : View Kept) (count : ℕ) (xs : List ℕ) : Type 0 where
   pub parts : view.parts ≡ 1024
   pub settled : (node : ℕ) → node < count → node < plan.nodes → Has view node → IsListed xs node ⊎ IsSettled plan view node
   pub new : (node : ℕ) → count ≤ node → node < plan.nodes → Has view node → IsListed xs node ⊎ IsUnopened run plan view node

@@ -8,8 +8,9 @@
 --     all_defined shares      whether each share has a table
 --     HasStepped run steps node reads      its operator has taken so many steps, one for each step of the run, and read these numbers of cells in them, none of which is above the most of its step
 --     IsReady run tables steps node operator table      the operator is the node's, has taken so many steps, and stands for its inputs' tables; the table is the node's own
+--     reads_of state      what the operator of a node has read in each of its steps, and nothing where it has no table
 --     IsKept run step node state      what is kept of the node is of this step
-use Rattle.std.specs.Prelude.{◌≡◌, ℕ, ◌+◌, ◌*◌, ◌<◌, ◌≤◌, Bool, true, false, List, length, map, slice_index, sum, Option, Some, None}
+use Rattle.std.specs.Prelude.{◌≡◌, ℕ, ◌+◌, ◌*◌, ◌<◌, ◌≤◌, Bool, true, false, List, [], length, map, slice_index, sum, Option, Some, None}
 use Rattle.std.specs.Arc.{arc_value}
 use Rattle.std.specs.List.{AllByRecursion, list_all}
 use Rattle.std.specs.declared.alloc.Global.{Global}
@@ -64,6 +65,10 @@ pub record IsReady (run : Run) (tables : ℕ → PlainTable) (steps node : ℕ) 
   pub stands : StandsFor operator (map tables (inputs_of (op_at run node)))
   pub own : (arc_value {X = Ticking} table).new ≡ tables node
   pub stepped : HasStepped run steps node operator.reads
+
+abbrev pub reads_of : State → List ℕ
+reads_of (Defined ready) = ready.value.operator.reads
+reads_of state = []
 
 abbrev pub IsKept : Run → ℕ → ℕ → State → Type 0
 IsKept run step node Source = (is_operator run node ≡ false) × (is_defined run step node ≡ true)

@@ -1,16 +1,18 @@
 //! A step of all nodes, worked by a crew: claims are made on them, the first seat hands on the sources' tables, and the hands of
 //! the crew work the rest.
 
-ghost use Rattle.std.specs.Prelude.{◌≡◌, ◌+◌, ◌-◌, ◌<◌, ◌≤◌, IfOk, length};
+ghost use Rattle.std.specs.Prelude.{◌≡◌, ◌+◌, ◌-◌, ◌<◌, ◌≤◌, ◌++◌, ◌∷◌, [], ℕ, IfOk, OnOk, filter, if◌then◌else◌, length, map};
+ghost use mathlib.Core.Option.{some};
+ghost use lib.ListN.{get_elem?};
 ghost use Rattle.graph_words.specs.Seats.{IsSeatOf};
 ghost use Rattle.graph_words.specs.Views.{first_view};
-ghost use Rattle.steal_workers.specs.Holdings.{AllBack, IsHeld, SourcesBack};
+ghost use Rattle.steal_workers.specs.Holdings.{AllBack, AllLate, IsHeld, SourcesBack};
 ghost use Rattle.steal_workers.specs.Lists.{IsListed};
 ghost use Rattle.update_graph.specs.Edges.{edges_of};
 ghost use Rattle.update_graph.specs.Entered.{IsEntered};
-ghost use Rattle.update_graph.specs.Graphs.{AreSources};
+ghost use Rattle.update_graph.specs.Graphs.{AreSources, RanInOrder, RanOnce};
 ghost use Rattle.update_graph.specs.Holdings.{IsClaimed};
-ghost use Rattle.update_graph.specs.Tags.{tags};
+ghost use Rattle.update_graph.specs.Tags.{is_operator, named, tags};
 
 use crate::edges::Edges;
 use crate::first_seat::open_sources;
@@ -22,6 +24,7 @@ use std::thread::Threads;
 use steal_workers::{Crew, Ready};
 use tick_io::Gate;
 use tick_model::feed::Run;
+use tick_model::sources::is_source;
 use tick_table::Shared;
 
 /// The claims on all nodes for a step, and the first seat.
@@ -34,7 +37,7 @@ fn begin_step(
 ) -> Result<(StepClaims, StepSeat), AllocError>
     requires entered { IsEntered run.now step }
     requires later { 1 ≤ step }
-    requires works { works.items ≡ tags run.now (step - 1) (length run.now.plan.nodes) }
+    requires works { map named works.items ≡ tags run.now (step - 1) (length run.now.plan.nodes) }
     requires some { 0 < length works.items }
     requires edges { edges.now ≡ edges_of run.now.plan }
     ensures claimed { IfOk result (λ begun. IsClaimed run.now begun.0.plan) }
@@ -51,16 +54,49 @@ fn begin_step(
     Ok((claims, seat))
 }
 
-/// What all nodes keep at the step of their claims. The seat has put all of it back.
-fn end_step(run: &Run, claims: StepClaims, seat: StepSeat) -> Result<Vec<Work>, AllocError>
+/// One more node of those that were worked, where it has an operator.
+fn put_operator(run: &Run, node: u32, ran: &mut Vec<u32>) -> Result<(), AllocError>
+    requires { node < length run.now.plan.nodes }
+    ensures { OnOk result (ran.new.items ≡ ran.old.items ++ (if is_operator run.now node then node ∷ [] else [])) }
+{
+    if is_source(&run.plan.nodes.as_slice()[node as usize]) {
+        return Ok(());
+    }
+    ran.push(node)?;
+    Ok(())
+}
+
+/// Those of these nodes that have an operator, in the same order.
+fn operators_in(alloc: Global, run: &Run, nodes: &[u32]) -> Result<Vec<u32>, AllocError>
+    requires { (i k : ℕ) → get_elem? nodes.now i ≡ some k → k < length run.now.plan.nodes }
+    ensures { IfOk result (λ ran. ran.items ≡ filter (is_operator run.now) nodes.now) }
+{
+    let mut ran = Vec::new(alloc);
+    for node in nodes {
+        put_operator(run, *node, &mut ran)?;
+    }
+    Ok(ran)
+}
+
+/// What all nodes keep at the step of their claims, and the nodes with an operator, in the order in which they were worked. The
+/// seat has put all of it back.
+fn end_step(
+    alloc: Global,
+    run: &Run,
+    claims: StepClaims,
+    seat: StepSeat,
+) -> Result<(Vec<Work>, Vec<u32>), AllocError>
     requires claimed { IsClaimed run.now claims.plan }
     requires of { IsSeatOf claims seat }
     requires all { AllBack claims.plan seat.view }
-    ensures { IfOk result (λ works. works.items ≡ tags run.now (claims.plan.first.value.step + 1) (length run.now.plan.nodes)) }
+    requires late { AllLate claims.plan seat.view }
+    ensures works { IfOk result (λ ended. map named ended.0.items ≡ tags run.now (claims.plan.first.value.step + 1) (length run.now.plan.nodes)) }
+    ensures ran { IfOk result (λ ended. RanOnce run.now.plan ended.1.items) }
+    ensures order { IfOk result (λ ended. RanInOrder run.now.plan ended.1.items) }
 {
-    let _ = run;
-    let works = claims.finish(seat)?;
-    Ok(works)
+    let (works, order) = claims.finish_in_order(seat)?;
+    let ran = operators_in(alloc, run, order.as_slice())?;
+    Ok((works, ran))
 }
 
 /// Works the nodes with operators by the hands of a crew, from those on the list.
@@ -86,6 +122,7 @@ fn work_by<R: Threads + Sync, U: HasRun, G: Gate>(
     ensures size { crew.new.size ≡ crew.old.size }
     ensures of { IfOk result (λ worked. IsSeatOf claims.now worked) }
     ensures all { IfOk result (λ worked. AllBack claims.now.plan worked.view) }
+    ensures late { IfOk result (λ worked. AllLate claims.now.plan worked.view) }
 {
     let work = StepWork::new(alloc, run, step, edges, gate);
     crew.run(rt, claims, seat, ready, &work)
@@ -113,6 +150,7 @@ fn work_claimed<R: Threads + Sync, G: Gate>(
     ensures size { crew.new.size ≡ crew.old.size }
     ensures of { IfOk result (λ worked. IsSeatOf claims.now worked) }
     ensures all { IfOk result (λ worked. AllBack claims.now.plan worked.view) }
+    ensures late { IfOk result (λ worked. AllLate claims.now.plan worked.view) }
 {
     let mut seat = seat;
     let ready = open_sources(run, step, claims, &mut seat, edges, sources)?;
@@ -120,7 +158,8 @@ fn work_claimed<R: Threads + Sync, G: Gate>(
     work_by(rt, alloc, run, step, claims, seat, ready, edges, crew, gate)
 }
 
-/// What all nodes keep at the next step, from what they keep at this one. The tables are those of the sources at the next step.
+/// What all nodes keep at the next step, from what they keep at this one, and the nodes with an operator, in the order in which
+/// they were worked. The tables are those of the sources at the next step.
 pub(crate) fn crew_step<R: Threads + Sync, G: Gate>(
     rt: &R,
     alloc: Global,
@@ -131,22 +170,24 @@ pub(crate) fn crew_step<R: Threads + Sync, G: Gate>(
     sources: &[Shared],
     crew: &mut Crew,
     gate: &G,
-) -> Result<Vec<Work>, AllocError>
+) -> Result<(Vec<Work>, Vec<u32>), AllocError>
     requires entered { IsEntered run.now step }
     requires later { 1 ≤ step }
-    requires works { works.items ≡ tags run.now (step - 1) (length run.now.plan.nodes) }
+    requires works { map named works.items ≡ tags run.now (step - 1) (length run.now.plan.nodes) }
     requires edges { edges.now ≡ edges_of run.now.plan }
     requires sources { AreSources run.now step sources.now }
     ensures size { crew.new.size ≡ crew.old.size }
-    ensures works { IfOk result (λ works. works.items ≡ tags run.now step (length run.now.plan.nodes)) }
+    ensures works { IfOk result (λ ended. map named ended.0.items ≡ tags run.now step (length run.now.plan.nodes)) }
+    ensures ran { IfOk result (λ ended. RanOnce run.now.plan ended.1.items) }
+    ensures order { IfOk result (λ ended. RanInOrder run.now.plan ended.1.items) }
 {
     if works.is_empty() {
-        return Ok(works);
+        return Ok((works, Vec::new(alloc)));
     }
     let (claims, seat) = begin_step(alloc, run, works, step, edges)?;
     let seat = work_claimed(
         rt, alloc, run, &claims, seat, step, edges, sources, crew, gate,
     )?;
-    let works = end_step(run, claims, seat)?;
-    Ok(works)
+    let (works, ran) = end_step(alloc, run, claims, seat)?;
+    Ok((works, ran))
 }

@@ -7,7 +7,7 @@ ghost use Rattle.steal_workers.specs.Holdings.{IsHeld, SourcesBack};
 ghost use Rattle.steal_workers.specs.Lists.{IsListed};
 ghost use Rattle.update_graph.specs.Graphs.{AreSources};
 ghost use Rattle.update_graph.specs.Holdings.{IsClaimed, IsOpened};
-ghost use Rattle.update_graph.specs.Tags.{is_operator, tag};
+ghost use Rattle.update_graph.specs.Tags.{is_operator, named, tag};
 
 use crate::edges::Edges;
 use crate::shares::Share;
@@ -37,7 +37,7 @@ fn open_source(
     requires edges { edges.now ≡ claims.now.plan.edges.items }
     requires node { node < claims.now.plan.nodes }
     requires source { is_operator run.now node ≡ false }
-    requires work { work ≡ tag run.now (claims.now.plan.first.value.step + 1) node }
+    requires work { named work ≡ tag run.now (claims.now.plan.first.value.step + 1) node }
     requires share { share.now ≡ tag run.now (claims.now.plan.first.value.step + 1) node }
     requires opened { IsOpened run.now claims.now.plan seat.old.view node ready.old.nodes.items }
     ensures of { OnOk result (IsSeatOf claims.now seat.new) }

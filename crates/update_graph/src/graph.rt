@@ -1,6 +1,6 @@
 //! The graph itself: its start, its cycle and what it answers.
 
-ghost use Rattle.std.specs.Prelude.{◌≡◌, ◌+◌, ◌<◌, ◌≤◌, None, Some, ℕ, IfErr, IfOk, OnOk, length, map, option_map, true};
+ghost use Rattle.std.specs.Prelude.{◌≡◌, ◌+◌, ◌<◌, ◌≤◌, None, Some, [], ℕ, IfErr, IfOk, OnOk, length, map, option_map, true};
 ghost use Rattle.std.specs.Arc.{arc_value};
 ghost use Rattle.merge_op.specs.Merged.{tables};
 ghost use Rattle.tick_laws.specs.Reached.{IsReached};
@@ -15,11 +15,11 @@ ghost use Rattle.tick_table.specs.Exact.{ticking};
 ghost use Rattle.tick_table.specs.Ticking.{Ticking};
 ghost use Rattle.update_graph.specs.Edges.{edges_of};
 ghost use Rattle.update_graph.specs.Entered.{IsEntered};
-ghost use Rattle.update_graph.specs.Graphs.{RanOnce, nodes_shown, sources_shown};
-ghost use Rattle.update_graph.specs.Stands.{HasStepped};
+ghost use Rattle.update_graph.specs.Graphs.{HaveStepped, RanInOrder, RanOnce, SteppedOnce, most_in, nodes_shown, read_in, reads_at, sources_shown};
+ghost use Rattle.update_graph.specs.Stands.{HasStepped, is_defined};
 ghost use Rattle.update_graph.specs.Stops.{IsStop};
-ghost use Rattle.update_graph.specs.Sweeps.{IsSwept};
-ghost use Rattle.update_graph.specs.Tags.{is_operator, op_at, tags};
+ghost use Rattle.update_graph.specs.Sweeps.{IsWhole};
+ghost use Rattle.update_graph.specs.Tags.{all_reads, is_operator, named, op_at, tags};
 
 use crate::crew_step::crew_step;
 use crate::edges::Edges;
@@ -45,8 +45,8 @@ use tick_model::items::Items;
 use tick_model::table::NodeFault;
 use tick_table::{Change, Shared, Steps, TickTable};
 
-/// The nodes of a lawful run, all of which stand at one step of it. A contract sees the run, the step, and the nodes with an
-/// operator that were worked for the step.
+/// The nodes of a lawful run, all of which stand at one step of it. A contract sees the run, the step, the nodes with an operator
+/// that were worked for the step, and what the operator of each node has read in each of its steps.
 pub struct Graph {
     run: Snapshot<Run>,
     step: u64,
@@ -68,12 +68,13 @@ impl Model for Graph {
     ghost use Rattle.tick_model.specs.contracts.plan.Expr as expr_type;
     ghost use Rattle.tick_model.specs.contracts.plan.Pred as pred_type;
     ghost use Rattle.update_graph.specs.Graphs.{GraphView, IsGraph};
+    ghost use Rattle.update_graph.specs.Tags.{all_reads};
 
     ghost Value = { GraphView };
 
     ghost coded = { Prim.hlevel (codes, expr_type.the_row.coded, pred_type.the_row.coded) };
 
-    ghost view = { λ graph. record { run = graph.run.value; step = graph.step; ran = graph.ran.items } };
+    ghost view = { λ graph. record { run = graph.run.value; step = graph.step; ran = graph.ran.items; reads = all_reads graph.works.items } };
 
     ghost invariant = { λ graph. IsGraph graph.run.value graph.step graph.edges graph.keys graph.sources.items graph.works.items graph.tables.items };
 }
@@ -125,11 +126,15 @@ fn changes_of<L: Ledger>(
     }
 }
 
-/// The least node that has no table although its inputs have theirs, and its fault.
+/// The least node that has no table although its inputs have theirs, and its fault. Where there is none, the operators of all nodes
+/// have taken their steps.
 fn least_fault(works: &[Work]) -> Option<(u32, NodeFault)>
     requires { length works.now ≤ 256 }
-    ensures { (run : Run) (step : ℕ) → works.now ≡ tags run step (length run.plan.nodes)
+    ensures fault { (run : Run) (step : ℕ) → map named works.now ≡ tags run step (length run.plan.nodes)
         → option_map (λ found. ByNode found.0 found.1) result ≡ node_fault 0 (state run step) }
+    ensures stepped { (run : Run) (step : ℕ) → map named works.now ≡ tags run step (length run.plan.nodes) → result ≡ None
+        → (node : ℕ) → node < length run.plan.nodes → is_operator run node ≡ true → is_defined run step node ≡ true
+        → HasStepped run (step + 1) node (reads_at (all_reads works.now) node) }
 {
     for (node, work) in works.iter().enumerate() {
         match work.fault() {
@@ -155,10 +160,12 @@ fn gathered(
     requires edges { edges ≡ edges_of run.now.plan }
     requires keys { keys ≡ map (λ table. keys_of table.rows) (sources_at run.now step) }
     requires sources { tables sources.items ≡ sources_shown run.now step }
-    requires swept { IsSwept run.now step (length run.now.plan.nodes) sweep }
+    requires swept { IsWhole run.now step sweep }
+    requires stepped { HaveStepped run.now (step + 1) (all_reads sweep.works.items) }
     ensures run { IfOk result (λ graph. graph.run ≡ run.now) }
     ensures step { IfOk result (λ graph. graph.step ≡ step) }
     ensures ran { IfOk result (λ graph. graph.ran ≡ sweep.ran.items) }
+    ensures stepped { IfOk result (λ graph. HaveStepped run.now (step + 1) graph.reads) }
 {
     let Sweep {
         works,
@@ -197,12 +204,14 @@ fn finished(
     requires edges { edges ≡ edges_of run.now.plan }
     requires keys { keys ≡ map (λ table. keys_of table.rows) (sources_at run.now step) }
     requires sources { tables sources.items ≡ sources_shown run.now step }
-    requires swept { IsSwept run.now step (length run.now.plan.nodes) sweep }
+    requires swept { IsWhole run.now step sweep }
     ensures run { IfOk result (λ graph. graph.run ≡ run.now) }
     ensures step { IfOk result (λ graph. graph.step ≡ step) }
     ensures batch { OnOk result (batch_fault run.now step ≡ None) }
     ensures nodes { OnOk result (node_fault 0 (state run.now step) ≡ None) }
     ensures ran { IfOk result (λ graph. RanOnce run.now.plan graph.ran) }
+    ensures order { IfOk result (λ graph. RanInOrder run.now.plan graph.ran) }
+    ensures stepped { IfOk result (λ graph. HaveStepped run.now (step + 1) graph.reads) }
     ensures cause { IfErr result (IsStop run.now step) }
 {
     match least_fault(&sweep.works) {
@@ -231,12 +240,14 @@ fn next<G: Gate>(
     requires edges { edges ≡ edges_of run.now.plan }
     requires keys { keys ≡ map (λ table. keys_of table.rows) (sources_at run.now step) }
     requires sources { tables sources.items ≡ sources_shown run.now step }
-    requires works { works.items ≡ tags run.now step (length run.now.plan.nodes) }
+    requires works { map named works.items ≡ tags run.now step (length run.now.plan.nodes) }
     ensures run { IfOk result (λ graph. graph.run ≡ run.now) }
     ensures step { IfOk result (λ graph. graph.step ≡ step + 1) }
     ensures batch { OnOk result (batch_fault run.now (step + 1) ≡ None) }
     ensures nodes { OnOk result (node_fault 0 (state run.now (step + 1)) ≡ None) }
     ensures ran { IfOk result (λ graph. RanOnce run.now.plan graph.ran) }
+    ensures order { IfOk result (λ graph. RanInOrder run.now.plan graph.ran) }
+    ensures stepped { IfOk result (λ graph. HaveStepped run.now (step + 1 + 1) graph.reads) }
     ensures cause { IfErr result (IsStop run.now (step + 1)) }
 {
     let mut keys = keys;
@@ -267,19 +278,21 @@ fn next_by<R: Threads + Sync, G: Gate>(
     requires edges { edges ≡ edges_of run.now.plan }
     requires keys { keys ≡ map (λ table. keys_of table.rows) (sources_at run.now step) }
     requires sources { tables sources.items ≡ sources_shown run.now step }
-    requires works { works.items ≡ tags run.now step (length run.now.plan.nodes) }
+    requires works { map named works.items ≡ tags run.now step (length run.now.plan.nodes) }
     ensures run { IfOk result (λ graph. graph.run ≡ run.now) }
     ensures step { IfOk result (λ graph. graph.step ≡ step + 1) }
     ensures batch { OnOk result (batch_fault run.now (step + 1) ≡ None) }
     ensures nodes { OnOk result (node_fault 0 (state run.now (step + 1)) ≡ None) }
     ensures ran { IfOk result (λ graph. RanOnce run.now.plan graph.ran) }
+    ensures order { IfOk result (λ graph. RanInOrder run.now.plan graph.ran) }
+    ensures stepped { IfOk result (λ graph. HaveStepped run.now (step + 1 + 1) graph.reads) }
     ensures cause { IfErr result (IsStop run.now (step + 1)) }
     ensures size { crew.new.size ≡ crew.old.size }
 {
     let mut keys = keys;
     let changes = changes_of::<Brand>(alloc, run, step, &mut keys, &sources, Blank::new(1))?;
     let sources = changed_sources(alloc, run, step + 1, sources, changes)?;
-    let works = crew_step(
+    let (works, ran) = crew_step(
         rt,
         alloc,
         run,
@@ -290,18 +303,21 @@ fn next_by<R: Threads + Sync, G: Gate>(
         crew,
         gate,
     )?;
-    let sweep = swept(alloc, run, step + 1, works, &sources)?;
+    let numbered = swept(alloc, run, step + 1, works, &sources)?;
+    let sweep = numbered.in_order(ran);
     let reached = finished(alloc, run, step + 1, edges, keys, sources, sweep)?;
     Ok(reached)
 }
 
 impl Graph {
-    /// The graph at step 0 of a lawful run.
+    /// The graph at step 0 of a lawful run. Each operator takes its first step, and they read no more than their bounds allow.
     pub fn start(alloc: Global, run: &Run) -> Result<Graph, Stop>
         requires { IsLawfulRun run.now }
         ensures run { IfOk result (λ graph. graph.run ≡ run.now) }
         ensures step { IfOk result (λ graph. graph.step ≡ 0) }
         ensures nodes { OnOk result (node_fault 0 (state run.now 0) ≡ None) }
+        ensures steps { IfOk result (λ graph. SteppedOnce run.now [] graph.reads) }
+        ensures reads { IfOk result (λ graph. read_in run.now 0 graph.reads ≤ most_in run.now 0) }
         ensures cause { IfErr result (IsStop run.now 0) }
     {
         let edges = Edges::of(alloc, run)?;
@@ -313,7 +329,7 @@ impl Graph {
     }
 
     /// The graph at the next step of its run, by the batch of that step. The gate is called round the work of each node with an
-    /// operator. After a refusal the graph is given up.
+    /// operator. Each operator takes one step, and they read no more than their bounds allow. After a refusal the graph is given up.
     pub fn cycle<R: Threads + Sync, G: Gate>(
         self,
         rt: &R,
@@ -331,6 +347,9 @@ impl Graph {
         ensures batch { OnOk result (batch_fault run.now (self.step + 1) ≡ None) }
         ensures nodes { OnOk result (node_fault 0 (state run.now (self.step + 1)) ≡ None) }
         ensures ran { IfOk result (λ graph. RanOnce run.now.plan graph.ran) }
+        ensures order { IfOk result (λ graph. RanInOrder run.now.plan graph.ran) }
+        ensures steps { IfOk result (λ graph. SteppedOnce run.now self.reads graph.reads) }
+        ensures reads { IfOk result (λ graph. read_in run.now (self.step + 1) graph.reads ≤ most_in run.now (self.step + 1)) }
         ensures cause { IfErr result (IsStop run.now (self.step + 1)) }
     {
         if workers > 1 {
@@ -367,6 +386,9 @@ impl Graph {
         ensures batch { OnOk result (batch_fault run.now (self.step + 1) ≡ None) }
         ensures nodes { OnOk result (node_fault 0 (state run.now (self.step + 1)) ≡ None) }
         ensures ran { IfOk result (λ graph. RanOnce run.now.plan graph.ran) }
+        ensures order { IfOk result (λ graph. RanInOrder run.now.plan graph.ran) }
+        ensures steps { IfOk result (λ graph. SteppedOnce run.now self.reads graph.reads) }
+        ensures reads { IfOk result (λ graph. read_in run.now (self.step + 1) graph.reads ≤ most_in run.now (self.step + 1)) }
         ensures cause { IfErr result (IsStop run.now (self.step + 1)) }
         ensures size { crew.new.size ≡ crew.old.size }
     {
@@ -418,13 +440,14 @@ impl Graph {
         requires node { node < length self.now.run.plan.nodes }
         requires operator { is_operator self.now.run node ≡ true }
         ensures op { result.now.op ≡ op_at self.now.run node }
+        ensures reads { result.now.reads ≡ reads_at self.now.reads node }
         ensures stepped { HasStepped self.now.run (self.now.step + 1) node result.now.reads }
     {
         let works = self.works.as_slice();
         works[node as usize].operator()
     }
 
-    /// The nodes with an operator that were worked for the step.
+    /// The nodes with an operator that were worked for the step, in the order in which they were worked.
     pub fn ran(&self) -> &[u32]
         ensures { result.now ≡ self.now.ran }
     {

@@ -1,11 +1,11 @@
 //! A step of all nodes by one thread, in order of their numbers. So each is worked after its inputs, and no claim is made.
 
-ghost use Rattle.std.specs.Prelude.{◌≡◌, ◌+◌, ◌-◌, ◌<◌, ◌≤◌, IfOk, OnOk, length};
+ghost use Rattle.std.specs.Prelude.{◌≡◌, ◌+◌, ◌-◌, ◌<◌, ◌≤◌, IfOk, OnOk, length, map};
 ghost use Rattle.merge_op.specs.Merged.{tables};
 ghost use Rattle.update_graph.specs.Entered.{IsEntered};
 ghost use Rattle.update_graph.specs.Graphs.{sources_shown};
 ghost use Rattle.update_graph.specs.Sweeps.{IsSwept};
-ghost use Rattle.update_graph.specs.Tags.{tag, tags};
+ghost use Rattle.update_graph.specs.Tags.{named, tag, tags};
 
 use crate::sweep::{Sweep, inputs_stay, shares_for};
 use crate::work::Work;
@@ -33,7 +33,7 @@ fn advance_node<G: Gate, L: Ledger>(
     requires sources { tables sources.now ≡ sources_shown run.now step }
     requires swept { IsSwept run.now step (length sweep.old.works.items) sweep.old }
     requires node { length sweep.old.works.items < length run.now.plan.nodes }
-    requires work { work ≡ tag run.now (step - 1) (length sweep.old.works.items) }
+    requires work { named work ≡ tag run.now (step - 1) (length sweep.old.works.items) }
     ensures { OnOk result (IsSwept run.now step (length sweep.old.works.items + 1) sweep.new) }
 {
     let node = &run.plan.nodes.as_slice()[sweep.works.len()];
@@ -72,7 +72,7 @@ pub(crate) fn advance_all<G: Gate, L: Ledger>(
     requires entered { IsEntered run.now step }
     requires later { 1 ≤ step }
     requires sources { tables sources.now ≡ sources_shown run.now step }
-    requires works { works.items ≡ tags run.now (step - 1) (length run.now.plan.nodes) }
+    requires works { map named works.items ≡ tags run.now (step - 1) (length run.now.plan.nodes) }
     ensures { IfOk result (IsSwept run.now step (length run.now.plan.nodes)) }
 {
     let mut reads = Steps::<L>::new(blank, new_count());

@@ -15,6 +15,7 @@ ghost use Rattle.tick_table.specs.Ticking.{Ticking};
 ghost use Rattle.update_graph.specs.Entered.{IsEntered};
 ghost use Rattle.update_graph.specs.Graphs.{sources_shown};
 
+use new_counts::new_copy;
 use source_changes::opening_change;
 use std::alloc::{AllocError, Global};
 use std::sync::Arc;
@@ -33,7 +34,7 @@ pub(crate) fn applied(alloc: Global, table: Shared, change: Change) -> Result<Sh
 {
     let own = match Arc::try_unwrap(table) {
         Ok(own) => own,
-        Err(shared) => shared.copy()?,
+        Err(shared) => shared.copy(new_copy())?,
     };
     let changed = own.apply(change)?;
     Ok(Arc::new(alloc, changed)?)

@@ -5,7 +5,7 @@ ghost use Rattle.std.specs.Thread.{IsSync};
 ghost use mathlib.Core.Option.{some};
 ghost use lib.ListN.{get_elem?};
 ghost use Rattle.graph_words.specs.declared.graph.Edge.{Edge};
-ghost use Rattle.graph_words.specs.declared.table.Mark.TheVariants.{Unmarked};
+ghost use Rattle.graph_words.specs.declared.table.Mark.TheVariants.{Unmarked, PutBack};
 ghost use Rattle.graph_words.specs.Marks.{at};
 ghost use Rattle.graph_words.specs.Seats.{AtEdge, Has, IsSeatOf};
 ghost use Rattle.steal_workers.specs.Lists.{IsListed};
@@ -15,7 +15,7 @@ ghost use Rattle.tick_model.specs.Evaluation.{inputs_of};
 ghost use Rattle.update_graph.specs.Edges.{edges_of};
 ghost use Rattle.update_graph.specs.Entered.{IsEntered};
 ghost use Rattle.update_graph.specs.Steps.{IsHandedOver, IsHanding};
-ghost use Rattle.update_graph.specs.Tags.{is_operator, op_at, tag};
+ghost use Rattle.update_graph.specs.Tags.{is_operator, named, op_at, tag};
 
 use crate::edges::Edges;
 use crate::shares::Share;
@@ -59,7 +59,7 @@ impl HasRun for Run {
     }
 }
 
-/// Delivers a share along an edge. A node that this makes ready is added to the list.
+/// Hands a share on along an edge, whose `from` node is put back. A node that this makes ready is added to the list.
 fn hand_over(
     claims: &StepClaims,
     seat: &mut StepSeat,
@@ -71,7 +71,7 @@ fn hand_over(
     requires of { IsSeatOf claims.now seat.old }
     requires edge { edge < length claims.now.plan.edges.items }
     requires to { AtEdge claims.now.plan edge (λ x. (x.to ≡ to) × (x.from < x.to) × (x.to < claims.now.plan.nodes)) }
-    requires from { AtEdge claims.now.plan edge (λ x. Has seat.old.view x.from) }
+    requires from { AtEdge claims.now.plan edge (λ x. at seat.old.view.nodes x.from ≡ PutBack) }
     requires fresh { at seat.old.view.outs edge ≡ Unmarked }
     requires share { AtEdge claims.now.plan edge (λ x. share ≡ tag claims.now.plan.first.value.run (claims.now.plan.first.value.step + 1) x.from) }
     requires below { to < 256 }
@@ -79,12 +79,12 @@ fn hand_over(
     ensures of { IsSeatOf claims.now seat.new }
     ensures over { IsHandedOver claims.now.plan seat.old.view seat.new.view edge to ready.old.nodes.items ready.new.nodes.items }
 {
-    if claims.deliver(seat, edge, share) {
+    if claims.hand_on(seat, edge, share) {
         ready.add(to);
     }
 }
 
-/// Delivers what a node hands on along each of its edges. All nodes that this makes ready are added to the list.
+/// Hands on what a node that is put back hands on along each of its edges. All nodes that this makes ready are added to the list.
 pub(crate) fn hand_all(
     claims: &StepClaims,
     seat: &mut StepSeat,
@@ -99,7 +99,7 @@ pub(crate) fn hand_all(
     requires few { length edges.now < 2 ^ 32 }
     requires ends { (e : ℕ) (x : Edge) → get_elem? edges.now e ≡ some x → (x.from < x.to) × (x.to < claims.now.plan.nodes) }
     requires below { (e : ℕ) (x : Edge) → get_elem? edges.now e ≡ some x → x.to < 256 }
-    requires has { Has seat.old.view node }
+    requires back { at seat.old.view.nodes node ≡ PutBack }
     requires untouched { (e : ℕ) (x : Edge) → get_elem? edges.now e ≡ some x → x.from ≡ node → at seat.old.view.outs e ≡ Unmarked }
     requires run { run.now ≡ claims.now.plan.first.value.run }
     requires share { share.now ≡ tag run.now (claims.now.plan.first.value.step + 1) node }
@@ -135,7 +135,7 @@ fn advanced_by<L: Ledger>(
     requires node { work.node < length run.now.plan.nodes }
     requires operator { is_operator run.now work.node ≡ true }
     requires shares { shares ≡ map (tag run.now (work.step + 1)) (inputs_of (op_at run.now work.node)) }
-    ensures work { IfOk result (λ out. out.0 ≡ tag run.now (work.step + 1) work.node) }
+    ensures work { IfOk result (λ out. named out.0 ≡ tag run.now (work.step + 1) work.node) }
     ensures share { IfOk result (λ out. out.1 ≡ tag run.now (work.step + 1) work.node) }
 {
     let mut reads = Steps::<L>::new(blank, new_count());
@@ -156,7 +156,7 @@ fn advanced(
     requires node { work.node < length run.now.plan.nodes }
     requires operator { is_operator run.now work.node ≡ true }
     requires shares { shares ≡ map (tag run.now (work.step + 1)) (inputs_of (op_at run.now work.node)) }
-    ensures work { IfOk result (λ out. out.0 ≡ tag run.now (work.step + 1) work.node) }
+    ensures work { IfOk result (λ out. named out.0 ≡ tag run.now (work.step + 1) work.node) }
     ensures share { IfOk result (λ out. out.1 ≡ tag run.now (work.step + 1) work.node) }
 {
     let blank = Blank::new(1);

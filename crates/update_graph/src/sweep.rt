@@ -9,7 +9,7 @@ ghost use Rattle.update_graph.specs.Entered.{IsEntered};
 ghost use Rattle.update_graph.specs.Graphs.{AreSources, sources_shown};
 ghost use Rattle.update_graph.specs.Stands.{Stays};
 ghost use Rattle.update_graph.specs.Sweeps.{IsSwept};
-ghost use Rattle.update_graph.specs.Tags.{is_operator, op_at, tag, tags};
+ghost use Rattle.update_graph.specs.Tags.{is_operator, named, op_at, tag, tags};
 
 use crate::edges::inputs_of;
 use crate::shares::Share;
@@ -116,7 +116,7 @@ pub(crate) fn source_at(
     requires node { node < length run.now.plan.nodes }
     requires source { is_operator run.now node ≡ false }
     requires place { place ≡ source_number run.now.plan.nodes node }
-    ensures work { IfOk result (λ out. out.0 ≡ tag run.now step node) }
+    ensures work { IfOk result (λ out. named out.0 ≡ tag run.now step node) }
     ensures share { IfOk result (λ out. out.1 ≡ tag run.now step node) }
 {
     let table = sources[place].clone()?;
@@ -138,6 +138,27 @@ impl Sweep {
             shares: Vec::new(alloc),
             ran: Vec::new(alloc),
             sources: 0,
+        }
+    }
+
+    /// The same, with another order of the nodes that were worked.
+    pub(crate) fn in_order(self, ran: Vec<u32>) -> Sweep
+        ensures works { result.works.items ≡ self.works.items }
+        ensures shares { result.shares.items ≡ self.shares.items }
+        ensures ran { result.ran.items ≡ ran.items }
+    {
+        let Sweep {
+            works,
+            shares,
+            ran: numbers,
+            sources,
+        } = self;
+        drop(numbers);
+        Sweep {
+            works,
+            shares,
+            ran,
+            sources,
         }
     }
 
@@ -175,7 +196,7 @@ impl Sweep {
         requires node { length self.old.works.items < length run.now.plan.nodes }
         requires lawful { IsLawfulRun run.now }
         requires operator { is_operator run.now (length self.old.works.items) ≡ true }
-        requires work { work ≡ tag run.now step (length self.old.works.items) }
+        requires work { named work ≡ tag run.now step (length self.old.works.items) }
         requires share { share ≡ tag run.now step (length self.old.works.items) }
         ensures { OnOk result (IsSwept run.now step (length self.old.works.items + 1) self.new) }
     {
@@ -201,7 +222,7 @@ fn put_node(
     requires sources { tables sources.now ≡ sources_shown run.now step }
     requires swept { IsSwept run.now step (length sweep.old.works.items) sweep.old }
     requires node { length sweep.old.works.items < length run.now.plan.nodes }
-    requires work { work ≡ tag run.now step (length sweep.old.works.items) }
+    requires work { named work ≡ tag run.now step (length sweep.old.works.items) }
     ensures { OnOk result (IsSwept run.now step (length sweep.old.works.items + 1) sweep.new) }
 {
     let node = &run.plan.nodes.as_slice()[sweep.works.len()];
@@ -228,7 +249,7 @@ pub(crate) fn swept(
 ) -> Result<Sweep, AllocError>
     requires entered { IsEntered run.now step }
     requires sources { tables sources.now ≡ sources_shown run.now step }
-    requires works { works.items ≡ tags run.now step (length run.now.plan.nodes) }
+    requires works { map named works.items ≡ tags run.now step (length run.now.plan.nodes) }
     ensures { IfOk result (IsSwept run.now step (length run.now.plan.nodes)) }
 {
     let mut sweep = Sweep::new(alloc);

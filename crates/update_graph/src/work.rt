@@ -15,7 +15,7 @@ ghost use Rattle.tick_table.specs.Ticking.{Ticking};
 ghost use Rattle.update_graph.specs.Entered.{IsEntered};
 ghost use Rattle.update_graph.specs.Faults.{fault_in};
 ghost use Rattle.update_graph.specs.Stands.{HasStepped, IsKept, IsReady, Stays, all_defined, is_defined, most_reads, shown};
-ghost use Rattle.update_graph.specs.Tags.{is_operator, op_at, tag};
+ghost use Rattle.update_graph.specs.Tags.{is_operator, named, op_at, tag};
 
 use crate::shares::{Share, shares_stay, tables_of};
 use crate::sources::{applied, rested};
@@ -52,7 +52,8 @@ pub(crate) enum State {
 }
 
 /// What a node keeps at a step. A contract sees the node, the step and the run, which say what is kept: an operator that stands
-/// for the tables of the inputs at that step and the node's own table, or why there are none.
+/// for the tables of the inputs at that step and the node's own table, or why there are none. And it sees what the operator has
+/// read in each of its steps.
 pub struct Work {
     run: Snapshot<Run>,
     node: u32,
@@ -75,14 +76,14 @@ impl Model for Work {
     ghost use Rattle.std.specs.Coded.{codes};
     ghost use Rattle.tick_model.specs.contracts.plan.Expr as expr_type;
     ghost use Rattle.tick_model.specs.contracts.plan.Pred as pred_type;
-    ghost use Rattle.update_graph.specs.Stands.{IsKept};
-    ghost use Rattle.update_graph.specs.Tags.{Tag};
+    ghost use Rattle.update_graph.specs.Stands.{IsKept, reads_of};
+    ghost use Rattle.update_graph.specs.Tags.{Kept};
 
-    ghost Value = { Tag };
+    ghost Value = { Kept };
 
     ghost coded = { Prim.hlevel (codes, expr_type.the_row.coded, pred_type.the_row.coded) };
 
-    ghost view = { λ work. record { run = work.run.value; node = work.node; step = work.step } };
+    ghost view = { λ work. record { run = work.run.value; node = work.node; step = work.step; reads = reads_of work.state } };
 
     ghost invariant = { λ work. IsKept work.run.value work.step work.node work.state };
 }
@@ -99,7 +100,7 @@ impl Work {
     /// What is kept of a node.
     fn new(run: &Run, node: u32, step: u64, state: State) -> Work
         requires { IsKept run.now step node state }
-        ensures { result ≡ tag run.now step node }
+        ensures { named result ≡ tag run.now step node }
     {
         Work {
             run: Snapshot::of(run),
@@ -113,7 +114,7 @@ impl Work {
     pub(crate) fn of_source(run: &Run, node: u32, step: u64) -> Work
         requires source { is_operator run.now node ≡ false }
         requires defined { is_defined run.now step node ≡ true }
-        ensures { result ≡ tag run.now step node }
+        ensures { named result ≡ tag run.now step node }
     {
         Work::new(run, node, step, State::Source)
     }
@@ -127,7 +128,7 @@ impl Work {
 
     /// What is kept of a node with an operator at the next step, and what it hands on. Its operator steps once, or does nothing
     /// where no input changes or one has no table. A graph advances its nodes inside the gate of its cycle; this call is inside a gate
-    /// that holds up nothing. After a refusal the work is given up.
+    /// that holds up nothing. After a refusal the work is given up, and no more was read than the step may read.
     pub fn advance<L: Ledger>(
         self,
         alloc: Global,
@@ -140,10 +141,10 @@ impl Work {
         requires node { self.node < length run.now.plan.nodes }
         requires operator { is_operator run.now self.node ≡ true }
         requires shares { shares ≡ map (tag run.now (self.step + 1)) (inputs_of (op_at run.now self.node)) }
-        ensures work { IfOk result (λ out. out.0 ≡ tag run.now (self.step + 1) self.node) }
+        ensures work { IfOk result (λ out. named out.0 ≡ tag run.now (self.step + 1) self.node) }
         ensures share { IfOk result (λ out. out.1 ≡ tag run.now (self.step + 1) self.node) }
-        ensures reads { OnOk result (is_defined run.now (self.step + 1) self.node ≡ true → reads.new ≤ reads.old + most_reads run.now (self.step + 1) self.node) }
-        ensures none { OnOk result (all_defined shares ≡ false → reads.new ≡ reads.old) }
+        ensures reads { is_defined run.now (self.step + 1) self.node ≡ true → reads.new ≤ reads.old + most_reads run.now (self.step + 1) self.node }
+        ensures none { all_defined shares ≡ false → reads.new ≡ reads.old }
     {
         let gate = OpenGate;
         let inside = gate.admit(self.node);
@@ -167,10 +168,10 @@ impl Work {
         requires node { self.node < length run.now.plan.nodes }
         requires operator { is_operator run.now self.node ≡ true }
         requires shares { shares ≡ map (tag run.now (self.step + 1)) (inputs_of (op_at run.now self.node)) }
-        ensures work { IfOk result (λ out. out.0 ≡ tag run.now (self.step + 1) self.node) }
+        ensures work { IfOk result (λ out. named out.0 ≡ tag run.now (self.step + 1) self.node) }
         ensures share { IfOk result (λ out. out.1 ≡ tag run.now (self.step + 1) self.node) }
-        ensures reads { OnOk result (is_defined run.now (self.step + 1) self.node ≡ true → reads.new ≤ reads.old + most_reads run.now (self.step + 1) self.node) }
-        ensures none { OnOk result (all_defined shares ≡ false → reads.new ≡ reads.old) }
+        ensures reads { is_defined run.now (self.step + 1) self.node ≡ true → reads.new ≤ reads.old + most_reads run.now (self.step + 1) self.node }
+        ensures none { all_defined shares ≡ false → reads.new ≡ reads.old }
     {
         if shares_stay(shares.as_slice()) {
             drop(shares);
@@ -206,7 +207,7 @@ impl Work {
         requires node { self.node < length run.now.plan.nodes }
         requires operator { is_operator run.now self.node ≡ true }
         requires inputs { AllByRecursion (Stays run.now (self.step + 1)) (inputs_of (op_at run.now self.node)) }
-        ensures work { IfOk result (λ out. out.0 ≡ tag run.now (self.step + 1) self.node) }
+        ensures work { IfOk result (λ out. named out.0 ≡ tag run.now (self.step + 1) self.node) }
         ensures share { IfOk result (λ out. out.1 ≡ tag run.now (self.step + 1) self.node) }
     {
         let _ = inside;
@@ -228,7 +229,7 @@ impl Work {
     pub(crate) fn share(&self, run: &Run) -> Result<Share, AllocError>
         requires run { run.now ≡ self.now.run }
         requires operator { is_operator self.now.run self.now.node ≡ true }
-        ensures { IfOk result (λ share. share ≡ self.now) }
+        ensures { IfOk result (λ share. share ≡ named self.now) }
     {
         let table = match &self.state {
             State::Source => unreachable!(),
@@ -244,6 +245,7 @@ impl Work {
         requires operator { is_operator self.now.run self.now.node ≡ true }
         requires defined { is_defined self.now.run self.now.step self.now.node ≡ true }
         ensures op { result.now.op ≡ op_at self.now.run self.now.node }
+        ensures reads { result.now.reads ≡ self.now.reads }
         ensures stepped { HasStepped self.now.run (self.now.step + 1) self.now.node result.now.reads }
     {
         match &self.state {
@@ -254,9 +256,11 @@ impl Work {
         }
     }
 
-    /// Why the node has no table although its inputs have theirs.
+    /// Why the node has no table although its inputs have theirs. Where it has one, and an operator, this has taken its steps.
     pub(crate) fn fault(&self) -> Option<NodeFault>
-        ensures { result ≡ fault_in (outcome_at (state_of self.now.run self.now.step) self.now.node) }
+        ensures fault { result ≡ fault_in (outcome_at (state_of self.now.run self.now.step) self.now.node) }
+        ensures stepped { is_operator self.now.run self.now.node ≡ true → is_defined self.now.run self.now.step self.now.node ≡ true
+            → HasStepped self.now.run (self.now.step + 1) self.now.node self.now.reads }
     {
         match &self.state {
             State::Source => None,
@@ -271,7 +275,7 @@ impl Work {
 fn without_table(run: &Run, node: u32, step: u64, state: State) -> (Work, Share)
     requires kept { IsKept run.now step node state }
     requires undefined { is_defined run.now step node ≡ false }
-    ensures work { result.0 ≡ tag run.now step node }
+    ensures work { named result.0 ≡ tag run.now step node }
     ensures share { result.1 ≡ tag run.now step node }
 {
     (
@@ -291,7 +295,7 @@ fn with_table(
     requires defined { is_defined run.now step node ≡ true }
     requires ready { IsReady run.now (table_at (state_of run.now step)) (step + 1) node ready.operator ready.table }
     requires table { arc_value {X = Ticking} ready.table ≡ shown run.now step node }
-    ensures work { IfOk result (λ out. out.0 ≡ tag run.now step node) }
+    ensures work { IfOk result (λ out. named out.0 ≡ tag run.now step node) }
     ensures share { IfOk result (λ out. out.1 ≡ tag run.now step node) }
 {
     let held = Box::new(alloc, ready)?;
@@ -303,7 +307,7 @@ fn holding(run: &Run, node: u32, step: u64, ready: Box<Ready>) -> Result<(Work, 
     requires defined { is_defined run.now step node ≡ true }
     requires ready { IsReady run.now (table_at (state_of run.now step)) (step + 1) node ready.value.operator ready.value.table }
     requires table { arc_value {X = Ticking} ready.value.table ≡ shown run.now step node }
-    ensures work { IfOk result (λ out. out.0 ≡ tag run.now step node) }
+    ensures work { IfOk result (λ out. named out.0 ≡ tag run.now step node) }
     ensures share { IfOk result (λ out. out.1 ≡ tag run.now step node) }
 {
     let table = ready.table.clone()?;
@@ -353,7 +357,7 @@ fn stayed(
     requires ready { IsReady run.now (table_before run.now step) step node ready.value.operator ready.value.table }
     requires exact { IsExact (arc_value {X = Ticking} ready.value.table) }
     requires inputs { AllByRecursion (Stays run.now step) (inputs_of (op_at run.now node)) }
-    ensures work { IfOk result (λ out. out.0 ≡ tag run.now step node) }
+    ensures work { IfOk result (λ out. named out.0 ≡ tag run.now step node) }
     ensures share { IfOk result (λ out. out.1 ≡ tag run.now step node) }
 {
     let ready = rest(alloc, idle(ready))?;
@@ -375,10 +379,10 @@ pub(crate) fn worked<L: Ledger>(
     requires operator { is_operator run.now node ≡ true }
     requires ready { IsReady run.now (table_before run.now step) step node ready.operator ready.table }
     requires shares { shares ≡ map (tag run.now step) (inputs_of (op_at run.now node)) }
-    ensures work { IfOk result (λ out. out.0 ≡ tag run.now step node) }
+    ensures work { IfOk result (λ out. named out.0 ≡ tag run.now step node) }
     ensures share { IfOk result (λ out. out.1 ≡ tag run.now step node) }
-    ensures reads { OnOk result (is_defined run.now step node ≡ true → reads.new ≤ reads.old + most_reads run.now step node) }
-    ensures none { OnOk result (all_defined shares ≡ false → reads.new ≡ reads.old) }
+    ensures reads { is_defined run.now step node ≡ true → reads.new ≤ reads.old + most_reads run.now step node }
+    ensures none { all_defined shares ≡ false → reads.new ≡ reads.old }
 {
     match tables_of(alloc, shares) {
         Ok(Some(inputs)) => stepped(alloc, run, node, step, ready, &inputs, reads),
@@ -401,7 +405,7 @@ fn without_step(
     fault: StepFault,
 ) -> Result<(Work, Share), AllocError>
     requires { (kind : NodeFault) → fault ≡ StepFault.Node kind → outcome_at (state_of run.now step) node ≡ Fault kind }
-    ensures work { IfOk result (λ out. out.0 ≡ tag run.now step node) }
+    ensures work { IfOk result (λ out. named out.0 ≡ tag run.now step node) }
     ensures share { IfOk result (λ out. out.1 ≡ tag run.now step node) }
     ensures undefined { OnOk result (is_defined run.now step node ≡ false) }
 {
@@ -427,9 +431,9 @@ fn stepped<L: Ledger>(
     requires ready { IsReady run.now (table_before run.now step) step node ready.operator ready.table }
     requires defined { AllByRecursion (λ input. is_defined run.now step input ≡ true) (inputs_of (op_at run.now node)) }
     requires inputs { tables inputs.now ≡ map (shown run.now step) (inputs_of (op_at run.now node)) }
-    ensures work { IfOk result (λ out. out.0 ≡ tag run.now step node) }
+    ensures work { IfOk result (λ out. named out.0 ≡ tag run.now step node) }
     ensures share { IfOk result (λ out. out.1 ≡ tag run.now step node) }
-    ensures reads { OnOk result (is_defined run.now step node ≡ true → reads.new ≤ reads.old + most_reads run.now step node) }
+    ensures reads { is_defined run.now step node ≡ true → reads.new ≤ reads.old + most_reads run.now step node }
 {
     let Ready { operator, table } = ready;
     match operator.step(alloc, inputs, reads) {

@@ -12,7 +12,7 @@ ghost use Rattle.tick_model.specs.Evaluation.{inputs_of};
 ghost use Rattle.update_graph.specs.Edges.{froms_to};
 ghost use Rattle.update_graph.specs.Holdings.{IsForStep, IsNew};
 ghost use Rattle.update_graph.specs.Steps.{IsBegun, IsTaking};
-ghost use Rattle.update_graph.specs.Tags.{op_at, tag};
+ghost use Rattle.update_graph.specs.Tags.{named, op_at, tag};
 
 use crate::edges::Edges;
 use crate::shares::Share;
@@ -72,7 +72,7 @@ pub(crate) fn begin_node(
     ensures parts { seat.new.view.parts ≡ seat.old.view.parts }
     ensures of { OnOk result (IsSeatOf claims.now seat.new) }
     ensures begun { OnOk result (IsBegun claims.now.plan seat.old.view seat.new.view node) }
-    ensures work { IfOk result (λ begun. begun.0 ≡ tag run.now claims.now.plan.first.value.step node) }
+    ensures work { IfOk result (λ begun. named begun.0 ≡ tag run.now claims.now.plan.first.value.step node) }
     ensures shares { IfOk result (λ begun. begun.1 ≡ map (tag run.now (claims.now.plan.first.value.step + 1)) (inputs_of (op_at run.now node))) }
 {
     let _ = run;
@@ -93,7 +93,7 @@ pub(crate) fn settle_node(
     requires of { IsSeatOf claims.now seat.old }
     requires node { node < claims.now.plan.nodes }
     requires taken { at seat.old.view.nodes node ≡ Taken }
-    requires work { IfOk worked (λ out. out.0 ≡ tag run.now (claims.now.plan.first.value.step + 1) node) }
+    requires work { IfOk worked (λ out. named out.0 ≡ tag run.now (claims.now.plan.first.value.step + 1) node) }
     requires share { IfOk worked (λ out. out.1 ≡ tag run.now (claims.now.plan.first.value.step + 1) node) }
     ensures parts { seat.new.view.parts ≡ seat.old.view.parts }
     ensures of { OnOk result (IsSeatOf claims.now seat.new) }

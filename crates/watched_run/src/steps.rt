@@ -20,6 +20,7 @@ ghost use Rattle.watched_run.specs.ToCome.{rest_text, text_from, watch_until};
 
 use crate::teller::Teller;
 use crate::watch::Watch;
+use new_counts::new_copy;
 use replay::{Hands, Outcome, check_limits};
 use std::alloc::{AllocError, Global};
 use std::marker::Brand;
@@ -114,7 +115,7 @@ fn held_table(graph: &Graph, node: u32, since: u32) -> Result<Option<TickTable>,
     if since == 0 {
         return Ok(None);
     }
-    let held = graph.table(node).copy()?;
+    let held = graph.table(node).copy(new_copy())?;
     Ok(Some(held))
 }
 

@@ -1,5 +1,4 @@
 use Rattle.std.proofs.Common.{◌<◌, ◌∙◌, sym, ap, subst, length}
-use Rattle.steal_workers.proofs.Holding.{has_mark}
 use lib.ListN.{get_elem?}
 use Rattle.graph_words.specs.declared.table.Mark.TheVariants.{Taken, PutBack}
 use Rattle.graph_words.specs.Marks.{at}
@@ -37,9 +36,8 @@ hand_all-requires-clause-below c e x there =
     let plan = c.args.claims.now.plan in
     small_of_step run plan (step_of_claims run plan c.requires.claimed) e x (ap (λ l. get_elem? l e) (sym c.requires.edges) ∙ there)
 
-pub hand_all-requires-clause-has : goal.hand_all-requires-clause-has
-hand_all-requires-clause-has c =
-    has_mark (at c.put_back.new.seat.view.nodes c.args.node) PutBack (ap (λ v. at v.nodes c.args.node) c.put_back.ensures.view ∙ at_put c.take_work.new.seat.view.nodes c.args.node PutBack) tt
+pub hand_all-requires-clause-back : goal.hand_all-requires-clause-back
+hand_all-requires-clause-back c = ap (λ v. at v.nodes c.args.node) c.put_back.ensures.view ∙ at_put c.take_work.new.seat.view.nodes c.args.node PutBack
 
 pub hand_all-requires-clause-untouched : goal.hand_all-requires-clause-untouched
 hand_all-requires-clause-untouched c e x there is =

@@ -27,5 +27,6 @@ invariant_of-result c =
       keys_are = c.requires.keys;
       sources_are = c.requires.sources;
       works_are = c.requires.swept.works;
+      stepped = c.requires.stepped;
       tables_are = handed_tables run c.args.step c.requires.entered c.requires.nodes c.of-shares.result (c.of-shares.ensures ∙ c.requires.swept.shares) c.in-Some.tables.items handed;
     })

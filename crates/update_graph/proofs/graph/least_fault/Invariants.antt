@@ -1,9 +1,13 @@
-use Rattle.std.proofs.Common.{◌≡◌, ℕ, drop, length}
+use Rattle.std.proofs.Common.{◌≡◌, ℕ, drop, length, map}
 use Rattle.tick_model.specs.declared.feed.Run.{Run}
 use Rattle.tick_model.specs.Spoiled.{node_fault}
 use Rattle.tick_model.specs.States.{state}
-use Rattle.update_graph.specs.Tags.{tags}
+use Rattle.update_graph.specs.Tags.{all_reads, named, tags}
+use Rattle.update_graph.proofs.Sweeping.{SteppedBelow}
 use Rattle.update_graph.proofs.graph.least_fault.Given as goal
 
 abbrev pub invariant-loop-node : goal.invariant-loop-node
-invariant-loop-node l = (run : Run) (step : ℕ) → l.works ≡ tags run step (length run.plan.nodes) → node_fault 0 (state run step) ≡ node_fault l.node (drop l.node (state run step))
+invariant-loop-node l = record {
+  fault : (run : Run) (step : ℕ) → map named l.works ≡ tags run step (length run.plan.nodes) → node_fault 0 (state run step) ≡ node_fault l.node (drop l.node (state run step));
+  stepped : (run : Run) (step : ℕ) → map named l.works ≡ tags run step (length run.plan.nodes) → SteppedBelow run step l.node (all_reads l.works);
+}

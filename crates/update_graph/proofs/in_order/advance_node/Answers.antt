@@ -1,11 +1,10 @@
-use Rattle.std.proofs.Common.{◌≡◌, ◌+◌, ap, sym, ◌∙◌, subst, ◌<◌, false, length, get_or, map, true}
+use Rattle.std.proofs.Common.{◌≡◌, ◌+◌, ap, sym, ◌∙◌, subst, ◌<◌, false, length, get_or, map}
 use Rattle.std.specs.List.{AllByRecursion}
 use Rattle.std.specs.Prelude.{IfOk}
 use Rattle.std.proofs.lemmas.List.{get_or_default}
 use Rattle.tick_model.specs.declared.plan.Node.{Node}
-use Rattle.tick_model.specs.declared.plan.Op.{Op}
 use Rattle.tick_model.specs.Evaluation.{inputs_of}
-use Rattle.update_graph.specs.Tags.{Tag, no_node, tag}
+use Rattle.update_graph.specs.Tags.{Kept, Tag, named, no_node, tag}
 use Rattle.update_graph.proofs.Advancing.{advanced, old_entered, old_operator, old_run, old_shares, old_within}
 use Rattle.update_graph.proofs.Claimed.{operator_is}
 use Rattle.update_graph.proofs.EnteredTicks.{lesser}
@@ -61,26 +60,26 @@ pub put-requires-clause-work : goal.put-requires-clause-work
 put-requires-clause-work g c =
     let run = c.args.run.now in
     let work = c.args.work in
-    advanced run c.args.step (length c.args.sweep.now.works.items) c.requires.later work c.requires.work c.in_ok-work.work
-    (subst (λ found. IfOk found (λ (out : Tag × Tag). out.0 ≡ tag run (work.step + 1) work.node)) c.in_ok-work.was c.stay-stayed.ensures.work)
+    advanced run c.args.step (length c.args.sweep.now.works.items) c.requires.later work c.requires.work (named c.in_ok-work.work)
+    (subst (λ found. IfOk found (λ (out : Kept × Tag). named out.0 ≡ tag run (work.step + 1) work.node)) c.in_ok-work.was c.stay-stayed.ensures.work)
 
 pub put-requires-clause-share : goal.put-requires-clause-share
 put-requires-clause-share g c =
     let run = c.args.run.now in
     let work = c.args.work in
     advanced run c.args.step (length c.args.sweep.now.works.items) c.requires.later work c.requires.work c.in_ok-work.share
-    (subst (λ found. IfOk found (λ (out : Tag × Tag). out.1 ≡ tag run (work.step + 1) work.node)) c.in_ok-work.was c.stay-stayed.ensures.share)
+    (subst (λ found. IfOk found (λ (out : Kept × Tag). out.1 ≡ tag run (work.step + 1) work.node)) c.in_ok-work.was c.stay-stayed.ensures.share)
 
 pub put-requires-2-clause-work : goal.put-requires-2-clause-work
 put-requires-2-clause-work g c =
     let run = c.args.run.now in
     let work = c.args.work in
-    advanced run c.args.step (length c.args.sweep.now.works.items) c.requires.later work c.requires.work c.in_ok-work-2.work
-    (subst (λ found. IfOk found (λ (out : Tag × Tag). out.0 ≡ tag run (work.step + 1) work.node)) c.in_ok-work-2.was c.advance_inside-worked.ensures.work)
+    advanced run c.args.step (length c.args.sweep.now.works.items) c.requires.later work c.requires.work (named c.in_ok-work-2.work)
+    (subst (λ found. IfOk found (λ (out : Kept × Tag). named out.0 ≡ tag run (work.step + 1) work.node)) c.in_ok-work-2.was c.advance_inside-worked.ensures.work)
 
 pub put-requires-2-clause-share : goal.put-requires-2-clause-share
 put-requires-2-clause-share g c =
     let run = c.args.run.now in
     let work = c.args.work in
     advanced run c.args.step (length c.args.sweep.now.works.items) c.requires.later work c.requires.work c.in_ok-work-2.share
-    (subst (λ found. IfOk found (λ (out : Tag × Tag). out.1 ≡ tag run (work.step + 1) work.node)) c.in_ok-work-2.was c.advance_inside-worked.ensures.share)
+    (subst (λ found. IfOk found (λ (out : Kept × Tag). out.1 ≡ tag run (work.step + 1) work.node)) c.in_ok-work-2.was c.advance_inside-worked.ensures.share)

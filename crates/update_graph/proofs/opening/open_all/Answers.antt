@@ -1,23 +1,23 @@
-use Rattle.std.proofs.Common.{◌≡◌, ap, sym, ◌∙◌, subst, ◌+◌, arith, length}
+use Rattle.std.proofs.Common.{◌≡◌, ap, sym, subst, ◌+◌, arith, length}
 use Rattle.update_graph.specs.Sweeps.{IsSwept}
-use Rattle.update_graph.proofs.Sweeping.{length-tags}
+use Rattle.update_graph.proofs.ClaimedWorks.{count_works}
 use Rattle.update_graph.proofs.opening.open_all.Goals as goal
 
 pub open_node-requires-clause-swept : goal.open_node-requires-clause-swept
 open_node-requires-clause-swept g c =
-    let count = ap length c.loop.invariant.works ∙ length-tags c.args.run.now 0 c.loop.counter in
+    let count = count_works c.args.run.now 0 c.loop.counter c.loop.sweep.works.items c.loop.invariant.works in
     subst (λ k. IsSwept c.args.run.now 0 k c.loop.sweep) (sym count) c.loop.invariant
 
 pub open_node-requires-clause-node : goal.open_node-requires-clause-node
 open_node-requires-clause-node g c =
-    let count = ap length c.loop.invariant.works ∙ length-tags c.args.run.now 0 c.loop.counter in
+    let count = count_works c.args.run.now 0 c.loop.counter c.loop.sweep.works.items c.loop.invariant.works in
     let less = c.loop-test.true in
     let long = c.len-end.ensures in
     omega arith
 
 pub loop-preserved : goal.loop-preserved
 loop-preserved g c =
-    let count = ap length c.loop.invariant.works ∙ length-tags c.args.run.now 0 c.loop.counter in
+    let count = count_works c.args.run.now 0 c.loop.counter c.loop.sweep.works.items c.loop.invariant.works in
     subst (λ k. IsSwept c.args.run.now 0 k c.open_node.new.sweep) (ap (λ k. k + 1) count) c.in_ok-open_node.ensures
 
 pub returns : goal.returns

@@ -1,9 +1,9 @@
-use Rattle.std.proofs.Common.{◌+◌, ◌<◌, ◌∙◌, sym, ap, ap₂, subst, arith, length, get_or}
+use Rattle.std.proofs.Common.{◌≡◌, ◌+◌, ◌<◌, ◌∙◌, sym, ap, ap₂, subst, arith, length, get_or}
 use Rattle.std.proofs.lemmas.Bool.{eqb-true}
 use Rattle.steal_workers.proofs.Holding.{has_mark}
 use lib.ListN.{get_elem?}
 use Rattle.graph_words.specs.Marks.{at}
-use Rattle.graph_words.specs.Seats.{Has}
+use Rattle.graph_words.specs.declared.table.Mark.TheVariants.{PutBack}
 use Rattle.update_graph.specs.Edges.{comes_from, numbers_of}
 use Rattle.update_graph.specs.Steps.{IsHanding}
 use Rattle.update_graph.specs.Tags.{tag}
@@ -32,8 +32,8 @@ pub hand_over-requires-clause-from : goal.hand_over-requires-clause-from
 hand_over-requires-clause-from c x there =
     let next = along_next c.outputs-numbers.result.now c.loop-number.number-index c.loop-number-test.true c.loop-number.invariant.along (handing_past _ _ _ _ _ _) in
     let v = c.loop-number.seat.view in
-    subst (λ m. Has v m) (sym (eqb-true x.from c.args.node (next_passes next x there)))
-    (has_mark (at v.nodes c.args.node) (at c.args.seat.now.view.nodes c.args.node) (next.holds.listing.stays c.args.node c.requires.has) c.requires.has)
+    subst (λ m. at v.nodes m ≡ PutBack) (sym (eqb-true x.from c.args.node (next_passes next x there)))
+    (next.holds.listing.stays c.args.node (has_mark (at c.args.seat.now.view.nodes c.args.node) PutBack c.requires.back tt) ∙ c.requires.back)
 
 pub hand_over-requires-clause-fresh : goal.hand_over-requires-clause-fresh
 hand_over-requires-clause-fresh c =

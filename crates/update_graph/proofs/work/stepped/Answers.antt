@@ -1,17 +1,18 @@
-use Rattle.std.proofs.Common.{ap, sym, ◌∙◌, subst, ◌+◌, ◌-◌, arith, true≢false}
+use Rattle.std.proofs.Common.{ap, sym, ◌∙◌, subst, ◌+◌, ◌-◌, arith}
 use Rattle.std.proofs.lemmas.Bool.{not-true}
-use Rattle.std.proofs.lemmas.Result.{on_ok_weaker}
 use Rattle.merge_op.specs.Merged.{news, tables}
 use Rattle.operators.specs.Inputs.{HasKeys, IsCause}
 use Rattle.operators.specs.Operating.{StandsFor}
+use Rattle.tick_laws.specs.Operated.{operated}
+use Rattle.tick_model.specs.Changes.{change_of}
 use Rattle.tick_model.specs.Evaluation.{fault_of, is_source}
 use Rattle.tick_model.specs.States.{tick}
 use Rattle.tick_table.specs.Ticking.{Ticking}
 use Rattle.update_graph.specs.Stands.{HasStepped}
 use Rattle.update_graph.specs.Tags.{node_at}
 use Rattle.update_graph.proofs.Changing.{change_fits, change_lawful}
-use Rattle.update_graph.proofs.Counting.{always, counted_reads, stepped_once}
-use Rattle.update_graph.proofs.StepInputs.{exact_are, has, keys_are, news_are, no_fault, olds_are, own_change, own_fault, own_tick, rows_are, widths_are}
+use Rattle.update_graph.proofs.Counting.{counted_reads, stepped_once}
+use Rattle.update_graph.proofs.StepInputs.{exact_are, has, keys_are, made_change, news_are, no_fault, olds_are, own_change, own_fault, own_tick, own_ticks, rows_are, widths_are}
 use Rattle.update_graph.proofs.work.stepped.Goals as goal
 
 pub step-requires : goal.step-requires
@@ -97,6 +98,16 @@ without_step-requires g c = λ kind e.
     own_fault run c.args.step c.requires.entered n c.requires.node is c.requires.defined (tables c.args.inputs.now) c.requires.inputs c.args.ready.operator.op c.requires.ready.op kind
     (λ table h. subst (λ fault. IsCause fault (fault_of c.args.ready.operator.op table)) e (c.in-Err.ensures.cause table h))
 
+pub returns-in_err-table-in-Ok-clause-reads : goal.returns-in_err-table-in-Ok-clause-reads
+returns-in_err-table-in-Ok-clause-reads g c =
+    let run = c.args.run.now in
+    let n = c.args.node in
+    let all = tables c.args.inputs.now in
+    let is = not-true (is_source (node_at run n)) c.requires.operator in
+    let f = no_fault run c.args.step c.requires.entered n c.requires.node is c.requires.defined all c.requires.inputs c.args.ready.operator.op c.requires.ready.op c.in-Ok.ensures.sound in
+    let own = own_change run c.args.step c.requires.entered n c.requires.node is c.requires.defined all c.requires.inputs c.args.ready.operator.op c.requires.ready.op c.in-Ok.change c.in-Ok.ensures.change f in
+    λ defined. counted_reads run c.args.step n c.args.reads.now c.step.new.reads c.args.ready.operator.op c.args.ready.operator.widths all c.in-Ok.change c.requires.ready.op c.requires.ready.widths c.requires.inputs own c.in-Ok.ensures.reads
+
 pub returns-in_ok-table-in-Ok-clause-reads : goal.returns-in_ok-table-in-Ok-clause-reads
 returns-in_ok-table-in-Ok-clause-reads g c =
     let run = c.args.run.now in
@@ -105,7 +116,16 @@ returns-in_ok-table-in-Ok-clause-reads g c =
     let is = not-true (is_source (node_at run n)) c.requires.operator in
     let f = no_fault run c.args.step c.requires.entered n c.requires.node is c.requires.defined all c.requires.inputs c.args.ready.operator.op c.requires.ready.op c.in-Ok.ensures.sound in
     let own = own_change run c.args.step c.requires.entered n c.requires.node is c.requires.defined all c.requires.inputs c.args.ready.operator.op c.requires.ready.op c.in-Ok.change c.in-Ok.ensures.change f in
-    always c.with_table.result (λ defined. counted_reads run c.args.step n c.args.reads.now c.step.new.reads c.args.ready.operator.op c.args.ready.operator.widths all c.in-Ok.change c.requires.ready.op c.requires.ready.widths c.requires.inputs own c.in-Ok.ensures.reads)
+    λ defined. counted_reads run c.args.step n c.args.reads.now c.step.new.reads c.args.ready.operator.op c.args.ready.operator.widths all c.in-Ok.change c.requires.ready.op c.requires.ready.widths c.requires.inputs own c.in-Ok.ensures.reads
 
 pub returns-in-Err-clause-reads : goal.returns-in-Err-clause-reads
-returns-in-Err-clause-reads g c = on_ok_weaker c.without_step.result (λ undefined defined. absurd (true≢false (sym defined ∙ undefined))) c.without_step.ensures.undefined
+returns-in-Err-clause-reads g c = λ defined.
+    let run = c.args.run.now in
+    let n = c.args.node in
+    let all = tables c.args.inputs.now in
+    let operator = c.args.ready.operator in
+    let ready = c.requires.ready in
+    let is = not-true (is_source (node_at run n)) c.requires.operator in
+    counted_reads run c.args.step n c.args.reads.now c.step.new.reads operator.op operator.widths all (change_of (operated operator.op (tick run c.args.step))) ready.op ready.widths c.requires.inputs
+    (made_change run c.args.step c.requires.entered n c.requires.node is c.requires.defined all c.requires.inputs operator.op ready.op defined)
+    (c.in-Err.ensures.refused (tick run c.args.step) (own_ticks run c.args.step c.requires.entered n c.requires.node is c.requires.defined all c.requires.inputs operator.op ready.op))

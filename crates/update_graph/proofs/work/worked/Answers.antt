@@ -7,7 +7,7 @@ use Rattle.tick_model.specs.Evaluation.{has_table, is_source}
 use Rattle.tick_table.specs.Ticking.{Ticking}
 use Rattle.update_graph.specs.Stands.{AreHanded}
 use Rattle.update_graph.specs.Tags.{node_at}
-use Rattle.update_graph.proofs.Counting.{always, defined_all}
+use Rattle.update_graph.proofs.Counting.{defined_all}
 use Rattle.update_graph.proofs.StepInputs.{defined_inputs, no_input, ok_is, shown_inputs}
 use Rattle.update_graph.proofs.work.worked.Goals as goal
 
@@ -40,4 +40,4 @@ pub returns-in-Ok-Some-clause-none : goal.returns-in-Ok-Some-clause-none
 returns-in-Ok-Some-clause-none g c =
     let handed : AreHanded c.args.shares (Some c.in-Ok-Some.inputs.items) =
     ok_is (λ (found : Option (Vec (Arc Ticking Global) Global)). AreHanded c.args.shares (option_map (λ (all : Vec (Arc Ticking Global) Global). all.items) found)) (c.in-Ok-Some.is ∙ ap Ok c.in-Ok-Some.field-0-is) c.tables_of.ensures in
-    always c.stepped.result (λ none. absurd (defined_all c.args.shares handed.0 none))
+    λ none. absurd (defined_all c.args.shares handed.0 none)

@@ -4,7 +4,7 @@ use lib.ListN.{get_elem?}
 use Rattle.graph_words.specs.declared.graph.Edge.{Edge}
 use Rattle.update_graph.specs.Edges.{comes_from, goes_to, numbers_of}
 use Rattle.update_graph.proofs.Numbered.{more_numbers}
-use Rattle.update_graph.proofs.PlanEdges.{edge_ends, edge_there, few_edges}
+use Rattle.update_graph.proofs.PlanEdges.{edge_ends, item_there, few_edges}
 use Rattle.update_graph.proofs.Walking.{no_edge}
 use Rattle.update_graph.proofs.edges.Edges.of.Goals as goal
 
@@ -25,7 +25,7 @@ add_number-requires c =
     let k = c.loop-number.number in
     let edges = c.as_slice-edges.result.now in
     let same = c.as_slice-edges.ensures.value ∙ c.in_ok-all.ensures in
-    let ends = edge_ends c.args.run.now c.requires k (get_or edges k no_edge) (ap (λ l. get_elem? l k) (sym same) ∙ edge_there edges k no_edge c.loop-number-test.true) in
+    let ends = edge_ends c.args.run.now c.requires k (get_or edges k no_edge) (ap (λ l. get_elem? l k) (sym same) ∙ item_there edges k no_edge c.loop-number-test.true) in
     let below = ends.1 in
     let many = c.loop-number.invariant.inputs_length in
     omega arith
@@ -35,7 +35,7 @@ add_number-requires-in-loop-number c =
     let k = c.loop-number.number in
     let edges = c.as_slice-edges.result.now in
     let same = c.as_slice-edges.ensures.value ∙ c.in_ok-all.ensures in
-    let ends = edge_ends c.args.run.now c.requires k (get_or edges k no_edge) (ap (λ l. get_elem? l k) (sym same) ∙ edge_there edges k no_edge c.loop-number-test.true) in
+    let ends = edge_ends c.args.run.now c.requires k (get_or edges k no_edge) (ap (λ l. get_elem? l k) (sym same) ∙ item_there edges k no_edge c.loop-number-test.true) in
     let upward = ends.0 in
     let below = ends.1 in
     let many = c.loop-number.invariant.outputs_length in

@@ -4,6 +4,8 @@ use Rattle.tick_model.specs.declared.table.PlainTable.{PlainTable}
 use Rattle.tick_model.specs.LawfulRuns.{sources_of}
 use Rattle.tick_model.specs.Tables.{keys}
 use Rattle.update_graph.proofs.Batches.{entered_first, first_sources}
+use Rattle.update_graph.proofs.Counting.{all_within}
+use Rattle.update_graph.proofs.Sweeping.{whole_swept}
 use Rattle.update_graph.proofs.graph.Graph.start.Goals as goal
 
 pub new-requires : goal.new-requires
@@ -17,3 +19,12 @@ finished-requires-clause-entered c = entered_first c.args.run.now c.requires
 
 pub finished-requires-clause-keys : goal.finished-requires-clause-keys
 finished-requires-clause-keys c = c.in_ok-keys.ensures ∙ ap (map (λ (table : PlainTable). keys table.rows)) (sym (first_sources c.args.run.now))
+
+pub finished-requires-clause-swept : goal.finished-requires-clause-swept
+finished-requires-clause-swept c = whole_swept c.args.run.now 0 c.in_ok-sweep.sweep c.requires c.in_ok-sweep.ensures
+
+pub returns-clause-steps : goal.returns-clause-steps
+returns-clause-steps c node within is = (c.in_ok-graph.ensures.stepped node within is).each
+
+pub returns-clause-reads : goal.returns-clause-reads
+returns-clause-reads c = all_within c.args.run.now 0 c.in_ok-graph.graph.reads c.in_ok-graph.ensures.stepped

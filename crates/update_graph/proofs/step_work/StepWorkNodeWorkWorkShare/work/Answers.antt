@@ -1,15 +1,12 @@
 use Rattle.std.proofs.Common.{◌<◌, ◌∙◌, sym, ap, subst, length}
 use lib.ListN.{get_elem?}
-use Rattle.graph_words.specs.declared.table.Mark.TheVariants.{PutBack}
-use Rattle.graph_words.specs.Marks.{at}
 use Rattle.graph_words.specs.Models.{SeatModel}
 use Rattle.update_graph.specs.Crews.{StepView}
 use Rattle.update_graph.specs.Steps.{IsListing, IsWorked}
-use Rattle.update_graph.specs.Tags.{Tag}
+use Rattle.update_graph.specs.Tags.{Kept}
 use Rattle.update_graph.proofs.Claimed.{few_of_step, operator_of_step, small_of_step, step_of_view, within_of_step, work_operator, work_within}
 use Rattle.steal_workers.specs.Lists.{IsListed}
 use Rattle.steal_workers.proofs.Listing.{true_false}
-use Rattle.steal_workers.proofs.Holding.{has_mark}
 use Rattle.update_graph.proofs.CrewNodes.{handing_all, listed_came, listed_others, listed_settled}
 use Rattle.update_graph.proofs.Handing.{begun_taken, worked_is}
 use Rattle.update_graph.proofs.WorkSent.{sent}
@@ -61,11 +58,11 @@ hand_all-requires-clause-below g c e x there =
     let edges = c.requires.meant.edges ∙ sym (ap (λ (v : StepView). v.edges) c.self.view_is) in
     small_of_step c.run-run.result.now plan step e x (ap (λ l. get_elem? l e) edges ∙ there)
 
-pub hand_all-requires-clause-has : goal.hand_all-requires-clause-has
-hand_all-requires-clause-has g c =
+pub hand_all-requires-clause-back : goal.hand_all-requires-clause-back
+hand_all-requires-clause-back g c =
     let plan = c.args.claims.now.plan in
     let worked = worked_is plan c.look.new.seat.view c.begin_node.new.seat.view c.settle_node.new.seat.view c.args.node c.in_ok-work.ensures.begun c.in_ok-share.ensures.view in
-    has_mark (at c.settle_node.new.seat.view.nodes c.args.node) PutBack worked.back tt
+    worked.back
 
 pub hand_all-requires-clause-listed : goal.hand_all-requires-clause-listed
 hand_all-requires-clause-listed g c m there = absurd (true_false (sym (subst (λ l. IsListed l m) c.requires.empty there)))
@@ -74,7 +71,7 @@ pub returns-clause-settled : goal.returns-clause-settled
 returns-clause-settled g c =
     let plan = c.args.claims.now.plan in
     let edges = c.requires.meant.edges ∙ sym (ap (λ (v : StepView). v.edges) c.self.view_is) in
-    let worked = subst (λ (s : SeatModel Tag). IsWorked plan s.view c.settle_node.new.seat.view c.args.node) c.look.ensures.same (worked_is plan c.look.new.seat.view c.begin_node.new.seat.view c.settle_node.new.seat.view c.args.node c.in_ok-work.ensures.begun c.in_ok-share.ensures.view) in
+    let worked = subst (λ (s : SeatModel Kept). IsWorked plan s.view c.settle_node.new.seat.view c.args.node) c.look.ensures.same (worked_is plan c.look.new.seat.view c.begin_node.new.seat.view c.settle_node.new.seat.view c.args.node c.in_ok-work.ensures.begun c.in_ok-share.ensures.view) in
     let listing = subst (λ l. IsListing plan c.settle_node.new.seat.view c.hand_all.new.seat.view c.args.node (length l) c.hand_all.new.ready.nodes.items) (sym edges) (handing_all plan c.settle_node.new.seat.view c.args.node c.args.ready.now.nodes.items c.hand_all.new.seat.view (length c.self.inside.edges.now) c.hand_all.new.ready.nodes.items c.in_ok-hand_all.ensures.handed c.requires.empty) in
     listed_settled plan c.args.node c.args.seat.now.view c.settle_node.new.seat.view c.hand_all.new.seat.view c.hand_all.new.ready.nodes.items c.requires.node worked listing
 
@@ -82,7 +79,7 @@ pub returns-clause-came : goal.returns-clause-came
 returns-clause-came g c =
     let plan = c.args.claims.now.plan in
     let edges = c.requires.meant.edges ∙ sym (ap (λ (v : StepView). v.edges) c.self.view_is) in
-    let worked = subst (λ (s : SeatModel Tag). IsWorked plan s.view c.settle_node.new.seat.view c.args.node) c.look.ensures.same (worked_is plan c.look.new.seat.view c.begin_node.new.seat.view c.settle_node.new.seat.view c.args.node c.in_ok-work.ensures.begun c.in_ok-share.ensures.view) in
+    let worked = subst (λ (s : SeatModel Kept). IsWorked plan s.view c.settle_node.new.seat.view c.args.node) c.look.ensures.same (worked_is plan c.look.new.seat.view c.begin_node.new.seat.view c.settle_node.new.seat.view c.args.node c.in_ok-work.ensures.begun c.in_ok-share.ensures.view) in
     let listing = subst (λ l. IsListing plan c.settle_node.new.seat.view c.hand_all.new.seat.view c.args.node (length l) c.hand_all.new.ready.nodes.items) (sym edges) (handing_all plan c.settle_node.new.seat.view c.args.node c.args.ready.now.nodes.items c.hand_all.new.seat.view (length c.self.inside.edges.now) c.hand_all.new.ready.nodes.items c.in_ok-hand_all.ensures.handed c.requires.empty) in
     listed_came plan c.args.node c.args.seat.now.view c.settle_node.new.seat.view c.hand_all.new.seat.view c.hand_all.new.ready.nodes.items c.requires.node worked listing
 
@@ -90,7 +87,7 @@ pub returns-clause-others : goal.returns-clause-others
 returns-clause-others g c =
     let plan = c.args.claims.now.plan in
     let edges = c.requires.meant.edges ∙ sym (ap (λ (v : StepView). v.edges) c.self.view_is) in
-    let worked = subst (λ (s : SeatModel Tag). IsWorked plan s.view c.settle_node.new.seat.view c.args.node) c.look.ensures.same (worked_is plan c.look.new.seat.view c.begin_node.new.seat.view c.settle_node.new.seat.view c.args.node c.in_ok-work.ensures.begun c.in_ok-share.ensures.view) in
+    let worked = subst (λ (s : SeatModel Kept). IsWorked plan s.view c.settle_node.new.seat.view c.args.node) c.look.ensures.same (worked_is plan c.look.new.seat.view c.begin_node.new.seat.view c.settle_node.new.seat.view c.args.node c.in_ok-work.ensures.begun c.in_ok-share.ensures.view) in
     let listing = subst (λ l. IsListing plan c.settle_node.new.seat.view c.hand_all.new.seat.view c.args.node (length l) c.hand_all.new.ready.nodes.items) (sym edges) (handing_all plan c.settle_node.new.seat.view c.args.node c.args.ready.now.nodes.items c.hand_all.new.seat.view (length c.self.inside.edges.now) c.hand_all.new.ready.nodes.items c.in_ok-hand_all.ensures.handed c.requires.empty) in
     listed_others plan c.args.node c.args.seat.now.view c.settle_node.new.seat.view c.hand_all.new.seat.view c.hand_all.new.ready.nodes.items c.requires.node worked listing
 

@@ -3,7 +3,7 @@ use Rattle.std.proofs.lemmas.Bool.{not-false}
 use Rattle.tick_model.specs.Evaluation.{is_source, source_number}
 use Rattle.update_graph.specs.Tags.{is_operator, node_at, tag}
 use Rattle.update_graph.proofs.Numbering.{filter_same_more, next_source}
-use Rattle.update_graph.proofs.Sweeping.{tags_more}
+use Rattle.update_graph.proofs.Sweeping.{tags_more, works_more}
 use Rattle.update_graph.proofs.sweep.Sweep.put_source.Goals as goal
 
 pub source_at-requires : goal.source_at-requires
@@ -23,7 +23,7 @@ returns c =
     let is = not-false (is_source (node_at c.args.run.now n)) c.requires.source in
     let count = c.len-node.ensures ∙ c.args.self.now.works.ok.0 in
     record {
-      works = tags_more c.args.run.now c.args.step n _ _ c.in_ok-work.work c.in_ok-push.ensures.items c.requires.swept.works (c.in_ok-work.ensures.work ∙ ap (tag c.args.run.now c.args.step) count);
+      works = works_more c.args.run.now c.args.step n _ _ c.in_ok-work.work c.in_ok-push.ensures.items c.requires.swept.works (c.in_ok-work.ensures.work ∙ ap (tag c.args.run.now c.args.step) count);
       shares = tags_more c.args.run.now c.args.step n _ _ c.in_ok-work.share c.in_ok-push-2.ensures.items c.requires.swept.shares (c.in_ok-work.ensures.share ∙ ap (tag c.args.run.now c.args.step) count);
       ran = c.requires.swept.ran ∙ sym (filter_same_more (is_operator c.args.run.now) n c.requires.source);
       sources = ap (λ k. k + 1) c.requires.swept.sources ∙ sym (next_source c.args.run.now.plan.nodes n c.requires.node is);

@@ -5,7 +5,7 @@ use Rattle.tick_laws.specs.Reached.{table_before}
 use Rattle.tick_model.specs.Evaluation.{has_table, inputs_of, table_at}
 use Rattle.tick_model.specs.States.{state}
 use Rattle.update_graph.specs.Stands.{IsKept, IsReady, Stays, is_defined}
-use Rattle.update_graph.specs.Tags.{Tag, op_at, tag}
+use Rattle.update_graph.specs.Tags.{Kept, Tag, op_at, tag}
 use Rattle.update_graph.specs.declared.work.Ready.{Ready}
 use Rattle.update_graph.proofs.EnteredTicks.{all_before}
 use Rattle.update_graph.proofs.work.Work.advance_inside.Goals as goal
@@ -25,18 +25,18 @@ worked-requires-clause-ready g c =
     let kept = subst (λ kept. IsKept i.run.value i.step i.node kept) c.in-Defined.is c.self.invariant in
     subst (λ (ready : Ready). IsReady c.args.run.now (table_before c.args.run.now (i.step + 1)) (i.step + 1) i.node ready.operator ready.table) (sym c.into_inner-ready.ensures)
     (subst (λ m. IsReady c.args.run.now (table_before c.args.run.now m) (i.step + 1) i.node o t) (sym (add-one i.step))
-    (subst (λ run. IsReady run (table_at (state run i.step)) (i.step + 1) i.node o t) (ap (λ (tag : Tag). tag.run) c.self.view_is ∙ c.requires.run) kept.1))
+    (subst (λ run. IsReady run (table_at (state run i.step)) (i.step + 1) i.node o t) (ap (λ (work : Kept). work.run) c.self.view_is ∙ c.requires.run) kept.1))
 
 pub unreachable-requires-in-Failed : goal.unreachable-requires-in-Failed
 unreachable-requires-in-Failed g c =
     let s = c.args.self in
-    let here = subst (λ kept. IsKept s.run s.step s.node kept) c.in-Failed.is (subst (λ (t : Tag). IsKept t.run t.step t.node c.self.inside.state) c.self.view_is c.self.invariant) in
+    let here = subst (λ kept. IsKept s.run s.step s.node kept) c.in-Failed.is (subst (λ (t : Kept). IsKept t.run t.step t.node c.self.inside.state) c.self.view_is c.self.invariant) in
     let has = all_before c.args.run.now s.step c.requires.entered s.node c.requires.node in
     true≢false (sym has ∙ ap (λ run. is_defined run s.step s.node) (sym c.requires.run) ∙ ap has_table here)
 
 pub unreachable-requires-in-Undefined : goal.unreachable-requires-in-Undefined
 unreachable-requires-in-Undefined g c =
     let s = c.args.self in
-    let here = subst (λ kept. IsKept s.run s.step s.node kept) c.in-Undefined.is (subst (λ (t : Tag). IsKept t.run t.step t.node c.self.inside.state) c.self.view_is c.self.invariant) in
+    let here = subst (λ kept. IsKept s.run s.step s.node kept) c.in-Undefined.is (subst (λ (t : Kept). IsKept t.run t.step t.node c.self.inside.state) c.self.view_is c.self.invariant) in
     let has = all_before c.args.run.now s.step c.requires.entered s.node c.requires.node in
     true≢false (sym has ∙ ap (λ run. is_defined run s.step s.node) (sym c.requires.run) ∙ ap has_table here)
