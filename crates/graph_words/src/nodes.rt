@@ -1,6 +1,6 @@
 //! The nodes that a seat has: their works, and offers.
 
-ghost use Rattle.std.specs.Prelude.{◌≡◌, ◌<◌, ◌+◌, ℕ, IsTrue};
+ghost use Rattle.std.specs.Prelude.{◌≡◌, ◌<◌, ◌≤◌, ◌+◌, ℕ, IsTrue};
 ghost use Rattle.graph_words.specs.declared.table.Mark.TheVariants.{Unmarked, Untaken, Taken, PutBack};
 ghost use Rattle.graph_words.specs.Marks.{at, inputs};
 ghost use Rattle.graph_words.specs.Rule.{IsTagged, tags};
@@ -23,6 +23,13 @@ impl<W: Tagged, H: Tagged> Claims<W, H> {
         ensures { result ≡ self.now.plan.nodes }
     {
         self.nodes
+    }
+
+    /// Tells that there are at most 256 nodes. It does nothing.
+    pub fn bound_nodes(&self)
+        ensures { self.now.plan.nodes ≤ 256 }
+    {
+        let _nodes = self.nodes;
     }
 
     /// Takes the work of a node that the seat has, whose work is not taken yet. It is of the step before that of the claims.

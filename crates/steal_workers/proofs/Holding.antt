@@ -14,11 +14,11 @@ use Rattle.graph_words.specs.declared.table.View.{View}
 use Rattle.graph_words.specs.Marks.{IsHadMark, at, either_mark, inputs, put, when}
 use Rattle.graph_words.specs.Models.{SeatModel}
 use Rattle.graph_words.specs.Seats.{Has, IsLateByFrom, IsMarkedByFrom}
-use Rattle.graph_words.specs.Views.{InputsDelivered, IsUntouched, both_views, gets, less_one, mark_node, one_part}
+use Rattle.graph_words.specs.Views.{InputsDelivered, IsUntouched, both_views, gets, mark_node}
 use Rattle.graph_words.proofs.Marks.{at_merge, at_put, at_put_else}
 use Rattle.steal_workers.specs.Lists.{IsListed}
 use Rattle.steal_workers.proofs.Listing.{listed_cases, listed_first, listed_last, listed_where, moved_in, moved_out, true_false}
-use Rattle.steal_workers.specs.Holdings.{AllBack, AllLate, IsGoneOn, IsHeld, IsReady, IsSettled, KeepsOthers, IsJoined, NoNode, OnlyNode, SourcesBack}
+use Rattle.steal_workers.specs.Holdings.{AllBack, AllLate, IsGoneOn, IsHeld, IsReady, IsSettled, KeepsOthers, IsJoined, NoNode, OnlyNode, SourcesBack, less_parts, some_parts}
 
 pub has_mark : (m n : Mark) → m ≡ n → IsHadMark n → IsHadMark m
 has_mark m n e has = subst IsHadMark (sym e) has
@@ -210,12 +210,12 @@ module _ {W : Type 0} (plan : Plan W) where
     taken_back_on eq = subst (IsGoneOn u) (sym eq) record { parts = refl; back = λ m is. same_marks m ∙ is }
 
   -- seats are split and joined
-  pub less_held : (u v : View W) (P : ℕ → Type 0) → IsHeld plan u P → v ≡ less_one u → IsHeld plan v P
-  less_held u v P held eq =
-      subst (λ z. IsHeld plan z P) (sym eq) (held_through u (less_one u) P P held (λ e. refl) (λ e. refl) (λ e. refl) (λ m is. (is, (held.ready m is).untaken)) (λ m has. inr (refl, λ is. is)))
+  pub less_held : (n : ℕ) (u v : View W) (P : ℕ → Type 0) → IsHeld plan u P → v ≡ less_parts n u → IsHeld plan v P
+  less_held n u v P held eq =
+      subst (λ z. IsHeld plan z P) (sym eq) (held_through u (less_parts n u) P P held (λ e. refl) (λ e. refl) (λ e. refl) (λ m is. (is, (held.ready m is).untaken)) (λ m has. inr (refl, λ is. is)))
 
-  pub part_held : (u v : View W) → v ≡ one_part u → IsHeld plan v NoNode
-  part_held u v eq =
+  pub part_held : (n : ℕ) (u v : View W) → v ≡ some_parts n u → IsHeld plan v NoNode
+  part_held n u v eq =
       subst (λ z. IsHeld plan z NoNode) (sym eq) record {
         settled = λ m below has. absurd has;
         ready = λ m is. absurd is;
@@ -264,16 +264,16 @@ module _ {W : Type 0} (plan : Plan W) where
           ready = λ m is. absurd is;
         }
 
-  -- one part of a seat goes to another hand and comes back
-  pub gone_apart : (u v a one two w : View W) → v ≡ less_one u → 1 < u.parts → one ≡ one_part u → IsGoneOn v a → IsGoneOn one two → w ≡ both_views a two → IsGoneOn u w
-  gone_apart u v a one two w cut some_parts part on other sum =
+  -- some parts of a seat go to another hand and come back
+  pub gone_apart : (n : ℕ) (u v a one two w : View W) → v ≡ less_parts n u → n < u.parts → one ≡ some_parts n u → IsGoneOn v a → IsGoneOn one two → w ≡ both_views a two → IsGoneOn u w
+  gone_apart n u v a one two w cut enough part on other sum =
       let mine = on.parts in
       let theirs = other.parts in
-      let less : v.parts ≡ u.parts - 1 = ap (λ (z : View W). z.parts) cut in
-      let single : one.parts ≡ 1 = ap (λ (z : View W). z.parts) part in
+      let less : v.parts ≡ u.parts - n = ap (λ (z : View W). z.parts) cut in
+      let given : one.parts ≡ n = ap (λ (z : View W). z.parts) part in
       let all : w.parts ≡ a.parts + two.parts = ap (λ (z : View W). z.parts) sum in
       record {
-        parts = omega (arith, less, some_parts, single, mine, theirs, all);
+        parts = omega (arith, less, enough, given, mine, theirs, all);
         back = λ m is.
             let kept = on.back m (ap (λ (z : View W). at z.nodes m) cut ∙ is) in
             ap (λ (z : View W). at z.nodes m) sum ∙ at_merge a.nodes two.nodes m ∙ ap (λ k. either_mark k (at two.nodes m)) kept;
@@ -286,11 +286,11 @@ module _ {W : Type 0} (plan : Plan W) where
       joined_held told.0.view told.1.view (subst (λ r. IfOk r (λ (t : SeatModel W). IsHeld plan t.view NoNode)) told.2 mine) (subst (λ r. IfOk r (λ (t : SeatModel W). IsHeld plan t.view NoNode)) told.3 theirs) told.4 told.5 s.view told.6
   joined_result_held one other (Err e) mine theirs told = tt
 
-  pub joined_result_on : {E : Type 0} → (u v part : View W) (one other result : Result (SeatModel W) E) → v ≡ less_one u → 1 < u.parts → part ≡ one_part u → IfOk one (λ (s : SeatModel W). IsGoneOn v s.view) → IfOk other (λ (s : SeatModel W). IsGoneOn part s.view)
+  pub joined_result_on : {E : Type 0} → (n : ℕ) (u v part : View W) (one other result : Result (SeatModel W) E) → v ≡ less_parts n u → n < u.parts → part ≡ some_parts n u → IfOk one (λ (s : SeatModel W). IsGoneOn v s.view) → IfOk other (λ (s : SeatModel W). IsGoneOn part s.view)
       → IfOk result (IsJoined plan one other) → IfOk result (λ (s : SeatModel W). IsGoneOn u s.view)
-  joined_result_on u v part one other (Ok s) cut some_parts single mine theirs told =
-      gone_apart u v told.0.view part told.1.view s.view cut some_parts single (subst (λ r. IfOk r (λ (t : SeatModel W). IsGoneOn v t.view)) told.2 mine) (subst (λ r. IfOk r (λ (t : SeatModel W). IsGoneOn part t.view)) told.3 theirs) told.6
-  joined_result_on u v part one other (Err e) cut some_parts single mine theirs told = tt
+  joined_result_on n u v part one other (Ok s) cut enough given mine theirs told =
+      gone_apart n u v told.0.view part told.1.view s.view cut enough given (subst (λ r. IfOk r (λ (t : SeatModel W). IsGoneOn v t.view)) told.2 mine) (subst (λ r. IfOk r (λ (t : SeatModel W). IsGoneOn part t.view)) told.3 theirs) told.6
+  joined_result_on n u v part one other (Err e) cut enough given mine theirs told = tt
 
   -- a node that was worked
   module _ (u v : View W) (node : ℕ) (found : List ℕ) (P : ℕ → Type 0) (absent : P node → ⊥) (before : IsHeld plan u (λ m. (m ≡ node) ⊎ P m))

@@ -5,11 +5,12 @@
 --     IsHeld plan view P      the nodes of P are ready, and every other node that the seat has is settled
 --     KeepsOthers plan old new node came      the other nodes that the seat had are as before, and it has none but those and the ones that came
 --     IsGoneOn old new      the seat has no other parts, and what it had put back is put back
+--     less_parts n view, some_parts n view      the view without so many of its parts, and a view of so many parts that has no node
 --     IsJoined plan one other seat      both are seats, and this seat has all that they have
 --     SourcesBack plan view      the work of each node without input edges is put back
 --     AllBack plan view      the work of each node is put back
 --     AllLate plan view      each edge was handed on after the work of its `from` node was put back
-use Rattle.std.specs.Prelude.{◌≡◌, ◌≢◌, ◌⊎◌, ℕ, ◌+◌, ◌<◌, List, Result, Ok}
+use Rattle.std.specs.Prelude.{◌≡◌, ◌≢◌, ◌⊎◌, ℕ, ◌+◌, ◌-◌, ◌<◌, List, Result, Ok}
 use mathlib.Core.Option.{some}
 use lib.ListN.{get_elem?}
 use Rattle.graph_words.specs.declared.graph.Edge.{Edge}
@@ -20,7 +21,7 @@ use Rattle.graph_words.specs.Marks.{at, inputs}
 use Rattle.graph_words.specs.Rule.{Tags}
 use Rattle.graph_words.specs.Seats.{AtEdge, Has, IsLateByFrom, IsMarkedByFrom}
 use Rattle.graph_words.specs.Models.{SeatModel}
-use Rattle.graph_words.specs.Views.{IsUntouched, both_views}
+use Rattle.graph_words.specs.Views.{IsUntouched, both_views, one_part}
 use Rattle.steal_workers.specs.Lists.{IsListed}
 
 -- no node
@@ -68,6 +69,12 @@ module _ {W : Type 0} where
 
   abbrev pub AllLate : Plan W → View W → Type 0
   AllLate plan view = (e : ℕ) → AtEdge plan e (λ x. at view.late e ≡ Delivered)
+
+  abbrev pub less_parts : ℕ → View W → View W
+  less_parts n view = record view { parts = view.parts - n }
+
+  abbrev pub some_parts : ℕ → View W → View W
+  some_parts n view = record (one_part view) { parts = n }
 
   abbrev pub IsJoined : {E : Type 0} → Plan W → Result (SeatModel W) E → Result (SeatModel W) E → SeatModel W → Type 0
   IsJoined plan one other seat = (a : SeatModel W) × (b : SeatModel W) × (one ≡ Ok a) × (other ≡ Ok b) × IsMarkedByFrom plan a.view × IsLateByFrom plan a.view × (seat.view ≡ both_views a.view b.view)

@@ -353,7 +353,8 @@ pub(crate) fn work_node<W: Tagged, H: Tagged, N: NodeWork<W, H>>(
     Ok(())
 }
 
-/// Works a node that the hand has, and passes on what that makes ready. How many nodes it put on offer.
+/// Works a node that the hand has, and passes on what that makes ready. How many nodes it put on offer. Where memory runs out, the
+/// others do not look for nodes that it would have made ready.
 fn work_one<W: Tagged, H: Tagged, N: NodeWork<W, H>>(
     claims: &Claims<W, H>,
     seat: &mut ClaimSeat<W, H>,
@@ -373,41 +374,47 @@ fn work_one<W: Tagged, H: Tagged, N: NodeWork<W, H>>(
     ensures hand { hand_mark hand.new ≡ hand_mark hand.old }
 {
     let mut found = Ready::new();
-    work_node(claims, seat, work, node, kept, &mut found)?;
-    progress.count();
+    match work_node(claims, seat, work, node, kept, &mut found) {
+        Ok(()) => progress.count(),
+        Err(error) => {
+            progress.end();
+            return Err(error);
+        }
+    }
     Ok(pass_on(claims, seat, &mut hand.own, &mut found, kept))
 }
 
-/// Looks for a node with the other hands, and works it. How many nodes there are for another hand: those that it put on offer, or
-/// one, since the others have more than they work. None where it finds no node.
-fn work_found<W: Tagged, H: Tagged, N: NodeWork<W, H>>(
+/// Whether a hand has a node: one that it has kept, or else one that it finds, which it keeps then.
+pub(crate) fn has_node<W: Tagged, H: Tagged>(
     claims: &Claims<W, H>,
     seat: &mut ClaimSeat<W, H>,
-    work: &N,
     hand: &mut Hand,
     kept: &mut Ready,
     progress: &Progress,
-) -> Result<u64, AllocError>
-    requires meant { IsFor (tags W.run W.node W.step) (N.run work.now) (N.step work.now) (N.edges work.now) claims.now.plan }
+) -> bool
     requires of { IsSeatOf claims.now seat.old }
-    requires held { IsHeld claims.now.plan seat.old.view NoNode }
-    requires empty { kept.old.nodes.items ≡ [] }
-    ensures of { OnOk result (IsSeatOf claims.now seat.new) }
-    ensures held { OnOk result (IsHeld claims.now.plan seat.new.view (IsListed kept.new.nodes.items)) }
-    ensures on { OnOk result (IsGoneOn seat.old.view seat.new.view) }
+    requires held { IsHeld claims.now.plan seat.old.view (IsListed kept.old.nodes.items) }
+    ensures of { IsSeatOf claims.now seat.new }
+    ensures held { IsHeld claims.now.plan seat.new.view (IsListed kept.new.nodes.items) }
+    ensures none { result ≡ false → IsHeld claims.now.plan seat.new.view NoNode }
+    ensures on { IsGoneOn seat.old.view seat.new.view }
     ensures hand { hand_mark hand.new ≡ hand_mark hand.old }
 {
+    if !kept.nodes().is_empty() {
+        return true;
+    }
     match look_for_node(claims, seat, hand, progress) {
         Some(node) => {
-            let offered = work_one(claims, seat, work, node, hand, kept, progress)?;
-            Ok(offered.max(1))
+            claims.bound_nodes();
+            kept.add(node);
+            true
         }
-        None => Ok(0),
+        None => false,
     }
 }
 
 /// Works nodes until there are some for another hand, or until the hand has no node and finds none. How many there are for another
-/// hand.
+/// hand: those that it put on offer, or one where it found a node, since the others have more than they work.
 pub(crate) fn work_seat<W: Tagged, H: Tagged, N: NodeWork<W, H>>(
     claims: &Claims<W, H>,
     seat: &mut ClaimSeat<W, H>,
@@ -432,7 +439,7 @@ pub(crate) fn work_seat<W: Tagged, H: Tagged, N: NodeWork<W, H>>(
                     return Ok(offered);
                 }
             }
-            None => return work_found(claims, seat, work, hand, kept, progress),
+            None => return Ok(u64::from(has_node(claims, seat, hand, kept, progress))),
         }
     }
     Ok(0)

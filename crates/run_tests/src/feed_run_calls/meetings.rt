@@ -34,7 +34,7 @@ struct Meeting {
 /// Nobody has this number.
 const NOBODY: Hold = (1000, 0);
 
-const MEETINGS: [Meeting; 5] = [
+const MEETINGS: [Meeting; 6] = [
     // Two workers work two nodes at once.
     Meeting {
         words: "run s f --workers 2",
@@ -74,6 +74,16 @@ const MEETINGS: [Meeting; 5] = [
         step: 1,
         holds: [(2, 0b1000), NOBODY, NOBODY],
         count: 1,
+    },
+    // The first worker is held in `q` until the two nodes have come that `p` makes ready at another, which needs a third.
+    Meeting {
+        words: "run s f --workers 3",
+        script: "table t x:long\np = where t x > 0\nq = where t x > 1\nr = where p x > 2\ns = where p x > 3\n",
+        feed: "t,t\na,0,5\n.\n",
+        text: "done,1\n",
+        step: 1,
+        holds: [(2, 0b11000), (3, 0b11000), (4, 0b11000)],
+        count: 3,
     },
     // The caller is held until a node of step 1 has come, and the node until the caller has its snapshot: that of step 0.
     Meeting {
