@@ -1,4 +1,4 @@
-use Rattle.std.proofs.Common.{rules, ◌≡◌, ◌+◌, ◌-◌, ◌<◌, ap, arith, ◌∙◌}
+use Rattle.std.proofs.Common.{rules, ◌≡◌, ◌+◌, ◌-◌, ap, arith, ◌∙◌}
 use Rattle.graph_words.specs.declared.table.View.{View}
 use Rattle.steal_workers.specs.Holdings.{less_parts}
 use Rattle.steal_workers.proofs.team.split_parts.Goals as goal
