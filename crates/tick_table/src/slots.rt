@@ -116,7 +116,8 @@ impl Slots {
         !self.free.is_empty()
     }
 
-    /// Puts the cells of rows, one row after the other, into new slots, and gives these. After a refusal all is as it was.
+    /// Puts the cells of rows, one row after the other, into new slots, and gives these, with room for a quarter more behind them:
+    /// the rows that come next then find it. After a refusal all is as it was.
     pub(crate) fn open_all(&mut self, count: usize, rows: &[i64]) -> Result<Vec<usize>, AllocError>
         requires { length rows.now ≡ count * self.old.width }
         ensures slots { IfOk result (λ slots. slots.items ≡ range_with_len (length self.old.rows) count) }
@@ -126,6 +127,8 @@ impl Slots {
         ensures refused { OnErr result (self.new ≡ self.old) }
     {
         let slots = slots_from(*self.cells.allocator(), self.count, count)?;
+        self.cells
+            .reserve(rows.len().saturating_add(rows.len() / 4))?;
         self.cells.extend_from_slice(rows)?;
         self.count += count;
         Ok(slots)

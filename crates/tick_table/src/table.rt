@@ -1,7 +1,6 @@
 //! The table itself: what it is made of, what it answers and how a change is applied.
 
 ghost use Rattle.std.specs.Prelude.{◌++◌, ◌≡◌, ◌+◌, ◌*◌, ◌^◌, ◌<◌, ◌≤◌, IsTrue, None, false, length, map, slice_index, IfOk, OnErr, OnOk};
-ghost use Rattle.std.specs.List.{AllByRecursion};
 ghost use Rattle.key_lists.specs.Keys.{is_among};
 ghost use Rattle.table_update.specs.Kept.{old_modified};
 ghost use Rattle.tick_model.specs.Changes.{change_of, changed, told_keys};
@@ -128,27 +127,6 @@ impl TickTable {
     {
         reads.tick();
         self.row_now(key)[column as usize]
-    }
-
-    /// Puts the cells of a row now in some of the columns behind others. Each is one read, and the row is searched for once.
-    pub fn put_cells<L: Ledger>(
-        &self,
-        columns: &[u32],
-        key: u64,
-        cells: &mut Vec<i64>,
-        reads: &mut Steps<L>,
-    ) -> Result<(), AllocError>
-        requires columns { AllByRecursion (λ column. column < self.now.new.width) columns.now }
-        requires here { IsTrue (is_among key (keys self.now.new.rows)) }
-        ensures cells { OnOk result (cells.new.items ≡ cells.old.items ++ map (cell_of (cells_at key self.now.new.rows)) columns.now) }
-        ensures reads { OnOk result (reads.new ≡ reads.old + length columns.now) }
-    {
-        let row = self.row_now(key);
-        for column in columns {
-            reads.tick();
-            cells.push(row[*column as usize])?;
-        }
-        Ok(())
     }
 
     /// The cell that a row had before the step. It is one read.

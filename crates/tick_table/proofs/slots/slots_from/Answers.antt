@@ -1,5 +1,4 @@
-use Rattle.std.proofs.Common.{◌+◌}
-use Rattle.std.proofs.Common.{◌∙◌, ◌++◌, ◌∷◌, [], ap, sym}
+use Rattle.std.proofs.Common.{ap, sym, ◌∙◌, ◌+◌, ◌++◌, ◌∷◌, []}
 use Rattle.key_lists.proofs.Ranges.{range_last}
 use Rattle.tick_table.proofs.slots.slots_from.Goals as goal
 

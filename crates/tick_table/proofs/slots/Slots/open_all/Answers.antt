@@ -21,7 +21,7 @@ overflow_add-self c =
 pub invariant_of-self-2 : goal.invariant_of-self-2
 invariant_of-self-2 c =
     let s = c.self.inside in
-    subst (λ (cells : List ℤ). IsSlotList s.width (s.count + c.args.count) cells s.free.items) (sym c.in_ok-extend_from_slice.ensures.items)
+    subst (λ (cells : List ℤ). IsSlotList s.width (s.count + c.args.count) cells s.free.items) (sym (c.in_ok-extend_from_slice.ensures.items ∙ ap (λ cells. cells ++ c.args.rows.now) c.in_ok-reserve.ensures.items))
     (more_slots s.width s.count c.args.count s.cells.items c.args.rows.now s.free.items c.self.invariant (c.requires ∙ sym (ap (λ (slots : SlotCells). c.args.count * slots.width) c.self.view_is)))
 
 pub returns-clause-slots : goal.returns-clause-slots
@@ -32,6 +32,6 @@ returns-clause-slots c =
 pub returns-clause-rows : goal.returns-clause-rows
 returns-clause-rows c =
     let s = c.self.inside in
-    ap (slot_list s.width (s.count + c.args.count)) c.in_ok-extend_from_slice.ensures.items
+    ap (slot_list s.width (s.count + c.args.count)) (c.in_ok-extend_from_slice.ensures.items ∙ ap (λ cells. cells ++ c.args.rows.now) c.in_ok-reserve.ensures.items)
     ∙ slot_list-append s.width s.count c.args.count s.cells.items c.args.rows.now c.self.invariant.whole
     ∙ ap (λ (slots : SlotCells). slots.rows ++ slot_list slots.width c.args.count c.args.rows.now) c.self.view_is
