@@ -117,7 +117,7 @@ module _ {W H : Type 0} (key : Plan W) (s : State (Slot W H) (View W)) where
   IsInOneState = (n : ℕ) → n < key.nodes → IsWaiting n ⊎ (IsOnOffer n ⊎ IsHadBySeat n)
 
 module _ {R W H : Type 0} (tw : Tags R W) (th : Tags R H) (key : Plan W) (s : State (Slot W H) (View W)) where
-  -- The slot of a node that no seat has is there, with the work of the step before. Else the mark that a seat has of the node tells what is in it.
+  -- The slot of a node that no seat has is there, with the work that was given for the node. Else the mark that a seat has of the node tells what is in it.
   abbrev pub WorksLie : Type 0
   WorksLie = (n : ℕ) → n < key.nodes → (node_seen s.views n ≡ Unmarked → Home tw th key (OldWork tw th key n) (get_elem? s.homes n)) × (IsHadMark (node_seen s.views n) → (q : ℕ) × MarkHome tw th key n q (node_seen s.views n) (get_elem? s.homes n))
 

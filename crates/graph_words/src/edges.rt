@@ -23,7 +23,7 @@ impl<W: Tagged, H: Tagged> Claims<W, H> {
         requires edge { edge < length self.now.plan.edges.items }
         requires from { AtEdge self.now.plan edge (λ x. Has seat.old.view x.from) }
         requires fresh { at seat.old.view.outs edge ≡ Unmarked }
-        requires tag { AtEdge self.now.plan edge (λ x. IsTagged (tags H.run H.node H.step) (W.run self.now.plan.first.value) x.from (W.step self.now.plan.first.value + 1) share) }
+        requires tag { AtEdge self.now.plan edge (λ x. IsTagged (tags H.run H.node H.step H.follows) (W.run self.now.plan.first.value) x.from (W.step self.now.plan.first.value + 1) share) }
         ensures of { IsSeatOf self.now seat.new }
         ensures view { AtEdge self.now.plan edge (λ x. seat.new.view ≡ gets result x.to (mark_out seat.old.view edge Delivered)) }
         ensures fresh { AtEdge self.now.plan edge (λ x. (at seat.old.view.nodes x.to ≡ Unmarked) × IsUntouched self.now.plan seat.old.view x.to) }
@@ -47,7 +47,7 @@ impl<W: Tagged, H: Tagged> Claims<W, H> {
         requires edge { edge < length self.now.plan.edges.items }
         requires from { AtEdge self.now.plan edge (λ x. at seat.old.view.nodes x.from ≡ PutBack) }
         requires fresh { at seat.old.view.outs edge ≡ Unmarked }
-        requires tag { AtEdge self.now.plan edge (λ x. IsTagged (tags H.run H.node H.step) (W.run self.now.plan.first.value) x.from (W.step self.now.plan.first.value + 1) share) }
+        requires tag { AtEdge self.now.plan edge (λ x. IsTagged (tags H.run H.node H.step H.follows) (W.run self.now.plan.first.value) x.from (W.step self.now.plan.first.value + 1) share) }
         ensures of { IsSeatOf self.now seat.new }
         ensures view { AtEdge self.now.plan edge (λ x. seat.new.view ≡ gets result x.to (mark_out (mark_late seat.old.view edge Delivered) edge Delivered)) }
         ensures fresh { AtEdge self.now.plan edge (λ x. (at seat.old.view.nodes x.to ≡ Unmarked) × IsUntouched self.now.plan seat.old.view x.to) }
@@ -68,7 +68,7 @@ impl<W: Tagged, H: Tagged> Claims<W, H> {
         requires fresh { at seat.old.view.ins edge ≡ Unmarked }
         ensures of { IsSeatOf self.now seat.new }
         ensures view { seat.new.view ≡ mark_in seat.old.view edge Taken }
-        ensures tag { AtEdge self.now.plan edge (λ x. IsTagged (tags H.run H.node H.step) (W.run self.now.plan.first.value) x.from (W.step self.now.plan.first.value + 1) result) }
+        ensures tag { AtEdge self.now.plan edge (λ x. IsTagged (tags H.run H.node H.step H.follows) (W.run self.now.plan.first.value) x.from (W.step self.now.plan.first.value + 1) result) }
     {
         let table = &self.table.shared;
         let slot = self.nodes as usize + edge as usize;

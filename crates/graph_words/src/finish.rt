@@ -5,7 +5,7 @@ ghost use mathlib.Core.Option.{some};
 ghost use lib.ListN.{get_elem?};
 ghost use Rattle.graph_words.specs.declared.table.Mark.TheVariants.{Drawn, PutBack};
 ghost use Rattle.graph_words.specs.Marks.{at};
-ghost use Rattle.graph_words.specs.Rule.{IsTagged, tags};
+ghost use Rattle.graph_words.specs.Rule.{FollowsGiven, IsTagged, tags};
 ghost use Rattle.graph_words.specs.Seats.{HasEachOnce, IsAfterInputs, IsSeatOf};
 
 use crate::claims::{ClaimSeat, Claims};
@@ -14,13 +14,14 @@ use crate::table::Slot;
 use std::alloc::AllocError;
 
 impl<W: Tagged, H: Tagged> Claims<W, H> {
-    /// Gives the works back, in order of the nodes. Each names the run, its node and the step of the claims. The seat is one
-    /// that has every node, with each work put back.
+    /// Gives the works back, in order of the nodes. Each names the run, its node and the step of the claims, and follows the one
+    /// that was given for the node. The seat is one that has every node, with each work put back.
     pub fn finish(self, seat: ClaimSeat<W, H>) -> Result<Vec<W>, AllocError>
         requires of { IsSeatOf self seat }
         requires all { (n : ℕ) → n < self.plan.nodes → at seat.view.nodes n ≡ PutBack }
         ensures len { IfOk result (λ works. vec_len works ≡ self.plan.nodes) }
-        ensures tags { IfOk result (λ works. (n : ℕ) (w : _) → get_elem? works.items n ≡ some w → IsTagged (tags W.run W.node W.step) (W.run self.plan.first.value) n (W.step self.plan.first.value + 1) w) }
+        ensures tags { IfOk result (λ works. (n : ℕ) (w : _) → get_elem? works.items n ≡ some w → IsTagged (tags W.run W.node W.step W.follows) (W.run self.plan.first.value) n (W.step self.plan.first.value + 1) w) }
+        ensures follows { IfOk result (λ works. (n : ℕ) (w : _) → get_elem? works.items n ≡ some w → FollowsGiven W.follows self.plan n w) }
     {
         let (works, order) = self.finish_in_order(seat)?;
         drop(order);
@@ -33,7 +34,8 @@ impl<W: Tagged, H: Tagged> Claims<W, H> {
         requires of { IsSeatOf self seat }
         requires all { (n : ℕ) → n < self.plan.nodes → at seat.view.nodes n ≡ PutBack }
         ensures len { IfOk result (λ t. vec_len t.0 ≡ self.plan.nodes) }
-        ensures tags { IfOk result (λ t. (n : ℕ) (w : _) → get_elem? t.0.items n ≡ some w → IsTagged (tags W.run W.node W.step) (W.run self.plan.first.value) n (W.step self.plan.first.value + 1) w) }
+        ensures tags { IfOk result (λ t. (n : ℕ) (w : _) → get_elem? t.0.items n ≡ some w → IsTagged (tags W.run W.node W.step W.follows) (W.run self.plan.first.value) n (W.step self.plan.first.value + 1) w) }
+        ensures follows { IfOk result (λ t. (n : ℕ) (w : _) → get_elem? t.0.items n ≡ some w → FollowsGiven W.follows self.plan n w) }
         ensures tickets { IfOk result (λ t. (n q : ℕ) → n < self.plan.nodes → at seat.view.tickets n ≡ Drawn q → get_elem? t.1.items q ≡ some n) }
         ensures once { IfOk result (λ t. HasEachOnce self.plan.nodes t.1.items) }
         ensures inputs { IfOk result (λ t. IsAfterInputs self.plan seat.view t.1.items) }

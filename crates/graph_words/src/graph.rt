@@ -1,6 +1,6 @@
 //! Graphs, and the values that claims hand over.
 
-ghost use Rattle.std.specs.Prelude.{ℕ};
+ghost use Rattle.std.specs.Prelude.{ℕ, ⊤};
 ghost use Rattle.tick_model.specs.declared.feed.Run.{Run};
 
 use std::snapshot::Snapshot;
@@ -16,20 +16,24 @@ pub struct Edge {
     pub port: u32,
 }
 
-/// A value that belongs to a node at a step of a run. The names are for contracts alone.
+/// A value that belongs to a node at a step of a run, and what it may become in the next step. All of it is for contracts alone.
 pub trait Tagged: Send + Drop {
     ghost run: { Self → Run };
 
     ghost node: { Self → ℕ };
 
     ghost step: { Self → ℕ };
+
+    /// The second is what the first may become in one step.
+    ghost follows: { Self → Self → Type 0 } = { λ _ _. ⊤ };
 }
 
-/// What claims are made for: a graph, and the first node's work, whose run and step are those of all works. The step of
-/// the claims is the one after it.
+/// What claims are made for: a graph and the works that were given, in order of the nodes. The first work's run and step are
+/// those of all works, and the step of the claims is the one after it.
 #[derive(Drop)]
 pub struct Plan<W> {
     pub first: Snapshot<W>,
+    pub works: Snapshot<Vec<W>>,
     pub nodes: u32,
     pub edges: Vec<Edge>,
 }

@@ -45,16 +45,17 @@ pub fn marks_go_with_nodes<W: Tagged, H: Tagged>()
     ensures to { (plan : Plan W) (s : State (Slot W H) (View W)) → ⟦<ClaimRule as TableRule<Slot<W, H>, View<W>, Plan<W>>>⟧.holds plan s → OfEach s.views (IsMarkedByTo plan) }
 {}
 
-/// The slot of a node has the work of the step before until a seat that has the node takes it, nothing until that seat puts
-/// it back, and then the work of this step and the ticket that was drawn for the node.
+/// The slot of a node has the work that was given for it, of the step before, until a seat that has the node takes it, nothing
+/// until that seat puts it back, and then the work of this step, which follows the one that was given, and the ticket that was
+/// drawn for the node.
 pub fn works_lie_in_slots<W: Tagged, H: Tagged>()
-    ensures { (plan : Plan W) (s : State (Slot W H) (View W)) → ⟦<ClaimRule as TableRule<Slot<W, H>, View<W>, Plan<W>>>⟧.holds plan s → WorksLie (tags W.run W.node W.step) (tags H.run H.node H.step) plan s }
+    ensures { (plan : Plan W) (s : State (Slot W H) (View W)) → ⟦<ClaimRule as TableRule<Slot<W, H>, View<W>, Plan<W>>>⟧.holds plan s → WorksLie (tags W.run W.node W.step W.follows) (tags H.run H.node H.step H.follows) plan s }
 {}
 
 /// The slot of an edge is empty until the edge is delivered, has a share of this step from `from` then, and is empty once the
 /// share is taken. It is out only where a seat has it in hand.
 pub fn shares_lie_in_slots<W: Tagged, H: Tagged>()
-    ensures { (plan : Plan W) (s : State (Slot W H) (View W)) → ⟦<ClaimRule as TableRule<Slot<W, H>, View<W>, Plan<W>>>⟧.holds plan s → SharesLie (tags W.run W.node W.step) (tags H.run H.node H.step) plan s }
+    ensures { (plan : Plan W) (s : State (Slot W H) (View W)) → ⟦<ClaimRule as TableRule<Slot<W, H>, View<W>, Plan<W>>>⟧.holds plan s → SharesLie (tags W.run W.node W.step W.follows) (tags H.run H.node H.step H.follows) plan s }
 {}
 
 /// The parts of all seats are 1,024 together. A seat that has a node has a part, and it has the plan exactly where it has a

@@ -3,7 +3,7 @@
 ghost use Rattle.std.specs.Prelude.{◌≡◌, ◌<◌, ◌≤◌, ◌+◌, ℕ, IsTrue};
 ghost use Rattle.graph_words.specs.declared.table.Mark.TheVariants.{Unmarked, Untaken, Taken, PutBack};
 ghost use Rattle.graph_words.specs.Marks.{at, inputs};
-ghost use Rattle.graph_words.specs.Rule.{IsTagged, tags};
+ghost use Rattle.graph_words.specs.Rule.{FollowsGiven, IsGiven, IsTagged, tags};
 ghost use Rattle.graph_words.specs.Views.{mark_node, mark_ticket, gets, tells, InputsDelivered, IsUntouched};
 ghost use Rattle.graph_words.specs.Seats.{IsSeatOf, Has};
 
@@ -32,14 +32,16 @@ impl<W: Tagged, H: Tagged> Claims<W, H> {
         let _nodes = self.nodes;
     }
 
-    /// Takes the work of a node that the seat has, whose work is not taken yet. It is of the step before that of the claims.
+    /// Takes the work of a node that the seat has, whose work is not taken yet. It is the one that was given for the node, of the
+    /// step before that of the claims.
     pub fn take_work(&self, seat: &mut ClaimSeat<W, H>, node: u32) -> W
         requires of { IsSeatOf self.now seat.old }
         requires node { node < self.now.plan.nodes }
         requires whole { at seat.old.view.nodes node ≡ Untaken }
         ensures of { IsSeatOf self.now seat.new }
         ensures view { seat.new.view ≡ mark_node seat.old.view node Taken }
-        ensures tag { IsTagged (tags W.run W.node W.step) (W.run self.now.plan.first.value) node (W.step self.now.plan.first.value) result }
+        ensures tag { IsTagged (tags W.run W.node W.step W.follows) (W.run self.now.plan.first.value) node (W.step self.now.plan.first.value) result }
+        ensures given { IsGiven self.now.plan node result }
     {
         let table = &self.table.shared;
         table.load::<LiftWork>(&mut seat.seat, node as usize);
@@ -56,7 +58,8 @@ impl<W: Tagged, H: Tagged> Claims<W, H> {
         requires of { IsSeatOf self.now seat.old }
         requires node { node < self.now.plan.nodes }
         requires taken { at seat.old.view.nodes node ≡ Taken }
-        requires tag { IsTagged (tags W.run W.node W.step) (W.run self.now.plan.first.value) node (W.step self.now.plan.first.value + 1) work }
+        requires tag { IsTagged (tags W.run W.node W.step W.follows) (W.run self.now.plan.first.value) node (W.step self.now.plan.first.value + 1) work }
+        requires follows { FollowsGiven W.follows self.now.plan node work }
         ensures of { IsSeatOf self.now seat.new }
         ensures view { seat.new.view ≡ tells T.told node result (mark_node seat.old.view node PutBack) }
     {
@@ -72,12 +75,13 @@ impl<W: Tagged, H: Tagged> Claims<W, H> {
 
     /// Puts the work of a node back for the next step, with a ticket that no other node has: tickets rise from 0 by one, in the
     /// order in which they are drawn. The seat has taken the node's work and not put it back, and the work is of the step of
-    /// the claims.
+    /// the claims and follows the one that was given for the node.
     pub fn put_back(&self, seat: &mut ClaimSeat<W, H>, node: u32, work: W)
         requires of { IsSeatOf self.now seat.old }
         requires node { node < self.now.plan.nodes }
         requires taken { at seat.old.view.nodes node ≡ Taken }
-        requires tag { IsTagged (tags W.run W.node W.step) (W.run self.now.plan.first.value) node (W.step self.now.plan.first.value + 1) work }
+        requires tag { IsTagged (tags W.run W.node W.step W.follows) (W.run self.now.plan.first.value) node (W.step self.now.plan.first.value + 1) work }
+        requires follows { FollowsGiven W.follows self.now.plan node work }
         ensures of { IsSeatOf self.now seat.new }
         ensures view { seat.new.view ≡ mark_node seat.old.view node PutBack }
     {
@@ -90,7 +94,8 @@ impl<W: Tagged, H: Tagged> Claims<W, H> {
         requires of { IsSeatOf self.now seat.old }
         requires node { node < self.now.plan.nodes }
         requires taken { at seat.old.view.nodes node ≡ Taken }
-        requires tag { IsTagged (tags W.run W.node W.step) (W.run self.now.plan.first.value) node (W.step self.now.plan.first.value + 1) work }
+        requires tag { IsTagged (tags W.run W.node W.step W.follows) (W.run self.now.plan.first.value) node (W.step self.now.plan.first.value + 1) work }
+        requires follows { FollowsGiven W.follows self.now.plan node work }
         ensures of { IsSeatOf self.now seat.new }
         ensures view { seat.new.view ≡ mark_ticket (mark_node seat.old.view node PutBack) node result }
     {

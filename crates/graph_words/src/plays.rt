@@ -14,7 +14,7 @@ impl<W: Tagged, H: Tagged> TableRule<Slot<W, H>, View<W>, Plan<W>> for ClaimRule
     ghost use Rattle.graph_words.specs.Rule.{KeepsRule, tags};
     ghost use Rattle.graph_words.specs.Views.{first_view};
 
-    ghost holds = { λ k s. KeepsRule (tags W.run W.node W.step) (tags H.run H.node H.step) k s };
+    ghost holds = { λ k s. KeepsRule (tags W.run W.node W.step W.follows) (tags H.run H.node H.step H.follows) k s };
 
     ghost first = { λ k. first_view k };
 }
@@ -152,7 +152,7 @@ impl<W: Tagged, H: Tagged> Play<Slot<W, H>, View<W>> for LiftWork {
     ghost use Rattle.graph_words.specs.Rule.{tags};
     ghost use Rattle.graph_words.specs.Plays.{lifts_work};
 
-    ghost then = { lifts_work (tags W.run W.node W.step) (tags H.run H.node H.step) };
+    ghost then = { lifts_work (tags W.run W.node W.step W.follows) (tags H.run H.node H.step H.follows) };
 }
 
 /// Lifts the slot of an edge with its share.
@@ -162,7 +162,7 @@ impl<W: Tagged, H: Tagged> Play<Slot<W, H>, View<W>> for LiftIn {
     ghost use Rattle.graph_words.specs.Rule.{tags};
     ghost use Rattle.graph_words.specs.Plays.{lifts_in};
 
-    ghost then = { lifts_in (tags W.run W.node W.step) (tags H.run H.node H.step) };
+    ghost then = { lifts_in (tags W.run W.node W.step W.follows) (tags H.run H.node H.step H.follows) };
 }
 
 /// Tells how a seat's marks stand to the edges, and that the rule holds.
@@ -172,7 +172,7 @@ impl<W: Tagged, H: Tagged> Play<Slot<W, H>, View<W>> for Look {
     ghost use Rattle.graph_words.specs.Rule.{tags};
     ghost use Rattle.graph_words.specs.Plays.{looks};
 
-    ghost then = { looks (tags W.run W.node W.step) (tags H.run H.node H.step) };
+    ghost then = { looks (tags W.run W.node W.step W.follows) (tags H.run H.node H.step H.follows) };
 }
 
 /// How a view is split, and how two are joined.

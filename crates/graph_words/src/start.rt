@@ -63,16 +63,19 @@ impl<W: Tagged, H: Tagged> Claims<W, H> {
         work: Vec<W>,
     ) -> Result<(Claims<W, H>, ClaimSeat<W, H>), AllocError>
         requires nodes { (0 < nodes) × (nodes ≤ 256) × (length work.items ≡ nodes) }
-        requires tagged { (n m : ℕ) (w u : _) → get_elem? work.items n ≡ some w → get_elem? work.items m ≡ some u → IsTagged (tags W.run W.node W.step) (W.run u) n (W.step u) w }
+        requires tagged { (n m : ℕ) (w u : _) → get_elem? work.items n ≡ some w → get_elem? work.items m ≡ some u → IsTagged (tags W.run W.node W.step W.follows) (W.run u) n (W.step u) w }
         requires edges { (length edges.items < 2 ^ 32) × ((e : ℕ) (x : Edge) → get_elem? edges.items e ≡ some x → (x.from < x.to) × (x.to < nodes)) }
         ensures plan { IfOk result (λ t. (t.0.plan.nodes ≡ nodes) × (t.0.plan.edges.items ≡ edges.items) × (get_elem? work.items 0 ≡ some t.0.plan.first.value)) }
+        ensures works { IfOk result (λ t. t.0.plan.works.value.items ≡ work.items) }
         ensures seat { IfOk result (λ t. IsSeatOf t.0 t.1 × (t.1.view ≡ first_view t.0.plan)) }
     {
         let first = Snapshot::of(&work[0]);
+        let works = Snapshot::of(&work);
         let words = count_inputs(alloc, edges.as_slice(), nodes)?;
         let slots = lay_slots(alloc, work, edges.len())?;
         let plan = Plan {
             first,
+            works,
             nodes,
             edges,
         };
@@ -81,6 +84,7 @@ impl<W: Tagged, H: Tagged> Claims<W, H> {
         };
         let Plan {
             first: _,
+            works: _,
             nodes,
             edges,
         } = plan;

@@ -7,9 +7,9 @@ use std::collections::LinkedList;
 #[derive(Drop)]
 pub enum Slot<W, H> {
     Empty,
-    /// The work of the step before.
+    /// The work that was given for the node.
     Work(W),
-    /// The work of this step, and the ticket that was drawn for its node.
+    /// The work of this step, which follows the one that was given, and the ticket that was drawn for its node.
     Done(W, u64),
     Share(H),
 }

@@ -80,7 +80,7 @@ impl Crew {
         ready: Ready,
         work: &N,
     ) -> Result<ClaimSeat<W, H>, AllocError>
-        requires meant { IsFor (tags W.run W.node W.step) (N.run work.now) (N.step work.now) (N.edges work.now) claims.now.plan }
+        requires meant { IsFor (tags W.run W.node W.step W.follows) (N.run work.now) (N.step work.now) (N.edges work.now) claims.now.plan }
         requires of { IsSeatOf claims.now seat }
         requires alone { seat.view.parts ≡ 1024 }
         requires held { IsHeld claims.now.plan seat.view (IsListed ready.nodes.items) }
@@ -118,7 +118,7 @@ fn work_all<R: Threads + Sync, W: Tagged, H: Tagged, N: NodeWork<W, H>>(
     seat: ClaimSeat<W, H>,
     ready: Ready,
 ) -> (Vec<Hand>, Result<ClaimSeat<W, H>, AllocError>)
-    requires meant { IsFor (tags W.run W.node W.step) (N.run work.now) (N.step work.now) (N.edges work.now) claims.now.plan }
+    requires meant { IsFor (tags W.run W.node W.step W.follows) (N.run work.now) (N.step work.now) (N.edges work.now) claims.now.plan }
     requires of { IsSeatOf claims.now seat }
     requires held { IsHeld claims.now.plan seat.view (IsListed ready.nodes.items) }
     requires parts { vec_len hands ≤ seat.view.parts }

@@ -337,7 +337,7 @@ pub(crate) fn work_node<W: Tagged, H: Tagged, N: NodeWork<W, H>>(
     kept: &Ready,
     found: &mut Ready,
 ) -> Result<(), AllocError>
-    requires meant { IsFor (tags W.run W.node W.step) (N.run work.now) (N.step work.now) (N.edges work.now) claims.now.plan }
+    requires meant { IsFor (tags W.run W.node W.step W.follows) (N.run work.now) (N.step work.now) (N.edges work.now) claims.now.plan }
     requires of { IsSeatOf claims.now seat.old }
     requires held { IsHeld claims.now.plan seat.old.view (λ m. (m ≡ node) ⊎ IsListed kept.now.nodes.items m) }
     requires fresh { list_any (eqb node) kept.now.nodes.items ≡ false }
@@ -364,7 +364,7 @@ fn work_one<W: Tagged, H: Tagged, N: NodeWork<W, H>>(
     kept: &mut Ready,
     progress: &Progress,
 ) -> Result<u64, AllocError>
-    requires meant { IsFor (tags W.run W.node W.step) (N.run work.now) (N.step work.now) (N.edges work.now) claims.now.plan }
+    requires meant { IsFor (tags W.run W.node W.step W.follows) (N.run work.now) (N.step work.now) (N.edges work.now) claims.now.plan }
     requires of { IsSeatOf claims.now seat.old }
     requires held { IsHeld claims.now.plan seat.old.view (λ m. (m ≡ node) ⊎ IsListed kept.old.nodes.items m) }
     requires fresh { list_any (eqb node) kept.old.nodes.items ≡ false }
@@ -423,7 +423,7 @@ pub(crate) fn work_seat<W: Tagged, H: Tagged, N: NodeWork<W, H>>(
     kept: &mut Ready,
     progress: &Progress,
 ) -> Result<u64, AllocError>
-    requires meant { IsFor (tags W.run W.node W.step) (N.run work.now) (N.step work.now) (N.edges work.now) claims.now.plan }
+    requires meant { IsFor (tags W.run W.node W.step W.follows) (N.run work.now) (N.step work.now) (N.edges work.now) claims.now.plan }
     requires of { IsSeatOf claims.now seat.old }
     requires held { IsHeld claims.now.plan seat.old.view (IsListed kept.old.nodes.items) }
     ensures of { OnOk result (IsSeatOf claims.now seat.new) }
@@ -454,7 +454,7 @@ pub(crate) fn work_out<W: Tagged, H: Tagged, N: NodeWork<W, H>>(
     kept: &mut Ready,
     progress: &Progress,
 ) -> Result<(), AllocError>
-    requires meant { IsFor (tags W.run W.node W.step) (N.run work.now) (N.step work.now) (N.edges work.now) claims.now.plan }
+    requires meant { IsFor (tags W.run W.node W.step W.follows) (N.run work.now) (N.step work.now) (N.edges work.now) claims.now.plan }
     requires of { IsSeatOf claims.now seat.old }
     requires held { IsHeld claims.now.plan seat.old.view (IsListed kept.old.nodes.items) }
     ensures of { OnOk result (IsSeatOf claims.now seat.new) }

@@ -20,7 +20,7 @@ fn work_alone<W: Tagged, H: Tagged, N: NodeWork<W, H>>(
     work: &N,
     node: u32,
 ) -> Result<(), AllocError>
-    requires meant { IsFor (tags W.run W.node W.step) (N.run work.now) (N.step work.now) (N.edges work.now) claims.now.plan }
+    requires meant { IsFor (tags W.run W.node W.step W.follows) (N.run work.now) (N.step work.now) (N.edges work.now) claims.now.plan }
     requires of { IsSeatOf claims.now seat.old }
     requires held { IsHeld claims.now.plan seat.old.view (OnlyNode node) }
     ensures of { OnOk result (IsSeatOf claims.now seat.new) }
@@ -41,7 +41,7 @@ pub(crate) fn work_rest<W: Tagged, H: Tagged, N: NodeWork<W, H>>(
     seat: &mut ClaimSeat<W, H>,
     work: &N,
 ) -> Result<(), AllocError>
-    requires meant { IsFor (tags W.run W.node W.step) (N.run work.now) (N.step work.now) (N.edges work.now) claims.now.plan }
+    requires meant { IsFor (tags W.run W.node W.step W.follows) (N.run work.now) (N.step work.now) (N.edges work.now) claims.now.plan }
     requires of { IsSeatOf claims.now seat.old }
     requires alone { seat.old.view.parts ≡ 1024 }
     requires held { IsHeld claims.now.plan seat.old.view NoNode }

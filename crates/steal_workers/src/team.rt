@@ -89,7 +89,7 @@ fn work_first<W: Tagged, H: Tagged, N: NodeWork<W, H>>(
     progress: &Progress,
     waiting: u64,
 ) -> Result<u64, AllocError>
-    requires meant { IsFor (tags W.run W.node W.step) (N.run work.now) (N.step work.now) (N.edges work.now) claims.now.plan }
+    requires meant { IsFor (tags W.run W.node W.step W.follows) (N.run work.now) (N.step work.now) (N.edges work.now) claims.now.plan }
     requires of { IsSeatOf claims.now seat.old }
     requires held { IsHeld claims.now.plan seat.old.view (IsListed kept.old.nodes.items) }
     ensures of { OnOk result (IsSeatOf claims.now seat.new) }
@@ -126,7 +126,7 @@ pub(crate) fn work_together<R: Threads + Sync, W: Tagged, H: Tagged, N: NodeWork
     seat: ClaimSeat<W, H>,
     kept: Ready,
 ) -> (Hand, Vec<Hand>, Result<ClaimSeat<W, H>, AllocError>)
-    requires meant { IsFor (tags W.run W.node W.step) (N.run work.now) (N.step work.now) (N.edges work.now) claims.now.plan }
+    requires meant { IsFor (tags W.run W.node W.step W.follows) (N.run work.now) (N.step work.now) (N.edges work.now) claims.now.plan }
     requires of { IsSeatOf claims.now seat }
     requires held { IsHeld claims.now.plan seat.view (IsListed kept.nodes.items) }
     requires parts { vec_len others < seat.view.parts }
@@ -162,7 +162,7 @@ pub(crate) fn work_together<R: Threads + Sync, W: Tagged, H: Tagged, N: NodeWork
         rt,
         || -> (Hand, Vec<Hand>, Result<ClaimSeat<W, H>, AllocError>)
             requires sync { IsSync R.row }
-            requires meant { IsFor (tags W.run W.node W.step) (N.run work.now) (N.step work.now) (N.edges work.now) claims.now.plan }
+            requires meant { IsFor (tags W.run W.node W.step W.follows) (N.run work.now) (N.step work.now) (N.edges work.now) claims.now.plan }
             requires of { IsSeatOf claims.now other }
             requires held { IsHeld claims.now.plan other.view NoNode }
             requires parts { vec_len half < other.view.parts }
@@ -187,7 +187,7 @@ pub(crate) fn work_together<R: Threads + Sync, W: Tagged, H: Tagged, N: NodeWork
         },
         || -> (Hand, Vec<Hand>, Result<ClaimSeat<W, H>, AllocError>)
             requires sync { IsSync R.row }
-            requires meant { IsFor (tags W.run W.node W.step) (N.run work.now) (N.step work.now) (N.edges work.now) claims.now.plan }
+            requires meant { IsFor (tags W.run W.node W.step W.follows) (N.run work.now) (N.step work.now) (N.edges work.now) claims.now.plan }
             requires of { IsSeatOf claims.now seat }
             requires held { IsHeld claims.now.plan seat.view (IsListed kept.nodes.items) }
             requires parts { vec_len others < seat.view.parts }

@@ -33,7 +33,7 @@ pub trait NodeWork<W: Tagged, H: Tagged>: Sync {
         node: u32,
         ready: &mut Ready,
     ) -> Result<(), AllocError>
-        requires meant { IsFor (tags W.run W.node W.step) (run self.now) (step self.now) (edges self.now) claims.now.plan }
+        requires meant { IsFor (tags W.run W.node W.step W.follows) (run self.now) (step self.now) (edges self.now) claims.now.plan }
         requires of { IsSeatOf claims.now seat.old }
         requires node { IsReady claims.now.plan seat.old.view node }
         requires empty { ready.old.nodes.items ≡ [] }

@@ -45,12 +45,13 @@ load-requires-2 g c =
     let of = rw (← c.self.view_is, ← c.seat.view_is) at c.requires.of in
     let node = rw (← c.self.view_is) at c.requires.node in
     let tag = rw (← c.self.view_is) at c.requires.tag in
+    let follows = rw (← c.self.view_is) at c.requires.follows in
     let held = ap (λ m. m.1) c.load.ensures.2 in
     let drawn = (drawn_after c.seat.inside.seat.me.0 c.load.new.seat.me c.args.node Empty c.load.ensures.2).1 g.T.Telling.told c.fetch_add-ticket.result c.fetch_add-ticket.new.seat.me.0 (c.fetch_add-ticket.ensures.2.1 c.args.node Empty held) in
     let after = node_after (tells g.T.Telling.told c.args.node c.fetch_add-ticket.result c.seat.inside.seat.me.0) c.fetch_add-ticket.new.seat.me c.exchange-found.new.seat.me c.args.node (Drawn c.fetch_add-ticket.result) (Done c.args.work c.fetch_add-ticket.result) Empty drawn (c.fetch_add-ticket.ensures.2.0 ∙ held) c.exchange-found.ensures.3 in (
       c.exchange-found.ensures.0 ∙ (c.fetch_add-ticket.ensures.0 ∙ (c.load.ensures.0 ∙ of.0)),
       omega (arith, node, c.self.invariant.counted.0),
-      node_lays _ _ _ _ c.self.invariant.counted.1 _ _ _ _ (Drawn c.fetch_add-ticket.result) PutBack (Done c.args.work c.fetch_add-ticket.result) after.2 node after.0 (λ e. cc) refl (λ q h is. (_, refl, (c.args.work, ap (Done c.args.work) is.0, tag))),
+      node_lays _ _ _ _ c.self.invariant.counted.1 _ _ _ _ (Drawn c.fetch_add-ticket.result) PutBack (Done c.args.work c.fetch_add-ticket.result) after.2 node after.0 (λ e. cc) refl (λ q h is. (_, refl, (c.args.work, ap (Done c.args.work) is.0, tag, follows))),
     )
 
 pub returns-clause-view : goal.returns-clause-view
