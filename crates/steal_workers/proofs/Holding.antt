@@ -136,7 +136,7 @@ module _ {W : Type 0} (plan : Plan W) where
       → IsHeld plan v Q
   held_through u v P Q held outs lates ins stay others = record {
     settled = λ m below has. settle m below has (others m has);
-    ready = λ m is. let own = held.ready m (stay m is).0 in record { within = own.within; input = own.input; untaken = (stay m is).1; untouched = λ e x there. let clean = own.untouched e x there in (λ from. outs e ∙ clean.0 from, λ to. ins e ∙ clean.1 to) };
+    ready = λ m is. let own = held.ready m (stay m is).0 in record { within = own.within; input = own.input; new = record { untaken = (stay m is).1; untouched = λ e x there. let clean = own.new.untouched e x there in (λ from. outs e ∙ clean.0 from, λ to. ins e ∙ clean.1 to) } };
   }
     where
       settle_same : (m : ℕ) → at v.nodes m ≡ at u.nodes m → (P m → Q m) → P m ⊎ IsSettled plan u m → Q m ⊎ IsSettled plan v m
@@ -154,7 +154,7 @@ module _ {W : Type 0} (plan : Plan W) where
         settled = λ m below has. dite (ℕ_discrete m n)
             (λ e. inl e)
             (λ ne. let same = at_put_else u.nodes n m Untaken ne in settle m same (held.settled m below (subst IsHadMark same has)));
-        ready = λ m is. subst (IsReady plan (mark_node u n Untaken)) (sym is) (record { within = within; input = input; untaken = at_put u.nodes n Untaken; untouched = clean });
+        ready = λ m is. subst (IsReady plan (mark_node u n Untaken)) (sym is) (record { within = within; input = input; new = record { untaken = at_put u.nodes n Untaken; untouched = clean } });
       }
     where
       settle : (m : ℕ) → at (put u.nodes n Untaken) m ≡ at u.nodes m → NoNode m ⊎ IsSettled plan u m → OnlyNode n m ⊎ IsSettled plan (mark_node u n Untaken) m
@@ -179,7 +179,7 @@ module _ {W : Type 0} (plan : Plan W) where
     pub offered_held : v ≡ gets false n (mark_node u n Unmarked) → IsHeld plan v P
     offered_held eq =
         subst (λ z. IsHeld plan z P) (sym eq) (held_through u (mark_node u n Unmarked) (λ m. (m ≡ n) ⊎ P m) P held (λ e. refl) (λ e. refl) (λ e. refl)
-        (λ m is. (inr is, at_put_else u.nodes n m Unmarked (apart_from m is) ∙ (held.ready m (inr is)).untaken))
+        (λ m is. (inr is, at_put_else u.nodes n m Unmarked (apart_from m is) ∙ (held.ready m (inr is)).new.untaken))
         (λ m has. dite (ℕ_discrete m n)
         (λ e. absurd (subst IsHadMark (ap (λ k. at (put u.nodes n Unmarked) k) e ∙ at_put u.nodes n Unmarked) has))
         (λ ne. inr (at_put_else u.nodes n m Unmarked ne, other m ne))))
@@ -190,20 +190,20 @@ module _ {W : Type 0} (plan : Plan W) where
 
     same_marks : (m : ℕ) → at (put (put u.nodes n Unmarked) n Untaken) m ≡ at u.nodes m
     same_marks m = dite (ℕ_discrete m n)
-        (λ e. ap (λ k. at (put (put u.nodes n Unmarked) n Untaken) k) e ∙ at_put (put u.nodes n Unmarked) n Untaken ∙ sym own_ready.untaken ∙ ap (λ k. at u.nodes k) (sym e))
+        (λ e. ap (λ k. at (put (put u.nodes n Unmarked) n Untaken) k) e ∙ at_put (put u.nodes n Unmarked) n Untaken ∙ sym own_ready.new.untaken ∙ ap (λ k. at u.nodes k) (sym e))
         (λ ne. at_put_else (put u.nodes n Unmarked) n m Untaken ne ∙ at_put_else u.nodes n m Unmarked ne)
 
     pub taken_back_held : v ≡ gets true n (mark_node u n Unmarked) → IsHeld plan v (λ m. (m ≡ n) ⊎ P m)
     taken_back_held eq =
         subst (λ z. IsHeld plan z (λ m. (m ≡ n) ⊎ P m)) (sym eq) (held_through u (mark_node (mark_node u n Unmarked) n Untaken) (λ m. (m ≡ n) ⊎ P m) (λ m. (m ≡ n) ⊎ P m) held (λ e. refl) (λ e. refl) (λ e. refl)
-        (λ m is. (is, same_marks m ∙ (held.ready m is).untaken))
+        (λ m is. (is, same_marks m ∙ (held.ready m is).new.untaken))
         (λ m has. inr (same_marks m, λ is. is)))
 
     pub offered_on : v ≡ gets false n (mark_node u n Unmarked) → IsGoneOn u v
     offered_on eq =
         subst (IsGoneOn u) (sym eq) record {
           parts = refl;
-          back = λ m is. at_put_else u.nodes n m Unmarked (λ e. untaken_put_back (sym own_ready.untaken ∙ ap (λ k. at u.nodes k) (sym e) ∙ is)) ∙ is;
+          back = λ m is. at_put_else u.nodes n m Unmarked (λ e. untaken_put_back (sym own_ready.new.untaken ∙ ap (λ k. at u.nodes k) (sym e) ∙ is)) ∙ is;
         }
 
     pub taken_back_on : v ≡ gets true n (mark_node u n Unmarked) → IsGoneOn u v
@@ -212,7 +212,7 @@ module _ {W : Type 0} (plan : Plan W) where
   -- seats are split and joined
   pub less_held : (n : ℕ) (u v : View W) (P : ℕ → Type 0) → IsHeld plan u P → v ≡ less_parts n u → IsHeld plan v P
   less_held n u v P held eq =
-      subst (λ z. IsHeld plan z P) (sym eq) (held_through u (less_parts n u) P P held (λ e. refl) (λ e. refl) (λ e. refl) (λ m is. (is, (held.ready m is).untaken)) (λ m has. inr (refl, λ is. is)))
+      subst (λ z. IsHeld plan z P) (sym eq) (held_through u (less_parts n u) P P held (λ e. refl) (λ e. refl) (λ e. refl) (λ m is. (is, (held.ready m is).new.untaken)) (λ m has. inr (refl, λ is. is)))
 
   pub part_held : (n : ℕ) (u v : View W) → v ≡ some_parts n u → IsHeld plan v NoNode
   part_held n u v eq =
@@ -300,16 +300,18 @@ module _ {W : Type 0} (plan : Plan W) where
     other_than m is e = absent (subst P e is)
 
     pub worked_apart : (m : ℕ) → P m → IsListed found m → ⊥
-    worked_apart m is new = untaken_unmarked (sym (before.ready m (inr is)).untaken ∙ came m new)
+    worked_apart m is new = untaken_unmarked (sym (before.ready m (inr is)).new.untaken ∙ came m new)
 
     still_ready : (m : ℕ) → m ≢ node → IsReady plan u m → IsReady plan v m
     still_ready m ne own =
-        let had : Has u m = has_mark (at u.nodes m) Untaken own.untaken tt in
+        let had : Has u m = has_mark (at u.nodes m) Untaken own.new.untaken tt in
         record {
           within = own.within;
           input = own.input;
-          untaken = others.nodes m ne had ∙ own.untaken;
-          untouched = λ e x there. let clean = own.untouched e x there in (λ from. others.outs m e ne had x there from ∙ clean.0 from, λ to. others.ins m e ne had x there to ∙ clean.1 to);
+          new = record {
+            untaken = others.nodes m ne had ∙ own.new.untaken;
+            untouched = λ e x there. let clean = own.new.untouched e x there in (λ from. others.outs m e ne had x there from ∙ clean.0 from, λ to. others.ins m e ne had x there to ∙ clean.1 to);
+          };
         }
 
     still_settled : (m : ℕ) → m ≢ node → Has u m → IsSettled plan u m → IsSettled plan v m
@@ -340,7 +342,7 @@ module _ {W : Type 0} (plan : Plan W) where
     worked_on same = record {
       parts = same;
       back = λ m is.
-          others.nodes m (λ e. untaken_put_back (sym (before.ready node (inl refl)).untaken ∙ ap (λ k. at u.nodes k) (sym e) ∙ is)) (has_mark (at u.nodes m) PutBack is tt) ∙ is;
+          others.nodes m (λ e. untaken_put_back (sym (before.ready node (inl refl)).new.untaken ∙ ap (λ k. at u.nodes k) (sym e) ∙ is)) (has_mark (at u.nodes m) PutBack is tt) ∙ is;
     }
 
   -- with all parts: the nodes below one are put back, and then it is

@@ -1,6 +1,7 @@
 -- What a seat has of the claims of a step.
 --     IsFor names run step edges plan      the claims have this run, this step and these edges
---     IsReady plan view node      the seat has the node, which has input edges, and has touched nothing of it
+--     IsNew plan view node      the seat has the node, and has touched nothing of it
+--     IsReady plan view node      and the node has input edges
 --     IsSettled plan view node      its work is put back, and after that its output edges were handed on
 --     IsHeld plan view P      the nodes of P are ready, and every other node that the seat has is settled
 --     KeepsOthers plan old new node came      the other nodes that the seat had are as before, and it has none but those and the ones that came
@@ -38,11 +39,14 @@ module _ {W : Type 0} where
     pub step : names.step plan.first.value + 1 ≡ s
     pub edges : plan.edges.items ≡ es
 
+  pub record IsNew (plan : Plan W) (view : View W) (node : ℕ) : Type 0 where
+    pub untaken : at view.nodes node ≡ Untaken
+    pub untouched : IsUntouched plan view node
+
   pub record IsReady (plan : Plan W) (view : View W) (node : ℕ) : Type 0 where
     pub within : node < plan.nodes
     pub input : 0 < inputs node plan.edges.items
-    pub untaken : at view.nodes node ≡ Untaken
-    pub untouched : IsUntouched plan view node
+    pub new : IsNew plan view node
 
   pub record IsSettled (plan : Plan W) (view : View W) (node : ℕ) : Type 0 where
     pub back : at view.nodes node ≡ PutBack

@@ -109,7 +109,7 @@ module _ (plan : Plan Kept) (u : View Kept) (node : ℕ) where
 
         go : (at v.nodes m ≡ at u.nodes m) ⊎ IsListed xs m → at u.nodes m ≡ Unmarked
         go (inl same) = sym same ∙ none
-        go (inr there) = absurd (had_marked (at v.nodes m) (has_mark (at v.nodes m) Untaken (h.ready m there).untaken tt) none)
+        go (inr there) = absurd (had_marked (at v.nodes m) (has_mark (at v.nodes m) Untaken (h.ready m there).new.untaken tt) none)
 
     ready_more : (m : ℕ) → IsListed xs m ⊎ (found ≡ Some m) → IsReady plan w m
     ready_more m (inl is) =
@@ -118,16 +118,20 @@ module _ (plan : Plan Kept) (u : View Kept) (node : ℕ) where
         record {
           within = own.within;
           input = own.input;
-          untaken = still_untaken plan node v w count to x found o there from_is m own.untaken;
-          untouched = untouched_still plan node v w count to x found o there from_is m (λ c. omega (arith, c, less)) own.untouched;
+          new = record {
+            untaken = still_untaken plan node v w count to x found o there from_is m own.new.untaken;
+            untouched = untouched_still plan node v w count to x found o there from_is m (λ c. omega (arith, c, less)) own.new.untouched;
+          };
         }
     ready_more m (inr is) =
         let same = (o.finds m is).same in
         record {
           within = omega (arith, same, to_is, below);
           input = some_input m count plan.edges.items x there (to_is ∙ sym same);
-          untaken = (o.finds m is).untaken;
-          untouched = untouched_still plan node v w count to x found o there from_is m (λ c. omega (arith, c, same, from_is, to_is, up)) (o.finds m is).untouched;
+          new = record {
+            untaken = (o.finds m is).untaken;
+            untouched = untouched_still plan node v w count to x found o there from_is m (λ c. omega (arith, c, same, from_is, to_is, up)) (o.finds m is).untouched;
+          };
         }
 
     came_through : (m : ℕ) → at w.nodes m ≡ at v.nodes m → (at w.nodes m ≡ at u.nodes m) ⊎ IsListed ys m
@@ -165,7 +169,7 @@ module _ (plan : Plan Kept) (u : View Kept) (node : ℕ) where
 
   -- what is listed is had
   pub listing_had : (v : View Kept) (count : ℕ) (xs : List ℕ) → IsListing plan u v node count xs → (m : ℕ) → IsListed xs m → Has v m
-  listing_had v count xs h m is = has_mark (at v.nodes m) Untaken (h.ready m is).untaken tt
+  listing_had v count xs h m is = has_mark (at v.nodes m) Untaken (h.ready m is).new.untaken tt
 
   -- and the nodes that this makes ready are added to a list
   module _ (xs : List ℕ) where
@@ -210,7 +214,7 @@ module _ (plan : Plan Kept) (node : ℕ) (u c d : View Kept) (found : List ℕ) 
 
   had_before : (m : ℕ) → Has c m → Has u m
   had_before m has = dite (ℕ_discrete m node)
-      (λ e. has_mark (at u.nodes m) Untaken (ap (λ k. at u.nodes k) e ∙ own.untaken) tt)
+      (λ e. has_mark (at u.nodes m) Untaken (ap (λ k. at u.nodes k) e ∙ own.new.untaken) tt)
       (λ ne. has_mark (at u.nodes m) (at c.nodes m) (sym (w.nodes m ne)) has)
 
   pub listed_others : KeepsOthers plan u d node found

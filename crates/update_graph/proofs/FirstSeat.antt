@@ -11,16 +11,16 @@ use Rattle.graph_words.specs.declared.table.Mark.TheVariants.{Untaken, Taken, Pu
 use Rattle.graph_words.specs.declared.table.View.{View}
 use Rattle.graph_words.specs.Marks.{IsHadMark, at, inputs, start_mark}
 use Rattle.graph_words.specs.Seats.{Has}
-use Rattle.graph_words.specs.Views.{IsUntouched, first_view, mark_node}
+use Rattle.graph_words.specs.Views.{first_view, mark_node}
 use Rattle.graph_words.proofs.Marks.{at_put, at_put_else, below_of}
 use Rattle.graph_words.proofs.Opens.{at_starts}
-use Rattle.steal_workers.specs.Holdings.{IsHeld, IsReady, IsSettled, SourcesBack}
+use Rattle.steal_workers.specs.Holdings.{IsHeld, IsNew, IsReady, IsSettled, SourcesBack}
 use Rattle.steal_workers.specs.Lists.{IsListed}
 use Rattle.steal_workers.proofs.Listing.{listed_first, listed_second, true_false}
 use Rattle.steal_workers.proofs.Holding.{has_mark}
 use Rattle.tick_model.specs.declared.feed.Run.{Run}
 use Rattle.update_graph.specs.Edges.{edges_of}
-use Rattle.update_graph.specs.Holdings.{IsClaimed, IsNew, IsOpened, IsUnopened}
+use Rattle.update_graph.specs.Holdings.{IsClaimed, IsOpened, IsUnopened}
 use Rattle.update_graph.specs.Steps.{IsHanding, IsListing}
 use Rattle.update_graph.specs.Tags.{Kept, is_operator}
 use Rattle.update_graph.proofs.Claimed.{source_claimed}
@@ -106,7 +106,7 @@ module _ (run : Run) (plan : Plan Kept) (claimed : IsClaimed run plan) where
         go (inr own) = own.back
 
     pub opened_had : (m : ℕ) → IsListed xs m → Has v m
-    opened_had m there = has_mark (at v.nodes m) Untaken (o.ready m there).untaken tt
+    opened_had m there = has_mark (at v.nodes m) Untaken (o.ready m there).new.untaken tt
 
     -- what is listed is had while the next source is opened
     pub opened_kept : is_operator run n ≡ false → (a c : View Kept) → a ≡ mark_node v n Taken → c ≡ mark_node a n PutBack → (m : ℕ) → IsListed xs m → Has c m
@@ -160,22 +160,17 @@ module _ (run : Run) (plan : Plan Kept) (claimed : IsClaimed run plan) where
     still_outs : (m : ℕ) → m ≢ n → (k : ℕ) (x : Edge) → get_elem? plan.edges.items k ≡ some x → x.from ≡ m → at d.outs k ≡ at u.outs k
     still_outs m ne k x there from = l.others k x there (λ e. ne (sym from ∙ e)) ∙ outs_same k
 
-    still_untouched : (m : ℕ) → m ≢ n → IsUntouched plan u m → IsUntouched plan d m
-    still_untouched m ne clean k x there = (
-      (λ from. still_outs m ne k x there from ∙ (clean k x there).0 from),
-      (λ goes. ins_same k ∙ (clean k x there).1 goes),
-    )
+    new_still : (m : ℕ) → m ≢ n → Has u m → IsNew plan u m → IsNew plan d m
+    new_still m ne has own = record {
+      untaken = still_at m ne has ∙ own.untaken;
+      untouched = λ k x there. ((λ from. still_outs m ne k x there from ∙ (own.untouched k x there).0 from), (λ goes. ins_same k ∙ (own.untouched k x there).1 goes));
+    }
 
     ready_still : (m : ℕ) → IsListed xs m → IsReady plan d m
     ready_still m there =
         let own = o.ready m there in
         let ne : m ≢ n = λ e. source_unlisted u n xs o n source_n (subst (IsListed xs) e there) in
-        record {
-          within = own.within;
-          input = own.input;
-          untaken = still_at m ne (opened_had u n xs o m there) ∙ own.untaken;
-          untouched = still_untouched m ne own.untouched;
-        }
+        record { within = own.within; input = own.input; new = new_still m ne (opened_had u n xs o m there) own.new }
 
     ready_now : (m : ℕ) → IsListed ys m → IsReady plan d m
     ready_now m there = go (listed_either xs h.found m (subst (λ k. IsListed k m) h.listed there))
@@ -190,7 +185,7 @@ module _ (run : Run) (plan : Plan Kept) (claimed : IsClaimed run plan) where
 
     new_other : (m : ℕ) → m ≢ n → Has u m → IsListed xs m ⊎ IsUnopened run plan u m → IsListed ys m ⊎ IsUnopened run plan d m
     new_other m ne has (inl there) = inl (first_listed m there)
-    new_other m ne has (inr own) = inr (record { source = own.source; new = record { untaken = still_at m ne has ∙ own.new.untaken; untouched = still_untouched m ne own.new.untouched } })
+    new_other m ne has (inr own) = inr (record { source = own.source; new = new_still m ne has own.new })
 
     settled_here : IsSettled plan d n
     settled_here = record { back = l.stays n had_here ∙ back_here; delivered = λ k x there from. l.delivered k x there (below_of plan.edges.items k x there) from; late = λ k x there from. l.late k x there (below_of plan.edges.items k x there) from }

@@ -1,16 +1,12 @@
 -- What the first seat has of the claims of a step.
 --     IsForStep run plan      the claims are for a step that the run enters, and have its edges
 --     IsClaimed run plan      and they have all its nodes
---     IsNew plan view node      the seat has the node, and has touched nothing of it
 --     IsOpened run plan view count xs      of the first so many nodes the sources are settled; the seat has all sources and the nodes on the list, which are ready, and nothing else
 use Rattle.std.specs.Prelude.{◌≡◌, ◌⊎◌, ℕ, ◌+◌, ◌<◌, ◌≤◌, List, false, length}
 use Rattle.graph_words.specs.declared.graph.Plan.{Plan}
-use Rattle.graph_words.specs.declared.table.Mark.TheVariants.{Untaken}
 use Rattle.graph_words.specs.declared.table.View.{View}
-use Rattle.graph_words.specs.Marks.{at}
 use Rattle.graph_words.specs.Seats.{Has}
-use Rattle.graph_words.specs.Views.{IsUntouched}
-use Rattle.steal_workers.specs.Holdings.{IsReady, IsSettled}
+use Rattle.steal_workers.specs.Holdings.{IsNew, IsReady, IsSettled}
 use Rattle.steal_workers.specs.Lists.{IsListed}
 use Rattle.tick_model.specs.declared.feed.Run.{Run}
 use Rattle.update_graph.specs.Edges.{edges_of}
@@ -27,10 +23,6 @@ pub record IsClaimed (run : Run) (plan : Plan Kept) : Type 0 where
   pub nodes : plan.nodes ≡ length run.plan.nodes
   pub edges : plan.edges.items ≡ edges_of run.plan
   pub first : named plan.first.value ≡ tag run plan.first.value.step 0
-
-pub record IsNew (plan : Plan Kept) (view : View Kept) (node : ℕ) : Type 0 where
-  pub untaken : at view.nodes node ≡ Untaken
-  pub untouched : IsUntouched plan view node
 
 -- a source that the seat has and has not begun
 pub record IsUnopened (run : Run) (plan : Plan Kept) (view : View Kept) (node : ℕ) : Type 0 where

@@ -8,9 +8,10 @@ ghost use Rattle.graph_words.specs.declared.table.Mark.TheVariants.{Unmarked, Ta
 ghost use Rattle.graph_words.specs.Marks.{at};
 ghost use Rattle.graph_words.specs.Seats.{Has, IsSeatOf};
 ghost use Rattle.graph_words.specs.Views.{mark_node};
+ghost use Rattle.steal_workers.specs.Holdings.{IsNew};
 ghost use Rattle.tick_model.specs.Evaluation.{inputs_of};
 ghost use Rattle.update_graph.specs.Edges.{froms_to};
-ghost use Rattle.update_graph.specs.Holdings.{IsForStep, IsNew};
+ghost use Rattle.update_graph.specs.Holdings.{IsForStep};
 ghost use Rattle.update_graph.specs.Steps.{IsBegun, IsTaking};
 ghost use Rattle.update_graph.specs.Tags.{named, op_at, tag};
 
