@@ -116,8 +116,8 @@ impl Viewport {
     }
 
     /// The subscription after a message, and the message: how the slice changed since the last one. It must stand for the rows
-    /// of the table. Only rows of the slice are read, each at most twice, also before a
-    /// refusal. After a refusal it is given up.
+    /// of the table. Only rows of the slice are read, each at most twice, whether the message succeeds or not. After a refusal
+    /// the subscription is given up.
     pub fn message<L: Ledger>(
         self,
         table: &TickTable,
