@@ -24,9 +24,9 @@ use Rattle.tick_table.specs.Exact.{IsExact, tick_of}
 use Rattle.tick_table.specs.Ticking.{Ticking}
 use Rattle.tick_table.proofs.ExactAgain.{exact_again, tick_again}
 use Rattle.update_graph.specs.Entered.{IsEntered}
-use Rattle.update_graph.specs.Stands.{is_defined, shown}
+use Rattle.update_graph.specs.Stands.{is_defined, most_reads, most_tried, room_for, shown}
 use Rattle.update_graph.specs.Tags.{Tag, node_at, op_at, tag}
-use Rattle.update_graph.proofs.EnteredTicks.{entered_tick, lesser, operated_is, operator_outcome_at}
+use Rattle.update_graph.proofs.EnteredTicks.{entered_inputs, entered_tick, lesser, made, operated_is, operator_outcome_at}
 use Rattle.update_graph.proofs.OperatorLaws.{have_keys}
 
 -- what an operator makes, by cases
@@ -62,6 +62,10 @@ module _ (run : Run) (step : ℕ) (e : IsEntered run step) (n : ℕ) (within : n
         operator_outcome_at run e.lawful step n within is
         ∙ applied_is op (state run step) false (fault_of op (table_at (state run step)))
         (sym (list_all-map (λ (share : Tag). is_defined share.run share.step share.node) (tag run step) inputs) ∙ ap (list_all (λ (share : Tag). is_defined share.run share.step share.node)) (sym same) ∙ h) refl
+
+    -- where the node has a table, its operator makes the update of it
+    pub tried_is : is_defined run step n ≡ true → most_tried run step n ≡ most_reads run step n
+    tried_is has = ap (λ (t : Tick). room_for run step n (change_of t).update) (operated_is run step e n within is has (entered_inputs run step e n within (made run e.lawful step n within is has).inputs))
 
     module _ (defined : AllByRecursion (λ input. is_defined run step input ≡ true) inputs) where
       each : (all : List ℕ) → AllByRecursion (λ input. input < n) all → AllByRecursion (λ input. is_defined run step input ≡ true) all → AllByRecursion (IsInput run step) all

@@ -4,7 +4,9 @@
 --     Stays run step node      the node has a table, which the step does not change
 --     IsHanded run step node table      this is the node's table at the step, or it has none
 --     AreHanded shares tables      these are the tables that they hand on, or one of them has none
---     most_reads run step node      how many cells a step of the node may read: four for each column of its inputs and of its own table, and each row that these touch, where a modified row counts twice
+--     room_for run step node update      how many cells a step of the node may read, where this is the update of its table: four for each column of its inputs and of its own table, and each row that these touch, where a modified row counts twice
+--     most_reads run step node      the same for the update of its table at the step
+--     most_tried run step node      the same for the update that its operator makes of those of its inputs, or would make where the node fails
 --     all_defined shares      whether each share has a table
 --     HasStepped run steps node reads      its operator has taken so many steps, one for each step of the run, and read these numbers of cells in them, none of which is above the most of its step
 --     IsReady run tables steps node operator table      the operator is the node's, has taken so many steps, and stands for its inputs' tables; the table is the node's own
@@ -18,11 +20,13 @@ use Rattle.std.specs.declared.sync.Arc.{Arc}
 use Rattle.merge_op.specs.Merged.{counted_in, tables}
 use Rattle.operators.specs.Operating.{Operating, StandsFor, result_width}
 use Rattle.operators.specs.Planned.{input_widths}
+use Rattle.tick_laws.specs.Operated.{operated}
 use Rattle.tick_model.specs.declared.feed.Run.{Run}
 use Rattle.tick_model.specs.declared.table.PlainTable.{PlainTable}
-use Rattle.tick_model.specs.Changes.{is_empty}
+use Rattle.tick_model.specs.Changes.{change_of, is_empty}
 use Rattle.tick_model.specs.Evaluation.{Fault, NoInput, has_table, inputs_of, outcome_at, table_at}
 use Rattle.tick_model.specs.States.{state, tick}
+use Rattle.tick_model.specs.Updates.{Update}
 use Rattle.tick_table.specs.Exact.{counted, ticking}
 use Rattle.tick_table.specs.Ticking.{Ticking}
 use Rattle.update_graph.specs.declared.work.State.{State}
@@ -46,11 +50,17 @@ abbrev pub AreHanded : List Tag → Option (List (Arc Ticking Global)) → Type 
 AreHanded shares (Some all) = AllByRecursion (λ share. is_defined share.run share.step share.node ≡ true) shares × (tables all ≡ map (λ share. shown share.run share.step share.node) shares)
 AreHanded shares None = list_all (λ share. is_defined share.run share.step share.node) shares ≡ false
 
-abbrev pub most_reads : Run → ℕ → ℕ → ℕ
-most_reads run step node =
+abbrev pub room_for : Run → ℕ → ℕ → Update → ℕ
+room_for run step node update =
     let op = op_at run node in
     let widths = input_widths run.plan op in
-    4 * (sum widths + result_width op widths) * (counted_in (map (shown run step) (inputs_of op)) + counted (shown run step node).update)
+    4 * (sum widths + result_width op widths) * (counted_in (map (shown run step) (inputs_of op)) + counted update)
+
+abbrev pub most_reads : Run → ℕ → ℕ → ℕ
+most_reads run step node = room_for run step node (shown run step node).update
+
+abbrev pub most_tried : Run → ℕ → ℕ → ℕ
+most_tried run step node = room_for run step node (change_of (operated (op_at run node) (tick run step))).update
 
 abbrev pub all_defined : List Tag → Bool
 all_defined = list_all (λ share. is_defined share.run share.step share.node)

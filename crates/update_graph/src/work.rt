@@ -14,7 +14,7 @@ ghost use Rattle.tick_table.specs.Exact.{IsExact, ticking};
 ghost use Rattle.tick_table.specs.Ticking.{Ticking};
 ghost use Rattle.update_graph.specs.Entered.{IsEntered};
 ghost use Rattle.update_graph.specs.Faults.{fault_in};
-ghost use Rattle.update_graph.specs.Stands.{HasStepped, IsKept, IsReady, Stays, all_defined, is_defined, most_reads, shown};
+ghost use Rattle.update_graph.specs.Stands.{HasStepped, IsKept, IsReady, Stays, all_defined, is_defined, most_reads, most_tried, shown};
 ghost use Rattle.update_graph.specs.Tags.{is_operator, named, op_at, tag};
 
 use crate::shares::{Share, shares_stay, tables_of};
@@ -128,7 +128,8 @@ impl Work {
 
     /// What is kept of a node with an operator at the next step, and what it hands on. Its operator steps once, or does nothing
     /// where no input changes or one has no table. A graph advances its nodes inside the gate of its cycle; this call is inside a gate
-    /// that holds up nothing. After a refusal the work is given up, and no more was read than the step may read.
+    /// that holds up nothing. After a refusal the work is given up. Whatever the answer, also where the node fails, no more is read
+    /// than for the change that its operator makes or would make of those of its inputs.
     pub fn advance<L: Ledger>(
         self,
         alloc: Global,
@@ -144,6 +145,7 @@ impl Work {
         ensures work { IfOk result (λ out. named out.0 ≡ tag run.now (self.step + 1) self.node) }
         ensures share { IfOk result (λ out. out.1 ≡ tag run.now (self.step + 1) self.node) }
         ensures reads { is_defined run.now (self.step + 1) self.node ≡ true → reads.new ≤ reads.old + most_reads run.now (self.step + 1) self.node }
+        ensures tried { reads.new ≤ reads.old + most_tried run.now (self.step + 1) self.node }
         ensures none { all_defined shares ≡ false → reads.new ≡ reads.old }
     {
         let gate = OpenGate;
@@ -170,7 +172,7 @@ impl Work {
         requires shares { shares ≡ map (tag run.now (self.step + 1)) (inputs_of (op_at run.now self.node)) }
         ensures work { IfOk result (λ out. named out.0 ≡ tag run.now (self.step + 1) self.node) }
         ensures share { IfOk result (λ out. out.1 ≡ tag run.now (self.step + 1) self.node) }
-        ensures reads { is_defined run.now (self.step + 1) self.node ≡ true → reads.new ≤ reads.old + most_reads run.now (self.step + 1) self.node }
+        ensures tried { reads.new ≤ reads.old + most_tried run.now (self.step + 1) self.node }
         ensures none { all_defined shares ≡ false → reads.new ≡ reads.old }
     {
         if shares_stay(shares.as_slice()) {
@@ -381,7 +383,7 @@ pub(crate) fn worked<L: Ledger>(
     requires shares { shares ≡ map (tag run.now step) (inputs_of (op_at run.now node)) }
     ensures work { IfOk result (λ out. named out.0 ≡ tag run.now step node) }
     ensures share { IfOk result (λ out. out.1 ≡ tag run.now step node) }
-    ensures reads { is_defined run.now step node ≡ true → reads.new ≤ reads.old + most_reads run.now step node }
+    ensures tried { reads.new ≤ reads.old + most_tried run.now step node }
     ensures none { all_defined shares ≡ false → reads.new ≡ reads.old }
 {
     match tables_of(alloc, shares) {
@@ -433,7 +435,7 @@ fn stepped<L: Ledger>(
     requires inputs { tables inputs.now ≡ map (shown run.now step) (inputs_of (op_at run.now node)) }
     ensures work { IfOk result (λ out. named out.0 ≡ tag run.now step node) }
     ensures share { IfOk result (λ out. out.1 ≡ tag run.now step node) }
-    ensures reads { is_defined run.now step node ≡ true → reads.new ≤ reads.old + most_reads run.now step node }
+    ensures tried { reads.new ≤ reads.old + most_tried run.now step node }
 {
     let Ready { operator, table } = ready;
     match operator.step(alloc, inputs, reads) {
