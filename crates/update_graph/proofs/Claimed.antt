@@ -59,14 +59,6 @@ module _ (run : Run) (plan : Plan Kept) (s : IsForStep run plan) where
       ∙ ap (λ (l : List ℕ). map (tag plan.first.value.run (plan.first.value.step + 1)) l) (froms_of_step n within)
       ∙ ap (λ r. map (tag r (plan.first.value.step + 1)) (inputs_of (op_at run n))) s.of_run
 
-  -- a work that was taken
-  module _ (work : Kept) (n : ℕ) (same : named work ≡ tag run plan.first.value.step n) where
-    pub work_within : n < length run.plan.nodes → work.node < length run.plan.nodes
-    work_within within = subst (λ (t : Tag). t.node < length run.plan.nodes) (sym same) within
-
-    pub work_operator : is_operator run n ≡ true → is_operator run work.node ≡ true
-    work_operator is = subst (λ (t : Tag). is_operator run t.node ≡ true) (sym same) is
-
   -- what is put back
   pub next_tagged : (next : Kept) (n : ℕ) → named next ≡ tag run (plan.first.value.step + 1) n → (next.run ≡ plan.first.value.run) × (next.node ≡ n) × (next.step ≡ plan.first.value.step + 1)
   next_tagged next n same = (ap (λ (t : Tag). t.run) same ∙ sym s.of_run, ap (λ (t : Tag). t.node) same, ap (λ (t : Tag). t.step) same)

@@ -1,34 +1,16 @@
 -- How much a step of an operator reads, in the words of the run.
-use Rattle.std.proofs.Common.{◌≡◌, sym, ap, ◌∙◌, subst, ℕ, ◌+◌, ◌*◌, ◌<◌, ◌≤◌, inl, inr, arith, true, false, true≢false, List, [], ◌∷◌, ◌++◌, length, map}
-use Rattle.std.specs.Prelude.{slice_index, sum}
+use Rattle.std.proofs.Common.{◌≡◌, sym, ap, ◌∙◌, subst, ℕ, ◌+◌, ◌<◌, ◌≤◌, inl, inr, arith, true, false, true≢false, List, [], ◌∷◌, ◌++◌, length}
+use Rattle.std.specs.Prelude.{slice_index}
 use Rattle.std.specs.List.{AllByRecursion, range_with_len, sum_by}
 use Rattle.std.proofs.lemmas.Bool.{cases_lt}
 use Rattle.std.proofs.lemmas.List.{get_or_append_left, get_or_push, length_push}
 use Rattle.std.proofs.lemmas.List.Sums.{sum_by-cons}
 use Rattle.key_lists.proofs.Every.{every-filter, every_both, filter_passes, pass_all}
-use Rattle.merge_op.specs.Merged.{counted_in}
-use Rattle.operators.specs.Operating.{result_width}
-use Rattle.operators.specs.Planned.{input_widths}
-use Rattle.tick_laws.specs.Operated.{operated}
 use Rattle.tick_model.specs.declared.feed.Run.{Run}
-use Rattle.tick_model.specs.declared.plan.Op.{Op}
-use Rattle.tick_model.specs.Changes.{Change, change_of}
-use Rattle.tick_model.specs.Evaluation.{inputs_of}
-use Rattle.tick_model.specs.States.{tick}
-use Rattle.tick_table.specs.Exact.{counted}
-use Rattle.tick_table.specs.Ticking.{Ticking}
 use Rattle.update_graph.specs.Graphs.{HaveStepped, SteppedOnce, most_in, read_in, reads_at}
-use Rattle.update_graph.specs.Stands.{HasStepped, all_defined, is_defined, most_reads, most_tried, shown}
-use Rattle.update_graph.specs.Tags.{Tag, is_operator, op_at, operators}
+use Rattle.update_graph.specs.Stands.{HasStepped, all_defined, is_defined, most_reads}
+use Rattle.update_graph.specs.Tags.{Tag, is_operator, operators}
 use Rattle.update_graph.proofs.Numbering.{range_all}
-
-pub counted_reads : (run : Run) (step n before after : ℕ) (op : Op) (widths : List ℕ) (all : List Ticking) (change : Change) → op ≡ op_at run n → widths ≡ input_widths run.plan (op_at run n) → all ≡ map (shown run step) (inputs_of (op_at run n)) → change ≡ change_of (operated op (tick run step))
-    → after ≤ before + 4 * (sum widths + result_width op widths) * (counted_in all + counted change.update) → after ≤ before + most_tried run step n
-counted_reads run step n before after op widths all change op_is widths_are all_are change_is h =
-    let a = subst (λ (k : Change). after ≤ before + 4 * (sum widths + result_width op widths) * (counted_in all + counted k.update)) change_is h in
-    let b = subst (λ o. after ≤ before + 4 * (sum widths + result_width o widths) * (counted_in all + counted (change_of (operated o (tick run step))).update)) op_is a in
-    let c = subst (λ w. after ≤ before + 4 * (sum w + result_width (op_at run n) w) * (counted_in all + counted (change_of (operated (op_at run n) (tick run step))).update)) widths_are b in
-    subst (λ t. after ≤ before + 4 * (sum (input_widths run.plan (op_at run n)) + result_width (op_at run n) (input_widths run.plan (op_at run n))) * (counted_in t + counted (change_of (operated (op_at run n) (tick run step))).update)) all_are c
 
 -- one step more, which read no more than it may
 pub stepped_once : (run : Run) (steps node count : ℕ) (reads : List ℕ) → HasStepped run steps node reads → count ≤ most_reads run steps node → HasStepped run (steps + 1) node (reads ++ count ∷ [])

@@ -8,9 +8,10 @@
 --     most_in run step      how much they may read in it, taken together
 --     HaveStepped run steps reads      each operator has taken so many steps, each within its bound
 --     SteppedOnce run old new      each operator has taken exactly one step more than before
+--     HasReached run step graph      all nodes of the run stand at the step, whose batch breaks no rule and which no node spoils; those with an operator were worked once, after their inputs, and each has taken one step for each step of the run
 --     AreSources run step tables      these are the tables of the sources, in order of the nodes
 --     IsGraph run step edges sources keys works tables      all that a graph keeps is of this step
-use Rattle.std.specs.Prelude.{◌≡◌, ℕ, ◌+◌, ◌==◌, ◌<◌, ◌≤◌, AllPairs, List, [], count_by, length, map, if◌then◌else◌, slice_index, slice_index_or, true}
+use Rattle.std.specs.Prelude.{◌≡◌, ℕ, ◌+◌, ◌==◌, ◌<◌, ◌≤◌, AllPairs, List, [], None, count_by, length, map, if◌then◌else◌, slice_index, slice_index_or, true}
 use mathlib.Core.Option.{some}
 use lib.ListN.{get_elem?}
 use Rattle.std.specs.List.{range_with_len, sum_by}
@@ -24,7 +25,9 @@ use Rattle.tick_model.specs.declared.plan.Node.{Node}
 use Rattle.tick_model.specs.declared.plan.Plan.{Plan}
 use Rattle.tick_model.specs.Evaluation.{is_source}
 use Rattle.tick_model.specs.LawfulRuns.{IsLawfulRun}
-use Rattle.tick_model.specs.Sources.{source_ticks, sources}
+use Rattle.tick_model.specs.Sources.{batch_fault, source_ticks, sources}
+use Rattle.tick_model.specs.Spoiled.{node_fault}
+use Rattle.tick_model.specs.States.{state}
 use Rattle.tick_model.specs.Tables.{keys}
 use Rattle.tick_table.specs.Exact.{ticking}
 use Rattle.tick_table.specs.Ticking.{Ticking}
@@ -61,6 +64,15 @@ HaveStepped run steps reads = (node : ℕ) → node < length run.plan.nodes → 
 
 abbrev pub SteppedOnce : Run → List (List ℕ) → List (List ℕ) → Type 0
 SteppedOnce run old new = (node : ℕ) → node < length run.plan.nodes → is_operator run node ≡ true → length (reads_at new node) ≡ length (reads_at old node) + 1
+
+pub record HasReached (run : Run) (step : ℕ) (graph : GraphView) : Type 0 where
+  pub of_run : graph.run ≡ run
+  pub at_step : graph.step ≡ step
+  pub batch : batch_fault run step ≡ None
+  pub nodes : node_fault 0 (state run step) ≡ None
+  pub once : RanOnce run.plan graph.ran
+  pub order : RanInOrder run.plan graph.ran
+  pub stepped : HaveStepped run (step + 1) graph.reads
 
 -- each source's table at a step, with its update; and each node's
 abbrev pub sources_shown : Run → ℕ → List Ticking

@@ -14,6 +14,7 @@ ghost use Rattle.update_graph.specs.Graphs.{AreSources, RanInOrder, RanOnce};
 ghost use Rattle.update_graph.specs.Holdings.{IsClaimed};
 ghost use Rattle.update_graph.specs.Tags.{is_operator, named, tags};
 
+use crate::context::StepContext;
 use crate::edges::Edges;
 use crate::first_seat::open_sources;
 use crate::step_work::{HasRun, StepWork, run_is_shared};
@@ -131,21 +132,19 @@ fn work_by<R: Threads + Sync, U: HasRun, G: Gate>(
 /// Works all nodes that are claimed.
 fn work_claimed<R: Threads + Sync, G: Gate>(
     rt: &R,
-    alloc: Global,
-    run: &Run,
+    context: &StepContext<'_>,
     claims: &StepClaims,
     seat: StepSeat,
-    step: u64,
     edges: &Edges,
     sources: &[Shared],
     crew: &mut Crew,
     gate: &G,
 ) -> Result<StepSeat, AllocError>
-    requires claimed { IsClaimed run.now claims.now.plan }
-    requires step { step ≡ claims.now.plan.first.value.step + 1 }
+    requires claimed { IsClaimed context.now.run.now claims.now.plan }
+    requires step { context.now.step ≡ claims.now.plan.first.value.step + 1 }
     requires of { IsSeatOf claims.now seat }
     requires edges { edges.now ≡ claims.now.plan.edges.items }
-    requires sources { AreSources run.now step sources.now }
+    requires sources { AreSources context.now.run.now context.now.step sources.now }
     requires first { seat.view ≡ first_view claims.now.plan }
     ensures size { crew.new.size ≡ crew.old.size }
     ensures of { IfOk result (λ worked. IsSeatOf claims.now worked) }
@@ -153,41 +152,50 @@ fn work_claimed<R: Threads + Sync, G: Gate>(
     ensures late { IfOk result (λ worked. AllLate claims.now.plan worked.view) }
 {
     let mut seat = seat;
+    let run = context.run;
+    let step = context.step;
     let ready = open_sources(run, step, claims, &mut seat, edges, sources)?;
     run_is_shared();
-    work_by(rt, alloc, run, step, claims, seat, ready, edges, crew, gate)
+    work_by(
+        rt,
+        context.alloc,
+        run,
+        step,
+        claims,
+        seat,
+        ready,
+        edges,
+        crew,
+        gate,
+    )
 }
 
 /// What all nodes keep at the next step, from what they keep at this one, and the nodes with an operator, in the order in which
 /// they were worked. The tables are those of the sources at the next step.
 pub(crate) fn crew_step<R: Threads + Sync, G: Gate>(
     rt: &R,
-    alloc: Global,
-    run: &Run,
+    context: &StepContext<'_>,
     works: Vec<Work>,
-    step: u64,
     edges: &Edges,
     sources: &[Shared],
     crew: &mut Crew,
     gate: &G,
 ) -> Result<(Vec<Work>, Vec<u32>), AllocError>
-    requires entered { IsEntered run.now step }
-    requires later { 1 ≤ step }
-    requires works { map named works.items ≡ tags run.now (step - 1) (length run.now.plan.nodes) }
-    requires edges { edges.now ≡ edges_of run.now.plan }
-    requires sources { AreSources run.now step sources.now }
+    requires entered { IsEntered context.now.run.now context.now.step }
+    requires later { 1 ≤ context.now.step }
+    requires works { map named works.items ≡ tags context.now.run.now (context.now.step - 1) (length context.now.run.now.plan.nodes) }
+    requires edges { edges.now ≡ edges_of context.now.run.now.plan }
+    requires sources { AreSources context.now.run.now context.now.step sources.now }
     ensures size { crew.new.size ≡ crew.old.size }
-    ensures works { IfOk result (λ ended. map named ended.0.items ≡ tags run.now step (length run.now.plan.nodes)) }
-    ensures ran { IfOk result (λ ended. RanOnce run.now.plan ended.1.items) }
-    ensures order { IfOk result (λ ended. RanInOrder run.now.plan ended.1.items) }
+    ensures works { IfOk result (λ ended. map named ended.0.items ≡ tags context.now.run.now context.now.step (length context.now.run.now.plan.nodes)) }
+    ensures ran { IfOk result (λ ended. RanOnce context.now.run.now.plan ended.1.items) }
+    ensures order { IfOk result (λ ended. RanInOrder context.now.run.now.plan ended.1.items) }
 {
     if works.is_empty() {
-        return Ok((works, Vec::new(alloc)));
+        return Ok((works, Vec::new(context.alloc)));
     }
-    let (claims, seat) = begin_step(alloc, run, works, step, edges)?;
-    let seat = work_claimed(
-        rt, alloc, run, &claims, seat, step, edges, sources, crew, gate,
-    )?;
-    let (works, ran) = end_step(alloc, run, claims, seat)?;
+    let (claims, seat) = begin_step(context.alloc, context.run, works, context.step, edges)?;
+    let seat = work_claimed(rt, context, &claims, seat, edges, sources, crew, gate)?;
+    let (works, ran) = end_step(context.alloc, context.run, claims, seat)?;
     Ok((works, ran))
 }

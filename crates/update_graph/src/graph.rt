@@ -15,12 +15,13 @@ ghost use Rattle.tick_table.specs.Exact.{ticking};
 ghost use Rattle.tick_table.specs.Ticking.{Ticking};
 ghost use Rattle.update_graph.specs.Edges.{edges_of};
 ghost use Rattle.update_graph.specs.Entered.{IsEntered};
-ghost use Rattle.update_graph.specs.Graphs.{HaveStepped, RanInOrder, RanOnce, SteppedOnce, most_in, nodes_shown, read_in, reads_at, sources_shown};
+ghost use Rattle.update_graph.specs.Graphs.{HasReached, HaveStepped, RanInOrder, RanOnce, SteppedOnce, most_in, read_in, reads_at, sources_shown};
 ghost use Rattle.update_graph.specs.Stands.{HasStepped, is_defined};
 ghost use Rattle.update_graph.specs.Stops.{IsStop};
 ghost use Rattle.update_graph.specs.Sweeps.{IsWhole};
 ghost use Rattle.update_graph.specs.Tags.{all_reads, is_operator, named, op_at, tags};
 
+use crate::context::StepContext;
 use crate::crew_step::crew_step;
 use crate::edges::Edges;
 use crate::in_order::advance_all;
@@ -147,25 +148,20 @@ fn least_fault(works: &[Work]) -> Option<(u32, NodeFault)>
 
 /// The graph at a step at which all nodes have tables.
 fn gathered(
-    alloc: Global,
-    run: &Run,
-    step: u64,
+    context: &StepContext<'_>,
     edges: Edges,
     keys: SourceKeys,
     sources: Vec<Shared>,
     sweep: Sweep,
 ) -> Result<Graph, AllocError>
-    requires entered { IsEntered run.now step }
-    requires nodes { node_fault 0 (state run.now step) ≡ None }
-    requires edges { edges ≡ edges_of run.now.plan }
-    requires keys { keys ≡ map (λ table. keys_of table.rows) (sources_at run.now step) }
-    requires sources { tables sources.items ≡ sources_shown run.now step }
-    requires swept { IsWhole run.now step sweep }
-    requires stepped { HaveStepped run.now (step + 1) (all_reads sweep.works.items) }
-    ensures run { IfOk result (λ graph. graph.run ≡ run.now) }
-    ensures step { IfOk result (λ graph. graph.step ≡ step) }
-    ensures ran { IfOk result (λ graph. graph.ran ≡ sweep.ran.items) }
-    ensures stepped { IfOk result (λ graph. HaveStepped run.now (step + 1) graph.reads) }
+    requires entered { IsEntered context.now.run.now context.now.step }
+    requires nodes { node_fault 0 (state context.now.run.now context.now.step) ≡ None }
+    requires edges { edges ≡ edges_of context.now.run.now.plan }
+    requires keys { keys ≡ map (λ table. keys_of table.rows) (sources_at context.now.run.now context.now.step) }
+    requires sources { tables sources.items ≡ sources_shown context.now.run.now context.now.step }
+    requires swept { IsWhole context.now.run.now context.now.step sweep }
+    requires stepped { HaveStepped context.now.run.now (context.now.step + 1) (all_reads sweep.works.items) }
+    ensures { IfOk result (HasReached context.now.run.now context.now.step) }
 {
     let Sweep {
         works,
@@ -174,11 +170,11 @@ fn gathered(
         sources: _,
     } = sweep;
     let shares = Items::of(shares);
-    let about = Snapshot::of(run);
-    match tables_of(alloc, shares)? {
+    let about = Snapshot::of(context.run);
+    match tables_of(context.alloc, shares)? {
         Some(tables) => Ok(Graph {
             run: about,
-            step,
+            step: context.step,
             edges,
             keys,
             sources,
@@ -192,121 +188,31 @@ fn gathered(
 
 /// The graph at a step that all nodes have reached, unless one has failed.
 fn finished(
-    alloc: Global,
-    run: &Run,
-    step: u64,
+    context: &StepContext<'_>,
     edges: Edges,
     keys: SourceKeys,
     sources: Vec<Shared>,
     sweep: Sweep,
 ) -> Result<Graph, Stop>
-    requires entered { IsEntered run.now step }
-    requires edges { edges ≡ edges_of run.now.plan }
-    requires keys { keys ≡ map (λ table. keys_of table.rows) (sources_at run.now step) }
-    requires sources { tables sources.items ≡ sources_shown run.now step }
-    requires swept { IsWhole run.now step sweep }
-    ensures run { IfOk result (λ graph. graph.run ≡ run.now) }
-    ensures step { IfOk result (λ graph. graph.step ≡ step) }
-    ensures batch { OnOk result (batch_fault run.now step ≡ None) }
-    ensures nodes { OnOk result (node_fault 0 (state run.now step) ≡ None) }
-    ensures ran { IfOk result (λ graph. RanOnce run.now.plan graph.ran) }
-    ensures order { IfOk result (λ graph. RanInOrder run.now.plan graph.ran) }
-    ensures stepped { IfOk result (λ graph. HaveStepped run.now (step + 1) graph.reads) }
-    ensures cause { IfErr result (IsStop run.now step) }
+    requires entered { IsEntered context.now.run.now context.now.step }
+    requires edges { edges ≡ edges_of context.now.run.now.plan }
+    requires keys { keys ≡ map (λ table. keys_of table.rows) (sources_at context.now.run.now context.now.step) }
+    requires sources { tables sources.items ≡ sources_shown context.now.run.now context.now.step }
+    requires swept { IsWhole context.now.run.now context.now.step sweep }
+    ensures reached { IfOk result (HasReached context.now.run.now context.now.step) }
+    ensures cause { IfErr result (IsStop context.now.run.now context.now.step) }
 {
     match least_fault(&sweep.works) {
-        Some((node, kind)) => Err(Stop::Node { step, node, kind }),
+        Some((node, kind)) => Err(Stop::Node {
+            step: context.step,
+            node,
+            kind,
+        }),
         None => {
-            let graph = gathered(alloc, run, step, edges, keys, sources, sweep)?;
+            let graph = gathered(context, edges, keys, sources, sweep)?;
             Ok(graph)
         }
     }
-}
-
-/// The graph at the next step, by the batch of that step. This thread works the nodes in order.
-fn next<G: Gate>(
-    alloc: Global,
-    run: &Run,
-    step: u64,
-    edges: Edges,
-    keys: SourceKeys,
-    sources: Vec<Shared>,
-    works: Vec<Work>,
-    gate: &G,
-) -> Result<Graph, Stop>
-    requires lawful { IsLawfulRun run.now }
-    requires reached { IsReached run.now step }
-    requires next { step < length run.now.batches }
-    requires edges { edges ≡ edges_of run.now.plan }
-    requires keys { keys ≡ map (λ table. keys_of table.rows) (sources_at run.now step) }
-    requires sources { tables sources.items ≡ sources_shown run.now step }
-    requires works { map named works.items ≡ tags run.now step (length run.now.plan.nodes) }
-    ensures run { IfOk result (λ graph. graph.run ≡ run.now) }
-    ensures step { IfOk result (λ graph. graph.step ≡ step + 1) }
-    ensures batch { OnOk result (batch_fault run.now (step + 1) ≡ None) }
-    ensures nodes { OnOk result (node_fault 0 (state run.now (step + 1)) ≡ None) }
-    ensures ran { IfOk result (λ graph. RanOnce run.now.plan graph.ran) }
-    ensures order { IfOk result (λ graph. RanInOrder run.now.plan graph.ran) }
-    ensures stepped { IfOk result (λ graph. HaveStepped run.now (step + 1 + 1) graph.reads) }
-    ensures cause { IfErr result (IsStop run.now (step + 1)) }
-{
-    let mut keys = keys;
-    let changes = changes_of::<Brand>(alloc, run, step, &mut keys, &sources, Blank::new(1))?;
-    let sources = changed_sources(alloc, run, step + 1, sources, changes)?;
-    let blank = Blank::new(1);
-    let sweep = advance_all::<G, Brand>(alloc, run, step + 1, works, &sources, gate, blank)?;
-    let graph = finished(alloc, run, step + 1, edges, keys, sources, sweep)?;
-    Ok(graph)
-}
-
-/// The same, with the nodes worked by a crew.
-fn next_by<R: Threads + Sync, G: Gate>(
-    rt: &R,
-    alloc: Global,
-    run: &Run,
-    step: u64,
-    edges: Edges,
-    keys: SourceKeys,
-    sources: Vec<Shared>,
-    works: Vec<Work>,
-    crew: &mut Crew,
-    gate: &G,
-) -> Result<Graph, Stop>
-    requires lawful { IsLawfulRun run.now }
-    requires reached { IsReached run.now step }
-    requires next { step < length run.now.batches }
-    requires edges { edges ≡ edges_of run.now.plan }
-    requires keys { keys ≡ map (λ table. keys_of table.rows) (sources_at run.now step) }
-    requires sources { tables sources.items ≡ sources_shown run.now step }
-    requires works { map named works.items ≡ tags run.now step (length run.now.plan.nodes) }
-    ensures run { IfOk result (λ graph. graph.run ≡ run.now) }
-    ensures step { IfOk result (λ graph. graph.step ≡ step + 1) }
-    ensures batch { OnOk result (batch_fault run.now (step + 1) ≡ None) }
-    ensures nodes { OnOk result (node_fault 0 (state run.now (step + 1)) ≡ None) }
-    ensures ran { IfOk result (λ graph. RanOnce run.now.plan graph.ran) }
-    ensures order { IfOk result (λ graph. RanInOrder run.now.plan graph.ran) }
-    ensures stepped { IfOk result (λ graph. HaveStepped run.now (step + 1 + 1) graph.reads) }
-    ensures cause { IfErr result (IsStop run.now (step + 1)) }
-    ensures size { crew.new.size ≡ crew.old.size }
-{
-    let mut keys = keys;
-    let changes = changes_of::<Brand>(alloc, run, step, &mut keys, &sources, Blank::new(1))?;
-    let sources = changed_sources(alloc, run, step + 1, sources, changes)?;
-    let (works, ran) = crew_step(
-        rt,
-        alloc,
-        run,
-        works,
-        step + 1,
-        &edges,
-        &sources,
-        crew,
-        gate,
-    )?;
-    let numbered = swept(alloc, run, step + 1, works, &sources)?;
-    let sweep = numbered.in_order(ran);
-    let reached = finished(alloc, run, step + 1, edges, keys, sources, sweep)?;
-    Ok(reached)
 }
 
 impl Graph {
@@ -324,7 +230,87 @@ impl Graph {
         let keys = SourceKeys::new(alloc, &run.opening)?;
         let sources = opened_sources(alloc, run)?;
         let sweep = open_all::<Brand>(alloc, run, &sources, Blank::new(1))?;
-        let graph = finished(alloc, run, 0, edges, keys, sources, sweep)?;
+        let context = StepContext {
+            alloc,
+            run,
+            step: 0,
+        };
+        let graph = finished(&context, edges, keys, sources, sweep)?;
+        Ok(graph)
+    }
+
+    /// The graph at the next step, by the batch of that step. This thread works the nodes in order.
+    fn next<G: Gate>(self, alloc: Global, run: &Run, gate: &G) -> Result<Graph, Stop>
+        requires run { self.run ≡ run.now }
+        requires next { self.step < length run.now.batches }
+        ensures reached { IfOk result (HasReached run.now (self.step + 1)) }
+        ensures steps { IfOk result (λ graph. SteppedOnce run.now self.reads graph.reads) }
+        ensures cause { IfErr result (IsStop run.now (self.step + 1)) }
+    {
+        let Graph {
+            run: _,
+            step,
+            edges,
+            keys,
+            sources,
+            works,
+            tables,
+            ran: _,
+        } = self;
+        drop(tables);
+        let mut keys = keys;
+        let changes = changes_of::<Brand>(alloc, run, step, &mut keys, &sources, Blank::new(1))?;
+        let context = StepContext {
+            alloc,
+            run,
+            step: step + 1,
+        };
+        let sources = changed_sources(alloc, run, step + 1, sources, changes)?;
+        let blank = Blank::new(1);
+        let sweep = advance_all::<G, Brand>(&context, works, &sources, gate, blank)?;
+        let graph = finished(&context, edges, keys, sources, sweep)?;
+        Ok(graph)
+    }
+
+    /// The same, with the nodes worked by a crew.
+    fn next_by<R: Threads + Sync, G: Gate>(
+        self,
+        rt: &R,
+        alloc: Global,
+        run: &Run,
+        crew: &mut Crew,
+        gate: &G,
+    ) -> Result<Graph, Stop>
+        requires run { self.run ≡ run.now }
+        requires next { self.step < length run.now.batches }
+        ensures reached { IfOk result (HasReached run.now (self.step + 1)) }
+        ensures steps { IfOk result (λ graph. SteppedOnce run.now self.reads graph.reads) }
+        ensures cause { IfErr result (IsStop run.now (self.step + 1)) }
+        ensures size { crew.new.size ≡ crew.old.size }
+    {
+        let Graph {
+            run: _,
+            step,
+            edges,
+            keys,
+            sources,
+            works,
+            tables,
+            ran: _,
+        } = self;
+        drop(tables);
+        let mut keys = keys;
+        let changes = changes_of::<Brand>(alloc, run, step, &mut keys, &sources, Blank::new(1))?;
+        let context = StepContext {
+            alloc,
+            run,
+            step: step + 1,
+        };
+        let sources = changed_sources(alloc, run, step + 1, sources, changes)?;
+        let (works, ran) = crew_step(rt, &context, works, &edges, &sources, crew, gate)?;
+        let numbered = swept(alloc, run, step + 1, works, &sources)?;
+        let sweep = numbered.in_order(ran);
+        let graph = finished(&context, edges, keys, sources, sweep)?;
         Ok(graph)
     }
 
@@ -356,18 +342,8 @@ impl Graph {
             let mut crew = Crew::new(alloc, workers)?;
             return self.cycle_by(rt, alloc, run, &mut crew, gate);
         }
-        let Graph {
-            run: _,
-            step,
-            edges,
-            keys,
-            sources,
-            works,
-            tables,
-            ran: _,
-        } = self;
-        drop(tables);
-        next(alloc, run, step, edges, keys, sources, works, gate)
+        let graph = self.next(alloc, run, gate)?;
+        Ok(graph)
     }
 
     /// The same, worked by a crew, which is kept from step to step. No more threads are started than the crew has hands.
@@ -392,20 +368,8 @@ impl Graph {
         ensures cause { IfErr result (IsStop run.now (self.step + 1)) }
         ensures size { crew.new.size ≡ crew.old.size }
     {
-        let Graph {
-            run: _,
-            step,
-            edges,
-            keys,
-            sources,
-            works,
-            tables,
-            ran: _,
-        } = self;
-        drop(tables);
-        next_by(
-            rt, alloc, run, step, edges, keys, sources, works, crew, gate,
-        )
+        let graph = self.next_by(rt, alloc, run, crew, gate)?;
+        Ok(graph)
     }
 
     /// The step at which all nodes stand. The run has reached it.

@@ -7,6 +7,7 @@
 //! still worked, and the least node that failed is named.
 #![tactic(auto)]
 
+mod context;
 mod crew_step;
 mod edges;
 mod first_seat;

@@ -14,14 +14,16 @@ ghost use Rattle.update_graph.specs.Stands.{IsReady};
 ghost use Rattle.update_graph.specs.Sweeps.{IsSwept};
 ghost use Rattle.update_graph.specs.Tags.{is_operator, op_at};
 
+use crate::context::StepContext;
 use crate::edges::inputs_of;
 use crate::sweep::{Sweep, shares_for};
-use crate::work::{Ready, worked};
+use crate::work::{Ready, advance_inside};
 use new_counts::new_count;
 use operators::Operator;
 use std::alloc::{AllocError, Global};
 use std::sync::Arc;
 use std::sync::ledger::{Blank, Ledger};
+use tick_io::{Gate, OpenGate};
 use tick_model::feed::Run;
 use tick_model::plan::Op;
 use tick_model::sources::is_source;
@@ -93,7 +95,16 @@ fn open_node<L: Ledger>(
     let number = sweep.works.len() as u32;
     let shares = shares_for(alloc, run, 0, &node.op, &sweep.shares)?;
     let ready = fresh(alloc, run, number, &node.op)?;
-    let (work, share) = worked(alloc, run, number, 0, ready, shares, reads)?;
+    let gate = OpenGate;
+    let context = StepContext {
+        alloc,
+        run,
+        step: 0,
+    };
+    let inside = gate.admit(number);
+    let opened = advance_inside(&context, number, ready, shares, reads, &inside);
+    gate.dismiss(inside);
+    let (work, share) = opened?;
     sweep.put(run, 0, work, share)
 }
 

@@ -1,6 +1,6 @@
 //! What a crew's hand does to a node of a step.
 
-ghost use Rattle.std.specs.Prelude.{◌≡◌, ◌+◌, ◌<◌, ◌≤◌, ◌^◌, ℕ, IfOk, OnOk, length, map, true};
+ghost use Rattle.std.specs.Prelude.{◌≡◌, ◌+◌, ◌<◌, ◌^◌, ℕ, IfOk, OnOk, length, map, true};
 ghost use Rattle.std.specs.Thread.{IsSync};
 ghost use mathlib.Core.Option.{some};
 ghost use lib.ListN.{get_elem?};
@@ -17,6 +17,7 @@ ghost use Rattle.update_graph.specs.Entered.{IsEntered};
 ghost use Rattle.update_graph.specs.Steps.{IsHandedOver, IsHanding};
 ghost use Rattle.update_graph.specs.Tags.{is_operator, named, op_at, tag};
 
+use crate::context::StepContext;
 use crate::edges::Edges;
 use crate::shares::Share;
 use crate::work::Work;
@@ -117,50 +118,51 @@ pub(crate) fn hand_all(
     Ok(())
 }
 
-/// What is kept of a node at the next step, and what it hands on, with this counter of the cells that are read.
+/// What is kept of a node at the step, and what it hands on, with this counter of the cells that are read.
 fn advanced_by<L: Ledger>(
-    alloc: Global,
-    run: &Run,
+    context: &StepContext<'_>,
+    node: u32,
     work: Work,
     shares: Items<Share>,
     inside: &Inside,
     blank: Blank,
 ) -> Result<(Work, Share), AllocError>
-    requires inside { inside.now.node ≡ work.node }
     requires name { blank.name ≡ L.name }
     requires parts { blank.parts ≡ L.parts }
     requires some { 0 < blank.parts }
-    requires run { work.run ≡ run.now }
-    requires entered { IsEntered run.now (work.step + 1) }
-    requires node { work.node < length run.now.plan.nodes }
-    requires operator { is_operator run.now work.node ≡ true }
-    requires shares { shares ≡ map (tag run.now (work.step + 1)) (inputs_of (op_at run.now work.node)) }
-    ensures work { IfOk result (λ out. named out.0 ≡ tag run.now (work.step + 1) work.node) }
-    ensures share { IfOk result (λ out. out.1 ≡ tag run.now (work.step + 1) work.node) }
+    requires inside { inside.now.node ≡ node }
+    requires work { named work ≡ tag context.now.run.now work.step node }
+    requires next { work.step + 1 ≡ context.now.step }
+    requires entered { IsEntered context.now.run.now context.now.step }
+    requires node { node < length context.now.run.now.plan.nodes }
+    requires operator { is_operator context.now.run.now node ≡ true }
+    requires shares { shares ≡ map (tag context.now.run.now context.now.step) (inputs_of (op_at context.now.run.now node)) }
+    ensures work { IfOk result (λ out. named out.0 ≡ tag context.now.run.now context.now.step node) }
+    ensures share { IfOk result (λ out. out.1 ≡ tag context.now.run.now context.now.step node) }
 {
     let mut reads = Steps::<L>::new(blank, new_count());
-    work.advance_inside(alloc, run, shares, &mut reads, inside)
+    work.take_step(context, node, shares, &mut reads, inside)
 }
 
 /// The same, with a counter of its own.
 fn advanced(
-    alloc: Global,
-    run: &Run,
+    context: &StepContext<'_>,
+    node: u32,
     work: Work,
     shares: Items<Share>,
     inside: &Inside,
 ) -> Result<(Work, Share), AllocError>
-    requires inside { inside.now.node ≡ work.node }
-    requires run { work.run ≡ run.now }
-    requires entered { IsEntered run.now (work.step + 1) }
-    requires node { work.node < length run.now.plan.nodes }
-    requires operator { is_operator run.now work.node ≡ true }
-    requires shares { shares ≡ map (tag run.now (work.step + 1)) (inputs_of (op_at run.now work.node)) }
-    ensures work { IfOk result (λ out. named out.0 ≡ tag run.now (work.step + 1) work.node) }
-    ensures share { IfOk result (λ out. out.1 ≡ tag run.now (work.step + 1) work.node) }
+    requires inside { inside.now.node ≡ node }
+    requires work { named work ≡ tag context.now.run.now work.step node }
+    requires next { work.step + 1 ≡ context.now.step }
+    requires entered { IsEntered context.now.run.now context.now.step }
+    requires node { node < length context.now.run.now.plan.nodes }
+    requires operator { is_operator context.now.run.now node ≡ true }
+    requires shares { shares ≡ map (tag context.now.run.now context.now.step) (inputs_of (op_at context.now.run.now node)) }
+    ensures work { IfOk result (λ out. named out.0 ≡ tag context.now.run.now context.now.step node) }
+    ensures share { IfOk result (λ out. out.1 ≡ tag context.now.run.now context.now.step node) }
 {
-    let blank = Blank::new(1);
-    advanced_by::<Brand>(alloc, run, work, shares, inside, blank)
+    advanced_by::<Brand>(context, node, work, shares, inside, Blank::new(1))
 }
 
 /// What the hands of a crew work the nodes of a step by. A contract sees the run, the step and the edges.
@@ -228,8 +230,13 @@ impl<'s, U: HasRun, G: Gate> NodeWork<Work, Share> for StepWork<'s, U, G> {
         let run = self.run.run();
         claims.look(seat);
         let (work, shares) = begin_node(self.alloc, run, claims, seat, self.edges, node)?;
-        let inside = self.gate.admit(work.node());
-        let worked = advanced(self.alloc, run, work, shares, &inside);
+        let context = StepContext {
+            alloc: self.alloc,
+            run,
+            step: self.step,
+        };
+        let inside = self.gate.admit(node);
+        let worked = advanced(&context, node, work, shares, &inside);
         self.gate.dismiss(inside);
         let share = settle_node(run, claims, seat, node, worked)?;
         hand_all(claims, seat, run, self.edges, node, &share, ready)?;

@@ -3,7 +3,6 @@
 ghost use Rattle.std.specs.Prelude.{◌≡◌, ◌+◌, ◌<◌, ◌≤◌, IfOk, None, OnOk, false, length, map, true};
 ghost use Rattle.std.specs.Arc.{arc_value};
 ghost use Rattle.std.specs.List.{AllByRecursion};
-ghost use Rattle.merge_op.specs.Merged.{tables};
 ghost use Rattle.operators.specs.Operating.{idled};
 ghost use Rattle.tick_laws.specs.Reached.{table_before};
 ghost use Rattle.tick_model.specs.Evaluation.{Fault, fault_of, inputs_of, outcome_at, table_at};
@@ -17,6 +16,7 @@ ghost use Rattle.update_graph.specs.Faults.{fault_in};
 ghost use Rattle.update_graph.specs.Stands.{HasStepped, IsKept, IsReady, Stays, all_defined, is_defined, most_reads, most_tried, shown};
 ghost use Rattle.update_graph.specs.Tags.{is_operator, named, op_at, tag};
 
+use crate::context::StepContext;
 use crate::shares::{Share, shares_stay, tables_of};
 use crate::sources::{applied, rested};
 use graph_words::Tagged;
@@ -119,13 +119,6 @@ impl Work {
         Work::new(run, node, step, State::Source)
     }
 
-    /// The node.
-    pub(crate) fn node(&self) -> u32
-        ensures { result ≡ self.now.node }
-    {
-        self.node
-    }
-
     /// What is kept of a node with an operator at the next step, and what it hands on. Its operator steps once, or does nothing
     /// where no input changes or one has no table. A graph advances its nodes inside the gate of its cycle; this call is inside a gate
     /// that holds up nothing. After a refusal the work is given up. Whatever the answer, also where the node fails, no more is read
@@ -149,78 +142,68 @@ impl Work {
         ensures none { all_defined shares ≡ false → reads.new ≡ reads.old }
     {
         let gate = OpenGate;
-        let inside = gate.admit(self.node);
-        let advanced = self.advance_inside(alloc, run, shares, reads, &inside);
+        let context = StepContext {
+            alloc,
+            run,
+            step: self.step + 1,
+        };
+        let node = self.node;
+        let inside = gate.admit(node);
+        let advanced = self.take_step(&context, node, shares, reads, &inside);
         gate.dismiss(inside);
         advanced
     }
 
-    /// The same, where a gate was entered for the node and is not left yet.
-    pub(crate) fn advance_inside<L: Ledger>(
+    /// The same, where the gate of the step was entered for the node and is not left yet.
+    pub(crate) fn take_step<L: Ledger>(
         self,
-        alloc: Global,
-        run: &Run,
+        context: &StepContext<'_>,
+        node: u32,
         shares: Items<Share>,
         reads: &mut Steps<L>,
         inside: &Inside,
     ) -> Result<(Work, Share), AllocError>
-        requires inside { inside.now.node ≡ self.node }
-        requires run { self.run ≡ run.now }
-        requires entered { IsEntered run.now (self.step + 1) }
-        requires node { self.node < length run.now.plan.nodes }
-        requires operator { is_operator run.now self.node ≡ true }
-        requires shares { shares ≡ map (tag run.now (self.step + 1)) (inputs_of (op_at run.now self.node)) }
-        ensures work { IfOk result (λ out. named out.0 ≡ tag run.now (self.step + 1) self.node) }
-        ensures share { IfOk result (λ out. out.1 ≡ tag run.now (self.step + 1) self.node) }
-        ensures tried { reads.new ≤ reads.old + most_tried run.now (self.step + 1) self.node }
+        requires inside { inside.now.node ≡ node }
+        requires work { named self ≡ tag context.now.run.now self.step node }
+        requires next { self.step + 1 ≡ context.now.step }
+        requires entered { IsEntered context.now.run.now context.now.step }
+        requires node { node < length context.now.run.now.plan.nodes }
+        requires operator { is_operator context.now.run.now node ≡ true }
+        requires shares { shares ≡ map (tag context.now.run.now context.now.step) (inputs_of (op_at context.now.run.now node)) }
+        ensures work { IfOk result (λ out. named out.0 ≡ tag context.now.run.now context.now.step node) }
+        ensures share { IfOk result (λ out. out.1 ≡ tag context.now.run.now context.now.step node) }
+        ensures tried { reads.new ≤ reads.old + most_tried context.now.run.now context.now.step node }
         ensures none { all_defined shares ≡ false → reads.new ≡ reads.old }
     {
+        let ready = self.into_ready(context.run, context.step, node);
         if shares_stay(shares.as_slice()) {
             drop(shares);
-            return self.stay(alloc, run, inside);
+            return stay(context, node, ready, inside);
         }
-        let Work {
-            run: _,
-            node,
-            step,
-            state,
-        } = self;
-        match state {
-            State::Defined(ready) => {
-                let ready = Box::into_inner(ready);
-                worked(alloc, run, node, step + 1, ready, shares, reads)
-            }
-            State::Source => unreachable!(),
-            State::Failed(_) => unreachable!(),
-            State::Undefined => unreachable!(),
-        }
+        let ready = Box::into_inner(ready);
+        advance_inside(context, node, ready, shares, reads, inside)
     }
 
-    /// What is kept of a node none of whose inputs changes in the next step, and what it hands on. Its operator does nothing.
-    pub(crate) fn stay(
-        self,
-        alloc: Global,
-        run: &Run,
-        inside: &Inside,
-    ) -> Result<(Work, Share), AllocError>
-        requires inside { inside.now.node ≡ self.node }
-        requires run { self.run ≡ run.now }
-        requires entered { IsEntered run.now (self.step + 1) }
-        requires node { self.node < length run.now.plan.nodes }
-        requires operator { is_operator run.now self.node ≡ true }
-        requires inputs { AllByRecursion (Stays run.now (self.step + 1)) (inputs_of (op_at run.now self.node)) }
-        ensures work { IfOk result (λ out. named out.0 ≡ tag run.now (self.step + 1) self.node) }
-        ensures share { IfOk result (λ out. out.1 ≡ tag run.now (self.step + 1) self.node) }
+    /// The operator and the table of a node, before a step that the run enters. Each node has its table then.
+    pub(crate) fn into_ready(self, run: &Run, step: u64, node: u32) -> Box<Ready>
+        requires work { named self ≡ tag run.now self.step node }
+        requires next { self.step + 1 ≡ step }
+        requires entered { IsEntered run.now step }
+        requires node { node < length run.now.plan.nodes }
+        requires operator { is_operator run.now node ≡ true }
+        ensures ready { IsReady run.now (table_before run.now step) step node result.value.operator result.value.table }
+        ensures exact { IsExact (arc_value {X = Ticking} result.value.table) }
+        ensures clear { fault_of (op_at run.now node) (table_before run.now step) ≡ None }
     {
-        let _ = inside;
+        let _ = run;
         let Work {
             run: _,
-            node,
-            step,
+            node: _,
+            step: _,
             state,
         } = self;
         match state {
-            State::Defined(ready) => stayed(alloc, run, node, step + 1, ready),
+            State::Defined(ready) => ready,
             State::Source => unreachable!(),
             State::Failed(_) => unreachable!(),
             State::Undefined => unreachable!(),
@@ -345,58 +328,26 @@ fn idle(ready: Box<Ready>) -> Box<Ready>
 }
 
 /// A node none of whose inputs changes in a step: its operator does nothing, and its table stays as it is.
-fn stayed(
-    alloc: Global,
-    run: &Run,
+pub(crate) fn stay(
+    context: &StepContext<'_>,
     node: u32,
-    step: u64,
     ready: Box<Ready>,
+    inside: &Inside,
 ) -> Result<(Work, Share), AllocError>
-    requires entered { IsEntered run.now step }
-    requires node { node < length run.now.plan.nodes }
-    requires operator { is_operator run.now node ≡ true }
-    requires clear { fault_of (op_at run.now node) (table_before run.now step) ≡ None }
-    requires ready { IsReady run.now (table_before run.now step) step node ready.value.operator ready.value.table }
+    requires inside { inside.now.node ≡ node }
+    requires entered { IsEntered context.now.run.now context.now.step }
+    requires node { node < length context.now.run.now.plan.nodes }
+    requires operator { is_operator context.now.run.now node ≡ true }
+    requires clear { fault_of (op_at context.now.run.now node) (table_before context.now.run.now context.now.step) ≡ None }
+    requires ready { IsReady context.now.run.now (table_before context.now.run.now context.now.step) context.now.step node ready.value.operator ready.value.table }
     requires exact { IsExact (arc_value {X = Ticking} ready.value.table) }
-    requires inputs { AllByRecursion (Stays run.now step) (inputs_of (op_at run.now node)) }
-    ensures work { IfOk result (λ out. named out.0 ≡ tag run.now step node) }
-    ensures share { IfOk result (λ out. out.1 ≡ tag run.now step node) }
+    requires inputs { AllByRecursion (Stays context.now.run.now context.now.step) (inputs_of (op_at context.now.run.now node)) }
+    ensures work { IfOk result (λ out. named out.0 ≡ tag context.now.run.now context.now.step node) }
+    ensures share { IfOk result (λ out. out.1 ≡ tag context.now.run.now context.now.step node) }
 {
-    let ready = rest(alloc, idle(ready))?;
-    holding(run, node, step, ready)
-}
-
-/// A node with an operator after a step, from what it has before it, and what it hands on. The shares are those of its inputs.
-pub(crate) fn worked<L: Ledger>(
-    alloc: Global,
-    run: &Run,
-    node: u32,
-    step: u64,
-    ready: Ready,
-    shares: Items<Share>,
-    reads: &mut Steps<L>,
-) -> Result<(Work, Share), AllocError>
-    requires entered { IsEntered run.now step }
-    requires node { node < length run.now.plan.nodes }
-    requires operator { is_operator run.now node ≡ true }
-    requires ready { IsReady run.now (table_before run.now step) step node ready.operator ready.table }
-    requires shares { shares ≡ map (tag run.now step) (inputs_of (op_at run.now node)) }
-    ensures work { IfOk result (λ out. named out.0 ≡ tag run.now step node) }
-    ensures share { IfOk result (λ out. out.1 ≡ tag run.now step node) }
-    ensures tried { reads.new ≤ reads.old + most_tried run.now step node }
-    ensures none { all_defined shares ≡ false → reads.new ≡ reads.old }
-{
-    match tables_of(alloc, shares) {
-        Ok(Some(inputs)) => stepped(alloc, run, node, step, ready, &inputs, reads),
-        Ok(None) => {
-            drop(ready);
-            Ok(without_table(run, node, step, State::Undefined))
-        }
-        Err(error) => {
-            drop(ready);
-            Err(error)
-        }
-    }
+    let _ = inside;
+    let ready = rest(context.alloc, idle(ready))?;
+    holding(context.run, node, context.step, ready)
 }
 
 /// What it is for a node that a step of its operator is refused.
@@ -417,32 +368,43 @@ fn without_step(
     }
 }
 
-/// A node whose inputs have these tables.
-fn stepped<L: Ledger>(
-    alloc: Global,
-    run: &Run,
+/// A node with an operator after a step, from what it has before it, and what it hands on. The shares are those of its inputs.
+pub(crate) fn advance_inside<L: Ledger>(
+    context: &StepContext<'_>,
     node: u32,
-    step: u64,
     ready: Ready,
-    inputs: &[Shared],
+    shares: Items<Share>,
     reads: &mut Steps<L>,
+    inside: &Inside,
 ) -> Result<(Work, Share), AllocError>
-    requires entered { IsEntered run.now step }
-    requires node { node < length run.now.plan.nodes }
-    requires operator { is_operator run.now node ≡ true }
-    requires ready { IsReady run.now (table_before run.now step) step node ready.operator ready.table }
-    requires defined { AllByRecursion (λ input. is_defined run.now step input ≡ true) (inputs_of (op_at run.now node)) }
-    requires inputs { tables inputs.now ≡ map (shown run.now step) (inputs_of (op_at run.now node)) }
-    ensures work { IfOk result (λ out. named out.0 ≡ tag run.now step node) }
-    ensures share { IfOk result (λ out. out.1 ≡ tag run.now step node) }
-    ensures tried { reads.new ≤ reads.old + most_tried run.now step node }
+    requires inside { inside.now.node ≡ node }
+    requires entered { IsEntered context.now.run.now context.now.step }
+    requires node { node < length context.now.run.now.plan.nodes }
+    requires operator { is_operator context.now.run.now node ≡ true }
+    requires ready { IsReady context.now.run.now (table_before context.now.run.now context.now.step) context.now.step node ready.operator ready.table }
+    requires shares { shares ≡ map (tag context.now.run.now context.now.step) (inputs_of (op_at context.now.run.now node)) }
+    ensures work { IfOk result (λ out. named out.0 ≡ tag context.now.run.now context.now.step node) }
+    ensures share { IfOk result (λ out. out.1 ≡ tag context.now.run.now context.now.step node) }
+    ensures tried { reads.new ≤ reads.old + most_tried context.now.run.now context.now.step node }
+    ensures none { all_defined shares ≡ false → reads.new ≡ reads.old }
 {
-    let Ready { operator, table } = ready;
-    match operator.step(alloc, inputs, reads) {
-        Ok((operator, change)) => {
-            let table = applied(alloc, table, change)?;
-            with_table(alloc, run, node, step, Ready { operator, table })
+    let _ = inside;
+    let handed = tables_of(context.alloc, shares)?;
+    match handed {
+        Some(inputs) => {
+            let Ready { operator, table } = ready;
+            match operator.step(context.alloc, &inputs, reads) {
+                Ok((operator, change)) => {
+                    let table = applied(context.alloc, table, change)?;
+                    let ready = Ready { operator, table };
+                    with_table(context.alloc, context.run, node, context.step, ready)
+                }
+                Err(fault) => without_step(context.run, node, context.step, fault),
+            }
         }
-        Err(fault) => without_step(run, node, step, fault),
+        None => {
+            drop(ready);
+            Ok(without_table(context.run, node, context.step, State::Undefined))
+        }
     }
 }

@@ -1,4 +1,4 @@
-use Rattle.std.proofs.Common.{sym, ◌∙◌, subst, Some, None, Vec, Global}
+use Rattle.std.proofs.Common.{refl, sym, ◌∙◌, subst, arith, Some, None, Vec, Global}
 use Rattle.std.specs.Prelude.{option_map}
 use Rattle.std.specs.declared.sync.Arc.{Arc}
 use Rattle.tick_table.specs.Ticking.{Ticking}
@@ -11,22 +11,33 @@ pub unreachable-requires : goal.unreachable-requires
 unreachable-requires c =
     let handed : AreHanded c.of-shares.result None =
     subst (λ found. AreHanded c.of-shares.result (option_map (λ (all : Vec (Arc Ticking Global) Global). all.items) found)) c.in-None.is c.in_ok-tables.ensures in
-    some_handed c.args.run.now c.args.step c.requires.entered c.requires.nodes c.of-shares.result (c.of-shares.ensures ∙ c.requires.swept.shares) handed
+    some_handed c.args.context.now.run.now c.args.context.now.step c.requires.entered c.requires.nodes c.of-shares.result (c.of-shares.ensures ∙ c.requires.swept.shares) handed
 
 pub invariant_of-result : goal.invariant_of-result
 invariant_of-result c =
-    let run = c.args.run.now in
+    let run = c.args.context.now.run.now in
     let handed : AreHanded c.of-shares.result (Some c.in-Some.tables.items) =
     subst (λ found. AreHanded c.of-shares.result (option_map (λ (all : Vec (Arc Ticking Global) Global). all.items) found)) c.in-Some.is c.in_ok-tables.ensures in
-    subst (λ run. IsGraph run c.args.step c.args.edges c.args.keys c.args.sources.items c.args.sweep.works.items c.in-Some.tables.items) (sym c.of-about.ensures)
+    subst (λ run. IsGraph run c.args.context.now.step c.args.edges c.args.keys c.args.sources.items c.args.sweep.works.items c.in-Some.tables.items) (sym c.of-about.ensures)
     (record {
       lawful = c.requires.entered.lawful;
       within = c.requires.entered.within;
-      reached = reached_here run c.args.step c.requires.entered c.requires.nodes;
+      reached = reached_here run c.args.context.now.step c.requires.entered c.requires.nodes;
       edges_are = c.requires.edges;
       keys_are = c.requires.keys;
       sources_are = c.requires.sources;
       works_are = c.requires.swept.works;
       stepped = c.requires.stepped;
-      tables_are = handed_tables run c.args.step c.requires.entered c.requires.nodes c.of-shares.result (c.of-shares.ensures ∙ c.requires.swept.shares) c.in-Some.tables.items handed;
+      tables_are = handed_tables run c.args.context.now.step c.requires.entered c.requires.nodes c.of-shares.result (c.of-shares.ensures ∙ c.requires.swept.shares) c.in-Some.tables.items handed;
     })
+
+pub returns : goal.returns
+returns c = record {
+  of_run = c.of-about.ensures;
+  at_step = refl;
+  batch = c.requires.entered.batches c.args.context.now.step (omega arith);
+  nodes = c.requires.nodes;
+  once = c.requires.swept.ran;
+  order = c.requires.swept.order;
+  stepped = c.requires.stepped;
+}

@@ -3,4 +3,4 @@ use Rattle.update_graph.specs.Sweeps.{IsSwept}
 use Rattle.update_graph.proofs.in_order.advance_all.Given as goal
 
 abbrev pub invariant-loop-work : goal.invariant-loop-work
-invariant-loop-work g l = IsSwept l.run l.step (length l.yielded) l.sweep
+invariant-loop-work g l = IsSwept l.context.run.now l.context.step (length l.yielded) l.sweep

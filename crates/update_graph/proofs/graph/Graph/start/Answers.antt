@@ -24,7 +24,7 @@ pub finished-requires-clause-swept : goal.finished-requires-clause-swept
 finished-requires-clause-swept c = whole_swept c.args.run.now 0 c.in_ok-sweep.sweep c.requires c.in_ok-sweep.ensures
 
 pub returns-clause-steps : goal.returns-clause-steps
-returns-clause-steps c node within is = (c.in_ok-graph.ensures.stepped node within is).each
+returns-clause-steps c node within is = (c.in_ok-graph.ensures.reached.stepped node within is).each
 
 pub returns-clause-reads : goal.returns-clause-reads
-returns-clause-reads c = all_within c.args.run.now 0 c.in_ok-graph.graph.reads c.in_ok-graph.ensures.stepped
+returns-clause-reads c = all_within c.args.run.now 0 c.in_ok-graph.graph.reads c.in_ok-graph.ensures.reached.stepped

@@ -4,7 +4,7 @@ use Rattle.graph_words.specs.Models.{SeatModel}
 use Rattle.update_graph.specs.Crews.{StepView}
 use Rattle.update_graph.specs.Steps.{IsListing, IsWorked}
 use Rattle.update_graph.specs.Tags.{Kept}
-use Rattle.update_graph.proofs.Claimed.{few_of_step, operator_of_step, small_of_step, step_of_view, within_of_step, work_operator, work_within}
+use Rattle.update_graph.proofs.Claimed.{few_of_step, operator_of_step, small_of_step, step_of_view, within_of_step}
 use Rattle.steal_workers.specs.Lists.{IsListed}
 use Rattle.steal_workers.proofs.Listing.{true_false}
 use Rattle.update_graph.proofs.CrewNodes.{handing_all, listed_came, listed_others, listed_settled}
@@ -26,7 +26,7 @@ advanced-worked-requires-clause-node g c =
     let step =
     step_of_view plan c.run-run.result.now (g.U.HasRun.own_run c.self.inside.run.now) c.self.inside.step c.self.inside.edges.now c.args.self.now c.run-run.ensures c.self.view_is c.self.invariant
     c.requires.meant.run c.requires.meant.step c.requires.meant.edges in
-    work_within c.run-run.result.now plan step c.in_ok-work.work c.args.node c.in_ok-work.ensures.work (within_of_step c.run-run.result.now plan step c.args.node c.requires.node.input)
+    within_of_step c.run-run.result.now plan step c.args.node c.requires.node.input
 
 pub advanced-worked-requires-clause-operator : goal.advanced-worked-requires-clause-operator
 advanced-worked-requires-clause-operator g c =
@@ -34,7 +34,7 @@ advanced-worked-requires-clause-operator g c =
     let step =
     step_of_view plan c.run-run.result.now (g.U.HasRun.own_run c.self.inside.run.now) c.self.inside.step c.self.inside.edges.now c.args.self.now c.run-run.ensures c.self.view_is c.self.invariant
     c.requires.meant.run c.requires.meant.step c.requires.meant.edges in
-    work_operator c.run-run.result.now plan step c.in_ok-work.work c.args.node c.in_ok-work.ensures.work (operator_of_step c.run-run.result.now plan step c.args.node c.requires.node.input)
+    operator_of_step c.run-run.result.now plan step c.args.node c.requires.node.input
 
 pub settle_node-requires-clause-taken : goal.settle_node-requires-clause-taken
 settle_node-requires-clause-taken g c =

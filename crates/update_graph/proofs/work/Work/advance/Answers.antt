@@ -1,7 +1,8 @@
 use Rattle.std.proofs.Common.{subst, ◌+◌, ◌≤◌}
 use Rattle.std.proofs.lemmas.Bool.{not-true}
 use Rattle.tick_model.specs.Evaluation.{is_source}
-use Rattle.update_graph.specs.Tags.{node_at}
+use Rattle.update_graph.specs.Stands.{most_tried}
+use Rattle.update_graph.specs.Tags.{Kept, node_at}
 use Rattle.update_graph.proofs.StepInputs.{tried_is}
 use Rattle.update_graph.proofs.work.Work.advance.Goals as goal
 
@@ -9,4 +10,5 @@ pub returns-clause-reads : goal.returns-clause-reads
 returns-clause-reads g c = λ here.
     let run = c.args.run.now in
     let n = c.args.self.node in
-    subst (λ k. c.advance_inside-advanced.new.reads ≤ c.args.reads.now + k) (tried_is run (c.args.self.step + 1) c.requires.entered n c.requires.node (not-true (is_source (node_at run n)) c.requires.operator) here) c.advance_inside-advanced.ensures.tried
+    let tried = subst (λ (k : Kept). c.take_step-advanced.new.reads ≤ c.args.reads.now + most_tried run (k.step + 1) k.node) c.self.view_is c.take_step-advanced.ensures.tried in
+    subst (λ k. c.take_step-advanced.new.reads ≤ c.args.reads.now + k) (tried_is run (c.args.self.step + 1) c.requires.entered n c.requires.node (not-true (is_source (node_at run n)) c.requires.operator) here) tried

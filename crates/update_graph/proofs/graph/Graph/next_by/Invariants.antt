@@ -1,4 +1,4 @@
-use Rattle.update_graph.proofs.graph.next_by.Given as goal
+use Rattle.update_graph.proofs.graph.Graph.next_by.Given as goal
 
 abbrev pub ghosts-changes_of : goal.ghosts-changes_of
 ghosts-changes_of g a = record { name = a.blank.name; parts = a.blank.parts }

@@ -1,0 +1,22 @@
+use Rattle.std.proofs.Common.{◌∙◌, subst, sym}
+use Rattle.std.specs.List.{AllByRecursion}
+use Rattle.key_lists.proofs.Every.{every_unmapped}
+use Rattle.tick_laws.specs.Reached.{table_before}
+use Rattle.tick_model.specs.Evaluation.{inputs_of}
+use Rattle.update_graph.specs.Stands.{IsReady, Stays}
+use Rattle.update_graph.specs.Tags.{Tag, op_at, tag}
+use Rattle.update_graph.specs.declared.work.Ready.{Ready}
+use Rattle.update_graph.proofs.work.Work.take_step.Goals as goal
+
+pub stay-requires-clause-inputs : goal.stay-requires-clause-inputs
+stay-requires-clause-inputs g c =
+    let run = c.args.context.now.run.now in
+    let here : Tag → Type 0 = λ share. Stays share.run share.step share.node in
+    every_unmapped here (tag run c.args.context.now.step) (inputs_of (op_at run c.args.node))
+    (subst (AllByRecursion here) (c.as_slice.ensures ∙ c.requires.shares) (c.shares_stay.ensures c.if-shares_stay.true))
+
+pub advance_inside-requires-clause-ready : goal.advance_inside-requires-clause-ready
+advance_inside-requires-clause-ready g c =
+    let run = c.args.context.now.run.now in
+    let step = c.args.context.now.step in
+    subst (λ (ready : Ready). IsReady run (table_before run step) step c.args.node ready.operator ready.table) (sym c.into_inner-ready.ensures) c.into_ready-ready.ensures.ready
