@@ -1,8 +1,8 @@
--- A row that leaves a group whose number is known.
+-- A row that leaves its group.
 use Rattle.std.proofs.Common.{◌≡◌, ◌≢◌, refl, ap, ap₂, sym, ◌∙◌, subst, arith, false, ℕ, suc, ◌+◌, ◌<◌, List, [], ◌∷◌, ◌++◌, get_or, length, length-append, Option, Some, None, IsSome, option_map, unwrap_or, ℤ}
 use Rattle.std.specs.List.{AllZip}
 use Rattle.std.proofs.lemmas.List.Elements.{AllZip-get_or, length_all_zip}
-use Rattle.std.proofs.lemmas.Option.{none-some, same_Some}
+use Rattle.std.proofs.lemmas.Option.{same_Some}
 use Rattle.key_lists.specs.Keys.{is_among}
 use Rattle.row_handles.specs.Entries.{handle_under}
 use Rattle.row_groups.specs.declared.index.Index.{Index}
@@ -12,7 +12,7 @@ use Rattle.row_groups.specs.Members.{IsNumberUnder, Member, member_under}
 use Rattle.row_groups.specs.Rows.{AreNumbered, Becomes, IsKept, at_in, cells_in, cells_with, kept_in, slots_numbered, slots_under}
 use Rattle.row_groups.specs.Slots.{IsGroup, slots_without}
 use Rattle.row_groups.specs.Indexes.{IsIndex, grouped_of, numbered_of}
-use Rattle.row_groups.proofs.Keys.{under_has}
+use Rattle.row_groups.proofs.Keys.{some_of, under_has}
 use Rattle.row_groups.proofs.Groupings.{there_under, under_same}
 use Rattle.row_groups.proofs.Indexed.{AreGone, group_there, kept_of, some_cells, step_less}
 use Rattle.row_groups.proofs.Named.{name_is}
@@ -32,64 +32,65 @@ module _ (R : ℕ → ℕ → Type 0) (keys yielded others numbers : List ℕ) (
   pub zipped_next : R key (get_or numbers place 0)
   zipped_next = subst (λ k. R k (get_or numbers place 0)) (ap₂ (λ ks n. get_or ks n 0) next count ∙ at_end yielded others key) (AllZip-get_or R keys numbers place 0 0 all below)
 
-there_of : (at : ℤ) (found : Option Member) → option_map (λ (member : Member). member.at) found ≡ Some at → IsSome found
-there_of at None e = absurd (none-some at e)
-there_of at (Some member) e = refl
+-- a row is to leave of which it is known what is kept
+pub record Departs (gone : List ℕ) (key : ℕ) (kept : Kept) (old index : Index) : Type 0 where
+  pub handle : ℕ
+  pub so_far : AreGone gone old index
+  pub new : is_among key gone ≡ false
+  pub here : handle_under key index.handles ≡ Some handle
+  pub kept_is : kept_in index.table handle ≡ kept
+
+module _ (gone : List ℕ) (key : ℕ) (kept : Kept) (old index : Index) (d : Departs gone key kept old index) where
+  pub departs_there : IsSome (cells_with kept.number index.lists.groups)
+  departs_there = subst (λ (kept : Kept). IsSome (cells_with kept.number index.lists.groups)) d.kept_is (kept_of gone key d.handle index d.so_far.holds d.new d.here).there
+
+  pub departs_group : IsGroup index.handles (slots_numbered kept.number index.lists.groups)
+  departs_group = subst (λ (kept : Kept). IsGroup index.handles (slots_numbered kept.number index.lists.groups)) d.kept_is (group_there gone key d.handle index d.so_far.holds d.new d.here)
+
+  -- its group loses it
+  pub departed : (lists : Lists) (place : ℤ) → place ≡ kept.at
+      → ((cells : List ℤ) → cells_with kept.number index.lists.groups ≡ Some cells → Becomes cells (slots_without index.handles place key (slots_under cells index.lists)) index.lists lists)
+      → (slots_without index.handles place key (slots_numbered kept.number index.lists.groups) ≢ [] → cells_with kept.number lists.groups ≡ cells_with kept.number index.lists.groups)
+      → ((other : ℕ) → other ≢ kept.number → cells_with other lists.groups ≡ cells_with other index.lists.groups)
+      → ((other : ℕ) (cells : List ℤ) → cells_with other lists.groups ≡ Some cells → cells_with other index.lists.groups ≡ Some cells) → AreNumbered lists → AreGone (gone ++ key ∷ []) old (record index { lists = lists })
+  departed lists place same becomes stays others fewer numbered =
+      let groups = index.lists.groups in
+      let cells = cells_in index.table groups d.handle in
+      let back = sym d.kept_is in
+      let own = subst (λ (kept : Kept). cells_with kept.number groups ≡ Some cells) d.kept_is (some_cells (cells_with (kept_in index.table d.handle).number groups) (kept_of gone key d.handle index d.so_far.holds d.new d.here).there) in
+      step_less gone key d.handle old index lists d.so_far d.new (record {
+        here = d.here;
+        becomes = subst (λ (a : ℤ). Becomes cells (slots_without index.handles a key (slots_under cells index.lists)) index.lists lists) (same ∙ ap (λ (kept : Kept). kept.at) back) (becomes cells own);
+        stays = subst (λ (kept : Kept). slots_without index.handles kept.at key (slots_numbered kept.number groups) ≢ [] → cells_with kept.number lists.groups ≡ cells_with kept.number groups) back
+            (subst (λ (a : ℤ). slots_without index.handles a key (slots_numbered kept.number groups) ≢ [] → cells_with kept.number lists.groups ≡ cells_with kept.number groups) same stays);
+        others = subst (λ (kept : Kept). (other : ℕ) → other ≢ kept.number → cells_with other lists.groups ≡ cells_with other groups) back others;
+        fewer = fewer;
+        numbered = numbered;
+      })
 
 handle_is : (found : Option ℕ) → IsSome found → found ≡ Some (unwrap_or found 0)
 handle_is None there = absurd (cc)
 handle_is (Some handle) there = refl
 
-module _ (gone : List ℕ) (key number : ℕ) (at : ℤ) (old index : Index) (is : IsIndex old) (so_far : AreGone gone old index) (new : is_among key gone ≡ false) (under : IsNumberUnder (numbered_of old) key number)
-    (placed : option_map (λ (member : Member). member.at) (member_under key (grouped_of old).members) ≡ Some at) where
-  abbrev handle : ℕ
-  handle = unwrap_or (handle_under key old.handles) 0
-
-  here_before : handle_under key old.handles ≡ Some handle
-  here_before = handle_is (handle_under key old.handles) (there_under key old.table old.lists.groups old.handles (there_of at (member_under key (grouped_of old).members) placed))
-
-  here : handle_under key index.handles ≡ Some handle
-  here = ap (handle_under key) so_far.handles ∙ here_before
-
-  number_is : (kept_in old.table handle).number ≡ number
-  number_is =
-      let groups = old.lists.groups in
-      let cells = cells_in old.table groups handle in
-      let own = under_has (λ x. IsKept old.width old.table groups x.handle) key handle old.handles is.kept here_before in
-      let member = under_same (λ member. member.cells) (cells_in old.table groups) key old.table groups old.handles (λ x. refl) ∙ ap (option_map (cells_in old.table groups)) here_before in
-      (under cells member).alone (kept_in old.table handle).number (name_is (kept_in old.table handle).number groups ∙ some_cells (cells_with (kept_in old.table handle).number groups) own.there)
-
-  at_is : at_in old.table handle ≡ at
-  at_is =
-      same_Some _ _ (sym (under_same (λ member. member.at) (at_in old.table) key old.table old.lists.groups old.handles (λ x. refl) ∙ ap (option_map (at_in old.table)) here_before) ∙ placed)
-
-  -- what is kept of the row
-  kept_is : kept_in index.table handle ≡ record { number = number; at = at }
-  kept_is = ap (λ table. kept_in table handle) so_far.table ∙ ap₂ (λ (n : ℕ) (a : ℤ). let kept : Kept = record { number = n; at = a } in kept) number_is at_is
-
-  pub numbered_there : IsSome (cells_with number index.lists.groups)
-  numbered_there = subst (λ (kept : Kept). IsSome (cells_with kept.number index.lists.groups)) kept_is (kept_of gone key handle index so_far.holds new here).there
-
-  pub numbered_group : IsGroup index.handles (slots_numbered number index.lists.groups)
-  numbered_group = subst (λ (kept : Kept). IsGroup index.handles (slots_numbered kept.number index.lists.groups)) kept_is (group_there gone key handle index so_far.holds new here)
-
-  -- its group loses it
-  pub numbered_less : (lists : Lists) (place : ℤ) → place ≡ at
-      → ((cells : List ℤ) → cells_with number index.lists.groups ≡ Some cells → Becomes cells (slots_without index.handles place key (slots_under cells index.lists)) index.lists lists)
-      → (slots_without index.handles place key (slots_numbered number index.lists.groups) ≢ [] → cells_with number lists.groups ≡ cells_with number index.lists.groups)
-      → ((other : ℕ) → other ≢ number → cells_with other lists.groups ≡ cells_with other index.lists.groups)
-      → ((other : ℕ) (cells : List ℤ) → cells_with other lists.groups ≡ Some cells → cells_with other index.lists.groups ≡ Some cells) → AreNumbered lists → AreGone (gone ++ key ∷ []) old (record index { lists = lists })
-  numbered_less lists place same becomes stays others fewer numbered =
-      let groups = index.lists.groups in
-      let cells = cells_in index.table groups handle in
-      let kept = sym kept_is in
-      let own = subst (λ (kept : Kept). cells_with kept.number groups ≡ Some cells) kept_is (some_cells (cells_with (kept_in index.table handle).number groups) (kept_of gone key handle index so_far.holds new here).there) in
-      step_less gone key handle old index lists so_far new (record {
-        here = here;
-        becomes = subst (λ (a : ℤ). Becomes cells (slots_without index.handles a key (slots_under cells index.lists)) index.lists lists) (same ∙ ap (λ (kept : Kept). kept.at) kept) (becomes cells own);
-        stays = subst (λ (kept : Kept). slots_without index.handles kept.at key (slots_numbered kept.number groups) ≢ [] → cells_with kept.number lists.groups ≡ cells_with kept.number groups) kept
-            (subst (λ (a : ℤ). slots_without index.handles a key (slots_numbered number groups) ≢ [] → cells_with number lists.groups ≡ cells_with number groups) same stays);
-        others = subst (λ (kept : Kept). (other : ℕ) → other ≢ kept.number → cells_with other lists.groups ≡ cells_with other groups) kept others;
-        fewer = fewer;
-        numbered = numbered;
-      })
+-- the next one of the keys, whose groups' numbers and whose `at` are known
+pub numbered_departs : (keys yielded others numbers : List ℕ) (key place : ℕ) (at : ℤ) (old index : Index) → IsIndex old → AreGone yielded old index → keys ≡ yielded ++ key ∷ others → is_among key yielded ≡ false → place ≡ length yielded → AllZip (IsNumberUnder (numbered_of old)) keys numbers
+    → option_map (λ (member : Member). member.at) (member_under key (grouped_of old).members) ≡ Some at → Departs yielded key (record { number = get_or numbers place 0; at = at }) old index
+numbered_departs keys yielded others numbers key place at old index is so_far next new count all placed =
+    let groups = old.lists.groups in
+    let handle : ℕ = unwrap_or (handle_under key old.handles) 0 in
+    let here : handle_under key old.handles ≡ Some handle = handle_is (handle_under key old.handles) (there_under key old.table groups old.handles (some_of (λ (member : Member). member.at) (member_under key (grouped_of old).members) at placed)) in
+    let cells = cells_in old.table groups handle in
+    let own = under_has (λ x. IsKept old.width old.table groups x.handle) key handle old.handles is.kept here in
+    let member = under_same (λ member. member.cells) (cells_in old.table groups) key old.table groups old.handles (λ x. refl) ∙ ap (option_map (cells_in old.table groups)) here in
+    let named = name_is (kept_in old.table handle).number groups ∙ some_cells (cells_with (kept_in old.table handle).number groups) own.there in
+    let under = zipped_next (IsNumberUnder (numbered_of old)) keys yielded others numbers key place next count all in
+    record {
+      handle = handle;
+      so_far = so_far;
+      new = new;
+      here = ap (handle_under key) so_far.handles ∙ here;
+      kept_is =
+          ap (λ table. kept_in table handle) so_far.table
+          ∙ ap₂ (λ (number : ℕ) (at : ℤ). let kept : Kept = record { number = number; at = at } in kept) ((under cells member).alone (kept_in old.table handle).number named)
+          (same_Some _ _ (sym (under_same (λ member. member.at) (at_in old.table) key old.table groups old.handles (λ x. refl) ∙ ap (option_map (at_in old.table)) here) ∙ placed));
+    }

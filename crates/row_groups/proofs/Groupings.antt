@@ -22,6 +22,7 @@ use Rattle.row_groups.proofs.Order.{at_most, less, less_above, less_below, less_
 use Rattle.row_groups.proofs.Ranks.{Ascends, Ranked, before, every-by_at, every-group, group_ranked, group_with, group_without, put_in, with_row}
 use Rattle.row_groups.proofs.Ends.{failed_all, passed_all}
 use Rattle.row_groups.proofs.Keys.{known_all, small_key}
+use Rattle.row_groups.proofs.Parts.{unlike}
 
 -- a group of rows has the members of the group
 placed_members : (row : Row) (rows : List Row) → members_of (row_placed row rows) ≡ placed row.member (members_of rows)
@@ -127,9 +128,6 @@ slots_ranked entries (row ∷ rows) h k = (
       before_same entries row other.member.at (key_in entries other.handle) h.0 ∙ ap (less row.member.at row.member.key other.member.at) (own_key entries other own) ∙ e) h.1 k.0),
   slots_ranked entries rows h.1 k.1,
 )
-
-unlike : (b : Bool) → b ≡ true → b ≡ false → ⊥
-unlike b e f = cc
 
 -- a place parts a list in order
 pub ranked_parted : (entries : List Entry) (at : ℤ) (key : ℕ) (slots : List Slot) → AreRanked entries slots → IsParted (is_before entries at key) slots

@@ -1,8 +1,8 @@
 -- Rows by their keys: what handles show of them, and one that comes back.
-use Rattle.std.proofs.Common.{◌≡◌, ◌≢◌, refl, ap, sym, ◌∙◌, subst, Bool, true, false, not, cond, ◌&&◌, ◌||◌, ltb, eqb, ℕ, ◌^◌, ◌<◌, arith, List, [], ◌∷◌, ◌++◌, filter, Option, Some, None, unwrap_or, if◌then◌else◌}
+use Rattle.std.proofs.Common.{◌≡◌, ◌≢◌, refl, ap, sym, ◌∙◌, subst, Bool, true, false, not, cond, ◌&&◌, ◌||◌, ltb, eqb, ℕ, ◌^◌, ◌<◌, arith, List, [], ◌∷◌, ◌++◌, filter, Option, Some, None, is_some, option_map, unwrap_or, if◌then◌else◌}
 use Rattle.std.specs.List.{AllByRecursion}
 use Rattle.std.proofs.lemmas.Bool.{eq-eqb, ne_eqb, eqb-true, ltb-true, ltb-false, lt-ltb}
-use Rattle.std.proofs.lemmas.Option.{same_Some}
+use Rattle.std.proofs.lemmas.Option.{none-some, same_Some}
 use Rattle.key_lists.specs.Keys.{is_among}
 use Rattle.key_lists.proofs.Every.{every, every_weaker, every_both, every-filter, every-map, every_unmapped, filter_filter, filter_same, filter_all, map_map}
 use Rattle.key_lists.proofs.Among.{among-append}
@@ -15,8 +15,10 @@ use Rattle.tick_model.specs.Rules.{shift_fault}
 use Rattle.row_handles.proofs.EntryLists.{absent_all, ascend_by_keys, ascend-filter, rising_keys, with_row-between}
 use Rattle.row_handles.proofs.Laws.{handle_under-with_row}
 
-none_some : (n : ℕ) → ◌≡◌ {A = Option ℕ} None (Some n) → ⊥
-none_some n e = cc
+-- where there is something of it, it is there
+pub some_of : {X Y : Type 0} (f : X → Y) (o : Option X) (y : Y) → option_map f o ≡ Some y → is_some o ≡ true
+some_of f None y e = absurd (none-some y e)
+some_of f (Some x) y e = refl
 
 -- the row of a key, and what holds of it
 has_by : (P : Entry → Type 0) (key handle : ℕ) (x : Entry) (found : Option ℕ) → P x → (found ≡ Some handle → P (entry_of key handle)) → (b : Bool) → eqb x.key key ≡ b → (if b then Some x.handle else found) ≡ Some handle → P (entry_of key handle)
@@ -25,7 +27,7 @@ has_by P key handle x found p rest true same is =
 has_by P key handle x found p rest false same is = rest is
 
 pub under_has : (P : Entry → Type 0) (key handle : ℕ) (xs : List Entry) → AllByRecursion P xs → handle_under key xs ≡ Some handle → P (entry_of key handle)
-under_has P key handle [] h e = absurd (none_some handle e)
+under_has P key handle [] h e = absurd (none-some handle e)
 under_has P key handle (x ∷ xs) h e = has_by P key handle x (handle_under key xs) h.0 (under_has P key handle xs h.1) (eqb x.key key) refl e
 
 -- each handle leads to the key of its row
@@ -62,7 +64,7 @@ restored_by key handle x xs up rest false same is =
     ∙ ap (with_row key handle) (sym (ap (λ b. cond b (x ∷ left_rows (key ∷ []) xs) (left_rows (key ∷ []) xs)) (apart_from key x (λ e. omega arith))))
 
 pub restored : (key handle : ℕ) (xs : List Entry) → Ascend xs → handle_under key xs ≡ Some handle → xs ≡ with_row key handle (left_rows (key ∷ []) xs)
-restored key handle [] up e = absurd (none_some handle e)
+restored key handle [] up e = absurd (none-some handle e)
 restored key handle (x ∷ xs) up e = restored_by key handle x xs up (restored key handle xs up.1) (eqb x.key key) refl e
 
 -- a row that comes and leaves again
@@ -133,12 +135,12 @@ distinct_with key handle (x ∷ xs) d h =
 unknown_all : (handle : ℕ) (xs : List Entry) → key_with handle xs ≡ None → AllByRecursion (λ x. x.handle ≢ handle) xs
 unknown_all handle [] e = tt
 unknown_all handle (x ∷ xs) e = (
-  λ same. none_some x.key (sym e ∙ ap (λ b. if b then Some x.key else key_with handle xs) (eq-eqb x.handle handle same)),
+  λ same. none-some x.key (sym e ∙ ap (λ b. if b then Some x.key else key_with handle xs) (eq-eqb x.handle handle same)),
   unknown_all handle xs (by_test (eqb x.handle handle) e),
 )
   where
     by_test : (b : Bool) → (if b then Some x.key else key_with handle xs) ≡ None → key_with handle xs ≡ None
-    by_test true is = absurd (none_some x.key (sym is))
+    by_test true is = absurd (none-some x.key (sym is))
     by_test false is = is
 
 small_keys : (xs : List Entry) → IsKeySet (keys_of xs) → AllByRecursion (λ x. x.key < 2 ^ 62) xs

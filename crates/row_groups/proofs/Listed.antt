@@ -10,7 +10,7 @@ use Rattle.std.specs.Cmp.Rules.{signed_items}
 use Rattle.std.specs.Global.{Vec}
 use Rattle.std.proofs.lemmas.Bool.{cases_eq, false_from_ne_true}
 use Rattle.std.proofs.lemmas.List.{length-drop, length-take}
-use Rattle.std.proofs.lemmas.Option.{same_Some}
+use Rattle.std.proofs.lemmas.Option.{none-some, same_Some}
 use Rattle.slab.specs.Slab.{get, with_value}
 use Rattle.slab.proofs.SlabLemmas.{Updates-with_value}
 use Rattle.tick_model.specs.Tables.{same_cells}
@@ -20,9 +20,7 @@ use Rattle.row_groups.specs.declared.lists.Lists.{Lists}
 use Rattle.row_groups.specs.declared.place.Slot.{Slot}
 use Rattle.row_groups.specs.Slots.{is_before, slots_with, slots_without}
 use Rattle.row_groups.specs.Rows.{AreNumbered, Becomes, ByNumber, Numbers, cells_with, number_under, slots_numbered, slots_under}
-
-unlike : (b : Bool) → b ≡ true → b ≡ false → ⊥
-unlike b e f = cc
+use Rattle.row_groups.proofs.Parts.{unlike}
 
 abbrev pub same_key : Vec ℤ → Vec ℤ → Bool
 same_key x y = pointwise int_eq x.items y.items
@@ -36,9 +34,6 @@ key_test cells x y h = ap (λ cs. same_cells cs y.items) ((signed_items cells x.
 apart_keys : (cells other : List ℤ) → same_cells cells other ≡ false → (key : Vec ℤ) → has_cells cells key ≡ true → has_cells other key ≡ false
 apart_keys cells other e key h =
     false_from_ne_true (has_cells other key) (λ own. unlike (same_cells cells other) ((signed_items cells other).1 ((signed_items cells key.items).0 h ∙ sym ((signed_items other key.items).0 own))) e)
-
-none_some : {X : Type 0} (x : X) → ◌≡◌ {A = Option X} None (Some x) → ⊥
-none_some x e = cc
 
 -- the number under other cells stays where that under some cells changes
 pub renumbered : (cells other : List ℤ) (old new : Numbers) (w : Option ℕ) → UpdatesBy same_key (has_cells cells) old new w → same_cells cells other ≡ false → number_under other new ≡ number_under other old
@@ -150,8 +145,8 @@ module _ (cells : List ℤ) (number : ℕ) (group : KeyedRows) (old new : Lists)
   begins_change : IsChange cells number old new
   begins_change = record {
     sound = begins.sound;
-    mine = λ other e. absurd (none_some other (sym (ap (λ (g : Option KeyedRows). option_map (λ k. k.cells.items) g) begins.vacant) ∙ e));
-    before = λ other e. absurd (none_some other (sym begins.absent ∙ e));
+    mine = λ other e. absurd (none-some other (sym (ap (λ (g : Option KeyedRows). option_map (λ k. k.cells.items) g) begins.vacant) ∙ e));
+    before = λ other e. absurd (none-some other (sym begins.absent ∙ e));
     numbers = λ other differ. renumbered cells other old.numbers new.numbers (Some number) begins.updates differ;
     groups = begins.others;
   }
@@ -259,8 +254,8 @@ module _ (number : ℕ) (group : KeyedRows) (old new : Lists) (gives : GivesUp n
   pub gives_numbered : AreNumbered new
   gives_numbered =
       numbered group.cells.items number old new gives_change
-      (λ other e. absurd (none_some other (sym gives_none ∙ e)))
-      (λ other e. absurd (none_some other (sym (ap (λ (g : Option KeyedRows). option_map (λ k. k.cells.items) g) gives.gone) ∙ e)))
+      (λ other e. absurd (none-some other (sym gives_none ∙ e)))
+      (λ other e. absurd (none-some other (sym (ap (λ (g : Option KeyedRows). option_map (λ k. k.cells.items) g) gives.gone) ∙ e)))
       (stays_short group.cells.items [] old new gives.sound (gives_rows group.cells.items gives_own) (λ calm. (sym gives.crowded ∙ calm, omega arith)))
 
 pub same_numbers : (old new : Numbers) (other : List ℤ) → new.entries ≡ old.entries → number_under other new ≡ number_under other old

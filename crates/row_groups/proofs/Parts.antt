@@ -11,13 +11,13 @@ use Rattle.key_lists.proofs.Parts.{every_front, every_back, every_at, some_at, a
 use Rattle.row_handles.specs.Entries.{Entry, key_with}
 use Rattle.row_groups.specs.Slots.{AreFilled, AreKnown, IsParted, joined}
 
-true_false : (b : Bool) → b ≡ true → b ≡ false → ⊥
-true_false b e f = cc
+pub unlike : (b : Bool) → b ≡ true → b ≡ false → ⊥
+unlike b e f = cc
 
 pub parted_before : {X : Type 0} (p : X → Bool) (xs : List X) (x : X) (ys : List X) → IsParted p (xs ++ x ∷ ys) → p x ≡ true → AllByRecursion (λ y. p y ≡ true) xs
 parted_before p [] x ys h e = tt
 parted_before p (y ∷ xs) x ys h e =
-    (true_from_ne_false (p y) (λ f. true_false (p x) e (every_back (λ z. p z ≡ false) xs (x ∷ ys) (h.0 f)).0), parted_before p xs x ys h.1 e)
+    (true_from_ne_false (p y) (λ f. unlike (p x) e (every_back (λ z. p z ≡ false) xs (x ∷ ys) (h.0 f)).0), parted_before p xs x ys h.1 e)
 
 pub parted_after : {X : Type 0} (p : X → Bool) (xs : List X) (x : X) (ys : List X) → IsParted p (xs ++ x ∷ ys) → p x ≡ false → AllByRecursion (λ y. p y ≡ false) (x ∷ ys)
 parted_after p [] x ys h e = (e, h.0 e)
@@ -36,7 +36,7 @@ pub passed_to : {X : Type 0} (p : X → Bool) (xs : List X) (i : ℕ) (d : X) �
 passed_to p [] i d lt h e = absurd (omega arith)
 passed_to p (y ∷ xs) zero d lt h e = (e, tt)
 passed_to p (y ∷ xs) (suc i) d lt h e =
-    (true_from_ne_false (p y) (λ f. true_false (p (get_or xs i d)) e (every_at (λ z. p z ≡ false) xs i d (omega arith) (h.0 f))), passed_to p xs i d (omega arith) h.1 e)
+    (true_from_ne_false (p y) (λ f. unlike (p (get_or xs i d)) e (every_at (λ z. p z ≡ false) xs i d (omega arith) (h.0 f))), passed_to p xs i d (omega arith) h.1 e)
 
 -- an element that does not, and those after it
 pub failed_from : {X : Type 0} (p : X → Bool) (xs : List X) (i : ℕ) (d : X) → i < length xs → IsParted p xs → p (get_or xs i d) ≡ false → AllByRecursion (λ y. p y ≡ false) (drop i xs)

@@ -1,5 +1,5 @@
 -- The rows of a group in order, where one comes or leaves.
-use Rattle.std.proofs.Common.{◌≡◌, refl, ap, sym, ◌∙◌, Bool, true, false, not, cond, ℕ, ◌<◌, ◌≤◌, ltb, arith, List, [], ◌∷◌, filter, ℤ, int_lt, if◌then◌else◌}
+use Rattle.std.proofs.Common.{◌≡◌, refl, ap, sym, ◌∙◌, Bool, true, false, not, cond, ℕ, ◌<◌, ◌≤◌, ltb, arith, List, [], ◌∷◌, filter, ℤ, int_lt, if◌then◌else◌, true≢false}
 use Rattle.std.specs.List.{AllByRecursion}
 use Rattle.std.proofs.lemmas.Bool.{ltb-true, ltb-false}
 use Rattle.key_lists.proofs.Every.{every_weaker, every-filter}
@@ -68,10 +68,7 @@ swapped one row other others lt same false c true e pb pc pd pe =
     right : (c : Bool) → int_lt other.member.at one.member.at ≡ c → put_in row (row_placed one (other ∷ others)) ≡ row ∷ row_placed one (other ∷ others)
     right true f = ap (put_in row) (chosen _ _ _ f) ∙ passed_over _ _ _ pb ∙ ap (λ rs. row ∷ rs) (sym (chosen _ _ _ f))
     right false f = ap (put_in row) (passed_over _ _ _ f) ∙ passed_over _ _ _ after ∙ ap (λ rs. row ∷ rs) (sym (passed_over _ _ _ f))
-swapped one row other others lt same false true false e pb pc pd pe = absurd (true_false pc (later_too one.member.at row.member.at other.member.at pd (not_earlier other.member.at other.member.key row.member.at row.member.key pb)))
-  where
-    true_false : {b : Bool} → b ≡ true → b ≡ false → ⊥
-    true_false p q = cc
+swapped one row other others lt same false true false e pb pc pd pe = absurd (true≢false (sym pc ∙ later_too one.member.at row.member.at other.member.at pd (not_earlier other.member.at other.member.key row.member.at row.member.key pb)))
 swapped one row other others lt same false false false e pb pc pd pe =
     ap (row_placed one) (passed_over _ _ _ pb) ∙ passed_over _ _ _ pd
     ∙ sym (ap (put_in row) (passed_over _ _ _ pc) ∙ chosen _ _ _ (less_below one.member.at one.member.key row.member.at row.member.key lt ∙ ap not pd) ∙ ap (λ rs. one ∷ rs) (passed_over _ _ _ pb))

@@ -1,12 +1,11 @@
-use Rattle.std.proofs.Common.{◌≡◌, refl, subst, arith, rules, w64, ℕ, ◌<◌, ◌∷◌, [], List, Some, get_or, length, length-append, option_map}
+use Rattle.std.proofs.Common.{refl, subst, arith, rules, w64, ℕ, ◌<◌, ◌∷◌, [], List, length, length-append}
 use Rattle.std.proofs.lemmas.Int.{to_z-of_z}
 use Rattle.row_set.proofs.Yielded.{next_has, next_new, yielded_all, yielded_next}
-use Rattle.row_groups.specs.Members.{IsNumberUnder, Member, member_under}
-use Rattle.row_groups.specs.Indexes.{grouped_of, numbered_of}
-use Rattle.row_groups.specs.Rows.{slots_numbered}
+use Rattle.row_groups.specs.Members.{IsNumberUnder}
+use Rattle.row_groups.specs.Indexes.{numbered_of}
 use Rattle.row_groups.proofs.Groupings.{ranked_parted}
 use Rattle.row_groups.proofs.Indexed.{AreGone, grouped_same, index_left, members_removed, none_gone}
-use Rattle.row_groups.proofs.Departing.{numbered_group, numbered_less, numbered_there, zipped_next, zipped_within}
+use Rattle.row_groups.proofs.Departing.{departed, departs_group, departs_there, numbered_departs, zipped_within}
 use Rattle.row_groups.proofs.index.Index.remove_numbered.Goals as goal
 
 pub loop-key-init : goal.loop-key-init
@@ -26,40 +25,24 @@ offset_bounds-numbers-position c =
 
 pub take-requires-clause-there : goal.take-requires-clause-there
 take-requires-clause-there c =
-    let old = c.args.self.now in
-    let yielded = c.loop-key.yielded in
-    let gives = c.into_iter-key-iterator.ensures.into_iter_gives in
-    let steps = c.in-Some.ensures.steps in
-    let key = c.in-Some.key in
-    let number : ℕ = get_or c.args.numbers.now c.loop-key.position 0 in
-    let under = zipped_next (IsNumberUnder (numbered_of old)) c.args.keys.now yielded c.next.new.self c.args.numbers.now key c.loop-key.position (yielded_next yielded gives c.loop-key.yielded_by steps) c.loop-key.invariant.position c.requires.numbers in
-    let placed = next_has yielded gives c.loop-key.yielded_by steps (λ key. option_map (λ (member : Member). member.at) (member_under key (grouped_of old).members) ≡ Some c.args.at) c.requires.at in
-    numbered_there yielded key number c.args.at old c.loop-key.self c.requires.sound c.loop-key.invariant.gone (next_new yielded gives c.loop-key.yielded_by steps) under placed
+    departs_there _ _ _ _ _
+    (numbered_departs c.args.keys.now c.loop-key.yielded c.next.new.self c.args.numbers.now c.in-Some.key c.loop-key.position c.args.at c.args.self.now c.loop-key.self c.requires.sound c.loop-key.invariant.gone
+    (yielded_next c.loop-key.yielded c.into_iter-key-iterator.ensures.into_iter_gives c.loop-key.yielded_by c.in-Some.ensures.steps) (next_new c.loop-key.yielded c.into_iter-key-iterator.ensures.into_iter_gives c.loop-key.yielded_by c.in-Some.ensures.steps)
+    c.loop-key.invariant.position c.requires.numbers (next_has c.loop-key.yielded c.into_iter-key-iterator.ensures.into_iter_gives c.loop-key.yielded_by c.in-Some.ensures.steps _ c.requires.at))
 
 pub take-requires-clause-known : goal.take-requires-clause-known
 take-requires-clause-known c =
-    let old = c.args.self.now in
-    let yielded = c.loop-key.yielded in
-    let gives = c.into_iter-key-iterator.ensures.into_iter_gives in
-    let steps = c.in-Some.ensures.steps in
-    let key = c.in-Some.key in
-    let number : ℕ = get_or c.args.numbers.now c.loop-key.position 0 in
-    let under = zipped_next (IsNumberUnder (numbered_of old)) c.args.keys.now yielded c.next.new.self c.args.numbers.now key c.loop-key.position (yielded_next yielded gives c.loop-key.yielded_by steps) c.loop-key.invariant.position c.requires.numbers in
-    let placed = next_has yielded gives c.loop-key.yielded_by steps (λ key. option_map (λ (member : Member). member.at) (member_under key (grouped_of old).members) ≡ Some c.args.at) c.requires.at in
-    (numbered_group yielded key number c.args.at old c.loop-key.self c.requires.sound c.loop-key.invariant.gone (next_new yielded gives c.loop-key.yielded_by steps) under placed).known
+    (departs_group _ _ _ _ _
+    (numbered_departs c.args.keys.now c.loop-key.yielded c.next.new.self c.args.numbers.now c.in-Some.key c.loop-key.position c.args.at c.args.self.now c.loop-key.self c.requires.sound c.loop-key.invariant.gone
+    (yielded_next c.loop-key.yielded c.into_iter-key-iterator.ensures.into_iter_gives c.loop-key.yielded_by c.in-Some.ensures.steps) (next_new c.loop-key.yielded c.into_iter-key-iterator.ensures.into_iter_gives c.loop-key.yielded_by c.in-Some.ensures.steps)
+    c.loop-key.invariant.position c.requires.numbers (next_has c.loop-key.yielded c.into_iter-key-iterator.ensures.into_iter_gives c.loop-key.yielded_by c.in-Some.ensures.steps _ c.requires.at))).known
 
 pub take-requires-clause-parted : goal.take-requires-clause-parted
 take-requires-clause-parted c =
-    let old = c.args.self.now in
-    let yielded = c.loop-key.yielded in
-    let gives = c.into_iter-key-iterator.ensures.into_iter_gives in
-    let steps = c.in-Some.ensures.steps in
-    let key = c.in-Some.key in
-    let number : ℕ = get_or c.args.numbers.now c.loop-key.position 0 in
-    let under = zipped_next (IsNumberUnder (numbered_of old)) c.args.keys.now yielded c.next.new.self c.args.numbers.now key c.loop-key.position (yielded_next yielded gives c.loop-key.yielded_by steps) c.loop-key.invariant.position c.requires.numbers in
-    let placed = next_has yielded gives c.loop-key.yielded_by steps (λ key. option_map (λ (member : Member). member.at) (member_under key (grouped_of old).members) ≡ Some c.args.at) c.requires.at in
-    ranked_parted c.loop-key.self.handles _ key (slots_numbered number c.loop-key.self.lists.groups)
-    (numbered_group yielded key number c.args.at old c.loop-key.self c.requires.sound c.loop-key.invariant.gone (next_new yielded gives c.loop-key.yielded_by steps) under placed).ranked
+    ranked_parted c.loop-key.self.handles _ c.in-Some.key _ (departs_group _ _ _ _ _
+    (numbered_departs c.args.keys.now c.loop-key.yielded c.next.new.self c.args.numbers.now c.in-Some.key c.loop-key.position c.args.at c.args.self.now c.loop-key.self c.requires.sound c.loop-key.invariant.gone
+    (yielded_next c.loop-key.yielded c.into_iter-key-iterator.ensures.into_iter_gives c.loop-key.yielded_by c.in-Some.ensures.steps) (next_new c.loop-key.yielded c.into_iter-key-iterator.ensures.into_iter_gives c.loop-key.yielded_by c.in-Some.ensures.steps)
+    c.loop-key.invariant.position c.requires.numbers (next_has c.loop-key.yielded c.into_iter-key-iterator.ensures.into_iter_gives c.loop-key.yielded_by c.in-Some.ensures.steps _ c.requires.at))).ranked
 
 pub overflow_add-position : goal.overflow_add-position
 overflow_add-position c =
@@ -69,21 +52,15 @@ overflow_add-position c =
     omega (arith, within)
 
 pub loop-key-preserved : goal.loop-key-preserved
-loop-key-preserved c =
-    let old = c.args.self.now in
-    let yielded = c.loop-key.yielded in
-    let gives = c.into_iter-key-iterator.ensures.into_iter_gives in
-    let steps = c.in-Some.ensures.steps in
-    let key = c.in-Some.key in
-    let number : ℕ = get_or c.args.numbers.now c.loop-key.position 0 in
-    let under = zipped_next (IsNumberUnder (numbered_of old)) c.args.keys.now yielded c.next.new.self c.args.numbers.now key c.loop-key.position (yielded_next yielded gives c.loop-key.yielded_by steps) c.loop-key.invariant.position c.requires.numbers in
-    let placed = next_has yielded gives c.loop-key.yielded_by steps (λ key. option_map (λ (member : Member). member.at) (member_under key (grouped_of old).members) ≡ Some c.args.at) c.requires.at in
-    record {
-      gone =
-          numbered_less yielded key number c.args.at old c.loop-key.self c.requires.sound c.loop-key.invariant.gone (next_new yielded gives c.loop-key.yielded_by steps) under placed c.take.new.self _ (to_z-of_z w64 c.args.at c.ranges.at) c.take.ensures.rows c.take.ensures.own
-          c.take.ensures.others c.take.ensures.fewer c.take.ensures.sound;
-      position = omega (arith, c.loop-key.invariant.position, length-append yielded (key ∷ []));
-    }
+loop-key-preserved c = record {
+  gone =
+      departed _ _ _ _ _
+      (numbered_departs c.args.keys.now c.loop-key.yielded c.next.new.self c.args.numbers.now c.in-Some.key c.loop-key.position c.args.at c.args.self.now c.loop-key.self c.requires.sound c.loop-key.invariant.gone
+      (yielded_next c.loop-key.yielded c.into_iter-key-iterator.ensures.into_iter_gives c.loop-key.yielded_by c.in-Some.ensures.steps) (next_new c.loop-key.yielded c.into_iter-key-iterator.ensures.into_iter_gives c.loop-key.yielded_by c.in-Some.ensures.steps)
+      c.loop-key.invariant.position c.requires.numbers (next_has c.loop-key.yielded c.into_iter-key-iterator.ensures.into_iter_gives c.loop-key.yielded_by c.in-Some.ensures.steps _ c.requires.at))
+      c.take.new.self _ (to_z-of_z w64 c.args.at c.ranges.at) c.take.ensures.rows c.take.ensures.own c.take.ensures.others c.take.ensures.fewer c.take.ensures.sound;
+  position = omega (arith, c.loop-key.invariant.position, length-append c.loop-key.yielded (c.in-Some.key ∷ []));
+}
 
 pub returns-clause-sound : goal.returns-clause-sound
 returns-clause-sound c =
