@@ -10,9 +10,9 @@ use Rattle.std.proofs.lemmas.Bool.{and_parts}
 use Rattle.std.proofs.lemmas.Int.{int_wrap_fits, ints}
 use Rattle.std.proofs.lemmas.List.{length-map}
 use Rattle.key_lists.specs.Keys.{is_among, IsRising}
-use Rattle.std.proofs.lemmas.Option.{none-some}
 use Rattle.key_lists.proofs.Every.{every-filter, every-map, every_weaker, filter-map, filter_passes, map_map, map_same}
 use Rattle.row_changes.specs.Sums.{added_up}
+use Rattle.row_groups.proofs.Keys.{some_of}
 use Rattle.row_groups.specs.Members.{Grouped, IsNumberOf, Member, Names, by_at, group_of, keys_of, member_under, name_at, placed as member_placed}
 use Rattle.tick_laws.proofs.ResultCells.{length-filter_most}
 use Rattle.tick_model.proofs.Among.{each_found, rows_among}
@@ -169,10 +169,6 @@ module _ (by : List ℕ) (rows : List PlainRow) (cells : List ℤ) where
   answer_is rising few names number named (First column) p = ap (λ ks. cell_of rows column (slice_get ks 0)) keys_group ∙ cell_at column group 0 (own_rows rising) ∙ first_over column group
   answer_is rising few names number named (Last column) p =
       ap₂ (λ ks n. cell_of rows column (slice_get ks (n - 1))) keys_group length_group ∙ cell_at column group (length group - 1) (own_rows rising) ∙ last_over column group
-
-pub some_of : {X Y : Type 0} (f : X → Y) (o : Option X) (y : Y) → option_map f o ≡ Some y → is_some o ≡ true
-some_of f None y e = absurd (none-some y e)
-some_of f (Some x) y e = refl
 
 pub both_ok : {X E : Type 0} (r : Result X E) (P Q R : Type 0) → (P → Q → R) → OnOk r P → OnOk r Q → OnOk r R
 both_ok (Ok x) P Q R f p q = f p q

@@ -12,6 +12,7 @@ use Rattle.key_lists.proofs.Every.{and_swap, every, every_both, every_weaker, ev
 use Rattle.row_changes.proofs.Comparing.{pairs_of-keys}
 use Rattle.row_changes.specs.Parts.{AreParts, Parts}
 use Rattle.row_set.proofs.United.{among-united}
+use Rattle.shift_data.proofs.ByRange.{moves_up}
 use Rattle.shift_data.specs.Moves.{IsLawful, canonical, pair_by, pairs_of}
 use Rattle.shown_rows.proofs.Named.{filter_named, named_by, of_named}
 use Rattle.shown_rows.proofs.Restricted.{exact_shift, is_modified, kept, old_some}
@@ -42,22 +43,7 @@ use Rattle.agg_by.proofs.GroupRows.{cells-agg, first_at, first_keys_by, group_ce
 use Rattle.agg_by.proofs.Unmoved.{added_at, and_with, old_at, quiet_before, quiet_cells, quiet_now}
 use Rattle.agg_by.proofs.Untouched.{aggregate-shifting, group_stays, none_come, none_gone, own_cells}
 
--- where rising keys rise again after a move, the move keeps their order
-pub moves_up : (f : ℕ → ℕ) (xs : List ℕ) (a b : ℕ) → IsRising xs → IsRising (map f xs) → is_among a xs ≡ true → is_among b xs ≡ true → a < b → f a < f b
-moves_up f [] a b r m ha hb below = absurd (true≢false (sym ha))
-moves_up f (x ∷ xs) a b r m ha hb below =
-    elim (cases_eq x a) [
-      | inl same ↦
-          subst (λ k. f k < f b) same
-          (of_among (λ y. f x < f y) b xs (every_unmapped (λ y. f x < y) f xs m.0) (past b (λ (e : x ≡ b). omega (arith, same, e, below)) hb))
-      | inr other ↦
-          let there = past a other ha in let above : x < a = of_among (λ y. x < y) a xs r.0 there in
-          moves_up f xs a b r.1 m.1 there (past b (λ (e : x ≡ b). omega (arith, above, e, below)) hb) below
-    ]
-  where
-    past : (k : ℕ) → (x ≡ k → ⊥) → is_among k (x ∷ xs) ≡ true → is_among k xs ≡ true
-    past k other own = sym (ap (λ b. b || is_among k xs) (ne_eqb x k other)) ∙ own
-
+-- where rising keys rise again after a move, the move keeps them apart
 moves_apart : (f : ℕ → ℕ) (xs : List ℕ) (a b : ℕ) → IsRising xs → IsRising (map f xs) → is_among a xs ≡ true → is_among b xs ≡ true → (f a == f b) ≡ (a == b)
 moves_apart f xs a b r m ha hb =
     elim (cases_eq a b) [

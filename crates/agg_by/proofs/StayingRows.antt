@@ -30,7 +30,8 @@ use Rattle.agg_by.specs.Kept.{group_rows, indexed}
 use Rattle.agg_by.specs.Steps.{first_keys, is_touched, key_at, stays, touched_firsts}
 use Rattle.agg_by.proofs.Answering.{cells_known}
 use Rattle.agg_by.proofs.FirstKeys.{first_keys_rise}
-use Rattle.agg_by.proofs.GroupParts.{moves_up, rising_moved}
+use Rattle.shift_data.proofs.ByRange.{moves_up}
+use Rattle.agg_by.proofs.GroupParts.{rising_moved}
 use Rattle.agg_by.proofs.GroupRows.{cells-agg, first_at}
 
 pub same_turned : (xs ys : List ℤ) → same_cells xs ys ≡ same_cells ys xs

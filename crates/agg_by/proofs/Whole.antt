@@ -31,7 +31,7 @@ use Rattle.agg_by.specs.Answers.{IsWithin}
 use Rattle.agg_by.specs.Kept.{AnswerAll, Are, IsMade, Keeps, agg_of, indexed}
 use Rattle.agg_by.specs.Steps.{come, first_keys, gone, is_touched, kept_cells, key_at, starts, staying, stays, touched_cells, touched_firsts}
 use Rattle.agg_by.proofs.Answering.{own_cells}
-use Rattle.agg_by.proofs.FirstKeys.{first_keys_rise, firsts_are}
+use Rattle.agg_by.proofs.FirstKeys.{few_firsts, first_keys_rise, firsts_are}
 use Rattle.agg_by.proofs.GroupParts.{is_tick, staying_is, tick, touched}
 use Rattle.agg_by.proofs.GroupRows.{keys-agg}
 use Rattle.agg_by.proofs.Touching.{gone_there}
@@ -60,22 +60,13 @@ begun_keeps old new rows made same begun indexed_rows are = record {
 }
 
 -- the touched rows are counted
-pub touched_count : (t : Ticking) → IsExact t → length (gone t) + length (come t) ≤ counted t.update
+touched_count : (t : Ticking) → IsExact t → length (gone t) + length (come t) ≤ counted t.update
 touched_count t e =
     omega (arith, length-united t.update.removed (old_modified (keys t.old.rows) t.update), length-united t.update.added t.update.modified, modified_even t e)
 
--- the reads of some rows are no more than those of more
-pub more_reads : (width some more first second : ℕ) → second ≤ first + width * some → some ≤ more → second ≤ first + width * more
-more_reads width some more first second h few = omega (arith, h, mul-le-mul_left width few)
-
--- the reads of noting, and of a whole step
-pub noted_reads : (width aggs first second third touched firsts : ℕ) → second ≤ first + width * touched → third ≤ second + aggs * firsts → firsts ≤ touched → third ≤ first + (width + aggs) * touched
-noted_reads width aggs first second third touched firsts h k few = omega (arith, h, k, mul-le-mul_left aggs few)
-
-pub step_reads : (width aggs first second third fourth touched firsts all : ℕ)
-    → second ≤ first + (width + aggs) * touched → third ≤ second + width * touched → fourth ≤ third + 2 * aggs * firsts → firsts ≤ touched → touched ≤ all → fourth ≤ first + 3 * (width + aggs) * all
-step_reads width aggs first second third fourth touched firsts all h k m few most =
-    omega (arith, h, k, m, mul-le-mul_left aggs few, mul-le-mul_left width most, mul-le-mul_left aggs most)
+-- the reads of noting, and of the operator's step
+pub noted_reads : (width aggs gone come firsts first second third : ℕ) → second ≤ first + width * come → third ≤ second + aggs * firsts → firsts ≤ gone + come → third ≤ first + (width + aggs) * (gone + come)
+noted_reads width aggs gone come firsts first second third h k few = omega (arith, h, k, mul-le-mul_left aggs few)
 
 pub wider_reads : (width by aggs first last all out : ℕ) → last ≤ first + 3 * (width + aggs) * all → last ≤ first + 4 * (width + (by + aggs)) * (all + out)
 wider_reads width by aggs first last all out h = omega (arith, h)
@@ -88,10 +79,34 @@ touched_is by t e index went came are w c =
     (own_cells by t.old e.tick.old_table index are went (subst (AllByRecursion (λ key. is_among key (keys t.old.rows) ≡ true)) (sym w) (gone_there t e)))
     ∙ ap₂ (λ (went came : List ℕ). map (key_at by t.old.rows) went ++ map (key_at by t.new.rows) came) w c
 
-pub touched_few : (by : List ℕ) (t : Ticking) → length (touched_cells by t) ≡ length (gone t) + length (come t)
+touched_few : (by : List ℕ) (t : Ticking) → length (touched_cells by t) ≡ length (gone t) + length (come t)
 touched_few by t =
     length-append (map (key_at by t.old.rows) (gone t)) (map (key_at by t.new.rows) (come t))
     ∙ ap₂ (λ m n. m + n) (length-map (gone t) (key_at by t.old.rows)) (length-map (come t) (key_at by t.new.rows))
+
+-- there are no more of them than of the touched rows
+pub firsts_few : (by : List ℕ) (t : Ticking) (went came : List ℕ) → went ≡ gone t → came ≡ come t → (rows : Numbered) (firsts : List ℕ) → IsRising firsts → ((first : ℕ) → is_among first firsts ≡ list_any (starts rows.members first) (touched_cells by t))
+    → length firsts ≤ length went + length came
+firsts_few by t went came w c rows firsts rising found =
+    subst (λ (n : ℕ). length firsts ≤ n) (touched_few by t ∙ sym (ap₂ (λ (went came : List ℕ). length went + length came) w c)) (few_firsts rows.members (touched_cells by t) firsts rising found)
+
+-- the reads of a whole step, as far as it goes: its groups are noted, they are brought on, and their change is made
+module _ (t : Ticking) (e : IsExact t) (went came : List ℕ) (w : went ≡ gone t) (c : came ≡ come t) (begun : Kept) (aggs : List Agg) (same : begun.aggs ≡ aggs) (first second third : ℕ)
+    (noted : second ≤ first + (t.new.width + length begun.aggs) * (length went + length came)) (brought : third ≤ second + t.new.width * (length went + length came)) where
+  step_reads : (fourth firsts : ℕ) → fourth ≤ third + 2 * length begun.aggs * firsts → firsts ≤ length went + length came → fourth ≤ first + 3 * (t.new.width + length aggs) * counted t.update
+  step_reads fourth firsts h few =
+      let most : length went + length came ≤ counted t.update = omega (arith, ap length w, ap length c, touched_count t e) in
+      subst (λ (aggs : List Agg). fourth ≤ first + 3 * (t.new.width + length aggs) * counted t.update) same
+      (omega (arith, noted, brought, h, mul-le-mul_left (length begun.aggs) few, mul-le-mul_left t.new.width most, mul-le-mul_left (length begun.aggs) most))
+
+  pub brought_reads : third ≤ first + 3 * (t.new.width + length aggs) * counted t.update
+  brought_reads = step_reads third 0 (omega arith) (omega arith)
+
+  pub changed_reads : (after : Kept) → IsMade begun after → (firsts : List ℕ) → IsRising firsts → ((first : ℕ) → is_among first firsts ≡ list_any (starts after.rows.members first) (touched_cells begun.by t))
+      → (fourth : ℕ) → fourth ≤ third + 2 * length after.aggs * length firsts → fourth ≤ first + 3 * (t.new.width + length aggs) * counted t.update
+  changed_reads after made firsts rising found fourth h =
+      step_reads fourth (length firsts) (subst (λ (aggs : List Agg). fourth ≤ third + 2 * length aggs * length firsts) made.aggs h)
+      (firsts_few begun.by t went came w c after.rows firsts rising found)
 
 -- what is found among the rows by what is kept of them
 pub found_firsts : (by : List ℕ) (t : Ticking) (table : PlainTable) → IsTable table → (index : Grouped) (firsts : List ℕ) → index ≡ indexed by None table.rows → IsRising firsts

@@ -1,4 +1,4 @@
-use Rattle.std.proofs.Common.{◌≡◌, ap, ap₂, sym, ◌∙◌, subst, ◌+◌, ◌*◌, ◌≤◌, arith, List, ℕ, length}
+use Rattle.std.proofs.Common.{◌≡◌, ap, ap₂, sym, ◌∙◌, subst, arith, List, ℕ}
 use Rattle.std.specs.List.{AllByRecursion, list_any}
 use Rattle.row_groups.specs.Members.{groups_of}
 use Rattle.tick_laws.specs.Checked.{keys_after}
@@ -6,14 +6,13 @@ use Rattle.tick_model.specs.Agg.{agg_table}
 use Rattle.tick_model.specs.Changes.{Change, change_of}
 use Rattle.tick_model.specs.declared.plan.Agg.{Agg}
 use Rattle.tick_model.specs.Updates.{between}
-use Rattle.tick_table.specs.Exact.{counted, tick_of}
+use Rattle.tick_table.specs.Exact.{tick_of}
 use Rattle.agg_by.specs.Aggregator.{IsColumn, grouped}
 use Rattle.agg_by.specs.Notes.{IsNoted}
 use Rattle.agg_by.specs.Steps.{first_keys, starts, touched_cells, touched_firsts}
 use Rattle.agg_by.specs.Touched.{starts_numbered}
-use Rattle.agg_by.proofs.FirstKeys.{few_firsts}
 use Rattle.agg_by.proofs.GroupParts.{tick}
-use Rattle.agg_by.proofs.Whole.{begun_keeps, found_firsts, shown_after, shown_lawful, step_reads, touched_count, touched_few, within_all}
+use Rattle.agg_by.proofs.Whole.{begun_keeps, brought_reads, changed_reads, found_firsts, shown_after, shown_lawful, within_all}
 use Rattle.agg_by.proofs.agg_op.grouped_step.Goals as goal
 
 pub of-requires-clause-rows : goal.of-requires-clause-rows
@@ -92,96 +91,39 @@ returns-clause-change g c =
 
 pub returns-in_err-notes-clause-reads : goal.returns-in_err-notes-clause-reads
 returns-in_err-notes-clause-reads g c =
-    let t = c.args.input.now in
-    let width = t.new.width in
-    let aggs = c.args.kept.now.aggs in
-    let touched = length c.in_ok-moving.moving.gone + length c.in_ok-moving.moving.come in
-    let first : c.noted_groups.new.reads ≤ c.args.reads.now + (width + length aggs) * touched =
-    subst (λ (aggs : List Agg). c.noted_groups.new.reads ≤ c.args.reads.now + (width + length aggs) * touched) c.in_ok-begin.ensures.made.aggs c.noted_groups.ensures.reads in
-    let most : touched ≤ counted t.update = subst (λ (n : ℕ). n ≤ counted t.update) (sym (ap₂ (λ (gone come : List ℕ). length gone + length come) c.in_ok-moving.ensures.gone c.in_ok-moving.ensures.come)) (touched_count t c.requires.exact) in
-    step_reads width (length aggs) c.args.reads.now c.noted_groups.new.reads c.noted_groups.new.reads c.noted_groups.new.reads touched 0 (counted t.update) first (omega arith) (omega arith) (omega arith) most
+    brought_reads c.args.input.now c.requires.exact c.in_ok-moving.moving.gone c.in_ok-moving.moving.come c.in_ok-moving.ensures.gone c.in_ok-moving.ensures.come c.begin.new.self c.args.kept.now.aggs c.in_ok-begin.ensures.made.aggs
+    c.args.reads.now c.noted_groups.new.reads c.noted_groups.new.reads c.noted_groups.ensures.reads (omega arith)
 
 pub returns-in_err-bring_on-clause-reads : goal.returns-in_err-bring_on-clause-reads
 returns-in_err-bring_on-clause-reads g c =
-    let t = c.args.input.now in
-    let width = t.new.width in
-    let aggs = c.args.kept.now.aggs in
-    let touched = length c.in_ok-moving.moving.gone + length c.in_ok-moving.moving.come in
-    let first : c.noted_groups.new.reads ≤ c.args.reads.now + (width + length aggs) * touched =
-    subst (λ (aggs : List Agg). c.noted_groups.new.reads ≤ c.args.reads.now + (width + length aggs) * touched) c.in_ok-begin.ensures.made.aggs c.noted_groups.ensures.reads in
-    let most : touched ≤ counted t.update = subst (λ (n : ℕ). n ≤ counted t.update) (sym (ap₂ (λ (gone come : List ℕ). length gone + length come) c.in_ok-moving.ensures.gone c.in_ok-moving.ensures.come)) (touched_count t c.requires.exact) in
-    step_reads width (length aggs) c.args.reads.now c.noted_groups.new.reads c.bring_on.new.reads c.bring_on.new.reads touched 0 (counted t.update) first c.bring_on.ensures.reads (omega arith) (omega arith) most
+    brought_reads c.args.input.now c.requires.exact c.in_ok-moving.moving.gone c.in_ok-moving.moving.come c.in_ok-moving.ensures.gone c.in_ok-moving.ensures.come c.begin.new.self c.args.kept.now.aggs c.in_ok-begin.ensures.made.aggs
+    c.args.reads.now c.noted_groups.new.reads c.bring_on.new.reads c.noted_groups.ensures.reads c.bring_on.ensures.reads
 
 pub returns-in_err-firsts-clause-reads : goal.returns-in_err-firsts-clause-reads
 returns-in_err-firsts-clause-reads g c =
-    let t = c.args.input.now in
-    let width = t.new.width in
-    let aggs = c.args.kept.now.aggs in
-    let touched = length c.in_ok-moving.moving.gone + length c.in_ok-moving.moving.come in
-    let first : c.noted_groups.new.reads ≤ c.args.reads.now + (width + length aggs) * touched =
-    subst (λ (aggs : List Agg). c.noted_groups.new.reads ≤ c.args.reads.now + (width + length aggs) * touched) c.in_ok-begin.ensures.made.aggs c.noted_groups.ensures.reads in
-    let most : touched ≤ counted t.update = subst (λ (n : ℕ). n ≤ counted t.update) (sym (ap₂ (λ (gone come : List ℕ). length gone + length come) c.in_ok-moving.ensures.gone c.in_ok-moving.ensures.come)) (touched_count t c.requires.exact) in
-    step_reads width (length aggs) c.args.reads.now c.noted_groups.new.reads c.bring_on.new.reads c.bring_on.new.reads touched 0 (counted t.update) first c.bring_on.ensures.reads (omega arith) (omega arith) most
+    brought_reads c.args.input.now c.requires.exact c.in_ok-moving.moving.gone c.in_ok-moving.moving.come c.in_ok-moving.ensures.gone c.in_ok-moving.ensures.come c.begin.new.self c.args.kept.now.aggs c.in_ok-begin.ensures.made.aggs
+    c.args.reads.now c.noted_groups.new.reads c.bring_on.new.reads c.noted_groups.ensures.reads c.bring_on.ensures.reads
 
 pub returns-in_err-change-clause-reads : goal.returns-in_err-change-clause-reads
 returns-in_err-change-clause-reads g c =
-    let t = c.args.input.now in
-    let width = t.new.width in
-    let aggs = c.args.kept.now.aggs in
-    let made = c.in_ok-begin.ensures.made in
-    let brought = c.in_ok-bring_on.ensures.made in
-    let touched = length c.in_ok-moving.moving.gone + length c.in_ok-moving.moving.come in
-    let first : c.noted_groups.new.reads ≤ c.args.reads.now + (width + length aggs) * touched =
-    subst (λ (aggs : List Agg). c.noted_groups.new.reads ≤ c.args.reads.now + (width + length aggs) * touched) made.aggs c.noted_groups.ensures.reads in
-    let last : c.group_change.new.reads ≤ c.bring_on.new.reads + 2 * length aggs * length c.in_ok-firsts.firsts =
-    subst (λ (aggs : List Agg). c.group_change.new.reads ≤ c.bring_on.new.reads + 2 * length aggs * length c.in_ok-firsts.firsts) (brought.aggs ∙ made.aggs) c.group_change.ensures.reads in
-    let most : touched ≤ counted t.update = subst (λ (n : ℕ). n ≤ counted t.update) (sym (ap₂ (λ (gone come : List ℕ). length gone + length come) c.in_ok-moving.ensures.gone c.in_ok-moving.ensures.come)) (touched_count t c.requires.exact) in
-    let rows = c.bring_on.new.self.rows in
-    let few : length c.in_ok-firsts.firsts ≤ length (touched_cells c.begin.new.self.by t) =
-    few_firsts rows.members (touched_cells c.begin.new.self.by t) c.in_ok-firsts.firsts c.in_ok-firsts.ensures.rising
-    (λ first. c.in_ok-firsts.ensures.firsts first ∙ ap (list_any (starts_numbered rows first)) c.numbers.ensures ∙ c.in_ok-bring_on.ensures.firsts first) in
-    let count : length (touched_cells c.begin.new.self.by t) ≡ touched =
-    touched_few c.begin.new.self.by t ∙ sym (ap₂ (λ (gone come : List ℕ). length gone + length come) c.in_ok-moving.ensures.gone c.in_ok-moving.ensures.come) in
-    step_reads width (length aggs) c.args.reads.now c.noted_groups.new.reads c.bring_on.new.reads c.group_change.new.reads touched (length c.in_ok-firsts.firsts) (counted t.update) first c.bring_on.ensures.reads last (subst (λ (n : ℕ). length c.in_ok-firsts.firsts ≤ n) count few) most
+    changed_reads c.args.input.now c.requires.exact c.in_ok-moving.moving.gone c.in_ok-moving.moving.come c.in_ok-moving.ensures.gone c.in_ok-moving.ensures.come c.begin.new.self c.args.kept.now.aggs c.in_ok-begin.ensures.made.aggs
+    c.args.reads.now c.noted_groups.new.reads c.bring_on.new.reads c.noted_groups.ensures.reads c.bring_on.ensures.reads
+    c.bring_on.new.self c.in_ok-bring_on.ensures.made c.in_ok-firsts.firsts c.in_ok-firsts.ensures.rising
+    (λ first. c.in_ok-firsts.ensures.firsts first ∙ ap (list_any (starts_numbered c.bring_on.new.self.rows first)) c.numbers.ensures ∙ c.in_ok-bring_on.ensures.firsts first)
+    c.group_change.new.reads c.group_change.ensures.reads
 
 pub returns-in_err-shown-clause-reads : goal.returns-in_err-shown-clause-reads
 returns-in_err-shown-clause-reads g c =
-    let t = c.args.input.now in
-    let width = t.new.width in
-    let aggs = c.args.kept.now.aggs in
-    let made = c.in_ok-begin.ensures.made in
-    let brought = c.in_ok-bring_on.ensures.made in
-    let touched = length c.in_ok-moving.moving.gone + length c.in_ok-moving.moving.come in
-    let first : c.noted_groups.new.reads ≤ c.args.reads.now + (width + length aggs) * touched =
-    subst (λ (aggs : List Agg). c.noted_groups.new.reads ≤ c.args.reads.now + (width + length aggs) * touched) made.aggs c.noted_groups.ensures.reads in
-    let last : c.group_change.new.reads ≤ c.bring_on.new.reads + 2 * length aggs * length c.in_ok-firsts.firsts =
-    subst (λ (aggs : List Agg). c.group_change.new.reads ≤ c.bring_on.new.reads + 2 * length aggs * length c.in_ok-firsts.firsts) (brought.aggs ∙ made.aggs) c.group_change.ensures.reads in
-    let most : touched ≤ counted t.update = subst (λ (n : ℕ). n ≤ counted t.update) (sym (ap₂ (λ (gone come : List ℕ). length gone + length come) c.in_ok-moving.ensures.gone c.in_ok-moving.ensures.come)) (touched_count t c.requires.exact) in
-    let rows = c.bring_on.new.self.rows in
-    let few : length c.in_ok-firsts.firsts ≤ length (touched_cells c.begin.new.self.by t) =
-    few_firsts rows.members (touched_cells c.begin.new.self.by t) c.in_ok-firsts.firsts c.in_ok-firsts.ensures.rising
-    (λ first. c.in_ok-firsts.ensures.firsts first ∙ ap (list_any (starts_numbered rows first)) c.numbers.ensures ∙ c.in_ok-bring_on.ensures.firsts first) in
-    let count : length (touched_cells c.begin.new.self.by t) ≡ touched =
-    touched_few c.begin.new.self.by t ∙ sym (ap₂ (λ (gone come : List ℕ). length gone + length come) c.in_ok-moving.ensures.gone c.in_ok-moving.ensures.come) in
-    step_reads width (length aggs) c.args.reads.now c.noted_groups.new.reads c.bring_on.new.reads c.group_change.new.reads touched (length c.in_ok-firsts.firsts) (counted t.update) first c.bring_on.ensures.reads last (subst (λ (n : ℕ). length c.in_ok-firsts.firsts ≤ n) count few) most
+    changed_reads c.args.input.now c.requires.exact c.in_ok-moving.moving.gone c.in_ok-moving.moving.come c.in_ok-moving.ensures.gone c.in_ok-moving.ensures.come c.begin.new.self c.args.kept.now.aggs c.in_ok-begin.ensures.made.aggs
+    c.args.reads.now c.noted_groups.new.reads c.bring_on.new.reads c.noted_groups.ensures.reads c.bring_on.ensures.reads
+    c.bring_on.new.self c.in_ok-bring_on.ensures.made c.in_ok-firsts.firsts c.in_ok-firsts.ensures.rising
+    (λ first. c.in_ok-firsts.ensures.firsts first ∙ ap (list_any (starts_numbered c.bring_on.new.self.rows first)) c.numbers.ensures ∙ c.in_ok-bring_on.ensures.firsts first)
+    c.group_change.new.reads c.group_change.ensures.reads
 
 pub returns-clause-reads : goal.returns-clause-reads
 returns-clause-reads g c =
-    let t = c.args.input.now in
-    let width = t.new.width in
-    let aggs = c.args.kept.now.aggs in
-    let made = c.in_ok-begin.ensures.made in
-    let brought = c.in_ok-bring_on.ensures.made in
-    let touched = length c.in_ok-moving.moving.gone + length c.in_ok-moving.moving.come in
-    let first : c.noted_groups.new.reads ≤ c.args.reads.now + (width + length aggs) * touched =
-    subst (λ (aggs : List Agg). c.noted_groups.new.reads ≤ c.args.reads.now + (width + length aggs) * touched) made.aggs c.noted_groups.ensures.reads in
-    let last : c.group_change.new.reads ≤ c.bring_on.new.reads + 2 * length aggs * length c.in_ok-firsts.firsts =
-    subst (λ (aggs : List Agg). c.group_change.new.reads ≤ c.bring_on.new.reads + 2 * length aggs * length c.in_ok-firsts.firsts) (brought.aggs ∙ made.aggs) c.group_change.ensures.reads in
-    let most : touched ≤ counted t.update = subst (λ (n : ℕ). n ≤ counted t.update) (sym (ap₂ (λ (gone come : List ℕ). length gone + length come) c.in_ok-moving.ensures.gone c.in_ok-moving.ensures.come)) (touched_count t c.requires.exact) in
-    let rows = c.bring_on.new.self.rows in
-    let few : length c.in_ok-firsts.firsts ≤ length (touched_cells c.begin.new.self.by t) =
-    few_firsts rows.members (touched_cells c.begin.new.self.by t) c.in_ok-firsts.firsts c.in_ok-firsts.ensures.rising
-    (λ first. c.in_ok-firsts.ensures.firsts first ∙ ap (list_any (starts_numbered rows first)) c.numbers.ensures ∙ c.in_ok-bring_on.ensures.firsts first) in
-    let count : length (touched_cells c.begin.new.self.by t) ≡ touched =
-    touched_few c.begin.new.self.by t ∙ sym (ap₂ (λ (gone come : List ℕ). length gone + length come) c.in_ok-moving.ensures.gone c.in_ok-moving.ensures.come) in
-    step_reads width (length aggs) c.args.reads.now c.noted_groups.new.reads c.bring_on.new.reads c.group_change.new.reads touched (length c.in_ok-firsts.firsts) (counted t.update) first c.bring_on.ensures.reads last (subst (λ (n : ℕ). length c.in_ok-firsts.firsts ≤ n) count few) most
+    changed_reads c.args.input.now c.requires.exact c.in_ok-moving.moving.gone c.in_ok-moving.moving.come c.in_ok-moving.ensures.gone c.in_ok-moving.ensures.come c.begin.new.self c.args.kept.now.aggs c.in_ok-begin.ensures.made.aggs
+    c.args.reads.now c.noted_groups.new.reads c.bring_on.new.reads c.noted_groups.ensures.reads c.bring_on.ensures.reads
+    c.bring_on.new.self c.in_ok-bring_on.ensures.made c.in_ok-firsts.firsts c.in_ok-firsts.ensures.rising
+    (λ first. c.in_ok-firsts.ensures.firsts first ∙ ap (list_any (starts_numbered c.bring_on.new.self.rows first)) c.numbers.ensures ∙ c.in_ok-bring_on.ensures.firsts first)
+    c.group_change.new.reads c.group_change.ensures.reads
