@@ -1,5 +1,5 @@
 -- Walks over keys, notes and pairs: one element more.
-use Rattle.std.proofs.Common.{◌≡◌, refl, ap, ap₂, sym, ◌∙◌, subst, Bool, true, false, cond, ◌||◌, ◌==◌, ℕ, zero, suc, ◌+◌, ◌*◌, ◌<◌, ◌≤◌, arith, List, [], ◌∷◌, ◌++◌, map, take, length, Option, Some, None, ℤ, pos, true≢false}
+use Rattle.std.proofs.Common.{◌≡◌, refl, ap, ap₂, sym, ◌∙◌, subst, Bool, true, false, cond, ◌||◌, ◌==◌, ℕ, zero, suc, ◌+◌, ◌*◌, ◌<◌, ◌≤◌, arith, List, [], ◌∷◌, ◌++◌, map, take, length, Option, Some, ℤ, pos, true≢false}
 use Rattle.std.specs.Prelude.{find, flat_map, fold, is_some, option_map, slice_get, slice_index_or, unwrap_or}
 use Rattle.std.specs.List.{AllByRecursion}
 use Rattle.std.proofs.lemmas.Bool.{eqb-true}
@@ -113,10 +113,6 @@ pub get_index : {X : Type 0} (xs : List X) (n : ℕ) (other : X) → n < length 
 get_index [] n other h = absurd (omega arith)
 get_index (x ∷ xs) zero other h = refl
 get_index (x ∷ xs) (suc n) other h = get_index xs n other (omega arith)
-
-pub some_of : {X Y : Type 0} (f : X → Y) (o : Option X) (y : Y) → option_map f o ≡ Some y → is_some o ≡ true
-some_of f None y e = absurd (none-some y e)
-some_of f (Some x) y e = refl
 
 -- the place of a row that the index has
 pub spot_known : (on : List OnPair) (pick : Pick) (rows : List PlainRow) (index : Grouped) (key : ℕ) → index ≡ indexed Right on pick rows → is_among key (keys rows) ≡ true → spot_under key index.members ≡ spot_at on pick rows key

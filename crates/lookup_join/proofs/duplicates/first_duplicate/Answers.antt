@@ -6,7 +6,8 @@ use Rattle.key_lists.specs.Keys.{is_among}
 use Rattle.lookup_join.specs.declared.duplicates.Duplicate.{Duplicate}
 use Rattle.lookup_join.specs.Duplicates.{cells_under, earlier, faulty_group, first_with_two, least_fault}
 use Rattle.lookup_join.specs.Notes.{Note}
-use Rattle.lookup_join.proofs.Walks.{some_of, under_some}
+use Rattle.row_groups.proofs.Keys.{some_of}
+use Rattle.lookup_join.proofs.Walks.{under_some}
 use Rattle.row_groups.specs.Members.{Member, group_of, keys_of}
 use Rattle.row_set.proofs.Yielded.{next_has, yielded_all}
 use Rattle.lookup_join.proofs.duplicates.first_duplicate.Goals as goal

@@ -1,4 +1,4 @@
-use Rattle.std.proofs.Common.{◌≡◌, refl, ap, ap₂, sym, ◌∙◌, subst, ◌+◌, ◌<◌, ◌≤◌, ℕ, List, length}
+use Rattle.std.proofs.Common.{◌≡◌, refl, ap, ap₂, sym, ◌∙◌, subst, ◌+◌, ◌*◌, ◌<◌, ◌≤◌, ℕ, List, length}
 use Rattle.std.specs.Prelude.{option_map}
 use Rattle.std.specs.List.{AllByRecursion}
 use Rattle.lookup_join.specs.declared.keyed.Side.TheVariants.{Left, Right}
@@ -16,7 +16,9 @@ use Rattle.tick_model.specs.declared.plan.Choice.{Choice}
 use Rattle.tick_model.specs.declared.plan.Choice.TheVariants.{Error, First, Last}
 use Rattle.tick_model.specs.Join.{join_fault}
 use Rattle.tick_model.specs.Updates.{Tick}
+use Rattle.tick_model.specs.declared.table.PlainTable.{PlainTable}
 use Rattle.tick_table.specs.Exact.{counted, tick_of}
+use Rattle.tick_table.specs.Ticking.{Ticking}
 use Rattle.lookup_join.proofs.join_op.JoinOp.step.Goals as goal
 
 -- what a choice takes makes the join's own table
@@ -24,6 +26,26 @@ ticks : (choice : Choice) (on : List OnPair) (take : List ℕ) (left right : Tic
 ticks Error on take left right = refl
 ticks First on take left right = refl
 ticks Last on take left right = refl
+
+-- what it makes with the parts that it is taken apart into is its own
+module _ (inside self : Joiner) (view_is : inside ≡ self) (on : List OnPair) (of_on : on ≡ inside.on) where
+  own_fault : (left right : PlainTable) → join_fault self.on self.choice left right ≡ join_fault on inside.choice left right
+  own_fault left right = ap (λ (joiner : Joiner). join_fault joiner.on joiner.choice left right) (sym view_is) ∙ ap (λ (on : List OnPair). join_fault on inside.choice left right) (sym of_on)
+
+  module _ (take : List ℕ) (of_take : take ≡ inside.take) (pick : Pick) (of_pick : pick ≡ pick_of inside.choice) (left right : Ticking) where
+    own_change : change_of (matched_tick on pick take (tick_of left) (tick_of right)) ≡ change_of (joined_ticks self.on self.take self.choice (tick_of left) (tick_of right))
+    own_change =
+        ap (λ (pick : Pick). change_of (matched_tick on pick take (tick_of left) (tick_of right))) of_pick
+        ∙ ap change_of (ticks inside.choice on take (tick_of left) (tick_of right))
+        ∙ ap₂ (λ (on : List OnPair) (take : List ℕ). change_of (joined_ticks on take inside.choice (tick_of left) (tick_of right))) of_on of_take
+        ∙ ap (λ (joiner : Joiner). change_of (joined_ticks joiner.on joiner.take joiner.choice (tick_of left) (tick_of right))) view_is
+
+    own_reads : (reads first : ℕ) → reads ≤ first + 4 * (left.new.width + right.new.width + (left.new.width + length take)) * (counted left.update + counted right.update + counted (change_of (matched_tick on pick take (tick_of left) (tick_of right))).update)
+        → reads ≤ first + 4 * (left.new.width + right.new.width + (left.new.width + length self.take)) * (counted left.update + counted right.update + counted (change_of (joined_ticks self.on self.take self.choice (tick_of left) (tick_of right))).update)
+    own_reads reads first h =
+        step_within reads first left.new.width right.new.width (length take) (length self.take) (counted left.update + counted right.update)
+        (change_of (matched_tick on pick take (tick_of left) (tick_of right))) (change_of (joined_ticks self.on self.take self.choice (tick_of left) (tick_of right)))
+        h own_change (ap length of_take ∙ ap (λ (joiner : Joiner). length joiner.take) view_is)
 
 pub lookup_step-requires-clause-few : goal.lookup_step-requires-clause-few
 lookup_step-requires-clause-few g c =
@@ -50,11 +72,9 @@ fault_now-requires g c = came_members c.as_slice.result.now c.args.left.now c.re
 
 pub returns-in-Some-clause-cause : goal.returns-in-Some-clause-cause
 returns-in-Some-clause-cause g c =
-    let stands = subst (λ (joiner : Joiner). Stands joiner c.args.left.now.old c.args.right.now.old) (sym c.self.view_is) c.requires.stands in
-    ap (λ (joiner : Joiner). join_fault joiner.on joiner.choice c.args.left.now.new c.args.right.now.new) (sym c.self.view_is)
-    ∙ ap (λ (on : List OnPair). join_fault on c.self.inside.choice c.args.left.now.new c.args.right.now.new) (sym c.as_slice.ensures)
+    own_fault _ c.args.self c.self.view_is c.as_slice.result.now c.as_slice.ensures c.args.left.now.new c.args.right.now.new
     ∙ sym (told_is c.as_slice.result.now c.args.left.now c.requires.left_exact c.args.right.now c.requires.right_exact c.self.inside.choice c.of.result c.of.ensures _ _ _ _ c.in_ok-change.ensures.left_rows c.in_ok-change.ensures.right_rows c.in_ok-change.ensures.notes c.in_ok-change.ensures.came
-    (ap (λ (on : List OnPair). join_fault on c.self.inside.choice c.args.left.now.old c.args.right.now.old) c.as_slice.ensures ∙ stands.sound))
+    (sym (own_fault _ c.args.self c.self.view_is c.as_slice.result.now c.as_slice.ensures c.args.left.now.old c.args.right.now.old) ∙ c.requires.stands.sound))
     ∙ ap (option_map node_of) (sym c.in-Some.ensures)
 
 pub returns-clause-stands : goal.returns-clause-stands
@@ -66,45 +86,19 @@ returns-clause-stands g c =
 
 pub returns-clause-sound : goal.returns-clause-sound
 returns-clause-sound g c =
-    let stands = subst (λ (joiner : Joiner). Stands joiner c.args.left.now.old c.args.right.now.old) (sym c.self.view_is) c.requires.stands in
-    ap (λ (joiner : Joiner). join_fault joiner.on joiner.choice c.args.left.now.new c.args.right.now.new) (sym c.self.view_is)
-    ∙ ap (λ (on : List OnPair). join_fault on c.self.inside.choice c.args.left.now.new c.args.right.now.new) (sym c.as_slice.ensures)
+    own_fault _ c.args.self c.self.view_is c.as_slice.result.now c.as_slice.ensures c.args.left.now.new c.args.right.now.new
     ∙ sym (told_is c.as_slice.result.now c.args.left.now c.requires.left_exact c.args.right.now c.requires.right_exact c.self.inside.choice c.of.result c.of.ensures _ _ _ _ c.in_ok-change.ensures.left_rows c.in_ok-change.ensures.right_rows c.in_ok-change.ensures.notes c.in_ok-change.ensures.came
-    (ap (λ (on : List OnPair). join_fault on c.self.inside.choice c.args.left.now.old c.args.right.now.old) c.as_slice.ensures ∙ stands.sound))
+    (sym (own_fault _ c.args.self c.self.view_is c.as_slice.result.now c.as_slice.ensures c.args.left.now.old c.args.right.now.old) ∙ c.requires.stands.sound))
     ∙ ap (option_map node_of) (sym c.in_default.ensures)
 
 pub returns-clause-change : goal.returns-clause-change
-returns-clause-change g c =
-    c.in_ok-change.ensures.change
-    ∙ ap (λ (pick : Pick). change_of (matched_tick c.as_slice.result.now pick c.as_slice-2.result.now (tick_of c.args.left.now) (tick_of c.args.right.now))) c.of.ensures
-    ∙ ap change_of (ticks c.self.inside.choice c.as_slice.result.now c.as_slice-2.result.now (tick_of c.args.left.now) (tick_of c.args.right.now))
-    ∙ ap₂ (λ (on : List OnPair) (take : List ℕ). change_of (joined_ticks on take c.self.inside.choice (tick_of c.args.left.now) (tick_of c.args.right.now))) c.as_slice.ensures c.as_slice-2.ensures
-    ∙ ap (λ (joiner : Joiner). change_of (joined_ticks joiner.on joiner.take joiner.choice (tick_of c.args.left.now) (tick_of c.args.right.now))) c.self.view_is
+returns-clause-change g c = c.in_ok-change.ensures.change ∙ own_change _ c.args.self c.self.view_is _ c.as_slice.ensures _ c.as_slice-2.ensures _ c.of.ensures c.args.left.now c.args.right.now
 
 pub returns-in_err-change-clause-refused : goal.returns-in_err-change-clause-refused
-returns-in_err-change-clause-refused g c =
-    on_err c.from_residual.result
-    (step_within c.lookup_step.new.reads c.args.reads.now c.args.left.now.new.width c.args.right.now.new.width (length c.as_slice-2.result.now) (length c.args.self.take) (counted c.args.left.now.update + counted c.args.right.now.update)
-    (change_of (matched_tick c.as_slice.result.now c.of.result c.as_slice-2.result.now (tick_of c.args.left.now) (tick_of c.args.right.now)))
-    (change_of (joined_ticks c.args.self.on c.args.self.take c.args.self.choice (tick_of c.args.left.now) (tick_of c.args.right.now)))
-    c.lookup_step.ensures.reads
-    (ap (λ (pick : Pick). change_of (matched_tick c.as_slice.result.now pick c.as_slice-2.result.now (tick_of c.args.left.now) (tick_of c.args.right.now))) c.of.ensures
-    ∙ ap change_of (ticks c.self.inside.choice c.as_slice.result.now c.as_slice-2.result.now (tick_of c.args.left.now) (tick_of c.args.right.now))
-    ∙ ap₂ (λ (on : List OnPair) (take : List ℕ). change_of (joined_ticks on take c.self.inside.choice (tick_of c.args.left.now) (tick_of c.args.right.now))) c.as_slice.ensures c.as_slice-2.ensures
-    ∙ ap (λ (joiner : Joiner). change_of (joined_ticks joiner.on joiner.take joiner.choice (tick_of c.args.left.now) (tick_of c.args.right.now))) c.self.view_is)
-    (ap length c.as_slice-2.ensures ∙ ap (λ (joiner : Joiner). length joiner.take) c.self.view_is))
+returns-in_err-change-clause-refused g c = on_err c.from_residual.result (own_reads _ c.args.self c.self.view_is _ c.as_slice.ensures _ c.as_slice-2.ensures _ c.of.ensures c.args.left.now c.args.right.now c.lookup_step.new.reads c.args.reads.now c.lookup_step.ensures.reads)
 
 pub returns-in-Some-clause-refused : goal.returns-in-Some-clause-refused
-returns-in-Some-clause-refused g c =
-    step_within c.lookup_step.new.reads c.args.reads.now c.args.left.now.new.width c.args.right.now.new.width (length c.as_slice-2.result.now) (length c.args.self.take) (counted c.args.left.now.update + counted c.args.right.now.update)
-    (change_of (matched_tick c.as_slice.result.now c.of.result c.as_slice-2.result.now (tick_of c.args.left.now) (tick_of c.args.right.now)))
-    (change_of (joined_ticks c.args.self.on c.args.self.take c.args.self.choice (tick_of c.args.left.now) (tick_of c.args.right.now)))
-    c.lookup_step.ensures.reads
-    (ap (λ (pick : Pick). change_of (matched_tick c.as_slice.result.now pick c.as_slice-2.result.now (tick_of c.args.left.now) (tick_of c.args.right.now))) c.of.ensures
-    ∙ ap change_of (ticks c.self.inside.choice c.as_slice.result.now c.as_slice-2.result.now (tick_of c.args.left.now) (tick_of c.args.right.now))
-    ∙ ap₂ (λ (on : List OnPair) (take : List ℕ). change_of (joined_ticks on take c.self.inside.choice (tick_of c.args.left.now) (tick_of c.args.right.now))) c.as_slice.ensures c.as_slice-2.ensures
-    ∙ ap (λ (joiner : Joiner). change_of (joined_ticks joiner.on joiner.take joiner.choice (tick_of c.args.left.now) (tick_of c.args.right.now))) c.self.view_is)
-    (ap length c.as_slice-2.ensures ∙ ap (λ (joiner : Joiner). length joiner.take) c.self.view_is)
+returns-in-Some-clause-refused g c = own_reads _ c.args.self c.self.view_is _ c.as_slice.ensures _ c.as_slice-2.ensures _ c.of.ensures c.args.left.now c.args.right.now c.lookup_step.new.reads c.args.reads.now c.lookup_step.ensures.reads
 
 pub returns-clause-reads : goal.returns-clause-reads
 returns-clause-reads g c =
