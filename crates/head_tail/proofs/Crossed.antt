@@ -5,18 +5,21 @@ use Rattle.key_lists.specs.Keys.{is_among, without}
 use Rattle.key_lists.proofs.Among.{among-filter, each_among}
 use Rattle.key_lists.proofs.Every.{and_swap, every, every-filter, every_weaker, filter_same}
 use Rattle.key_lists.proofs.Rising.{as_filter}
+use Rattle.tick_model.specs.Changes.{change_of}
 use Rattle.tick_model.specs.declared.table.PlainRow.{PlainRow}
 use Rattle.tick_model.specs.declared.table.PlainTable.{PlainTable}
-use Rattle.tick_model.specs.HeadTail.{head_table, tail_table}
 use Rattle.tick_model.specs.Tables.{keys}
-use Rattle.tick_model.specs.Updates.{Update, between, new_keys, old_keys}
+use Rattle.tick_model.specs.Updates.{Tick, Update, between, new_keys, old_keys}
 use Rattle.tick_table.proofs.Between.{old_keys-pairs}
 use Rattle.tick_table.specs.Exact.{IsExact, tick_of}
 use Rattle.tick_table.specs.Ticking.{Ticking}
 use Rattle.shown_rows.specs.Shown.{through}
 use Rattle.shown_rows.proofs.Restricted.{kept}
+use Rattle.head_tail.specs.declared.end.End.{End}
+use Rattle.head_tail.specs.declared.end.End.TheVariants.{First, Last}
+use Rattle.head_tail.specs.Ends.{at_end, cut, end_table, ended}
 use Rattle.head_tail.proofs.Positions.{AreOf}
-use Rattle.head_tail.proofs.Sides.{AreSides, first_shown, last_shown, shown_pairs}
+use Rattle.head_tail.proofs.Sides.{AreSides, end_shown, shown_pairs}
 
 module _ (t : Ticking) (e : IsExact t) where
   abbrev before : List ℕ
@@ -73,24 +76,29 @@ module _ (t : Ticking) (e : IsExact t) where
   comes_is : (shown shown_now : List ℕ) → comes shown shown_now ≡ without (new_keys (shown_pairs (λ pair. pair.new) (λ pair. pair.old) shown_now shown (kept t e))) shown_now
   comes_is shown shown_now = ap (λ pairs. without (new_keys pairs) shown_now) (other_way shown shown_now)
 
-  head_keys : (count : ℕ) (table : PlainTable) → take count (keys table.rows) ≡ keys (head_table count table).rows
-  head_keys count table = take-map (λ (row : PlainRow). row.key) count table.rows
+  end_keys : (end : End) (count : ℕ) (table : PlainTable) → at_end end (cut end count (length (keys table.rows))) (keys table.rows) ≡ keys (end_table end count table).rows
+  end_keys First count table = take-map (λ (row : PlainRow). row.key) count table.rows
+  end_keys Last count table = ap (λ n. drop (n - count) (keys table.rows)) (length-map table.rows (λ (row : PlainRow). row.key)) ∙ drop-map (λ (row : PlainRow). row.key) (length table.rows - count) table.rows
 
-  tail_keys : (count : ℕ) (table : PlainTable) → drop (length (keys table.rows) - count) (keys table.rows) ≡ keys (tail_table count table).rows
-  tail_keys count table = ap (λ n. drop (n - count) (keys table.rows)) (length-map table.rows (λ (row : PlainRow). row.key)) ∙ drop-map (λ (row : PlainRow). row.key) (length table.rows - count) table.rows
+  module _ (end : End) (count : ℕ) where
+    abbrev cut_before : ℕ
+    cut_before = cut end count (length before)
 
-  pub head_leaves : (count : ℕ) → without (take (length (without t.update.added (take count now))) (without t.update.removed before)) (take count before) ≡ (between (through (head_table count) (tick_of t))).removed
-  head_leaves count = sym (first_shown _ _ (kept t e) before t.update.removed now t.update.added from_before count count) ∙ ap₂ leaves (head_keys count t.old) (head_keys count t.new)
+    abbrev cut_now : ℕ
+    cut_now = cut end count (length now)
 
-  pub head_comes : (count : ℕ) → without (take (length (without t.update.removed (take count before))) (without t.update.added now)) (take count now) ≡ (between (through (head_table count) (tick_of t))).added
-  head_comes count =
-      sym (comes_is (take count before) (take count now) ∙ first_shown _ _ (kept t e) now t.update.added before t.update.removed from_now count count)
-      ∙ ap₂ comes (head_keys count t.old) (head_keys count t.new)
+    pub end_leaves : without (at_end end (length (without t.update.added (take cut_now now))) (without t.update.removed before)) (at_end end cut_before before) ≡ (between (through (end_table end count) (tick_of t))).removed
+    end_leaves = sym (end_shown _ _ (kept t e) before t.update.removed now t.update.added from_before end cut_before cut_now) ∙ ap₂ leaves (end_keys end count t.old) (end_keys end count t.new)
 
-  pub tail_leaves : (count : ℕ) → without (drop (length (without t.update.added (take (length now - count) now))) (without t.update.removed before)) (drop (length before - count) before) ≡ (between (through (tail_table count) (tick_of t))).removed
-  tail_leaves count = sym (last_shown _ _ (kept t e) before t.update.removed now t.update.added from_before (length before - count) (length now - count)) ∙ ap₂ leaves (tail_keys count t.old) (tail_keys count t.new)
+    pub end_comes : without (at_end end (length (without t.update.removed (take cut_before before))) (without t.update.added now)) (at_end end cut_now now) ≡ (between (through (end_table end count) (tick_of t))).added
+    end_comes =
+        sym (comes_is (at_end end cut_before before) (at_end end cut_now now) ∙ end_shown _ _ (kept t e) now t.update.added before t.update.removed from_now end cut_now cut_before)
+        ∙ ap₂ comes (end_keys end count t.old) (end_keys end count t.new)
 
-  pub tail_comes : (count : ℕ) → without (drop (length (without t.update.removed (take (length before - count) before))) (without t.update.added now)) (drop (length now - count) now) ≡ (between (through (tail_table count) (tick_of t))).added
-  tail_comes count =
-      sym (comes_is (drop (length before - count) before) (drop (length now - count) now) ∙ last_shown _ _ (kept t e) now t.update.added before t.update.removed from_now (length now - count) (length before - count))
-      ∙ ap₂ comes (tail_keys count t.old) (tail_keys count t.new)
+-- the change of the rows at an end
+pub ended_is : (made end : End) (count own : ℕ) (tick : Tick) → made ≡ end → count ≡ own → change_of (through (end_table made count) tick) ≡ change_of (ended end own tick)
+ended_is made end count own tick e f = ap₂ (λ (end : End) (count : ℕ). change_of (through (end_table end count) tick)) e f ∙ same end
+  where
+    same : (end : End) → change_of (through (end_table end own) tick) ≡ change_of (ended end own tick)
+    same First = refl
+    same Last = refl

@@ -1,14 +1,21 @@
 -- Rising lists that are cut at a position.
-use Rattle.std.proofs.Common.{◌≡◌, refl, ap, sym, ◌∙◌, subst, Bool, true, false, not, ◌&&◌, ◌||◌, ℕ, zero, suc, ◌-◌, ◌<◌, ◌==◌, arith, List, [], ◌∷◌, filter, take, drop, length}
+use Rattle.std.proofs.Common.{◌≡◌, refl, ap, sym, ◌∙◌, subst, Bool, true, false, not, ◌&&◌, ◌||◌, ℕ, zero, suc, ◌-◌, ◌<◌, ◌==◌, arith, List, [], ◌∷◌, map, filter, take, drop, length}
 use Rattle.std.specs.List.{AllByRecursion}
 use Rattle.std.proofs.lemmas.Bool.{eqb-true}
-use Rattle.std.proofs.lemmas.List.{take-append-drop}
+use Rattle.std.proofs.lemmas.List.{drop-map, take-append-drop, take-map}
 use Rattle.std.proofs.lemmas.List.Elements.{filter-append}
 use Rattle.std.proofs.Math.Seq.{take-append_seam, drop-append_seam}
 use Rattle.key_lists.specs.Keys.{is_among, IsRising}
 use Rattle.key_lists.proofs.Among.{among-append, among_below}
 use Rattle.key_lists.proofs.Booleans.{and_true, or_true}
 use Rattle.key_lists.proofs.Parts.{every-take, every-drop, take_nil}
+use Rattle.head_tail.specs.declared.end.End.{End}
+use Rattle.head_tail.specs.declared.end.End.TheVariants.{First, Last}
+use Rattle.head_tail.specs.Ends.{at_end}
+
+pub not_true : (b : Bool) → not b ≡ true → b ≡ false
+not_true true e = sym e
+not_true false e = refl
 
 -- a key is before a position or from it on
 pub among_parts : (key n : ℕ) (xs : List ℕ) → is_among key xs ≡ (is_among key (take n xs) || is_among key (drop n xs))
@@ -17,8 +24,9 @@ among_parts key n xs = ap (is_among key) (sym (take-append-drop n xs)) ∙ among
 pub among_front : (key n : ℕ) (xs : List ℕ) → is_among key (take n xs) ≡ true → is_among key xs ≡ true
 among_front key n xs own = among_parts key n xs ∙ ap (λ b. b || is_among key (drop n xs)) own
 
-pub among_back : (key n : ℕ) (xs : List ℕ) → is_among key (drop n xs) ≡ true → is_among key xs ≡ true
-among_back key n xs own = among_parts key n xs ∙ ap (λ b. is_among key (take n xs) || b) own ∙ or_true (is_among key (take n xs))
+pub among_end : (end : End) (key n : ℕ) (xs : List ℕ) → is_among key (at_end end n xs) ≡ true → is_among key xs ≡ true
+among_end First key n xs own = among_front key n xs own
+among_end Last key n xs own = among_parts key n xs ∙ ap (λ b. is_among key (take n xs) || b) own ∙ or_true (is_among key (take n xs))
 
 -- of keys that rise, those from a position on are the ones that are not before it
 pub among_rest : (key n : ℕ) (xs : List ℕ) → IsRising xs → is_among key (drop n xs) ≡ (is_among key xs && not (is_among key (take n xs)))
@@ -30,6 +38,9 @@ among_rest key (suc n) (x ∷ xs) r =
       | true ↦ λ same. among_below key (drop n xs) (every-drop (λ y. key < y) n xs (subst (λ k. AllByRecursion (λ y. k < y) xs) (eqb-true x key same) r.0))
       | false ↦ λ other. among_rest key n xs r.1
     ]) refl
+
+pub keys_rest : {X : Type 0} (f : X → ℕ) (key n : ℕ) (xs : List X) → IsRising (map f xs) → is_among key (map f (drop n xs)) ≡ (is_among key (map f xs) && not (is_among key (map f (take n xs))))
+keys_rest f key n xs r = ap (is_among key) (sym (drop-map f n xs)) ∙ among_rest key n (map f xs) r ∙ ap (λ ks. is_among key (map f xs) && not (is_among key ks)) (take-map f n xs)
 
 -- and those between two positions are the ones that are before the second and not before the first
 pub among_between : (key m n : ℕ) (xs : List ℕ) → IsRising xs → is_among key (drop n (take m xs)) ≡ (is_among key (take m xs) && not (is_among key (take n xs)))
@@ -76,3 +87,11 @@ drop-filter p n xs =
     ap (λ ys. drop (length (filter p (take n xs))) (filter p ys)) (sym (take-append-drop n xs))
     ∙ ap (drop (length (filter p (take n xs)))) (filter-append p (take n xs) (drop n xs))
     ∙ drop-append_seam (filter p (take n xs)) (filter p (drop n xs))
+
+pub end-filter : {X : Type 0} (end : End) (p : X → Bool) (n : ℕ) (xs : List X) → at_end end (length (filter p (take n xs))) (filter p xs) ≡ filter p (at_end end n xs)
+end-filter First = take-filter
+end-filter Last = drop-filter
+
+pub end-map : {X Y : Type 0} (end : End) (f : X → Y) (n : ℕ) (xs : List X) → at_end end n (map f xs) ≡ map f (at_end end n xs)
+end-map First = take-map
+end-map Last = drop-map

@@ -3,6 +3,8 @@ use Rattle.std.proofs.Common.{◌≡◌, refl, ap, ap₂, sym, ◌∙◌, Bool, 
 use Rattle.std.specs.Prelude.{nat_lt}
 use Rattle.key_lists.specs.Keys.{is_among, IsRising, without}
 use Rattle.key_lists.proofs.Among.{among-filter, of_among}
+use Rattle.key_lists.proofs.Booleans.{and_false, and_true}
+use Rattle.key_lists.proofs.Every.{and_swap}
 use Rattle.key_lists.proofs.Rising.{rising_same, rising_some}
 use Rattle.row_set.specs.Sets.{count_below, united}
 use Rattle.row_set.proofs.United.{among-united, united_rises}
@@ -14,41 +16,17 @@ use Rattle.head_tail.proofs.Positions.{AreOf, IsEdge, below_edge, drop-below, ta
 first_cases : (r l b a : Bool) → (r ≡ true → l ≡ b) → ((l && r) || (b && not a)) ≡ (not (not r && a) && b)
 first_cases true l true a f = ap (λ l. (l && true) || not a) (f refl)
 first_cases true l false a f = ap (λ l. (l && true) || false) (f refl)
-first_cases false true true true f = refl
-first_cases false true true false f = refl
-first_cases false true false a f = not_both a
-  where
-    not_both : (a : Bool) → false ≡ (not a && false)
-    not_both true = refl
-    not_both false = refl
-first_cases false false true true f = refl
-first_cases false false true false f = refl
-first_cases false false false a f = not_both a
-  where
-    not_both : (a : Bool) → false ≡ (not a && false)
-    not_both true = refl
-    not_both false = refl
+first_cases false l b a f = ap (λ x. x || (b && not a)) (and_false l) ∙ and_swap b (not a)
 
 last_cases : (r k l b a : Bool) → (r ≡ true → l ≡ b) → (r ≡ true → k ≡ true) → (a ≡ true → k ≡ true) → ((not l && r) || (a && not b)) ≡ (not (not r && (k && not a)) && (k && not b))
-last_cases true k l b a f g h = ap₂ (λ l k. (not l && true) || (a && not b)) (f refl) (g refl) ∙ left b a ∙ sym (ap (λ k. k && not b) (g refl))
+last_cases r true l b a f g h = ap (λ x. (not l && r) || x) (turned a) ∙ first_cases r (not l) (not b) (not a) (λ e. ap not (f e))
   where
-    left : (b a : Bool) → ((not b && true) || (a && not b)) ≡ not b
-    left true true = refl
-    left true false = refl
-    left false true = refl
-    left false false = refl
-last_cases false true true true true f g h = refl
-last_cases false true true true false f g h = refl
-last_cases false true true false true f g h = refl
-last_cases false true true false false f g h = refl
-last_cases false true false true true f g h = refl
-last_cases false true false true false f g h = refl
-last_cases false true false false true f g h = refl
-last_cases false true false false false f g h = refl
-last_cases false false true b true f g h = cc (h refl)
-last_cases false false false b true f g h = cc (h refl)
-last_cases false false true b false f g h = refl
-last_cases false false false b false f g h = refl
+    turned : (a : Bool) → (a && not b) ≡ (not b && not (not a))
+    turned true = sym (and_true (not b))
+    turned false = sym (and_false (not b))
+last_cases true false l b a f g h = cc (g refl)
+last_cases false false l b true f g h = cc (h refl)
+last_cases false false l b false f g h = ap (λ x. x || false) (and_false (not l))
 
 module _ (keys others : List ℕ) (rising : IsRising keys) (others_rise : IsRising others) (of : AreOf others keys) (edge position place staying : ℕ) (is : IsEdge edge position keys) (so_many : length (without others (take place keys)) ≡ staying) where
   first_staying : take staying (without others keys) ≡ without others (take place keys)

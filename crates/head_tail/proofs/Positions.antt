@@ -7,7 +7,7 @@ use Rattle.std.proofs.lemmas.List.{length-take}
 use Rattle.std.proofs.lemmas.List.Filters.{length-filter_both, length-filter_more}
 use Rattle.key_lists.specs.Keys.{is_among, IsRising, without}
 use Rattle.key_lists.proofs.Among.{among-filter, of_among}
-use Rattle.key_lists.proofs.Every.{every_weaker, filter_none}
+use Rattle.key_lists.proofs.Every.{and_swap, every_weaker, filter_none}
 use Rattle.key_lists.proofs.Rising.{rising_same, rising_some}
 use Rattle.row_set.specs.Sets.{count_below}
 use Rattle.row_set.proofs.Windows.{rising-take}
@@ -68,22 +68,9 @@ module _ (keys others : List ℕ) (rising : IsRising keys) (others_rise : IsRisi
   others_few n =
       let same : filter (λ key. is_among key others) (take n keys) ≡ filter (λ key. is_among key (take n keys)) others =
       rising_same (filter (λ key. is_among key others) (take n keys)) (filter (λ key. is_among key (take n keys)) others) (rising_some (λ key. is_among key others) (take n keys) (rising-take n keys rising)) (rising_some (λ key. is_among key (take n keys)) others others_rise)
-      (λ key. among-filter (λ key. is_among key others) key (take n keys) ∙ swapped (is_among key others) (is_among key (take n keys)) ∙ sym (among-filter (λ key. is_among key (take n keys)) key others)) in
+      (λ key. among-filter (λ key. is_among key others) key (take n keys) ∙ and_swap (is_among key others) (is_among key (take n keys)) ∙ sym (among-filter (λ key. is_among key (take n keys)) key others)) in
       let few : length (filter (λ key. is_among key (take n keys)) others) ≤ length others = length-filter_most (λ key. is_among key (take n keys)) others in
-      omega (arith, parts n, ap length same, few)
-    where
-      swapped : (a b : Bool) → (a && b) ≡ (b && a)
-      swapped true true = refl
-      swapped true false = refl
-      swapped false true = refl
-      swapped false false = refl
-
-      not_not : (b : Bool) → b ≡ not (not b)
-      not_not true = refl
-      not_not false = refl
-
-      parts : (n : ℕ) → length (without others (take n keys)) + length (filter (λ key. is_among key others) (take n keys)) ≡ length (take n keys)
-      parts n = length-filter_both (λ key. not (is_among key others)) (λ key. is_among key others) (λ key. not_not (is_among key others)) (take n keys)
+      omega (arith, length-filter_both (λ key. is_among key others) (λ key. not (is_among key others)) (λ key. refl) (take n keys), ap length same, few)
 
   module _ (edge position : ℕ) (is : IsEdge edge position keys) where
     -- of the others, those below the edge are before the position
@@ -110,14 +97,7 @@ module _ (keys others : List ℕ) (rising : IsRising keys) (others_rise : IsRisi
 
     -- how many of the keys before the position stay
     pub staying_count : length (without others (take position keys)) + count_below edge others ≡ min position (length keys)
-    staying_count =
-        ap (λ n. length (without others (take position keys)) + n) (ap length (sym others_before))
-        ∙ length-filter_both (λ key. not (is_among key others)) (λ key. is_among key others) (λ key. not_not (is_among key others)) (take position keys)
-        ∙ length-take position keys
-      where
-        not_not : (b : Bool) → b ≡ not (not b)
-        not_not true = refl
-        not_not false = refl
+    staying_count = omega (arith, ap length others_before, length-filter_both (λ key. is_among key others) (λ key. not (is_among key others)) (λ key. refl) (take position keys), length-take position keys)
 
 -- one position further, one key more stays at most
 pub staying_more : (keys others : List ℕ) (n : ℕ) → n < length keys → length (without others (take (n + 1) keys)) ≤ length (without others (take n keys)) + 1

@@ -1,18 +1,20 @@
 -- The rows that stay stand in the same places on both sides of a step.
-use Rattle.std.proofs.Common.{◌≡◌, refl, ap, sym, ◌∙◌, subst, Bool, true, false, not, ◌&&◌, ℕ, zero, suc, ◌<◌, ◌≤◌, min, arith, List, [], ◌∷◌, map, filter, take, drop, length}
+use Rattle.std.proofs.Common.{◌≡◌, refl, ap, ap₂, sym, ◌∙◌, subst, Bool, true, false, not, ◌&&◌, ℕ, zero, suc, ◌<◌, ◌≤◌, min, arith, List, [], ◌∷◌, map, filter, take, drop, length}
 use Rattle.std.specs.List.{AllByRecursion}
 use Rattle.std.proofs.lemmas.Bool.{and_parts}
-use Rattle.std.proofs.lemmas.List.{drop-map, length-map, length-take, take-map}
+use Rattle.std.proofs.lemmas.List.{length-map, length-take}
 use Rattle.key_lists.specs.Keys.{is_among, IsRising, without}
-use Rattle.key_lists.proofs.Among.{among-filter, among_below, among_own, among_past, each_among}
-use Rattle.key_lists.proofs.Every.{every, every_both, every_unmapped, every_weaker, every-map, filter-map, filter_same}
-use Rattle.key_lists.proofs.Parts.{every-drop}
+use Rattle.key_lists.proofs.Among.{among-filter, among_own, among_past, each_among}
+use Rattle.key_lists.proofs.Every.{every, every_both, every_unmapped, every_weaker, filter-map, filter_same}
 use Rattle.tick_model.specs.declared.update.KeyPair.{KeyPair}
-use Rattle.head_tail.proofs.Cuts.{among_back, among_front, drop-filter, take-filter}
+use Rattle.head_tail.specs.declared.end.End.{End}
+use Rattle.head_tail.specs.declared.end.End.TheVariants.{First, Last}
+use Rattle.head_tail.specs.Ends.{at_end}
+use Rattle.head_tail.proofs.Cuts.{among_end, end-filter, end-map, keys_rest, not_true, take-filter}
 
 module _ {X : Type 0} (f g : X → ℕ) where
   -- of elements that are told by two numbers, both rising, the first ones are told by either
-  pub alike_first : (n : ℕ) (xs : List X) → IsRising (map f xs) → IsRising (map g xs) → AllByRecursion (λ x. is_among (g x) (map g (take n xs)) ≡ is_among (f x) (map f (take n xs))) xs
+  alike_first : (n : ℕ) (xs : List X) → IsRising (map f xs) → IsRising (map g xs) → AllByRecursion (λ x. is_among (g x) (map g (take n xs)) ≡ is_among (f x) (map f (take n xs))) xs
   alike_first zero [] r s = tt
   alike_first (suc n) [] r s = tt
   alike_first zero (x ∷ xs) r s = every (λ x. false ≡ false) (x ∷ xs) (λ x. refl)
@@ -25,17 +27,14 @@ module _ {X : Type 0} (f g : X → ℕ) where
   )
 
   -- and so are the other ones
-  pub alike_last : (n : ℕ) (xs : List X) → IsRising (map f xs) → IsRising (map g xs) → AllByRecursion (λ x. is_among (g x) (map g (drop n xs)) ≡ is_among (f x) (map f (drop n xs))) xs
-  alike_last zero [] r s = tt
-  alike_last (suc n) [] r s = tt
-  alike_last zero (x ∷ xs) r s = every_both (λ x'. is_among (g x') (map g (x ∷ xs)) ≡ true) (λ x'. is_among (f x') (map f (x ∷ xs)) ≡ true) (λ x'. is_among (g x') (map g (x ∷ xs)) ≡ is_among (f x') (map f (x ∷ xs))) (x ∷ xs) (λ x' a b. a ∙ sym b)
-      (every_unmapped (λ key. is_among key (map g (x ∷ xs)) ≡ true) g (x ∷ xs) (each_among (map g (x ∷ xs))))
-      (every_unmapped (λ key. is_among key (map f (x ∷ xs)) ≡ true) f (x ∷ xs) (each_among (map f (x ∷ xs))))
-  alike_last (suc n) (x ∷ xs) r s = (
-    among_below (g x) (map g (drop n xs)) (every-map (λ key. g x < key) g (drop n xs) (every-drop (λ y. g x < g y) n xs (every_unmapped (λ key. g x < key) g xs s.0)))
-        ∙ sym (among_below (f x) (map f (drop n xs)) (every-map (λ key. f x < key) f (drop n xs) (every-drop (λ y. f x < f y) n xs (every_unmapped (λ key. f x < key) f xs r.0)))),
-    alike_last n xs r.1 s.1,
-  )
+  pub alike : (end : End) (n : ℕ) (xs : List X) → IsRising (map f xs) → IsRising (map g xs) → AllByRecursion (λ x. is_among (g x) (map g (at_end end n xs)) ≡ is_among (f x) (map f (at_end end n xs))) xs
+  alike First n xs r s = alike_first n xs r s
+  alike Last n xs r s =
+      every_both (λ x. (is_among (f x) (map f xs) ≡ true) × (is_among (g x) (map g xs) ≡ true)) (λ x. is_among (g x) (map g (take n xs)) ≡ is_among (f x) (map f (take n xs))) (λ x. is_among (g x) (map g (drop n xs)) ≡ is_among (f x) (map f (drop n xs))) xs
+      (λ x own same. keys_rest g (g x) n xs s ∙ ap₂ (λ a b. a && not b) (own.1 ∙ sym own.0) same ∙ sym (keys_rest f (f x) n xs r))
+      (every_both (λ x. is_among (f x) (map f xs) ≡ true) (λ x. is_among (g x) (map g xs) ≡ true) (λ x. (is_among (f x) (map f xs) ≡ true) × (is_among (g x) (map g xs) ≡ true)) xs (λ x a b. (a, b))
+      (every_unmapped (λ key. is_among key (map f xs) ≡ true) f xs (each_among (map f xs))) (every_unmapped (λ key. is_among key (map g xs) ≡ true) g xs (each_among (map g xs))))
+      (alike_first n xs r s)
 
 -- One side of a step and the other: the rows that stay, under their keys on both sides, and the others on each.
 pub record AreSides (f g : KeyPair → ℕ) (kept : List KeyPair) (here others there others_there : List ℕ) : Type 0 where
@@ -75,12 +74,8 @@ module _ (f g : KeyPair → ℕ) (kept : List KeyPair) (here others there others
   none_other =
       every_unmapped (λ key. is_among key others_there ≡ false) g kept
       (every_weaker (λ key. is_among key (without others_there there) ≡ true) (λ key. is_among key others_there ≡ false) (map g kept)
-      (λ key own. turned (is_among key others_there) (and_parts (not (is_among key others_there)) (is_among key there) (sym (among-filter (λ key. not (is_among key others_there)) key there) ∙ own)).0)
+      (λ key own. not_true (is_among key others_there) (and_parts (not (is_among key others_there)) (is_among key there) (sym (among-filter (λ key. not (is_among key others_there)) key there) ∙ own)).0)
       (subst (λ ks. AllByRecursion (λ key. is_among key ks ≡ true) (map g kept)) s.there_stay (each_among (map g kept))))
-    where
-      turned : (b : Bool) → not b ≡ true → b ≡ false
-      turned true e = sym e
-      turned false e = refl
 
   -- so it is among some of the keys there where it is among those of them that stay
   among_staying : (some : List ℕ) → AllByRecursion (λ pair. is_among (g pair) some ≡ is_among (g pair) (without others_there some)) kept
@@ -92,29 +87,17 @@ module _ (f g : KeyPair → ℕ) (kept : List KeyPair) (here others there others
   abbrev pub staying_there : ℕ → ℕ
   staying_there position = length (without others_there (take position there))
 
-  pub first_shown : (n m : ℕ) → without (map f (shown_pairs f g (take n here) (take m there) kept)) (take n here) ≡ without (take (staying_there m) (without others here)) (take n here)
-  first_shown n m =
-      but_these (take n here) (take m there) (take (staying_there m) (without others here))
-      (every_both (λ pair. is_among (g pair) (take m there) ≡ is_among (g pair) (without others_there (take m there))) (λ pair. is_among (g pair) (map g (take (staying_there m) kept)) ≡ is_among (f pair) (map f (take (staying_there m) kept)))
-      (λ pair. is_among (g pair) (take m there) ≡ is_among (f pair) (take (staying_there m) (without others here))) kept
+  pub end_shown : (end : End) (n m : ℕ) → without (map f (shown_pairs f g (at_end end n here) (at_end end m there) kept)) (at_end end n here) ≡ without (at_end end (staying_there m) (without others here)) (at_end end n here)
+  end_shown end n m =
+      but_these (at_end end n here) (at_end end m there) (at_end end (staying_there m) (without others here))
+      (every_both (λ pair. is_among (g pair) (at_end end m there) ≡ is_among (g pair) (without others_there (at_end end m there))) (λ pair. is_among (g pair) (map g (at_end end (staying_there m) kept)) ≡ is_among (f pair) (map f (at_end end (staying_there m) kept)))
+      (λ pair. is_among (g pair) (at_end end m there) ≡ is_among (f pair) (at_end end (staying_there m) (without others here))) kept
       (λ pair stays same.
       stays
-      ∙ ap (is_among (g pair)) (sym (take-filter (λ key. not (is_among key others_there)) m there) ∙ ap (take (staying_there m)) (sym s.there_stay) ∙ take-map g (staying_there m) kept)
-      ∙ same ∙ ap (is_among (f pair)) (sym (take-map f (staying_there m) kept) ∙ ap (take (staying_there m)) s.here_stay))
-      (among_staying (take m there)) (alike_first f g (staying_there m) kept s.here_rise s.there_rise))
-      (λ key own. ap (is_among key) s.here_stay ∙ among_front key (staying_there m) (without others here) own)
-
-  pub last_shown : (n m : ℕ) → without (map f (shown_pairs f g (drop n here) (drop m there) kept)) (drop n here) ≡ without (drop (staying_there m) (without others here)) (drop n here)
-  last_shown n m =
-      but_these (drop n here) (drop m there) (drop (staying_there m) (without others here))
-      (every_both (λ pair. is_among (g pair) (drop m there) ≡ is_among (g pair) (without others_there (drop m there))) (λ pair. is_among (g pair) (map g (drop (staying_there m) kept)) ≡ is_among (f pair) (map f (drop (staying_there m) kept)))
-      (λ pair. is_among (g pair) (drop m there) ≡ is_among (f pair) (drop (staying_there m) (without others here))) kept
-      (λ pair stays same.
-      stays
-      ∙ ap (is_among (g pair)) (sym (drop-filter (λ key. not (is_among key others_there)) m there) ∙ ap (drop (staying_there m)) (sym s.there_stay) ∙ drop-map g (staying_there m) kept)
-      ∙ same ∙ ap (is_among (f pair)) (sym (drop-map f (staying_there m) kept) ∙ ap (drop (staying_there m)) s.here_stay))
-      (among_staying (drop m there)) (alike_last f g (staying_there m) kept s.here_rise s.there_rise))
-      (λ key own. ap (is_among key) s.here_stay ∙ among_back key (staying_there m) (without others here) own)
+      ∙ ap (is_among (g pair)) (sym (end-filter end (λ key. not (is_among key others_there)) m there) ∙ ap (at_end end (staying_there m)) (sym s.there_stay) ∙ end-map end g (staying_there m) kept)
+      ∙ same ∙ ap (is_among (f pair)) (sym (end-map end f (staying_there m) kept) ∙ ap (at_end end (staying_there m)) s.here_stay))
+      (among_staying (at_end end m there)) (alike f g end (staying_there m) kept s.here_rise s.there_rise))
+      (λ key own. ap (is_among key) s.here_stay ∙ among_end end key (staying_there m) (without others here) own)
 
   -- there are so many rows that stay
   pub enough : (m : ℕ) → staying_there m ≤ length (without others here)

@@ -9,9 +9,9 @@
 
 mod crossing;
 mod edges;
-mod head_op;
+mod end;
+mod end_op;
 mod places;
-mod tail_op;
 
-pub use head_op::HeadOp;
-pub use tail_op::TailOp;
+pub use end::{AtEnd, AtFirst, AtLast, End};
+pub use end_op::{EndOp, HeadOp, TailOp};

@@ -1,5 +1,5 @@
 -- Before the first step no node has rows, as the operators make them.
-use Rattle.std.proofs.Common.{◌≡◌, refl, ap, ap₂, sym, ◌∙◌, subst, ℕ, zero, suc, ◌+◌, ◌-◌, ◌<◌, arith, List, [], ◌∷◌, ◌++◌, map, take, drop, length, get_or}
+use Rattle.std.proofs.Common.{◌≡◌, refl, ap, ap₂, sym, ◌∙◌, ℕ, zero, suc, ◌+◌, ◌-◌, ◌<◌, arith, List, [], ◌∷◌, map, take, drop, length}
 use Rattle.std.specs.Prelude.{slice_index}
 use Rattle.std.specs.List.{AllByRecursion}
 use Rattle.key_lists.proofs.Every.{every_weaker, map_map, map_same}
@@ -14,7 +14,7 @@ use Rattle.tick_model.specs.AsOf.{asof_table}
 use Rattle.tick_model.specs.Evaluation.{inputs_of, result}
 use Rattle.tick_model.specs.HeadTail.{head_table, tail_table}
 use Rattle.tick_model.specs.Join.{join_table}
-use Rattle.tick_model.specs.Merge.{merge_table, merged_rows, region, row_from, width_of}
+use Rattle.tick_model.specs.Merge.{merge_table, merged_rows, region, width_of}
 use Rattle.tick_model.specs.Plans.{columns_at}
 use Rattle.tick_model.specs.Sort.{sort_table}
 use Rattle.tick_model.specs.States.{empty_at}

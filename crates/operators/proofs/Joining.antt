@@ -1,5 +1,5 @@
 -- A step of a join is one of the plan's operator.
-use Rattle.std.proofs.Common.{◌≡◌, refl, ap, ap₂, sym, ◌∙◌, subst, ℕ, List, [], ◌∷◌, map, Option, Some, None}
+use Rattle.std.proofs.Common.{◌≡◌, refl, ap, ap₂, sym, ◌∙◌, subst, ℕ, List, [], ◌∷◌, map, Option, None}
 use Rattle.tick_model.specs.declared.plan.Choice.{Choice}
 use Rattle.tick_model.specs.declared.plan.OnPair.{OnPair}
 use Rattle.tick_model.specs.declared.plan.Op.{Op}
@@ -17,13 +17,13 @@ use Rattle.lookup_join.specs.declared.join_op.JoinFault.{JoinFault}
 use Rattle.lookup_join.specs.declared.join_op.JoinFault.TheVariants.{Memory, DuplicateRight}
 use Rattle.lookup_join.specs.Joiner.{IsCause as IsJoinCause, Joiner, joined_ticks, standing}
 use Rattle.row_groups.specs.Members.{Grouped}
-use Rattle.operators.specs.declared.running.Running.{Running}
 use Rattle.operators.specs.declared.running.Running.TheVariants.{Join}
 use Rattle.operators.specs.Faults.{of_join}
 use Rattle.operators.specs.Inputs.{IsCause}
 use Rattle.operators.specs.Operating.{IsMadeOf}
 use Rattle.operators.specs.Stepping.{IsRefusal, IsStep}
-use Rattle.operators.proofs.Same.{both_of, join_is}
+use Rattle.operators.proofs.Listed.{first_is, second_is}
+use Rattle.operators.proofs.Same.{join_is}
 
 made : (op : Op) (join : Joiner) (left right : Grouped) → IsMadeOf op (Join join) → IsMadeOf op (Join (record join { left = left; right = right }))
 made (Joined left right on take choice) join l r h = h
@@ -32,8 +32,8 @@ made op join l r h = absurd h
 -- the fault of the tables is that of the inputs
 own_fault : (op : Op) (join : Joiner) (a b : PlainTable) (table : ℕ → PlainTable) → IsMadeOf op (Join join) → map table (inputs_of op) ≡ a ∷ b ∷ [] → join_fault join.on join.choice a b ≡ fault_of op table
 own_fault (Joined left right on take choice) join a b table h e =
-    let both = both_of (table left) (table right) a b e in
-    ap₂ (λ (on : List OnPair) (choice : Choice). join_fault on choice a b) h.0 h.2 ∙ ap₂ (join_fault on choice) (sym both.0) (sym both.1)
+    ap₂ (λ (on : List OnPair) (choice : Choice). join_fault on choice a b) h.0 h.2
+    ∙ ap₂ (join_fault on choice) (sym (first_is (table left) a (table right ∷ []) (b ∷ []) e)) (sym (second_is (table left) (table right) a b e))
 own_fault op join a b table h e = absurd h
 
 pub ticks : (op : Op) (join : Joiner) (a b : Tick) (tick : ℕ → Tick) → IsMadeOf op (Join join) → map tick (inputs_of op) ≡ a ∷ b ∷ [] → joined_ticks join.on join.take join.choice a b ≡ operated op tick

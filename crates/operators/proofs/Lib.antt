@@ -1,12 +1,13 @@
 pub mod Same
 pub mod Copied
 pub mod Listed
+pub mod Single
+pub mod Double
 pub mod Filtering
 pub mod Viewing
 pub mod Joining
 pub mod Merging
-pub mod Heading
-pub mod Tailing
+pub mod Ending
 pub mod Beginning
 pub mod Planning
 pub mod Roomy

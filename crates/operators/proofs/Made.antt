@@ -1,5 +1,5 @@
 -- What is made of an operator of the plan.
-use Rattle.std.proofs.Common.{◌≡◌, refl, ap, ap₂, sym, ◌∙◌, subst, ℕ, zero, suc, ◌+◌, ◌<◌, ◌≤◌, arith, List, [], ◌∷◌, map, length, Option}
+use Rattle.std.proofs.Common.{◌≡◌, refl, ap, ap₂, sym, ◌∙◌, ℕ, zero, suc, ◌+◌, ◌≤◌, arith, List, [], ◌∷◌, map, length}
 use Rattle.std.specs.Prelude.{IfOk, Ok, Err, Result, replicate, slice_index}
 use Rattle.std.specs.List.{AllByRecursion}
 use Rattle.tick_model.specs.declared.plan.Agg.{Agg as Aggregate}
@@ -7,9 +7,8 @@ use Rattle.tick_model.specs.declared.plan.Expr.{Expr}
 use Rattle.tick_model.specs.declared.plan.Op.{Op}
 use Rattle.tick_model.specs.declared.plan.Op.TheVariants.{Source, Keep, View as Viewing, Join as Joining, Agg as Aggregating, Merge as Merging, Sort as Sorting, Head as Heading, Tail as Tailing, AsOf as Matching}
 use Rattle.tick_model.specs.Formulas.{IsWithin}
-use Rattle.tick_model.specs.Merge.{merge_table}
 use Rattle.tick_model.specs.Tables.{keys}
-use Rattle.tick_table.specs.Ticking.{Ticking, no_rows}
+use Rattle.tick_table.specs.Ticking.{Ticking}
 use Rattle.merge_op.specs.Merged.{Merger}
 use Rattle.operators.specs.declared.running.Running.{Running}
 use Rattle.operators.specs.declared.running.Running.TheVariants.{Where, View, Join, Agg, Merge, Sort, Head, Tail, AsOf}

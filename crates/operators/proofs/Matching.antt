@@ -12,7 +12,6 @@ use Rattle.tick_table.specs.Exact.{tick_of}
 use Rattle.tick_table.specs.Ticking.{Ticking}
 use Rattle.lookup_join.specs.Matcher.{Matcher, matched_ticks, standing}
 use Rattle.row_groups.specs.Members.{Grouped}
-use Rattle.operators.specs.declared.running.Running.{Running}
 use Rattle.operators.specs.declared.running.Running.TheVariants.{AsOf}
 use Rattle.operators.specs.Operating.{IsMadeOf}
 use Rattle.operators.specs.Stepping.{IsStep}

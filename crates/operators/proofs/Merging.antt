@@ -1,5 +1,5 @@
 -- A step of a merge is one of the plan's operator.
-use Rattle.std.proofs.Common.{◌≡◌, refl, ap, ap₂, sym, ◌∙◌, subst, ℕ, ◌+◌, ◌<◌, ◌≤◌, inl, inr, arith, true, false, cond, List, [], ◌∷◌, map, length, Option, Some, None, ltb}
+use Rattle.std.proofs.Common.{◌≡◌, refl, ap, ap₂, sym, ◌∙◌, subst, ℕ, ◌<◌, ◌≤◌, inl, inr, arith, cond, List, [], ◌∷◌, map, length, Option, Some, None, ltb}
 use Rattle.std.specs.Prelude.{Err, Ok, Result, sum_by}
 use Rattle.std.proofs.lemmas.Bool.{cases_lt, lt-ltb, le-ltb}
 use Rattle.std.proofs.lemmas.List.Sums.{sum_by-cons}
@@ -17,8 +17,7 @@ use Rattle.tick_model.specs.Updates.{Tick}
 use Rattle.tick_laws.specs.Operated.{operated}
 use Rattle.tick_table.specs.Exact.{tick_of}
 use Rattle.tick_table.specs.Ticking.{Ticking}
-use Rattle.merge_op.specs.Merged.{Merger, merged, news, olds, rows_in}
-use Rattle.operators.specs.declared.running.Running.{Running}
+use Rattle.merge_op.specs.Merged.{Merger, merged, news, rows_in}
 use Rattle.operators.specs.declared.running.Running.TheVariants.{Merge}
 use Rattle.operators.specs.Operating.{IsMadeOf}
 use Rattle.operators.specs.Stepping.{IsStep}

@@ -2,13 +2,11 @@
 use Rattle.std.proofs.Common.{◌≡◌, refl, ap, ap₂, sym, ◌∙◌, subst, ℕ, suc, ◌+◌, ◌==◌, List, [], ◌∷◌, ◌++◌, map, length, ℤ}
 use Rattle.std.specs.Prelude.{if◌then◌else◌}
 use Rattle.key_lists.proofs.Every.{every, filter_same, map_same, map_map}
-use Rattle.tick_model.specs.declared.plan.Agg.{Agg}
 use Rattle.tick_model.specs.declared.plan.Choice.{Choice}
 use Rattle.tick_model.specs.declared.plan.Expr.{Expr}
 use Rattle.tick_model.specs.declared.plan.OnPair.{OnPair}
-use Rattle.tick_model.specs.declared.plan.Op.TheVariants.{Keep, View, Join, Agg as Aggregating, Merge, Sort, Head, Tail, AsOf}
+use Rattle.tick_model.specs.declared.plan.Op.TheVariants.{Keep, View, Join, Merge, AsOf}
 use Rattle.tick_model.specs.declared.plan.Pred.{Pred}
-use Rattle.tick_model.specs.declared.plan.SortBy.{SortBy}
 use Rattle.tick_model.specs.declared.table.PlainRow.{PlainRow}
 use Rattle.tick_model.specs.declared.table.PlainTable.{PlainTable}
 use Rattle.tick_model.specs.Formulas.{truth, value}
@@ -18,6 +16,7 @@ use Rattle.tick_model.specs.View.{view_row, view_table}
 use Rattle.tick_model.specs.Where.{where_table}
 use Rattle.tick_laws.specs.Operated.{operated}
 use Rattle.operators.specs.Copies.{AreCopies, IsTestCopy}
+use Rattle.operators.proofs.Listed.{first_is, second_is}
 
 -- a copy of a test lets the same rows pass
 pub same_where : (copy test : Pred) (table : PlainTable) → IsTestCopy copy test → where_table copy table ≡ where_table test table
@@ -47,58 +46,25 @@ same_view copies exprs table h =
     (length_copies copies exprs h)
     (map_same (view_row copies) (view_row exprs) table.rows (every (λ row. view_row copies row ≡ view_row exprs row) table.rows (λ row. same_row copies exprs row h)))
 
--- the first of a list, and both of two
-first_of : {X : Type 0} (x y : X) → x ∷ [] ≡ y ∷ [] → x ≡ y
-first_of x y e = ap (go x) e
-  where
-    go : {X : Type 0} → X → List X → X
-    go d [] = d
-    go d (z ∷ zs) = z
-
 -- of one input
 pub keep_is : (copy test : Pred) (input : ℕ) (tick : ℕ → Tick) (own : Tick) → IsTestCopy copy test → map tick (input ∷ []) ≡ own ∷ [] → operated (Keep 0 copy) (λ _. own) ≡ operated (Keep input test) tick
 keep_is copy test input tick own h e =
     ap₂ (λ (old new : PlainTable). let made : Tick = record { old = old; new = new; kept = both_in old new own.kept } in made) (same_where copy test own.old h) (same_where copy test own.new h)
-    ∙ ap (λ (own : Tick). operated (Keep input test) (λ _. own)) (sym (first_of (tick input) own e))
+    ∙ ap (λ (own : Tick). operated (Keep input test) (λ _. own)) (sym (first_is (tick input) own [] [] e))
 
 pub view_is : (copies exprs : List Expr) (input : ℕ) (tick : ℕ → Tick) (own : Tick) → AreCopies copies exprs → map tick (input ∷ []) ≡ own ∷ [] → operated (View 0 copies) (λ _. own) ≡ operated (View input exprs) tick
 view_is copies exprs input tick own h e =
     ap₂ (λ (old new : PlainTable). let made : Tick = record { old = old; new = new; kept = own.kept } in made) (same_view copies exprs own.old h) (same_view copies exprs own.new h)
-    ∙ ap (λ (own : Tick). operated (View input exprs) (λ _. own)) (sym (first_of (tick input) own e))
-
-pub agg_is : (by : List ℕ) (aggs : List Agg) (input : ℕ) (tick : ℕ → Tick) (own : Tick) → map tick (input ∷ []) ≡ own ∷ [] → operated (Aggregating 0 by aggs) (λ _. own) ≡ operated (Aggregating input by aggs) tick
-agg_is by aggs input tick own e = ap (λ (own : Tick). operated (Aggregating input by aggs) (λ _. own)) (sym (first_of (tick input) own e))
-
-pub sort_is : (by : List SortBy) (input : ℕ) (tick : ℕ → Tick) (own : Tick) → map tick (input ∷ []) ≡ own ∷ [] → operated (Sort 0 by) (λ _. own) ≡ operated (Sort input by) tick
-sort_is by input tick own e = ap (λ (own : Tick). operated (Sort input by) (λ _. own)) (sym (first_of (tick input) own e))
-
-pub head_is : (rows input : ℕ) (tick : ℕ → Tick) (own : Tick) → map tick (input ∷ []) ≡ own ∷ [] → operated (Head 0 rows) (λ _. own) ≡ operated (Head input rows) tick
-head_is rows input tick own e = ap (λ (own : Tick). operated (Head input rows) (λ _. own)) (sym (first_of (tick input) own e))
-
-pub tail_is : (rows input : ℕ) (tick : ℕ → Tick) (own : Tick) → map tick (input ∷ []) ≡ own ∷ [] → operated (Tail 0 rows) (λ _. own) ≡ operated (Tail input rows) tick
-tail_is rows input tick own e = ap (λ (own : Tick). operated (Tail input rows) (λ _. own)) (sym (first_of (tick input) own e))
+    ∙ ap (λ (own : Tick). operated (View input exprs) (λ _. own)) (sym (first_is (tick input) own [] [] e))
 
 -- of two inputs
-pub both_of : {X : Type 0} (x y u v : X) → x ∷ y ∷ [] ≡ u ∷ v ∷ [] → (x ≡ u) × (y ≡ v)
-both_of x y u v e = (ap (first x) e, ap (second x) e)
-  where
-    first : {X : Type 0} → X → List X → X
-    first d [] = d
-    first d (z ∷ zs) = z
-
-    second : {X : Type 0} → X → List X → X
-    second d [] = d
-    second d (z ∷ zs) = first d zs
-
 pub join_is : (on : List OnPair) (take : List ℕ) (choice : Choice) (left right : ℕ) (tick : ℕ → Tick) (a b : Tick) → map tick (left ∷ right ∷ []) ≡ a ∷ b ∷ [] → operated (Join 0 1 on take choice) (λ input. if input == 0 then a else b) ≡ operated (Join left right on take choice) tick
 join_is on take choice left right tick a b e =
-    let both = both_of (tick left) (tick right) a b e in
-    ap₂ (λ (a b : Tick). operated (Join 0 1 on take choice) (λ input. if input == 0 then a else b)) (sym both.0) (sym both.1)
+    ap₂ (λ (a b : Tick). operated (Join 0 1 on take choice) (λ input. if input == 0 then a else b)) (sym (first_is (tick left) a (tick right ∷ []) (b ∷ []) e)) (sym (second_is (tick left) (tick right) a b e))
 
 pub as_of_is : (on : List OnPair) (at : OnPair) (take : List ℕ) (left right : ℕ) (tick : ℕ → Tick) (a b : Tick) → map tick (left ∷ right ∷ []) ≡ a ∷ b ∷ [] → operated (AsOf 0 1 on at take) (λ input. if input == 0 then a else b) ≡ operated (AsOf left right on at take) tick
 as_of_is on at take left right tick a b e =
-    let both = both_of (tick left) (tick right) a b e in
-    ap₂ (λ (a b : Tick). operated (AsOf 0 1 on at take) (λ input. if input == 0 then a else b)) (sym both.0) (sym both.1)
+    ap₂ (λ (a b : Tick). operated (AsOf 0 1 on at take) (λ input. if input == 0 then a else b)) (sym (first_is (tick left) a (tick right ∷ []) (b ∷ []) e)) (sym (second_is (tick left) (tick right) a b e))
 
 -- of many
 tables_of : (part : Tick → PlainTable) (inputs : List ℕ) (tick : ℕ → Tick) (own : List Tick) → map tick inputs ≡ own → map part own ≡ map (λ n. part (tick n)) inputs

@@ -13,11 +13,10 @@ use Rattle.tick_table.specs.Ticking.{Ticking}
 use Rattle.sort_op.specs.declared.entry.Entry.{Entry}
 use Rattle.sort_op.specs.Sorted.{entries_of}
 use Rattle.sort_op.specs.Sorter.{Sorter, sorted}
-use Rattle.operators.specs.declared.running.Running.{Running}
 use Rattle.operators.specs.declared.running.Running.TheVariants.{Sort}
 use Rattle.operators.specs.Operating.{IsMadeOf}
 use Rattle.operators.specs.Stepping.{IsStep}
-use Rattle.operators.proofs.Same.{sort_is}
+use Rattle.operators.proofs.Listed.{first_is}
 
 made : (op : Op) (sort : Sorter) (entries : List Entry) → IsMadeOf op (Sort sort) → IsMadeOf op (Sort (record sort { entries = entries }))
 made (OpSort input by) sort entries h = h
@@ -28,7 +27,7 @@ sort_sound (OpSort input by) sort table h = refl
 sort_sound op sort table h = absurd h
 
 pub ticks : (op : Op) (sort : Sorter) (own : Tick) (tick : ℕ → Tick) → IsMadeOf op (Sort sort) → map tick (inputs_of op) ≡ own ∷ [] → sorted sort.by own ≡ operated op tick
-ticks (OpSort input by) sort own tick h e = ap (λ (by : List SortBy). sorted by own) h ∙ sort_is by input tick own e
+ticks (OpSort input by) sort own tick h e = ap (λ (by : List SortBy). sorted by own) h ∙ ap (sorted by) (sym (first_is (tick input) own [] [] e))
 ticks op sort own tick h e = absurd h
 
 pub sort_step : (sort new : Sorter) (input : Ticking) (told : Change) → new ≡ record sort { entries = entries_of sort.by input.new.rows } → told ≡ change_of (sorted sort.by (tick_of input)) → IsStep (input ∷ []) (Sort sort) (Sort new) told

@@ -1,5 +1,5 @@
 -- A step of a view is one of the plan's operator.
-use Rattle.std.proofs.Common.{◌≡◌, refl, ap, sym, ◌∙◌, subst, ℕ, List, [], ◌∷◌, map, None}
+use Rattle.std.proofs.Common.{◌≡◌, refl, ap, sym, ◌∙◌, subst, ℕ, [], ◌∷◌, map, None}
 use Rattle.tick_model.specs.declared.plan.Op.{Op}
 use Rattle.tick_model.specs.declared.plan.Op.TheVariants.{View as Viewed}
 use Rattle.tick_model.specs.declared.table.PlainTable.{PlainTable}
@@ -10,7 +10,6 @@ use Rattle.tick_laws.specs.Operated.{operated}
 use Rattle.tick_table.specs.Exact.{tick_of}
 use Rattle.tick_table.specs.Ticking.{Ticking}
 use Rattle.row_ops.specs.Viewer.{Viewer, viewed}
-use Rattle.operators.specs.declared.running.Running.{Running}
 use Rattle.operators.specs.declared.running.Running.TheVariants.{View}
 use Rattle.operators.specs.Operating.{IsMadeOf}
 use Rattle.operators.specs.Stepping.{IsStep}

@@ -2,8 +2,7 @@
 use denote.Param.Send.{IsSend, IsSync, sendable}
 use Rattle.operators.below.agg_by.proofs.agg_op.AggOp.TheSendSync as agg
 use Rattle.operators.below.lookup_join.proofs.as_of_op.AsOfOp.TheSendSync as as_of
-use Rattle.operators.below.head_tail.proofs.head_op.HeadOp.TheSendSync as head
-use Rattle.operators.below.head_tail.proofs.tail_op.TailOp.TheSendSync as tail
+use Rattle.operators.below.head_tail.proofs.end_op.EndOp.TheSendSync as end
 use Rattle.operators.below.merge_op.proofs.merging.MergeOp.TheSendSync as merge
 use Rattle.operators.below.lookup_join.proofs.join_op.JoinOp.TheSendSync as join
 use Rattle.operators.below.row_set.proofs.rows.RowSet.TheSendSync as row_set
@@ -21,8 +20,7 @@ pub operator_send : IsSend operator.the_row
 operator_send = search (
   agg.the_send,
   as_of.the_send,
-  head.the_send,
-  tail.the_send,
+  end.the_send,
   merge.the_send,
   join.the_send,
   row_set.the_send,

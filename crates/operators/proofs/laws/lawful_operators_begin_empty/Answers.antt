@@ -1,4 +1,4 @@
-use Rattle.std.proofs.Common.{◌≡◌, ◌∙◌, ap, sym, length}
+use Rattle.std.proofs.Common.{◌∙◌, ap, sym}
 use Rattle.tick_model.specs.Evaluation.{inputs_of}
 use Rattle.tick_model.specs.States.{empty_at}
 use Rattle.tick_table.specs.Ticking.{no_rows}

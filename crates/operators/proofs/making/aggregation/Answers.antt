@@ -1,4 +1,4 @@
-use Rattle.std.proofs.Common.{◌≡◌, ◌∙◌, ap, subst, List, [], ◌∷◌, map, ℕ}
+use Rattle.std.proofs.Common.{◌∙◌, ap, subst, List, [], ◌∷◌, map, ℕ}
 use Rattle.tick_model.specs.Ready.{table_in}
 use Rattle.tick_table.specs.Ticking.{no_rows}
 use Rattle.agg_by.specs.Aggregator.{StandsFor}

@@ -1,6 +1,5 @@
-use Rattle.std.proofs.Common.{◌≡◌, ap, ◌+◌, ◌*◌, ◌<◌, ◌≤◌, inl, inr, arith, sym, subst}
+use Rattle.std.proofs.Common.{◌≡◌, ap, ◌+◌, ◌*◌, ◌≤◌, sym, subst}
 use Rattle.std.specs.Prelude.{replicate, sum}
-use Rattle.std.proofs.lemmas.Bool.{cases_lt}
 use Rattle.std.proofs.lemmas.List.Folds.{sum_by-replicate}
 use Rattle.tick_model.specs.Changes.{Change, change_of}
 use Rattle.tick_table.specs.Exact.{counted}

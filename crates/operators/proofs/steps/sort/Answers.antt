@@ -1,51 +1,27 @@
-use Rattle.std.proofs.Common.{◌≡◌, ap, sym, subst, ◌+◌, ◌≤◌, arith, List, [], ◌∷◌, map}
-use Rattle.std.specs.Prelude.{sum}
-use Rattle.std.specs.List.{AllByRecursion}
-use Rattle.tick_table.specs.Exact.{IsExact, counted, tick_of}
-use Rattle.tick_table.specs.Ticking.{Ticking}
-use Rattle.merge_op.specs.Merged.{counted_in, tables}
+use Rattle.std.proofs.Common.{refl}
 use Rattle.sort_op.specs.Sorter.{sorted}
-use Rattle.tick_model.specs.Changes.{Change, change_of}
+use Rattle.tick_table.specs.Exact.{tick_of}
 use Rattle.row_changes.proofs.Comparing.{on_err}
-use Rattle.operators.specs.Inputs.{AreTicks}
 use Rattle.operators.specs.declared.running.Running.TheVariants.{Sort}
-use Rattle.operators.specs.Stepping.{IsStep, room_for}
 use Rattle.operators.proofs.Sorting.{sort_step, ticks}
-use Rattle.operators.proofs.Listed.{count_is, counted_one, first_is, one_table, reads_in, sum_one}
+use Rattle.operators.proofs.Single.{one_exact, one_reads, one_refused, one_step}
 use Rattle.operators.proofs.steps.sort.Goals as goal
 
 pub step-requires-clause-exact : goal.step-requires-clause-exact
-step-requires-clause-exact g c =
-    let one = one_table c.args.inputs.now c.index-inputs-0.result c.deref.result.now (count_is (tables c.args.inputs.now) (c.args.sort.width ∷ []) c.requires.widths) c.index-inputs-0.is c.deref.ensures in
-    (subst (AllByRecursion IsExact) one c.requires.exact).0
+step-requires-clause-exact g c = one_exact (Sort c.args.sort) c.args.sort.width refl c.args.inputs.now c.requires c.index-inputs-0.result c.deref.result.now c.index-inputs-0.is c.deref.ensures
 
 pub returns-clause-step : goal.returns-clause-step
 returns-clause-step g c =
-    let one = one_table c.args.inputs.now c.index-inputs-0.result c.deref.result.now (count_is (tables c.args.inputs.now) (c.args.sort.width ∷ []) c.requires.widths) c.index-inputs-0.is c.deref.ensures in
-    subst (λ (inputs : List Ticking). IsStep inputs (Sort c.args.sort) (Sort c.in_ok-sort.sort) c.in_ok-sort.change) (sym one)
-    (sort_step c.args.sort c.in_ok-sort.sort c.deref.result.now c.in_ok-sort.change c.in_ok-sort.ensures.stands c.in_ok-sort.ensures.change)
+    one_step (Sort c.args.sort) c.args.sort.width refl c.args.inputs.now c.requires c.index-inputs-0.result c.deref.result.now c.index-inputs-0.is c.deref.ensures
+    (Sort c.in_ok-sort.sort) c.in_ok-sort.change (sort_step c.args.sort c.in_ok-sort.sort c.deref.result.now c.in_ok-sort.change c.in_ok-sort.ensures.stands c.in_ok-sort.ensures.change)
 
 pub returns-clause-reads : goal.returns-clause-reads
 returns-clause-reads g c =
-    let sort = c.args.sort in
-    let input = c.deref.result.now in
-    let one = one_table c.args.inputs.now c.index-inputs-0.result input (count_is (tables c.args.inputs.now) (sort.width ∷ []) c.requires.widths) c.index-inputs-0.is c.deref.ensures in
-    let wide : input.new.width ≡ sort.width = first_is input.new.width sort.width [] [] (subst (λ (inputs : List Ticking). map (λ (input : Ticking). input.new.width) inputs ≡ sort.width ∷ []) one c.requires.widths) in
-    let own = counted c.in_ok-sort.change.update in
-    subst (λ (inputs : List Ticking). c.step.new.reads ≤ c.args.reads.now + room_for inputs (Sort sort) c.in_ok-sort.change) (sym one)
-    (reads_in c.step.new.reads c.args.reads.now (input.new.width + input.new.width) (counted input.update + own) (sum (sort.width ∷ []) + sort.width) (counted_in (input ∷ []) + own)
-    c.in_ok-sort.ensures.reads (omega (arith, wide, sum_one sort.width)) (omega (arith, counted_one input)))
+    one_reads (Sort c.args.sort) c.args.sort.width refl c.args.inputs.now c.requires c.index-inputs-0.result c.deref.result.now c.index-inputs-0.is c.deref.ensures
+    (λ width. width) refl c.step.new.reads c.args.reads.now c.in_ok-sort.change c.in_ok-sort.ensures.reads
 
 pub returns-in_err-sort-clause-refused : goal.returns-in_err-sort-clause-refused
 returns-in_err-sort-clause-refused g c =
-    on_err c.from_residual.result (λ op made tick those.
-    let sort = c.args.sort in
-    let input = c.deref.result.now in
-    let one = one_table c.args.inputs.now c.index-inputs-0.result input (count_is (tables c.args.inputs.now) (sort.width ∷ []) c.requires.widths) c.index-inputs-0.is c.deref.ensures in
-    let wide : input.new.width ≡ sort.width = first_is input.new.width sort.width [] [] (subst (λ (inputs : List Ticking). map (λ (input : Ticking). input.new.width) inputs ≡ sort.width ∷ []) one c.requires.widths) in
-    let change = change_of (sorted sort.by (tick_of input)) in
-    let own = counted change.update in
-    subst (λ (change : Change). c.step.new.reads ≤ c.args.reads.now + room_for (tables c.args.inputs.now) (Sort sort) change) (ap change_of (ticks op sort (tick_of input) tick made (subst (AreTicks op tick) one those)))
-    (subst (λ (inputs : List Ticking). c.step.new.reads ≤ c.args.reads.now + room_for inputs (Sort sort) change) (sym one)
-    (reads_in c.step.new.reads c.args.reads.now (input.new.width + input.new.width) (counted input.update + own) (sum (sort.width ∷ []) + sort.width) (counted_in (input ∷ []) + own)
-    c.in_err-sort.ensures.refused (omega (arith, wide, sum_one sort.width)) (omega (arith, counted_one input)))))
+    on_err c.from_residual.result
+    (one_refused (Sort c.args.sort) c.args.sort.width refl c.args.inputs.now c.requires c.index-inputs-0.result c.deref.result.now c.index-inputs-0.is c.deref.ensures
+    (λ width. width) refl c.step.new.reads c.args.reads.now (sorted c.args.sort.by (tick_of c.deref.result.now)) (λ op. ticks op c.args.sort (tick_of c.deref.result.now)) c.in_err-sort.ensures.refused)

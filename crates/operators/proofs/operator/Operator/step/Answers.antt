@@ -1,4 +1,4 @@
-use Rattle.std.proofs.Common.{◌≡◌, ℕ, ◌+◌, ◌*◌, ◌≤◌, subst}
+use Rattle.std.proofs.Common.{ℕ, ◌+◌, ◌*◌, ◌≤◌, subst}
 use Rattle.std.specs.Prelude.{sum}
 use Rattle.row_changes.proofs.Comparing.{on_err}
 use Rattle.tick_laws.specs.Operated.{operated}

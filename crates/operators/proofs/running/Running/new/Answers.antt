@@ -1,4 +1,4 @@
-use Rattle.std.proofs.Common.{◌≡◌, ℕ, subst, sym}
+use Rattle.std.proofs.Common.{ℕ, subst, sym}
 use Rattle.tick_model.specs.declared.plan.Op.TheVariants.{Keep, View, Join, Agg, Sort, Head, Tail, AsOf}
 use Rattle.operators.specs.Stepping.{IsBegun}
 use Rattle.operators.proofs.Made.{if_ok}
