@@ -12,11 +12,12 @@ use Rattle.tick_model.specs.declared.feed.Run.{Run}
 use Rattle.update_graph.specs.Edges.{edges_of}
 use Rattle.update_graph.specs.Entered.{IsEntered}
 use Rattle.update_graph.specs.Holdings.{IsClaimed}
+use Rattle.update_graph.specs.Stands.{Follows}
 use Rattle.update_graph.specs.Tags.{Kept, Tag, named, tag, tags}
 
--- the three that a work names
+-- what a work names, and what it may become
 abbrev pub names : Rattle.graph_words.specs.Rule.Tags Run Kept
-names = tags_by (λ (t : Kept). t.run) (λ (t : Kept). t.node) (λ (t : Kept). t.step)
+names = tags_by (λ (t : Kept). t.run) (λ (t : Kept). t.node) (λ (t : Kept). t.step) Follows
 
 pub as_tag : (t : Tag) (run : Run) (step node : ℕ) → t.run ≡ run → t.node ≡ node → t.step ≡ step → t ≡ tag run step node
 as_tag t run step node a b c = λ i. record { run = a i; node = b i; step = c i }

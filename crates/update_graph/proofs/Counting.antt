@@ -7,7 +7,7 @@ use Rattle.std.proofs.lemmas.List.{get_or_append_left, get_or_push, length_push}
 use Rattle.std.proofs.lemmas.List.Sums.{sum_by-cons}
 use Rattle.key_lists.proofs.Every.{every-filter, every_both, filter_passes, pass_all}
 use Rattle.tick_model.specs.declared.feed.Run.{Run}
-use Rattle.update_graph.specs.Graphs.{HaveStepped, SteppedOnce, most_in, read_in, reads_at}
+use Rattle.update_graph.specs.Graphs.{HaveStepped, most_in, read_in, reads_at}
 use Rattle.update_graph.specs.Stands.{HasStepped, all_defined, is_defined, most_reads}
 use Rattle.update_graph.specs.Tags.{Tag, is_operator, operators}
 use Rattle.update_graph.proofs.Numbering.{range_all}
@@ -41,10 +41,6 @@ all_within run step reads h =
     (λ node is within. (h node within is).within step (omega arith))
     (filter_passes (is_operator run) (range_with_len 0 (length run.plan.nodes)))
     (every-filter (λ node. node < length run.plan.nodes) (is_operator run) (range_with_len 0 (length run.plan.nodes)) (range_all (λ node. node < length run.plan.nodes) 0 (length run.plan.nodes) (λ k less. omega (arith, less)))))
-
--- each operator has taken exactly one step more
-pub all_once : (run : Run) (steps : ℕ) (old new : List (List ℕ)) → HaveStepped run steps old → HaveStepped run (steps + 1) new → SteppedOnce run old new
-all_once run steps old new before after node within is = (after node within is).each ∙ ap (λ k. k + 1) (sym (before node within is).each)
 
 -- where all shares have tables, it is not so that one has none
 pub defined_all : (shares : List Tag) → AllByRecursion (λ (share : Tag). is_defined share.run share.step share.node ≡ true) shares → all_defined shares ≡ false → ⊥

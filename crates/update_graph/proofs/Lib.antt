@@ -8,6 +8,7 @@ mod CrewNodes
 mod EnteredTicks
 mod ExampleRuns
 mod FirstSeat
+mod Following
 mod Handing
 mod Holding
 mod Numbered

@@ -7,7 +7,7 @@
 --     read_in run step reads      how much all operators have read in a step
 --     most_in run step      how much they may read in it, taken together
 --     HaveStepped run steps reads      each operator has taken so many steps, each within its bound
---     SteppedOnce run old new      each operator has taken exactly one step more than before
+--     SteppedOnce run old new      each operator has taken exactly one step more than before: what it read in its earlier steps stands as it was, and one number is added
 --     HasReached run step graph      all nodes of the run stand at the step, whose batch breaks no rule and which no node spoils; those with an operator were worked once, after their inputs, and each has taken one step for each step of the run
 --     AreSources run step tables      these are the tables of the sources, in order of the nodes
 --     IsGraph run step edges sources keys works tables      all that a graph keeps is of this step
@@ -32,7 +32,7 @@ use Rattle.tick_model.specs.Tables.{keys}
 use Rattle.tick_table.specs.Exact.{ticking}
 use Rattle.tick_table.specs.Ticking.{Ticking}
 use Rattle.update_graph.specs.Edges.{edges_of}
-use Rattle.update_graph.specs.Stands.{HasStepped, most_reads, shown}
+use Rattle.update_graph.specs.Stands.{HasReadOnce, HasStepped, most_reads, shown}
 use Rattle.update_graph.specs.Tags.{Kept, all_reads, is_operator, named, no_node, operators, tags}
 
 pub record GraphView : Type 0 where
@@ -63,7 +63,7 @@ abbrev pub HaveStepped : Run → ℕ → List (List ℕ) → Type 0
 HaveStepped run steps reads = (node : ℕ) → node < length run.plan.nodes → is_operator run node ≡ true → HasStepped run steps node (reads_at reads node)
 
 abbrev pub SteppedOnce : Run → List (List ℕ) → List (List ℕ) → Type 0
-SteppedOnce run old new = (node : ℕ) → node < length run.plan.nodes → is_operator run node ≡ true → length (reads_at new node) ≡ length (reads_at old node) + 1
+SteppedOnce run old new = (node : ℕ) → node < length run.plan.nodes → is_operator run node ≡ true → HasReadOnce (reads_at old node) (reads_at new node)
 
 pub record HasReached (run : Run) (step : ℕ) (graph : GraphView) : Type 0 where
   pub of_run : graph.run ≡ run

@@ -8,15 +8,20 @@
 --     most_reads run step node      the same for the update of its table at the step
 --     most_tried run step node      the same for the update that its operator makes of those of its inputs, or would make where the node fails
 --     all_defined shares      whether each share has a table
+--     HasReadOnce old new      what was read in the earlier steps stands as it was, and one number is added
+--     Follows old new      so it is with what is kept of a node, from one step to the next, where it has an operator and a table
+--     ForEach Holds olds news      this holds of each two elements that have one place in the two lists
 --     HasStepped run steps node reads      its operator has taken so many steps, one for each step of the run, and read these numbers of cells in them, none of which is above the most of its step
 --     IsReady run tables steps node operator table      the operator is the node's, has taken so many steps, and stands for its inputs' tables; the table is the node's own
 --     reads_of state      what the operator of a node has read in each of its steps, and nothing where it has no table
 --     IsKept run step node state      what is kept of the node is of this step
-use Rattle.std.specs.Prelude.{◌≡◌, ℕ, ◌+◌, ◌*◌, ◌<◌, ◌≤◌, Bool, true, false, List, [], length, map, slice_index, sum, Option, Some, None}
+use Rattle.std.specs.Prelude.{◌≡◌, ℕ, ◌+◌, ◌*◌, ◌<◌, ◌≤◌, Bool, true, false, List, [], ◌∷◌, ◌++◌, length, map, slice_index, sum, Option, Some, None}
 use Rattle.std.specs.Arc.{arc_value}
 use Rattle.std.specs.List.{AllByRecursion, list_all}
 use Rattle.std.specs.declared.alloc.Global.{Global}
 use Rattle.std.specs.declared.sync.Arc.{Arc}
+use mathlib.Core.Option.{some}
+use lib.ListN.{get_elem?}
 use Rattle.merge_op.specs.Merged.{counted_in, tables}
 use Rattle.operators.specs.Operating.{Operating, StandsFor, result_width}
 use Rattle.operators.specs.Planned.{input_widths}
@@ -31,7 +36,7 @@ use Rattle.tick_table.specs.Exact.{counted, ticking}
 use Rattle.tick_table.specs.Ticking.{Ticking}
 use Rattle.update_graph.specs.declared.work.State.{State}
 use Rattle.update_graph.specs.declared.work.State.TheVariants.{Source, Defined, Failed, Undefined}
-use Rattle.update_graph.specs.Tags.{Tag, is_operator, op_at}
+use Rattle.update_graph.specs.Tags.{Kept, Tag, is_operator, op_at}
 
 abbrev pub is_defined : Run → ℕ → ℕ → Bool
 is_defined run step node = has_table (outcome_at (state run step) node)
@@ -64,6 +69,15 @@ most_tried run step node = room_for run step node (change_of (operated (op_at ru
 
 abbrev pub all_defined : List Tag → Bool
 all_defined = list_all (λ share. is_defined share.run share.step share.node)
+
+abbrev pub HasReadOnce : List ℕ → List ℕ → Type 0
+HasReadOnce old new = (count : ℕ) × (new ≡ old ++ count ∷ [])
+
+abbrev pub Follows : Kept → Kept → Type 0
+Follows old new = is_operator new.run new.node ≡ true → is_defined new.run new.step new.node ≡ true → HasReadOnce old.reads new.reads
+
+abbrev pub ForEach : (Kept → Kept → Type 0) → List Kept → List Kept → Type 0
+ForEach Holds olds news = (n : ℕ) (old new : Kept) → get_elem? olds n ≡ some old → get_elem? news n ≡ some new → Holds old new
 
 pub record HasStepped (run : Run) (steps node : ℕ) (reads : List ℕ) : Type 0 where
   pub each : length reads ≡ steps

@@ -12,6 +12,7 @@ ghost use Rattle.update_graph.specs.Edges.{edges_of};
 ghost use Rattle.update_graph.specs.Entered.{IsEntered};
 ghost use Rattle.update_graph.specs.Graphs.{AreSources, RanInOrder, RanOnce};
 ghost use Rattle.update_graph.specs.Holdings.{IsClaimed};
+ghost use Rattle.update_graph.specs.Stands.{Follows, ForEach};
 ghost use Rattle.update_graph.specs.Tags.{is_operator, named, tags};
 
 use crate::context::StepContext;
@@ -42,6 +43,7 @@ fn begin_step(
     requires some { 0 < length works.items }
     requires edges { edges.now ≡ edges_of run.now.plan }
     ensures claimed { IfOk result (λ begun. IsClaimed run.now begun.0.plan) }
+    ensures works { IfOk result (λ begun. begun.0.plan.works.value.items ≡ works.items) }
     ensures step { IfOk result (λ begun. step ≡ begun.0.plan.first.value.step + 1) }
     ensures edges { IfOk result (λ begun. edges.now ≡ begun.0.plan.edges.items) }
     ensures of { IfOk result (λ begun. IsSeatOf begun.0 begun.1) }
@@ -92,6 +94,7 @@ fn end_step(
     requires all { AllBack claims.plan seat.view }
     requires late { AllLate claims.plan seat.view }
     ensures works { IfOk result (λ ended. map named ended.0.items ≡ tags run.now (claims.plan.first.value.step + 1) (length run.now.plan.nodes)) }
+    ensures follows { IfOk result (λ ended. ForEach Follows claims.plan.works.value.items ended.0.items) }
     ensures ran { IfOk result (λ ended. RanOnce run.now.plan ended.1.items) }
     ensures order { IfOk result (λ ended. RanInOrder run.now.plan ended.1.items) }
 {
@@ -188,6 +191,7 @@ pub(crate) fn crew_step<R: Threads + Sync, G: Gate>(
     requires sources { AreSources context.now.run.now context.now.step sources.now }
     ensures size { crew.new.size ≡ crew.old.size }
     ensures works { IfOk result (λ ended. map named ended.0.items ≡ tags context.now.run.now context.now.step (length context.now.run.now.plan.nodes)) }
+    ensures follows { IfOk result (λ ended. ForEach Follows works.items ended.0.items) }
     ensures ran { IfOk result (λ ended. RanOnce context.now.run.now.plan ended.1.items) }
     ensures order { IfOk result (λ ended. RanInOrder context.now.run.now.plan ended.1.items) }
 {

@@ -161,7 +161,8 @@ fn gathered(
     requires sources { tables sources.items ≡ sources_shown context.now.run.now context.now.step }
     requires swept { IsWhole context.now.run.now context.now.step sweep }
     requires stepped { HaveStepped context.now.run.now (context.now.step + 1) (all_reads sweep.works.items) }
-    ensures { IfOk result (HasReached context.now.run.now context.now.step) }
+    ensures reached { IfOk result (HasReached context.now.run.now context.now.step) }
+    ensures reads { IfOk result (λ graph. graph.reads ≡ all_reads sweep.works.items) }
 {
     let Sweep {
         works,
@@ -200,6 +201,7 @@ fn finished(
     requires sources { tables sources.items ≡ sources_shown context.now.run.now context.now.step }
     requires swept { IsWhole context.now.run.now context.now.step sweep }
     ensures reached { IfOk result (HasReached context.now.run.now context.now.step) }
+    ensures reads { IfOk result (λ graph. graph.reads ≡ all_reads sweep.works.items) }
     ensures cause { IfErr result (IsStop context.now.run.now context.now.step) }
 {
     match least_fault(&sweep.works) {
@@ -315,7 +317,8 @@ impl Graph {
     }
 
     /// The graph at the next step of its run, by the batch of that step. The gate is called round the work of each node with an
-    /// operator. Each operator takes one step, and they read no more than their bounds allow. After a refusal the graph is given up.
+    /// operator. Each operator takes one step, in which it adds to what it read before, and they read no more than their bounds allow.
+    /// After a refusal the graph is given up.
     pub fn cycle<R: Threads + Sync, G: Gate>(
         self,
         rt: &R,

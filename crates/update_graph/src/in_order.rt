@@ -4,7 +4,8 @@ ghost use Rattle.std.specs.Prelude.{◌≡◌, ◌+◌, ◌-◌, ◌<◌, ◌≤
 ghost use Rattle.merge_op.specs.Merged.{tables};
 ghost use Rattle.update_graph.specs.Entered.{IsEntered};
 ghost use Rattle.update_graph.specs.Graphs.{sources_shown};
-ghost use Rattle.update_graph.specs.Sweeps.{IsSwept};
+ghost use Rattle.update_graph.specs.Stands.{Follows, ForEach};
+ghost use Rattle.update_graph.specs.Sweeps.{GrowsBy, IsSwept};
 ghost use Rattle.update_graph.specs.Tags.{named, tag, tags};
 
 use crate::context::StepContext;
@@ -32,7 +33,8 @@ fn advance_node<G: Gate, L: Ledger>(
     requires swept { IsSwept context.now.run.now context.now.step (length sweep.old.works.items) sweep.old }
     requires node { length sweep.old.works.items < length context.now.run.now.plan.nodes }
     requires work { named work ≡ tag context.now.run.now (context.now.step - 1) (length sweep.old.works.items) }
-    ensures { OnOk result (IsSwept context.now.run.now context.now.step (length sweep.old.works.items + 1) sweep.new) }
+    ensures swept { OnOk result (IsSwept context.now.run.now context.now.step (length sweep.old.works.items + 1) sweep.new) }
+    ensures follows { OnOk result (GrowsBy (Follows work) sweep.old.works.items sweep.new.works.items) }
 {
     let run = context.run;
     let step = context.step;
@@ -74,7 +76,8 @@ pub(crate) fn advance_all<G: Gate, L: Ledger>(
     requires later { 1 ≤ context.now.step }
     requires sources { tables sources.now ≡ sources_shown context.now.run.now context.now.step }
     requires works { map named works.items ≡ tags context.now.run.now (context.now.step - 1) (length context.now.run.now.plan.nodes) }
-    ensures { IfOk result (IsSwept context.now.run.now context.now.step (length context.now.run.now.plan.nodes)) }
+    ensures swept { IfOk result (IsSwept context.now.run.now context.now.step (length context.now.run.now.plan.nodes)) }
+    ensures follows { IfOk result (λ sweep. ForEach Follows works.items sweep.works.items) }
 {
     let mut reads = Steps::<L>::new(blank, new_count());
     let mut sweep = Sweep::new(context.alloc);

@@ -14,6 +14,7 @@ ghost use Rattle.tick_model.specs.declared.feed.Run.{Run};
 ghost use Rattle.tick_model.specs.Evaluation.{inputs_of};
 ghost use Rattle.update_graph.specs.Edges.{edges_of};
 ghost use Rattle.update_graph.specs.Entered.{IsEntered};
+ghost use Rattle.update_graph.specs.Stands.{Follows};
 ghost use Rattle.update_graph.specs.Steps.{IsHandedOver, IsHanding};
 ghost use Rattle.update_graph.specs.Tags.{is_operator, named, op_at, tag};
 
@@ -138,6 +139,7 @@ fn advanced_by<L: Ledger>(
     requires operator { is_operator context.now.run.now node ≡ true }
     requires shares { shares ≡ map (tag context.now.run.now context.now.step) (inputs_of (op_at context.now.run.now node)) }
     ensures work { IfOk result (λ out. named out.0 ≡ tag context.now.run.now context.now.step node) }
+    ensures follows { IfOk result (λ out. Follows work out.0) }
     ensures share { IfOk result (λ out. out.1 ≡ tag context.now.run.now context.now.step node) }
 {
     let mut reads = Steps::<L>::new(blank, new_count());
@@ -160,6 +162,7 @@ fn advanced(
     requires operator { is_operator context.now.run.now node ≡ true }
     requires shares { shares ≡ map (tag context.now.run.now context.now.step) (inputs_of (op_at context.now.run.now node)) }
     ensures work { IfOk result (λ out. named out.0 ≡ tag context.now.run.now context.now.step node) }
+    ensures follows { IfOk result (λ out. Follows work out.0) }
     ensures share { IfOk result (λ out. out.1 ≡ tag context.now.run.now context.now.step node) }
 {
     advanced_by::<Brand>(context, node, work, shares, inside, Blank::new(1))

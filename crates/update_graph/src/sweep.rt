@@ -1,14 +1,14 @@
 //! The nodes of a step, one after the other.
 
-ghost use Rattle.std.specs.Prelude.{◌≡◌, ◌+◌, ◌<◌, ◌≤◌, IfOk, OnOk, [], false, length, map, true};
+ghost use Rattle.std.specs.Prelude.{◌≡◌, ◌+◌, ◌<◌, ◌≤◌, ◌++◌, ◌∷◌, IfOk, OnOk, [], false, length, map, true};
 ghost use Rattle.std.specs.List.{AllByRecursion};
 ghost use Rattle.merge_op.specs.Merged.{tables};
 ghost use Rattle.tick_model.specs.Evaluation.{inputs_of as inputs_in, source_number};
 ghost use Rattle.tick_model.specs.LawfulRuns.{IsLawfulRun};
 ghost use Rattle.update_graph.specs.Entered.{IsEntered};
 ghost use Rattle.update_graph.specs.Graphs.{AreSources, sources_shown};
-ghost use Rattle.update_graph.specs.Stands.{Stays};
-ghost use Rattle.update_graph.specs.Sweeps.{IsSwept};
+ghost use Rattle.update_graph.specs.Stands.{ForEach, Stays};
+ghost use Rattle.update_graph.specs.Sweeps.{GrowsBy, IsSame, IsSwept};
 ghost use Rattle.update_graph.specs.Tags.{is_operator, named, op_at, tag, tags};
 
 use crate::edges::inputs_of;
@@ -174,7 +174,8 @@ impl Sweep {
         requires node { length self.old.works.items < length run.now.plan.nodes }
         requires source { is_operator run.now (length self.old.works.items) ≡ false }
         requires sources { tables sources.now ≡ sources_shown run.now step }
-        ensures { OnOk result (IsSwept run.now step (length self.old.works.items + 1) self.new) }
+        ensures swept { OnOk result (IsSwept run.now step (length self.old.works.items + 1) self.new) }
+        ensures works { OnOk result (GrowsBy (λ next. is_operator next.run next.node ≡ false) self.old.works.items self.new.works.items) }
     {
         let node = self.works.len() as u32;
         let (work, share) = source_at(run, step, node, sources, self.sources)?;
@@ -198,7 +199,8 @@ impl Sweep {
         requires operator { is_operator run.now (length self.old.works.items) ≡ true }
         requires work { named work ≡ tag run.now step (length self.old.works.items) }
         requires share { share ≡ tag run.now step (length self.old.works.items) }
-        ensures { OnOk result (IsSwept run.now step (length self.old.works.items + 1) self.new) }
+        ensures swept { OnOk result (IsSwept run.now step (length self.old.works.items + 1) self.new) }
+        ensures works { OnOk result (self.new.works.items ≡ self.old.works.items ++ work ∷ []) }
     {
         let _ = run;
         let _ = step;
@@ -223,7 +225,8 @@ fn put_node(
     requires swept { IsSwept run.now step (length sweep.old.works.items) sweep.old }
     requires node { length sweep.old.works.items < length run.now.plan.nodes }
     requires work { named work ≡ tag run.now step (length sweep.old.works.items) }
-    ensures { OnOk result (IsSwept run.now step (length sweep.old.works.items + 1) sweep.new) }
+    ensures swept { OnOk result (IsSwept run.now step (length sweep.old.works.items + 1) sweep.new) }
+    ensures same { OnOk result (GrowsBy (IsSame work) sweep.old.works.items sweep.new.works.items) }
 {
     let node = &run.plan.nodes.as_slice()[sweep.works.len()];
     if is_source(node) {
@@ -250,7 +253,8 @@ pub(crate) fn swept(
     requires entered { IsEntered run.now step }
     requires sources { tables sources.now ≡ sources_shown run.now step }
     requires works { map named works.items ≡ tags run.now step (length run.now.plan.nodes) }
-    ensures { IfOk result (IsSwept run.now step (length run.now.plan.nodes)) }
+    ensures swept { IfOk result (IsSwept run.now step (length run.now.plan.nodes)) }
+    ensures same { IfOk result (λ sweep. ForEach IsSame works.items sweep.works.items) }
 {
     let mut sweep = Sweep::new(alloc);
     for work in works {

@@ -13,7 +13,7 @@ ghost use Rattle.tick_table.specs.Exact.{IsExact, ticking};
 ghost use Rattle.tick_table.specs.Ticking.{Ticking};
 ghost use Rattle.update_graph.specs.Entered.{IsEntered};
 ghost use Rattle.update_graph.specs.Faults.{fault_in};
-ghost use Rattle.update_graph.specs.Stands.{HasStepped, IsKept, IsReady, Stays, all_defined, is_defined, most_reads, most_tried, shown};
+ghost use Rattle.update_graph.specs.Stands.{Follows, HasReadOnce, HasStepped, IsKept, IsReady, Stays, all_defined, is_defined, most_reads, most_tried, reads_of, shown};
 ghost use Rattle.update_graph.specs.Tags.{is_operator, named, op_at, tag};
 
 use crate::context::StepContext;
@@ -94,13 +94,16 @@ impl Tagged for Work {
     ghost node = { λ work. work.node };
 
     ghost step = { λ work. work.step };
+
+    ghost follows = { Follows };
 }
 
 impl Work {
     /// What is kept of a node.
     fn new(run: &Run, node: u32, step: u64, state: State) -> Work
         requires { IsKept run.now step node state }
-        ensures { named result ≡ tag run.now step node }
+        ensures work { named result ≡ tag run.now step node }
+        ensures reads { result.reads ≡ reads_of state }
     {
         Work {
             run: Snapshot::of(run),
@@ -136,6 +139,7 @@ impl Work {
         requires operator { is_operator run.now self.node ≡ true }
         requires shares { shares ≡ map (tag run.now (self.step + 1)) (inputs_of (op_at run.now self.node)) }
         ensures work { IfOk result (λ out. named out.0 ≡ tag run.now (self.step + 1) self.node) }
+        ensures follows { IfOk result (λ out. Follows self out.0) }
         ensures share { IfOk result (λ out. out.1 ≡ tag run.now (self.step + 1) self.node) }
         ensures reads { is_defined run.now (self.step + 1) self.node ≡ true → reads.new ≤ reads.old + most_reads run.now (self.step + 1) self.node }
         ensures tried { reads.new ≤ reads.old + most_tried run.now (self.step + 1) self.node }
@@ -171,6 +175,7 @@ impl Work {
         requires operator { is_operator context.now.run.now node ≡ true }
         requires shares { shares ≡ map (tag context.now.run.now context.now.step) (inputs_of (op_at context.now.run.now node)) }
         ensures work { IfOk result (λ out. named out.0 ≡ tag context.now.run.now context.now.step node) }
+        ensures follows { IfOk result (λ out. Follows self out.0) }
         ensures share { IfOk result (λ out. out.1 ≡ tag context.now.run.now context.now.step node) }
         ensures tried { reads.new ≤ reads.old + most_tried context.now.run.now context.now.step node }
         ensures none { all_defined shares ≡ false → reads.new ≡ reads.old }
@@ -194,6 +199,7 @@ impl Work {
         ensures ready { IsReady run.now (table_before run.now step) step node result.value.operator result.value.table }
         ensures exact { IsExact (arc_value {X = Ticking} result.value.table) }
         ensures clear { fault_of (op_at run.now node) (table_before run.now step) ≡ None }
+        ensures reads { result.value.operator.reads ≡ self.reads }
     {
         let _ = run;
         let Work {
@@ -281,6 +287,7 @@ fn with_table(
     requires ready { IsReady run.now (table_at (state_of run.now step)) (step + 1) node ready.operator ready.table }
     requires table { arc_value {X = Ticking} ready.table ≡ shown run.now step node }
     ensures work { IfOk result (λ out. named out.0 ≡ tag run.now step node) }
+    ensures reads { IfOk result (λ out. out.0.reads ≡ ready.operator.reads) }
     ensures share { IfOk result (λ out. out.1 ≡ tag run.now step node) }
 {
     let held = Box::new(alloc, ready)?;
@@ -293,6 +300,7 @@ fn holding(run: &Run, node: u32, step: u64, ready: Box<Ready>) -> Result<(Work, 
     requires ready { IsReady run.now (table_at (state_of run.now step)) (step + 1) node ready.value.operator ready.value.table }
     requires table { arc_value {X = Ticking} ready.value.table ≡ shown run.now step node }
     ensures work { IfOk result (λ out. named out.0 ≡ tag run.now step node) }
+    ensures reads { IfOk result (λ out. out.0.reads ≡ ready.value.operator.reads) }
     ensures share { IfOk result (λ out. out.1 ≡ tag run.now step node) }
 {
     let table = ready.table.clone()?;
@@ -343,6 +351,7 @@ pub(crate) fn stay(
     requires exact { IsExact (arc_value {X = Ticking} ready.value.table) }
     requires inputs { AllByRecursion (Stays context.now.run.now context.now.step) (inputs_of (op_at context.now.run.now node)) }
     ensures work { IfOk result (λ out. named out.0 ≡ tag context.now.run.now context.now.step node) }
+    ensures once { IfOk result (λ out. HasReadOnce ready.value.operator.reads out.0.reads) }
     ensures share { IfOk result (λ out. out.1 ≡ tag context.now.run.now context.now.step node) }
 {
     let _ = inside;
@@ -384,6 +393,7 @@ pub(crate) fn advance_inside<L: Ledger>(
     requires ready { IsReady context.now.run.now (table_before context.now.run.now context.now.step) context.now.step node ready.operator ready.table }
     requires shares { shares ≡ map (tag context.now.run.now context.now.step) (inputs_of (op_at context.now.run.now node)) }
     ensures work { IfOk result (λ out. named out.0 ≡ tag context.now.run.now context.now.step node) }
+    ensures once { IfOk result (λ out. is_defined context.now.run.now context.now.step node ≡ true → HasReadOnce ready.operator.reads out.0.reads) }
     ensures share { IfOk result (λ out. out.1 ≡ tag context.now.run.now context.now.step node) }
     ensures tried { reads.new ≤ reads.old + most_tried context.now.run.now context.now.step node }
     ensures none { all_defined shares ≡ false → reads.new ≡ reads.old }

@@ -6,12 +6,14 @@ ghost use lib.ListN.{get_elem?};
 ghost use Rattle.graph_words.specs.declared.graph.Edge.{Edge};
 ghost use Rattle.graph_words.specs.declared.table.Mark.TheVariants.{Unmarked, Taken, PutBack};
 ghost use Rattle.graph_words.specs.Marks.{at};
+ghost use Rattle.graph_words.specs.Rule.{FollowsGiven, IsGiven};
 ghost use Rattle.graph_words.specs.Seats.{Has, IsSeatOf};
 ghost use Rattle.graph_words.specs.Views.{mark_node};
 ghost use Rattle.steal_workers.specs.Holdings.{IsNew};
 ghost use Rattle.tick_model.specs.Evaluation.{inputs_of};
 ghost use Rattle.update_graph.specs.Edges.{froms_to};
 ghost use Rattle.update_graph.specs.Holdings.{IsForStep};
+ghost use Rattle.update_graph.specs.Stands.{Follows};
 ghost use Rattle.update_graph.specs.Steps.{IsBegun, IsTaking};
 ghost use Rattle.update_graph.specs.Tags.{named, op_at, tag};
 
@@ -74,6 +76,7 @@ pub(crate) fn begin_node(
     ensures of { OnOk result (IsSeatOf claims.now seat.new) }
     ensures begun { OnOk result (IsBegun claims.now.plan seat.old.view seat.new.view node) }
     ensures work { IfOk result (λ begun. named begun.0 ≡ tag run.now claims.now.plan.first.value.step node) }
+    ensures given { IfOk result (λ begun. IsGiven claims.now.plan node begun.0) }
     ensures shares { IfOk result (λ begun. begun.1 ≡ map (tag run.now (claims.now.plan.first.value.step + 1)) (inputs_of (op_at run.now node))) }
 {
     let _ = run;
@@ -95,6 +98,7 @@ pub(crate) fn settle_node(
     requires node { node < claims.now.plan.nodes }
     requires taken { at seat.old.view.nodes node ≡ Taken }
     requires work { IfOk worked (λ out. named out.0 ≡ tag run.now (claims.now.plan.first.value.step + 1) node) }
+    requires follows { IfOk worked (λ out. FollowsGiven Follows claims.now.plan node out.0) }
     requires share { IfOk worked (λ out. out.1 ≡ tag run.now (claims.now.plan.first.value.step + 1) node) }
     ensures parts { seat.new.view.parts ≡ seat.old.view.parts }
     ensures of { OnOk result (IsSeatOf claims.now seat.new) }

@@ -1,4 +1,5 @@
 use Rattle.std.proofs.Common.{◌≡◌, ◌∙◌, ◌-◌, ap, sym, subst, length, map}
+use Rattle.update_graph.specs.Stands.{Follows, ForEach}
 use Rattle.update_graph.specs.Tags.{named, operators, tags}
 use Rattle.update_graph.proofs.ClaimedWorks.{no_nodes}
 use Rattle.update_graph.proofs.Sweeping.{numbers_in_order, ran_once}
@@ -17,6 +18,9 @@ returns-then-is_empty-clause-order g c =
     let works = c.args.works in
     let none = no_nodes run (c.args.context.now.step - 1) (length run.plan.nodes) _ works.items c.requires.works works.ok.0 (sym c.if-is_empty.ensures) in
     numbers_in_order run c.requires.entered.lawful c.new.result.items (c.new.ensures.items ∙ ap (operators run) none)
+
+pub returns-clause-follows : goal.returns-clause-follows
+returns-clause-follows g c = subst (λ olds. ForEach Follows olds c.in_ok-works.works.items) c.in_ok-claims.ensures.works c.in_ok-works.ensures.follows
 
 pub returns-clause-works : goal.returns-clause-works
 returns-clause-works g c =

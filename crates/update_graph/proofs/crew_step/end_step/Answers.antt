@@ -19,6 +19,9 @@ returns-clause-works c =
     works_back run (plan.first.value.step + 1) (length run.plan.nodes) c.in_ok-works.works.items (sym c.in_ok-works.works.ok.0 ∙ c.in_ok-works.ensures.len ∙ c.requires.claimed.nodes)
     (λ n w there. let t = c.in_ok-works.ensures.tags n w there in (t.0 ∙ run_is run plan c.requires.claimed, t.1, t.2))
 
+pub returns-clause-follows : goal.returns-clause-follows
+returns-clause-follows c n old new at_old at_new = c.in_ok-works.ensures.follows n new at_new old at_old
+
 pub returns-clause-ran : goal.returns-clause-ran
 returns-clause-ran c =
     each_once c.args.run.now c.in_ok-works.order.items c.in_ok-ran.ran.items (c.in_ok-ran.ensures ∙ ap (filter (is_operator c.args.run.now)) c.as_slice.ensures.value) (subst (λ n. HasEachOnce n c.in_ok-works.order.items) c.requires.claimed.nodes c.in_ok-works.ensures.once)

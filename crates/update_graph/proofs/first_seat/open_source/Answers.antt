@@ -1,4 +1,4 @@
-use Rattle.std.proofs.Common.{◌<◌, ◌∙◌, sym, ap, subst, length}
+use Rattle.std.proofs.Common.{◌+◌, ◌<◌, ◌∙◌, sym, ap, subst, length}
 use lib.ListN.{get_elem?}
 use Rattle.graph_words.specs.declared.table.Mark.TheVariants.{Taken, PutBack}
 use Rattle.graph_words.specs.Marks.{at}
@@ -7,6 +7,7 @@ use Rattle.update_graph.specs.Steps.{IsHanding}
 use Rattle.update_graph.specs.Tags.{Tag}
 use Rattle.update_graph.proofs.Claimed.{ends_claimed, few_claimed, run_is, small_of_step, step_of_claims}
 use Rattle.update_graph.proofs.FirstSeat.{next_unopened, opened_kept, opened_more}
+use Rattle.update_graph.proofs.Following.{source_follows, source_is}
 use Rattle.update_graph.proofs.WorkSent.{sent}
 use Rattle.update_graph.proofs.first_seat.open_source.Goals as goal
 
@@ -23,6 +24,9 @@ put_back-requires-clause-tag c κs = (
   ap (λ (t : Tag). t.node) c.requires.work,
   ap (λ (t : Tag). t.step) c.requires.work,
 )
+
+pub put_back-requires-clause-follows : goal.put_back-requires-clause-follows
+put_back-requires-clause-follows c κs old given = source_follows old c.args.work (source_is c.args.run.now (c.args.claims.now.plan.first.value.step + 1) c.args.node c.args.work c.requires.work c.requires.source)
 
 pub hand_all-requires-clause-few : goal.hand_all-requires-clause-few
 hand_all-requires-clause-few c = subst (λ l. length l < 4294967296) (sym c.requires.edges) (few_claimed c.args.run.now c.args.claims.now.plan c.requires.claimed)

@@ -31,8 +31,8 @@ invariant_of-result c =
       tables_are = handed_tables run c.args.context.now.step c.requires.entered c.requires.nodes c.of-shares.result (c.of-shares.ensures ∙ c.requires.swept.shares) c.in-Some.tables.items handed;
     })
 
-pub returns : goal.returns
-returns c = record {
+pub returns-clause-reached : goal.returns-clause-reached
+returns-clause-reached c = record {
   of_run = c.of-about.ensures;
   at_step = refl;
   batch = c.requires.entered.batches c.args.context.now.step (omega arith);

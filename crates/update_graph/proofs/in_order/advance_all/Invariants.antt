@@ -1,6 +1,7 @@
 use Rattle.std.proofs.Common.{length}
+use Rattle.update_graph.specs.Stands.{Follows, ForEach}
 use Rattle.update_graph.specs.Sweeps.{IsSwept}
 use Rattle.update_graph.proofs.in_order.advance_all.Given as goal
 
 abbrev pub invariant-loop-work : goal.invariant-loop-work
-invariant-loop-work g l = IsSwept l.context.run.now l.context.step (length l.yielded) l.sweep
+invariant-loop-work g l = record { swept : IsSwept l.context.run.now l.context.step (length l.yielded) l.sweep; follows : ForEach Follows l.yielded l.sweep.works.items }

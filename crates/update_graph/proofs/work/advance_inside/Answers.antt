@@ -1,4 +1,4 @@
-use Rattle.std.proofs.Common.{refl, ap, sym, ◌∙◌, subst, ◌+◌, ◌-◌, ◌≤◌, arith, None, Vec, Global}
+use Rattle.std.proofs.Common.{refl, ap, sym, ◌∙◌, subst, ◌+◌, ◌-◌, ◌≤◌, arith, true≢false, None, Vec, Global}
 use Rattle.std.proofs.lemmas.Bool.{not-true}
 use Rattle.operators.specs.Inputs.{IsCause}
 use Rattle.operators.specs.Operating.{StandsFor}
@@ -109,3 +109,9 @@ returns-in_err-table-in-Ok-clause-none g c =
 pub returns-in-Ok-clause-none : goal.returns-in-Ok-clause-none
 returns-in-Ok-clause-none g c =
     λ none. absurd (defined_all c.args.shares (subst (λ found. AreHanded c.args.shares (option_map (λ (all : Vec (Arc Ticking Global) Global). all.items) found)) c.in-Some.is c.in_ok-handed.ensures).0 none)
+
+pub returns-clause-once : goal.returns-clause-once
+returns-clause-once g c =
+    let run = c.args.context.now.run.now in
+    let none : AreHanded c.args.shares None = subst (λ found. AreHanded c.args.shares (option_map (λ (all : Vec (Arc Ticking Global) Global). all.items) found)) c.in-None.is c.in_ok-handed.ensures in
+    λ defined. absurd (true≢false (sym defined ∙ ap has_table (no_input run c.args.context.now.step c.requires.entered c.args.node c.requires.node (not-true (is_source (node_at run c.args.node)) c.requires.operator) c.args.shares c.requires.shares none)))

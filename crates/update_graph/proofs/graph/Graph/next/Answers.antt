@@ -6,10 +6,11 @@ use Rattle.tick_model.specs.LawfulRuns.{IsLawfulRun}
 use Rattle.tick_model.specs.Sources.{sources}
 use Rattle.tick_model.specs.Tables.{keys}
 use Rattle.update_graph.specs.Edges.{edges_of}
-use Rattle.update_graph.specs.Graphs.{GraphView, HaveStepped, SteppedOnce, sources_shown}
+use Rattle.update_graph.specs.Graphs.{GraphView, SteppedOnce, sources_shown}
 use Rattle.update_graph.specs.Tags.{all_reads, tags}
 use Rattle.update_graph.proofs.Batches.{sources_new, sources_old}
-use Rattle.update_graph.proofs.Counting.{all_once}
+use Rattle.update_graph.proofs.ClaimedWorks.{count_works}
+use Rattle.update_graph.proofs.Following.{all_once}
 use Rattle.update_graph.proofs.Sweeping.{whole_swept}
 use Rattle.update_graph.proofs.graph.Graph.next.Goals as goal
 
@@ -40,10 +41,13 @@ advance_all-requires-clause-works g c κs within =
     c.self.invariant.works_are ∙ ap (λ run. tags run c.self.inside.step (length run.plan.nodes)) (ap (λ (v : GraphView). v.run) c.self.view_is ∙ c.requires.run) ∙ ap (λ k. tags c.args.run.now k (length c.args.run.now.plan.nodes)) same
 
 pub finished-requires-clause-swept : goal.finished-requires-clause-swept
-finished-requires-clause-swept g c = whole_swept c.args.run.now (c.self.inside.step + 1) c.in_ok-sweep.sweep c.in_ok-changes.ensures.entered.lawful c.in_ok-sweep.ensures
+finished-requires-clause-swept g c = whole_swept c.args.run.now (c.self.inside.step + 1) c.in_ok-sweep.sweep c.in_ok-changes.ensures.entered.lawful c.in_ok-sweep.ensures.swept
 
 pub returns-clause-steps : goal.returns-clause-steps
 returns-clause-steps g c =
     let run = c.args.run.now in
-    let old = subst (λ run. HaveStepped run (c.self.inside.step + 1) (all_reads c.self.inside.works.items)) (ap (λ (v : GraphView). v.run) c.self.view_is ∙ c.requires.run) c.self.invariant.stepped in
-    subst (λ (v : GraphView). SteppedOnce run v.reads c.in_ok-graph.graph.reads) c.self.view_is (all_once run (c.self.inside.step + 1) (all_reads c.self.inside.works.items) c.in_ok-graph.graph.reads old c.in_ok-graph.ensures.reached.stepped)
+    let works = c.self.inside.works.items in
+    let own = c.self.invariant.works_are ∙ ap (λ run. tags run c.self.inside.step (length run.plan.nodes)) (ap (λ (v : GraphView). v.run) c.self.view_is ∙ c.requires.run) in
+    subst (λ (v : GraphView). SteppedOnce run v.reads c.in_ok-graph.graph.reads) c.self.view_is
+    (subst (SteppedOnce run (all_reads works)) (sym c.in_ok-graph.ensures.reads)
+    (all_once run (c.self.inside.step + 1) works c.in_ok-sweep.sweep.works.items c.in_ok-changes.ensures.entered c.in_ok-graph.ensures.reached.nodes (count_works run c.self.inside.step (length run.plan.nodes) works own) c.in_ok-sweep.ensures.swept.works c.in_ok-sweep.ensures.follows))

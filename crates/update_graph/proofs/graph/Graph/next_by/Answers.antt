@@ -6,10 +6,11 @@ use Rattle.tick_model.specs.LawfulRuns.{IsLawfulRun}
 use Rattle.tick_model.specs.Sources.{sources}
 use Rattle.tick_model.specs.Tables.{keys}
 use Rattle.update_graph.specs.Edges.{edges_of}
-use Rattle.update_graph.specs.Graphs.{GraphView, HaveStepped, RanInOrder, RanOnce, SteppedOnce, sources_shown}
+use Rattle.update_graph.specs.Graphs.{GraphView, RanInOrder, RanOnce, SteppedOnce, sources_shown}
 use Rattle.update_graph.specs.Tags.{all_reads, named, tags}
 use Rattle.update_graph.proofs.Batches.{sources_new, sources_old}
-use Rattle.update_graph.proofs.Counting.{all_once}
+use Rattle.update_graph.proofs.ClaimedWorks.{count_works}
+use Rattle.update_graph.proofs.Following.{all_once, follow_same}
 use Rattle.update_graph.proofs.graph.Graph.next_by.Goals as goal
 
 pub changes_of-requires-clause-lawful : goal.changes_of-requires-clause-lawful
@@ -40,8 +41,8 @@ crew_step-requires-clause-works g c κs within =
 
 pub finished-requires-clause-swept : goal.finished-requires-clause-swept
 finished-requires-clause-swept g c = record {
-  works = ap (map named) c.in_order-sweep.ensures.works ∙ c.in_ok-numbered.ensures.works;
-  shares = c.in_order-sweep.ensures.shares ∙ c.in_ok-numbered.ensures.shares;
+  works = ap (map named) c.in_order-sweep.ensures.works ∙ c.in_ok-numbered.ensures.swept.works;
+  shares = c.in_order-sweep.ensures.shares ∙ c.in_ok-numbered.ensures.swept.shares;
   ran = subst (RanOnce c.args.run.now.plan) (sym c.in_order-sweep.ensures.ran) c.in_ok-works.ensures.ran;
   order = subst (RanInOrder c.args.run.now.plan) (sym c.in_order-sweep.ensures.ran) c.in_ok-works.ensures.order;
 }
@@ -49,5 +50,14 @@ finished-requires-clause-swept g c = record {
 pub returns-clause-steps : goal.returns-clause-steps
 returns-clause-steps g c =
     let run = c.args.run.now in
-    let old = subst (λ run. HaveStepped run (c.self.inside.step + 1) (all_reads c.self.inside.works.items)) (ap (λ (v : GraphView). v.run) c.self.view_is ∙ c.requires.run) c.self.invariant.stepped in
-    subst (λ (v : GraphView). SteppedOnce run v.reads c.in_ok-graph.graph.reads) c.self.view_is (all_once run (c.self.inside.step + 1) (all_reads c.self.inside.works.items) c.in_ok-graph.graph.reads old c.in_ok-graph.ensures.reached.stepped)
+    let olds = c.self.inside.works.items in
+    let mids = c.in_ok-works.works.items in
+    let news = c.in_ok-numbered.numbered.works.items in
+    let nodes = length run.plan.nodes in
+    let swept = c.in_ok-numbered.ensures.swept in
+    let own = c.self.invariant.works_are ∙ ap (λ run. tags run c.self.inside.step (length run.plan.nodes)) (ap (λ (v : GraphView). v.run) c.self.view_is ∙ c.requires.run) in
+    let long = count_works run (c.self.inside.step + 1) nodes news swept.works ∙ sym (count_works run (c.self.inside.step + 1) nodes mids c.in_ok-works.ensures.works) in
+    subst (λ (v : GraphView). SteppedOnce run v.reads c.in_ok-graph.graph.reads) c.self.view_is
+    (subst (SteppedOnce run (all_reads olds)) (sym (c.in_ok-graph.ensures.reads ∙ ap all_reads c.in_order-sweep.ensures.works))
+    (all_once run (c.self.inside.step + 1) olds news c.in_ok-changes.ensures.entered c.in_ok-graph.ensures.reached.nodes (count_works run c.self.inside.step nodes olds own) swept.works
+    (follow_same olds mids news long c.in_ok-works.ensures.follows c.in_ok-numbered.ensures.same)))

@@ -3,8 +3,10 @@ use Rattle.source_changes.proofs.Opened.{opened_tables}
 use Rattle.tick_model.specs.declared.table.PlainTable.{PlainTable}
 use Rattle.tick_model.specs.LawfulRuns.{sources_of}
 use Rattle.tick_model.specs.Tables.{keys}
+use Rattle.update_graph.specs.Graphs.{reads_at}
 use Rattle.update_graph.proofs.Batches.{entered_first, first_sources}
 use Rattle.update_graph.proofs.Counting.{all_within}
+use Rattle.update_graph.proofs.Following.{one_read}
 use Rattle.update_graph.proofs.Sweeping.{whole_swept}
 use Rattle.update_graph.proofs.graph.Graph.start.Goals as goal
 
@@ -24,7 +26,7 @@ pub finished-requires-clause-swept : goal.finished-requires-clause-swept
 finished-requires-clause-swept c = whole_swept c.args.run.now 0 c.in_ok-sweep.sweep c.requires c.in_ok-sweep.ensures
 
 pub returns-clause-steps : goal.returns-clause-steps
-returns-clause-steps c node within is = (c.in_ok-graph.ensures.reached.stepped node within is).each
+returns-clause-steps c node within is = one_read (reads_at c.in_ok-graph.graph.reads node) (c.in_ok-graph.ensures.reached.stepped node within is).each
 
 pub returns-clause-reads : goal.returns-clause-reads
 returns-clause-reads c = all_within c.args.run.now 0 c.in_ok-graph.graph.reads c.in_ok-graph.ensures.reached.stepped

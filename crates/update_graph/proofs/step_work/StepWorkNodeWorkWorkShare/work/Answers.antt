@@ -1,13 +1,15 @@
 use Rattle.std.proofs.Common.{◌<◌, ◌∙◌, sym, ap, subst, length}
+use Rattle.std.proofs.lemmas.Result.{IfOk-weaker}
 use lib.ListN.{get_elem?}
 use Rattle.graph_words.specs.Models.{SeatModel}
 use Rattle.update_graph.specs.Crews.{StepView}
 use Rattle.update_graph.specs.Steps.{IsListing, IsWorked}
-use Rattle.update_graph.specs.Tags.{Kept}
+use Rattle.update_graph.specs.Tags.{Kept, Tag}
 use Rattle.update_graph.proofs.Claimed.{few_of_step, operator_of_step, small_of_step, step_of_view, within_of_step}
 use Rattle.steal_workers.specs.Lists.{IsListed}
 use Rattle.steal_workers.proofs.Listing.{true_false}
 use Rattle.update_graph.proofs.CrewNodes.{handing_all, listed_came, listed_others, listed_settled}
+use Rattle.update_graph.proofs.Following.{follows_taken}
 use Rattle.update_graph.proofs.Handing.{begun_taken, worked_is}
 use Rattle.update_graph.proofs.WorkSent.{sent}
 use Rattle.update_graph.proofs.step_work.StepWorkNodeWorkWorkShare.work.Goals as goal
@@ -39,6 +41,11 @@ advanced-worked-requires-clause-operator g c =
 pub settle_node-requires-clause-taken : goal.settle_node-requires-clause-taken
 settle_node-requires-clause-taken g c =
     begun_taken c.args.claims.now.plan c.look.new.seat.view c.begin_node.new.seat.view c.args.node c.in_ok-work.ensures.begun
+
+pub settle_node-requires-clause-follows : goal.settle_node-requires-clause-follows
+settle_node-requires-clause-follows g c =
+    let plan = c.args.claims.now.plan in
+    IfOk-weaker c.advanced-worked.result _ _ (λ (out : Kept × Tag) follows. follows_taken plan c.args.node c.in_ok-work.work out.0 c.in_ok-work.ensures.given follows) c.advanced-worked.ensures.follows
 
 pub hand_all-requires-clause-few : goal.hand_all-requires-clause-few
 hand_all-requires-clause-few g c =

@@ -6,8 +6,8 @@ use Rattle.update_graph.proofs.Numbering.{filter_more, no_next_source}
 use Rattle.update_graph.proofs.Sweeping.{tags_more, works_more}
 use Rattle.update_graph.proofs.sweep.Sweep.put.Goals as goal
 
-pub returns : goal.returns
-returns c =
+pub returns-clause-swept : goal.returns-clause-swept
+returns-clause-swept c =
     let n = length c.args.self.now.works.items in
     let is = not-true (is_source (node_at c.args.run.now n)) c.requires.operator in
     let count = c.len-node.ensures ∙ c.args.self.now.works.ok.0 in

@@ -3,6 +3,7 @@ use Rattle.std.proofs.lemmas.Bool.{not-false}
 use Rattle.tick_model.specs.Evaluation.{is_source, source_number}
 use Rattle.update_graph.specs.Tags.{is_operator, node_at, tag}
 use Rattle.update_graph.proofs.Numbering.{filter_same_more, next_source}
+use Rattle.update_graph.proofs.Following.{source_is}
 use Rattle.update_graph.proofs.Sweeping.{tags_more, works_more}
 use Rattle.update_graph.proofs.sweep.Sweep.put_source.Goals as goal
 
@@ -17,8 +18,8 @@ source_at-requires c =
       place = c.requires.swept.sources ∙ ap (source_number c.args.run.now.plan.nodes) (sym count);
     }
 
-pub returns : goal.returns
-returns c =
+pub returns-clause-swept : goal.returns-clause-swept
+returns-clause-swept c =
     let n = length c.args.self.now.works.items in
     let is = not-false (is_source (node_at c.args.run.now n)) c.requires.source in
     let count = c.len-node.ensures ∙ c.args.self.now.works.ok.0 in
@@ -28,3 +29,9 @@ returns c =
       ran = c.requires.swept.ran ∙ sym (filter_same_more (is_operator c.args.run.now) n c.requires.source);
       sources = ap (λ k. k + 1) c.requires.swept.sources ∙ sym (next_source c.args.run.now.plan.nodes n c.requires.node is);
     }
+
+pub returns-clause-works : goal.returns-clause-works
+returns-clause-works c =
+    let count = c.len-node.ensures ∙ c.args.self.now.works.ok.0 in
+    let own = c.in_ok-work.ensures.work ∙ ap (tag c.args.run.now c.args.step) count in
+    (c.in_ok-work.work, source_is c.args.run.now c.args.step (length c.args.self.now.works.items) c.in_ok-work.work own c.requires.source, c.in_ok-push.ensures.items)

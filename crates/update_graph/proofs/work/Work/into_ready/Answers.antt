@@ -6,8 +6,8 @@ use Rattle.tick_model.specs.States.{tick}
 use Rattle.tick_table.specs.Exact.{IsExact}
 use Rattle.tick_table.proofs.ExactAgain.{exact_again}
 use Rattle.update_graph.specs.Entered.{IsEntered}
-use Rattle.update_graph.specs.Stands.{IsKept, IsReady}
-use Rattle.update_graph.specs.Tags.{Tag, named, node_at, op_at}
+use Rattle.update_graph.specs.Stands.{IsKept, IsReady, reads_of}
+use Rattle.update_graph.specs.Tags.{Kept, Tag, named, node_at, op_at}
 use Rattle.update_graph.proofs.EnteredTicks.{all_before, before_entered, entered_tick, made}
 use Rattle.update_graph.proofs.work.Work.into_ready.Goals as goal
 
@@ -40,6 +40,9 @@ returns-clause-clear c =
     let entered = subst (IsEntered run) (sym c.requires.next) c.requires.entered in
     subst (λ m. fault_of (op_at run n) (table_before run m) ≡ None) (sym (add-one before) ∙ c.requires.next)
     (made run entered.lawful before n c.requires.node (not-true (is_source (node_at run n)) c.requires.operator) (all_before run before entered n c.requires.node)).fault
+
+pub returns-clause-reads : goal.returns-clause-reads
+returns-clause-reads c = ap reads_of (sym c.in-Defined.is) ∙ ap (λ (work : Kept). work.reads) c.self.view_is
 
 pub unreachable-requires : goal.unreachable-requires
 unreachable-requires c =

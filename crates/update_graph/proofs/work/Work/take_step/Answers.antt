@@ -1,4 +1,5 @@
-use Rattle.std.proofs.Common.{◌∙◌, subst, sym}
+use Rattle.std.proofs.Common.{ap, sym, ◌∙◌, subst}
+use Rattle.std.proofs.lemmas.Result.{IfOk-weaker}
 use Rattle.std.specs.List.{AllByRecursion}
 use Rattle.key_lists.proofs.Every.{every_unmapped}
 use Rattle.tick_laws.specs.Reached.{table_before}
@@ -6,6 +7,7 @@ use Rattle.tick_model.specs.Evaluation.{inputs_of}
 use Rattle.update_graph.specs.Stands.{IsReady, Stays}
 use Rattle.update_graph.specs.Tags.{Tag, op_at, tag}
 use Rattle.update_graph.specs.declared.work.Ready.{Ready}
+use Rattle.update_graph.proofs.Following.{follows_ok}
 use Rattle.update_graph.proofs.work.Work.take_step.Goals as goal
 
 pub stay-requires-clause-inputs : goal.stay-requires-clause-inputs
@@ -20,3 +22,13 @@ advance_inside-requires-clause-ready g c =
     let run = c.args.context.now.run.now in
     let step = c.args.context.now.step in
     subst (λ (ready : Ready). IsReady run (table_before run step) step c.args.node ready.operator ready.table) (sym c.into_inner-ready.ensures) c.into_ready-ready.ensures.ready
+
+pub returns-then-shares_stay-clause-follows : goal.returns-then-shares_stay-clause-follows
+returns-then-shares_stay-clause-follows g c =
+    follows_ok c.args.context.now.run.now c.args.context.now.step c.args.node c.stay.result c.args.self c.into_ready-ready.result.value.operator.reads c.stay.ensures.work c.into_ready-ready.ensures.reads
+    (IfOk-weaker c.stay.result _ _ (λ out once. λ defined. once) c.stay.ensures.once)
+
+pub returns-clause-follows : goal.returns-clause-follows
+returns-clause-follows g c =
+    follows_ok c.args.context.now.run.now c.args.context.now.step c.args.node c.advance_inside.result c.args.self c.into_inner-ready.result.operator.reads c.advance_inside.ensures.work
+    (ap (λ (ready : Ready). ready.operator.reads) c.into_inner-ready.ensures ∙ c.into_ready-ready.ensures.reads) c.advance_inside.ensures.once
