@@ -37,15 +37,15 @@ pub first_sources : (run : Run) → sources run 0 ≡ run.opening
 first_sources run = map_map new_table opened run.opening ∙ map-id run.opening
 
 -- at the next step
-pub entered_next : (run : Run) (step : ℕ) → IsLawfulRun run → IsReached run step → step < length run.batches → batch_fault run (step + 1) ≡ None → IsEntered run (step + 1)
-entered_next run step h r within fine = record {
+pub entered_next : (run : Run) (step next : ℕ) → next ≡ step + 1 → IsLawfulRun run → IsReached run step → step < length run.batches → batch_fault run next ≡ None → IsEntered run next
+entered_next run step next is h r within fine = record {
   lawful = h;
-  within = omega (arith, within);
-  batches = λ s below. elim (cases_lt s (step + 1)) [
-    | inl less ↦ r.batches s (omega (arith, less))
-    | inr more ↦ let last : s ≡ step + 1 = omega (arith, below, more) in subst (λ s. batch_fault run s ≡ None) (sym last) fine
+  within = omega (arith, within, is);
+  batches = λ s below. elim (cases_lt s next) [
+    | inl less ↦ r.batches s (omega (arith, less, is))
+    | inr more ↦ let last : s ≡ next = omega (arith, below, more) in subst (λ s. batch_fault run s ≡ None) (sym last) fine
   ];
-  nodes = λ s less. r.nodes s (omega (arith, less));
+  nodes = λ s less. r.nodes s (omega (arith, less, is));
 }
 
 -- the tables that are shown of sources are the sources
@@ -65,15 +65,15 @@ same_lists d (x ∷ xs) [] l h = absurd (omega (arith, l))
 same_lists d (x ∷ xs) (y ∷ ys) l h = ap₂ (λ z zs. z ∷ zs) (h zero) (same_lists d xs ys (omega (arith, l)) (λ k. h (suc k)))
 
 -- the changes of the next step begin with the tables of this one
-pub sources_old : (run : Run) (step : ℕ) → IsEntered run (step + 1) → map (λ (tick : Tick). tick.old) (source_ticks run (step + 1)) ≡ sources run step
-sources_old run step e =
-    same_lists no_table (map (λ (tick : Tick). tick.old) (source_ticks run (step + 1))) (sources run step)
-    (let a = length-map (source_ticks run (step + 1)) (λ (tick : Tick). tick.old) in
-    let b = length-map (source_ticks run (step + 1)) new_table in
-    let c = as_many (sources_of run.plan.nodes) (sources run (step + 1)) (sources_bounded run e.lawful (step + 1) e.batches) in
-    let d = as_many (sources_of run.plan.nodes) (sources run step) (sources_bounded run e.lawful step (λ s below. e.batches s (omega (arith, below)))) in
+pub sources_old : (run : Run) (step next : ℕ) → next ≡ step + 1 → IsEntered run next → map (λ (tick : Tick). tick.old) (source_ticks run next) ≡ sources run step
+sources_old run step next is e =
+    same_lists no_table (map (λ (tick : Tick). tick.old) (source_ticks run next)) (sources run step)
+    (let a = length-map (source_ticks run next) (λ (tick : Tick). tick.old) in
+    let b = length-map (source_ticks run next) new_table in
+    let c = as_many (sources_of run.plan.nodes) (sources run next) (sources_bounded run e.lawful next e.batches) in
+    let d = as_many (sources_of run.plan.nodes) (sources run step) (sources_bounded run e.lawful step (λ s below. e.batches s (omega (arith, below, is)))) in
     omega arith)
-    (λ k. get_or_map (λ (tick : Tick). tick.old) (source_ticks run (step + 1)) k no_tick ∙ ap (λ s. (tick_at (source_ticks run s) k).old) (add-one step) ∙ source_old run step k)
+    (λ k. get_or_map (λ (tick : Tick). tick.old) (source_ticks run next) k no_tick ∙ ap (λ s. (tick_at (source_ticks run s) k).old) (is ∙ add-one step) ∙ source_old run step k)
 
 -- what is known of the sources by references
 module _ (run : Run) (step : ℕ) (known : List (Bor Ticking)) (own : List Ticking) (same : map (λ (b : Bor Ticking). b.now) known ≡ own) (shown : own ≡ sources_shown run step) where
@@ -89,19 +89,19 @@ module _ (run : Run) (step : ℕ) (known : List (Bor Ticking)) (own : List Ticki
   begun_are : begun ≡ map unchanged (sources run step)
   begun_are = sym (map_map unchanged (λ (b : Bor Ticking). b.now.new) known) ∙ ap (map unchanged) known_are
 
-  module _ (within : step < length run.batches) (batch : Batch) (there : batch ≡ get_or run.batches step batch) where
+  module _ (next : ℕ) (is : next ≡ step + 1) (within : step < length run.batches) (batch : Batch) (there : batch ≡ get_or run.batches step batch) where
     blocks_are : blocks_of run (suc step) ≡ batch.blocks
     blocks_are = get_or-map (λ (b : Batch). b.blocks) run.batches step batch [] within ∙ ap (λ (b : Batch). b.blocks) (sym there)
 
-    pub fault_is : batch_fault run (step + 1) ≡ blocks_fault run.plan begun batch.blocks
-    fault_is = ap (batch_fault run) (add-one step) ∙ ap₂ (blocks_fault run.plan) (sym begun_are) blocks_are
+    pub fault_is : batch_fault run next ≡ blocks_fault run.plan begun batch.blocks
+    fault_is = ap (batch_fault run) (is ∙ add-one step) ∙ ap₂ (blocks_fault run.plan) (sym begun_are) blocks_are
 
-    pub ticks_are : source_ticks run (step + 1) ≡ after_blocks run.plan begun batch.blocks
+    pub ticks_are : source_ticks run next ≡ after_blocks run.plan begun batch.blocks
     ticks_are =
-        ap (source_ticks run) (add-one step)
+        ap (source_ticks run) (is ∙ add-one step)
         ∙ ap₂ (after_blocks run.plan) (sym (map_map unchanged new_table (source_ticks run step)) ∙ sym begun_are) blocks_are
 
-    pub keys_after : map (λ (tick : Tick). keys tick.new.rows) (after_blocks run.plan begun batch.blocks) ≡ map (λ (table : PlainTable). keys table.rows) (sources run (step + 1))
+    pub keys_after : map (λ (tick : Tick). keys tick.new.rows) (after_blocks run.plan begun batch.blocks) ≡ map (λ (table : PlainTable). keys table.rows) (sources run next)
     keys_after =
         ap (map (λ (tick : Tick). keys tick.new.rows)) (sym ticks_are)
-        ∙ sym (map_map (λ (table : PlainTable). keys table.rows) new_table (source_ticks run (step + 1)))
+        ∙ sym (map_map (λ (table : PlainTable). keys table.rows) new_table (source_ticks run next))

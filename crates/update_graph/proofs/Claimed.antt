@@ -9,8 +9,8 @@ use Rattle.graph_words.specs.Marks.{inputs}
 use Rattle.tick_model.specs.declared.feed.Run.{Run}
 use Rattle.tick_model.specs.declared.plan.Node.{Node}
 use Rattle.tick_model.specs.Evaluation.{inputs_of, is_source}
-use Rattle.update_graph.specs.Crews.{IsStepWork, StepView}
-use Rattle.update_graph.specs.Edges.{froms_to}
+use Rattle.update_graph.specs.Crews.{StepView}
+use Rattle.update_graph.specs.Edges.{edges_of, froms_to}
 use Rattle.update_graph.specs.Entered.{IsEntered}
 use Rattle.update_graph.specs.Holdings.{IsClaimed, IsForStep}
 use Rattle.update_graph.specs.Tags.{Kept, Tag, is_operator, named, no_node, op_at, tag}
@@ -64,13 +64,13 @@ module _ (run : Run) (plan : Plan Kept) (s : IsForStep run plan) where
   next_tagged next n same = (ap (λ (t : Tag). t.run) same ∙ sym s.of_run, ap (λ (t : Tag). t.node) same, ap (λ (t : Tag). t.step) same)
 
 -- what the hands of a crew work by is for the step of the claims
-pub step_of_view : (plan : Plan Kept) (run own : Run) (step : ℕ) (edges : List Edge) (view : StepView) → run ≡ own → record { run = own; step = step; edges = edges } ≡ view → IsStepWork own step edges
+pub step_of_view : (plan : Plan Kept) (run own : Run) (step : ℕ) (edges : List Edge) (view : StepView) → run ≡ own → record { run = own; step = step; edges = edges } ≡ view → IsEntered own step × (edges ≡ edges_of own.plan)
     → plan.first.value.run ≡ view.run → plan.first.value.step + 1 ≡ view.step → plan.edges.items ≡ view.edges → IsForStep run plan
 step_of_view plan run own step edges view same seen work run_is step_is edges_is =
     subst (λ r. IsForStep r plan) (sym same) record {
-      entered = subst (IsEntered own) (sym (step_is ∙ sym (ap (λ (v : StepView). v.step) seen))) work.entered;
+      entered = subst (IsEntered own) (sym (step_is ∙ sym (ap (λ (v : StepView). v.step) seen))) work.0;
       of_run = run_is ∙ sym (ap (λ (v : StepView). v.run) seen);
-      edges = edges_is ∙ sym (ap (λ (v : StepView). v.edges) seen) ∙ work.edges_are;
+      edges = edges_is ∙ sym (ap (λ (v : StepView). v.edges) seen) ∙ work.1;
     }
 
 module _ (run : Run) (plan : Plan Kept) (c : IsClaimed run plan) where

@@ -10,7 +10,8 @@
 --     SteppedOnce run old new      each operator has taken exactly one step more than before: what it read in its earlier steps stands as it was, and one number is added
 --     HasReached run step graph      all nodes of the run stand at the step, whose batch breaks no rule and which no node spoils; those with an operator were worked once, after their inputs, and each has taken one step for each step of the run
 --     AreSources run step tables      these are the tables of the sources, in order of the nodes
---     IsGraph run step edges sources keys works tables      all that a graph keeps is of this step
+--     IsBase run step base      what a graph keeps beside its nodes is of this step
+--     IsGraph run step base works tables      all that it keeps is
 use Rattle.std.specs.Prelude.{◌≡◌, ℕ, ◌+◌, ◌==◌, ◌<◌, ◌≤◌, AllPairs, List, [], None, count_by, length, map, if◌then◌else◌, slice_index, slice_index_or, true}
 use mathlib.Core.Option.{some}
 use lib.ListN.{get_elem?}
@@ -25,12 +26,13 @@ use Rattle.tick_model.specs.declared.plan.Node.{Node}
 use Rattle.tick_model.specs.declared.plan.Plan.{Plan}
 use Rattle.tick_model.specs.Evaluation.{is_source}
 use Rattle.tick_model.specs.LawfulRuns.{IsLawfulRun}
-use Rattle.tick_model.specs.Sources.{batch_fault, source_ticks, sources}
+use Rattle.tick_model.specs.Sources.{batch_fault, source_ticks, sources as sources_at}
 use Rattle.tick_model.specs.Spoiled.{node_fault}
 use Rattle.tick_model.specs.States.{state}
-use Rattle.tick_model.specs.Tables.{keys}
+use Rattle.tick_model.specs.Tables.{keys as keys_of}
 use Rattle.tick_table.specs.Exact.{ticking}
 use Rattle.tick_table.specs.Ticking.{Ticking}
+use Rattle.update_graph.specs.declared.graph.Base.{Base}
 use Rattle.update_graph.specs.Edges.{edges_of}
 use Rattle.update_graph.specs.Stands.{HasReadOnce, HasStepped, most_reads, shown}
 use Rattle.update_graph.specs.Tags.{Kept, all_reads, is_operator, named, no_node, operators, tags}
@@ -84,13 +86,16 @@ nodes_shown run step = map (shown run step) (range_with_len 0 (length run.plan.n
 abbrev pub AreSources : Run → ℕ → List (Arc Ticking Global) → Type 0
 AreSources run step own = tables own ≡ sources_shown run step
 
-pub record IsGraph (run : Run) (step : ℕ) (edges : List Edge) (source_keys : List (List ℕ)) (own : List (Arc Ticking Global)) (works : List Kept) (all : List (Arc Ticking Global)) : Type 0 where
+pub record IsBase (run : Run) (step : ℕ) (base : Base) : Type 0 where
+  pub edges : base.edges ≡ edges_of run.plan
+  pub keys : base.keys ≡ map (λ table. keys_of table.rows) (sources_at run step)
+  pub sources : AreSources run step base.sources.items
+
+pub record IsGraph (run : Run) (step : ℕ) (base : Base) (works : List Kept) (all : List (Arc Ticking Global)) : Type 0 where
   pub lawful : IsLawfulRun run
   pub within : step ≤ length run.batches
   pub reached : IsReached run step
-  pub edges_are : edges ≡ edges_of run.plan
-  pub keys_are : source_keys ≡ map (λ table. keys table.rows) (sources run step)
-  pub sources_are : tables own ≡ sources_shown run step
+  pub base_is : IsBase run step base
   pub works_are : map named works ≡ tags run step (length run.plan.nodes)
   pub stepped : HaveStepped run (step + 1) (all_reads works)
   pub tables_are : tables all ≡ nodes_shown run step

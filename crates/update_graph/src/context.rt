@@ -10,3 +10,11 @@ pub(crate) struct StepContext<'s> {
     pub(crate) run: &'s Run,
     pub(crate) step: u64,
 }
+
+/// The same in a cycle, with the runtime that starts its threads, and the gate round the work of each node.
+#[derive(Drop)]
+pub(crate) struct CycleContext<'s, R, G> {
+    pub(crate) at: StepContext<'s>,
+    pub(crate) rt: &'s R,
+    pub(crate) gate: &'s G,
+}

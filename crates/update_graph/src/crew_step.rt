@@ -15,7 +15,7 @@ ghost use Rattle.update_graph.specs.Holdings.{IsClaimed};
 ghost use Rattle.update_graph.specs.Stands.{Follows, ForEach};
 ghost use Rattle.update_graph.specs.Tags.{is_operator, named, tags};
 
-use crate::context::StepContext;
+use crate::context::{CycleContext, StepContext};
 use crate::edges::Edges;
 use crate::first_seat::open_sources;
 use crate::step_work::{HasRun, StepWork, run_is_shared};
@@ -31,29 +31,25 @@ use tick_table::Shared;
 
 /// The claims on all nodes for a step, and the first seat.
 fn begin_step(
-    alloc: Global,
-    run: &Run,
+    context: &StepContext<'_>,
     works: Vec<Work>,
-    step: u64,
     edges: &Edges,
 ) -> Result<(StepClaims, StepSeat), AllocError>
-    requires entered { IsEntered run.now step }
-    requires later { 1 ≤ step }
-    requires works { map named works.items ≡ tags run.now (step - 1) (length run.now.plan.nodes) }
+    requires entered { IsEntered context.now.run.now context.now.step }
+    requires later { 1 ≤ context.now.step }
+    requires works { map named works.items ≡ tags context.now.run.now (context.now.step - 1) (length context.now.run.now.plan.nodes) }
     requires some { 0 < length works.items }
-    requires edges { edges.now ≡ edges_of run.now.plan }
-    ensures claimed { IfOk result (λ begun. IsClaimed run.now begun.0.plan) }
+    requires edges { edges.now ≡ edges_of context.now.run.now.plan }
+    ensures claimed { IfOk result (λ begun. IsClaimed context.now.run.now begun.0.plan) }
     ensures works { IfOk result (λ begun. begun.0.plan.works.value.items ≡ works.items) }
-    ensures step { IfOk result (λ begun. step ≡ begun.0.plan.first.value.step + 1) }
+    ensures step { IfOk result (λ begun. context.now.step ≡ begun.0.plan.first.value.step + 1) }
     ensures edges { IfOk result (λ begun. edges.now ≡ begun.0.plan.edges.items) }
     ensures of { IfOk result (λ begun. IsSeatOf begun.0 begun.1) }
     ensures first { IfOk result (λ begun. begun.1.view ≡ first_view begun.0.plan) }
 {
-    let _ = run;
-    let _ = step;
     let nodes = works.len() as u32;
-    let own = edges.copied(alloc)?;
-    let (claims, seat) = StepClaims::start(alloc, nodes, own, works)?;
+    let own = edges.copied(context.alloc)?;
+    let (claims, seat) = StepClaims::start(context.alloc, nodes, own, works)?;
     Ok((claims, seat))
 }
 
@@ -84,42 +80,37 @@ fn operators_in(alloc: Global, run: &Run, nodes: &[u32]) -> Result<Vec<u32>, All
 /// What all nodes keep at the step of their claims, and the nodes with an operator, in the order in which they were worked. The
 /// seat has put all of it back.
 fn end_step(
-    alloc: Global,
-    run: &Run,
+    context: &StepContext<'_>,
     claims: StepClaims,
     seat: StepSeat,
 ) -> Result<(Vec<Work>, Vec<u32>), AllocError>
-    requires claimed { IsClaimed run.now claims.plan }
+    requires claimed { IsClaimed context.now.run.now claims.plan }
     requires of { IsSeatOf claims seat }
     requires all { AllBack claims.plan seat.view }
     requires late { AllLate claims.plan seat.view }
-    ensures works { IfOk result (λ ended. map named ended.0.items ≡ tags run.now (claims.plan.first.value.step + 1) (length run.now.plan.nodes)) }
+    ensures works { IfOk result (λ ended. map named ended.0.items ≡ tags context.now.run.now (claims.plan.first.value.step + 1) (length context.now.run.now.plan.nodes)) }
     ensures follows { IfOk result (λ ended. ForEach Follows claims.plan.works.value.items ended.0.items) }
-    ensures ran { IfOk result (λ ended. RanOnce run.now.plan ended.1.items) }
-    ensures order { IfOk result (λ ended. RanInOrder run.now.plan ended.1.items) }
+    ensures ran { IfOk result (λ ended. RanOnce context.now.run.now.plan ended.1.items) }
+    ensures order { IfOk result (λ ended. RanInOrder context.now.run.now.plan ended.1.items) }
 {
     let (works, order) = claims.finish_in_order(seat)?;
-    let ran = operators_in(alloc, run, order.as_slice())?;
+    let ran = operators_in(context.alloc, context.run, order.as_slice())?;
     Ok((works, ran))
 }
 
 /// Works the nodes with operators by the hands of a crew, from those on the list.
 fn work_by<R: Threads + Sync, U: HasRun, G: Gate>(
     rt: &R,
-    alloc: Global,
-    run: &U,
-    step: u64,
+    work: &StepWork<'_, U, G>,
     claims: &StepClaims,
     seat: StepSeat,
     ready: Ready,
-    edges: &Edges,
     crew: &mut Crew,
-    gate: &G,
 ) -> Result<StepSeat, AllocError>
-    requires claimed { IsClaimed (U.own_run run.now) claims.now.plan }
-    requires step { step ≡ claims.now.plan.first.value.step + 1 }
+    requires claimed { IsClaimed work.now.run claims.now.plan }
+    requires step { work.now.step ≡ claims.now.plan.first.value.step + 1 }
+    requires edges { work.now.edges ≡ claims.now.plan.edges.items }
     requires of { IsSeatOf claims.now seat }
-    requires edges { edges.now ≡ claims.now.plan.edges.items }
     requires alone { seat.view.parts ≡ 1024 }
     requires held { IsHeld claims.now.plan seat.view (IsListed ready.nodes.items) }
     requires sources { SourcesBack claims.now.plan seat.view }
@@ -128,26 +119,23 @@ fn work_by<R: Threads + Sync, U: HasRun, G: Gate>(
     ensures all { IfOk result (λ worked. AllBack claims.now.plan worked.view) }
     ensures late { IfOk result (λ worked. AllLate claims.now.plan worked.view) }
 {
-    let work = StepWork::new(alloc, run, step, edges, gate);
-    crew.run(rt, claims, seat, ready, &work)
+    crew.run(rt, claims, seat, ready, work)
 }
 
 /// Works all nodes that are claimed.
 fn work_claimed<R: Threads + Sync, G: Gate>(
-    rt: &R,
-    context: &StepContext<'_>,
+    context: &CycleContext<'_, R, G>,
     claims: &StepClaims,
     seat: StepSeat,
     edges: &Edges,
     sources: &[Shared],
     crew: &mut Crew,
-    gate: &G,
 ) -> Result<StepSeat, AllocError>
-    requires claimed { IsClaimed context.now.run.now claims.now.plan }
-    requires step { context.now.step ≡ claims.now.plan.first.value.step + 1 }
+    requires claimed { IsClaimed context.now.at.run.now claims.now.plan }
+    requires step { context.now.at.step ≡ claims.now.plan.first.value.step + 1 }
     requires of { IsSeatOf claims.now seat }
     requires edges { edges.now ≡ claims.now.plan.edges.items }
-    requires sources { AreSources context.now.run.now context.now.step sources.now }
+    requires sources { AreSources context.now.at.run.now context.now.at.step sources.now }
     requires first { seat.view ≡ first_view claims.now.plan }
     ensures size { crew.new.size ≡ crew.old.size }
     ensures of { IfOk result (λ worked. IsSeatOf claims.now worked) }
@@ -155,51 +143,39 @@ fn work_claimed<R: Threads + Sync, G: Gate>(
     ensures late { IfOk result (λ worked. AllLate claims.now.plan worked.view) }
 {
     let mut seat = seat;
-    let run = context.run;
-    let step = context.step;
-    let ready = open_sources(run, step, claims, &mut seat, edges, sources)?;
+    let at = &context.at;
+    let ready = open_sources(at, claims, &mut seat, edges, sources)?;
     run_is_shared();
-    work_by(
-        rt,
-        context.alloc,
-        run,
-        step,
-        claims,
-        seat,
-        ready,
-        edges,
-        crew,
-        gate,
-    )
+    let work = StepWork::new(at.alloc, at.run, at.step, edges, context.gate);
+    work_by(context.rt, &work, claims, seat, ready, crew)
 }
 
 /// What all nodes keep at the next step, from what they keep at this one, and the nodes with an operator, in the order in which
 /// they were worked. The tables are those of the sources at the next step.
 pub(crate) fn crew_step<R: Threads + Sync, G: Gate>(
-    rt: &R,
-    context: &StepContext<'_>,
+    context: &CycleContext<'_, R, G>,
     works: Vec<Work>,
     edges: &Edges,
     sources: &[Shared],
     crew: &mut Crew,
-    gate: &G,
 ) -> Result<(Vec<Work>, Vec<u32>), AllocError>
-    requires entered { IsEntered context.now.run.now context.now.step }
-    requires later { 1 ≤ context.now.step }
-    requires works { map named works.items ≡ tags context.now.run.now (context.now.step - 1) (length context.now.run.now.plan.nodes) }
-    requires edges { edges.now ≡ edges_of context.now.run.now.plan }
-    requires sources { AreSources context.now.run.now context.now.step sources.now }
+    requires entered { IsEntered context.now.at.run.now context.now.at.step }
+    requires later { 1 ≤ context.now.at.step }
+    requires works { map named works.items ≡ tags context.now.at.run.now (context.now.at.step - 1) (length context.now.at.run.now.plan.nodes) }
+    requires edges { edges.now ≡ edges_of context.now.at.run.now.plan }
+    requires sources { AreSources context.now.at.run.now context.now.at.step sources.now }
     ensures size { crew.new.size ≡ crew.old.size }
-    ensures works { IfOk result (λ ended. map named ended.0.items ≡ tags context.now.run.now context.now.step (length context.now.run.now.plan.nodes)) }
+    ensures works { IfOk result (λ ended. map named ended.0.items ≡ tags context.now.at.run.now context.now.at.step (length context.now.at.run.now.plan.nodes)) }
     ensures follows { IfOk result (λ ended. ForEach Follows works.items ended.0.items) }
-    ensures ran { IfOk result (λ ended. RanOnce context.now.run.now.plan ended.1.items) }
-    ensures order { IfOk result (λ ended. RanInOrder context.now.run.now.plan ended.1.items) }
+    ensures ran { IfOk result (λ ended. RanOnce context.now.at.run.now.plan ended.1.items) }
+    ensures order { IfOk result (λ ended. RanInOrder context.now.at.run.now.plan ended.1.items) }
 {
+    let at = &context.at;
     if works.is_empty() {
-        return Ok((works, Vec::new(context.alloc)));
+        return Ok((works, Vec::new(at.alloc)));
     }
-    let (claims, seat) = begin_step(context.alloc, context.run, works, context.step, edges)?;
-    let seat = work_claimed(rt, context, &claims, seat, edges, sources, crew, gate)?;
-    let (works, ran) = end_step(context.alloc, context.run, claims, seat)?;
+    let (claims, seat) = begin_step(at, works, edges)?;
+    let seat = work_claimed(context, &claims, seat, edges, sources, crew)?;
+    let (works, ran) = end_step(at, claims, seat)?;
     Ok((works, ran))
 }

@@ -9,6 +9,7 @@ ghost use Rattle.update_graph.specs.Graphs.{AreSources};
 ghost use Rattle.update_graph.specs.Holdings.{IsClaimed, IsOpened};
 ghost use Rattle.update_graph.specs.Tags.{is_operator, named, tag};
 
+use crate::context::StepContext;
 use crate::edges::Edges;
 use crate::shares::Share;
 use crate::step_work::hand_all;
@@ -51,30 +52,30 @@ fn open_source(
 
 /// Hands on the tables of all sources. The nodes that this makes ready.
 pub(crate) fn open_sources(
-    run: &Run,
-    step: u64,
+    context: &StepContext<'_>,
     claims: &StepClaims,
     seat: &mut StepSeat,
     edges: &Edges,
     sources: &[Shared],
 ) -> Result<Ready, AllocError>
-    requires claimed { IsClaimed run.now claims.now.plan }
-    requires step { step ≡ claims.now.plan.first.value.step + 1 }
+    requires claimed { IsClaimed context.now.run.now claims.now.plan }
+    requires step { context.now.step ≡ claims.now.plan.first.value.step + 1 }
     requires of { IsSeatOf claims.now seat.old }
     requires edges { edges.now ≡ claims.now.plan.edges.items }
-    requires sources { AreSources run.now step sources.now }
+    requires sources { AreSources context.now.run.now context.now.step sources.now }
     requires first { seat.old.view ≡ first_view claims.now.plan }
     ensures of { OnOk result (IsSeatOf claims.now seat.new) }
     ensures held { IfOk result (λ ready. IsHeld claims.now.plan seat.new.view (IsListed ready.nodes.items)) }
     ensures sources { OnOk result (SourcesBack claims.now.plan seat.new.view) }
     ensures parts { OnOk result (seat.new.view.parts ≡ 1024) }
 {
+    let run = context.run;
     let mut place = 0;
     let mut ready = Ready::new();
     let nodes = run.plan.nodes.as_slice();
     for node in 0..claims.nodes() {
         if is_source(&nodes[node as usize]) {
-            let (work, share) = source_at(run, step, node, sources, place)?;
+            let (work, share) = source_at(run, context.step, node, sources, place)?;
             open_source(run, claims, seat, edges, node, work, &share, &mut ready)?;
             place += 1;
         }

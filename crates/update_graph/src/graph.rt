@@ -1,6 +1,6 @@
 //! The graph itself: its start, its cycle and what it answers.
 
-ghost use Rattle.std.specs.Prelude.{◌≡◌, ◌+◌, ◌<◌, ◌≤◌, None, Some, [], ℕ, IfErr, IfOk, OnOk, length, map, option_map, true};
+ghost use Rattle.std.specs.Prelude.{◌≡◌, ◌+◌, ◌-◌, ◌<◌, ◌≤◌, None, Some, [], ℕ, IfErr, IfOk, OnOk, length, map, option_map, true};
 ghost use Rattle.std.specs.Arc.{arc_value};
 ghost use Rattle.merge_op.specs.Merged.{tables};
 ghost use Rattle.tick_laws.specs.Reached.{IsReached};
@@ -13,15 +13,14 @@ ghost use Rattle.tick_model.specs.Tables.{keys as keys_of};
 ghost use Rattle.tick_model.specs.declared.feed.Run.{Run};
 ghost use Rattle.tick_table.specs.Exact.{ticking};
 ghost use Rattle.tick_table.specs.Ticking.{Ticking};
-ghost use Rattle.update_graph.specs.Edges.{edges_of};
 ghost use Rattle.update_graph.specs.Entered.{IsEntered};
-ghost use Rattle.update_graph.specs.Graphs.{HasReached, HaveStepped, RanInOrder, RanOnce, SteppedOnce, most_in, read_in, reads_at, sources_shown};
+ghost use Rattle.update_graph.specs.Graphs.{HasReached, HaveStepped, IsBase, RanInOrder, RanOnce, SteppedOnce, most_in, read_in, reads_at, sources_shown};
 ghost use Rattle.update_graph.specs.Stands.{HasStepped, is_defined};
 ghost use Rattle.update_graph.specs.Stops.{IsStop};
 ghost use Rattle.update_graph.specs.Sweeps.{IsWhole};
 ghost use Rattle.update_graph.specs.Tags.{all_reads, is_operator, named, op_at, tags};
 
-use crate::context::StepContext;
+use crate::context::{CycleContext, StepContext};
 use crate::crew_step::crew_step;
 use crate::edges::Edges;
 use crate::in_order::advance_all;
@@ -46,17 +45,23 @@ use tick_model::items::Items;
 use tick_model::table::NodeFault;
 use tick_table::{Change, Shared, Steps, TickTable};
 
-/// The nodes of a lawful run, all of which stand at one step of it. A contract sees the run, the step, the nodes with an operator
-/// that were worked for the step, and what the operator of each node has read in each of its steps.
-pub struct Graph {
-    run: Snapshot<Run>,
-    step: u64,
+/// What a graph keeps beside its nodes.
+#[derive(Drop)]
+pub(crate) struct Base {
     /// The edges of the plan.
     edges: Edges,
     /// The keys of the sources.
     keys: SourceKeys,
     /// The tables of the sources, in order of the nodes.
     sources: Vec<Shared>,
+}
+
+/// The nodes of a lawful run, all of which stand at one step of it. A contract sees the run, the step, the nodes with an operator
+/// that were worked for the step, and what the operator of each node has read in each of its steps.
+pub struct Graph {
+    run: Snapshot<Run>,
+    step: u64,
+    base: Base,
     /// What each node keeps.
     works: Vec<Work>,
     /// The table of each node.
@@ -77,7 +82,7 @@ impl Model for Graph {
 
     ghost view = { λ graph. record { run = graph.run.value; step = graph.step; ran = graph.ran.items; reads = all_reads graph.works.items } };
 
-    ghost invariant = { λ graph. IsGraph graph.run.value graph.step graph.edges graph.keys graph.sources.items graph.works.items graph.tables.items };
+    ghost invariant = { λ graph. IsGraph graph.run.value graph.step graph.base graph.works.items graph.tables.items };
 }
 
 // Written out, so that a crate which lets a graph go does not prove anew how each part of it is let go.
@@ -86,9 +91,7 @@ impl Drop for Graph {
         let Self {
             run: _,
             step: _,
-            edges: _,
-            keys: _,
-            sources: _,
+            base: _,
             works: _,
             tables: _,
             ran: _,
@@ -96,10 +99,9 @@ impl Drop for Graph {
     }
 }
 
-/// The changes of the sources at the next step, by its batch, with reads that are counted from a blank.
+/// The changes of the sources from a step to the next, by the batch of that, with reads that are counted from a blank.
 fn changes_of<L: Ledger>(
-    alloc: Global,
-    run: &Run,
+    context: &StepContext<'_>,
     step: u64,
     keys: &mut SourceKeys,
     sources: &[Shared],
@@ -108,22 +110,24 @@ fn changes_of<L: Ledger>(
     requires name { blank.name ≡ L.name }
     requires parts { blank.parts ≡ L.parts }
     requires some { 0 < blank.parts }
-    requires lawful { IsLawfulRun run.now }
-    requires reached { IsReached run.now step }
-    requires next { step < length run.now.batches }
-    requires keys { keys.old ≡ map (λ table. keys_of table.rows) (sources_at run.now step) }
-    requires sources { tables sources.now ≡ sources_shown run.now step }
-    ensures entered { OnOk result (IsEntered run.now (step + 1)) }
-    ensures changes { IfOk result (λ changes. changes.items ≡ map change_of (source_ticks run.now (step + 1))) }
-    ensures keys { OnOk result (keys.new ≡ map (λ table. keys_of table.rows) (sources_at run.now (step + 1))) }
-    ensures cause { IfErr result (IsStop run.now (step + 1)) }
+    requires lawful { IsLawfulRun context.now.run.now }
+    requires reached { IsReached context.now.run.now step }
+    requires step { context.now.step ≡ step + 1 }
+    requires next { step < length context.now.run.now.batches }
+    requires keys { keys.old ≡ map (λ table. keys_of table.rows) (sources_at context.now.run.now step) }
+    requires sources { tables sources.now ≡ sources_shown context.now.run.now step }
+    ensures entered { OnOk result (IsEntered context.now.run.now context.now.step) }
+    ensures changes { IfOk result (λ changes. changes.items ≡ map change_of (source_ticks context.now.run.now context.now.step)) }
+    ensures keys { OnOk result (keys.new ≡ map (λ table. keys_of table.rows) (sources_at context.now.run.now context.now.step)) }
+    ensures cause { IfErr result (IsStop context.now.run.now context.now.step) }
 {
+    let run = context.run;
     let batch = &run.batches.as_slice()[step as usize];
-    let known = referred(alloc, sources)?;
+    let known = referred(context.alloc, sources)?;
     let mut reads = Steps::<L>::new(blank, new_count());
-    match keys.changes(alloc, &run.plan, batch, &known, &mut reads) {
+    match keys.changes(context.alloc, &run.plan, batch, &known, &mut reads) {
         Ok(changes) => Ok(changes),
-        Err(fault) => Err(refused(step + 1, fault)),
+        Err(fault) => Err(refused(context.step, fault)),
     }
 }
 
@@ -147,18 +151,10 @@ fn least_fault(works: &[Work]) -> Option<(u32, NodeFault)>
 }
 
 /// The graph at a step at which all nodes have tables.
-fn gathered(
-    context: &StepContext<'_>,
-    edges: Edges,
-    keys: SourceKeys,
-    sources: Vec<Shared>,
-    sweep: Sweep,
-) -> Result<Graph, AllocError>
+fn gathered(context: &StepContext<'_>, base: Base, sweep: Sweep) -> Result<Graph, AllocError>
     requires entered { IsEntered context.now.run.now context.now.step }
     requires nodes { node_fault 0 (state context.now.run.now context.now.step) ≡ None }
-    requires edges { edges ≡ edges_of context.now.run.now.plan }
-    requires keys { keys ≡ map (λ table. keys_of table.rows) (sources_at context.now.run.now context.now.step) }
-    requires sources { tables sources.items ≡ sources_shown context.now.run.now context.now.step }
+    requires base { IsBase context.now.run.now context.now.step base }
     requires swept { IsWhole context.now.run.now context.now.step sweep }
     requires stepped { HaveStepped context.now.run.now (context.now.step + 1) (all_reads sweep.works.items) }
     ensures reached { IfOk result (HasReached context.now.run.now context.now.step) }
@@ -176,9 +172,7 @@ fn gathered(
         Some(tables) => Ok(Graph {
             run: about,
             step: context.step,
-            edges,
-            keys,
-            sources,
+            base,
             works,
             tables,
             ran,
@@ -188,17 +182,9 @@ fn gathered(
 }
 
 /// The graph at a step that all nodes have reached, unless one has failed.
-fn finished(
-    context: &StepContext<'_>,
-    edges: Edges,
-    keys: SourceKeys,
-    sources: Vec<Shared>,
-    sweep: Sweep,
-) -> Result<Graph, Stop>
+fn finished(context: &StepContext<'_>, base: Base, sweep: Sweep) -> Result<Graph, Stop>
     requires entered { IsEntered context.now.run.now context.now.step }
-    requires edges { edges ≡ edges_of context.now.run.now.plan }
-    requires keys { keys ≡ map (λ table. keys_of table.rows) (sources_at context.now.run.now context.now.step) }
-    requires sources { tables sources.items ≡ sources_shown context.now.run.now context.now.step }
+    requires base { IsBase context.now.run.now context.now.step base }
     requires swept { IsWhole context.now.run.now context.now.step sweep }
     ensures reached { IfOk result (HasReached context.now.run.now context.now.step) }
     ensures reads { IfOk result (λ graph. graph.reads ≡ all_reads sweep.works.items) }
@@ -211,7 +197,7 @@ fn finished(
             kind,
         }),
         None => {
-            let graph = gathered(context, edges, keys, sources, sweep)?;
+            let graph = gathered(context, base, sweep)?;
             Ok(graph)
         }
     }
@@ -228,91 +214,83 @@ impl Graph {
         ensures reads { IfOk result (λ graph. read_in run.now 0 graph.reads ≤ most_in run.now 0) }
         ensures cause { IfErr result (IsStop run.now 0) }
     {
-        let edges = Edges::of(alloc, run)?;
-        let keys = SourceKeys::new(alloc, &run.opening)?;
-        let sources = opened_sources(alloc, run)?;
-        let sweep = open_all::<Brand>(alloc, run, &sources, Blank::new(1))?;
+        let base = Base {
+            edges: Edges::of(alloc, run)?,
+            keys: SourceKeys::new(alloc, &run.opening)?,
+            sources: opened_sources(alloc, run)?,
+        };
+        let sweep = open_all::<Brand>(alloc, run, &base.sources, Blank::new(1))?;
         let context = StepContext {
             alloc,
             run,
             step: 0,
         };
-        let graph = finished(&context, edges, keys, sources, sweep)?;
+        let graph = finished(&context, base, sweep)?;
         Ok(graph)
     }
 
-    /// The graph at the next step, by the batch of that step. This thread works the nodes in order.
-    fn next<G: Gate>(self, alloc: Global, run: &Run, gate: &G) -> Result<Graph, Stop>
-        requires run { self.run ≡ run.now }
-        requires next { self.step < length run.now.batches }
-        ensures reached { IfOk result (HasReached run.now (self.step + 1)) }
-        ensures steps { IfOk result (λ graph. SteppedOnce run.now self.reads graph.reads) }
-        ensures cause { IfErr result (IsStop run.now (self.step + 1)) }
+    /// Takes the batch of the next step, which changes the sources: what the graph keeps beside its nodes then, and what the nodes still
+    /// keep of the step before.
+    fn take_batch(self, context: &StepContext<'_>) -> Result<(Base, Vec<Work>), Stop>
+        requires run { self.run ≡ context.now.run.now }
+        requires step { context.now.step ≡ self.step + 1 }
+        requires next { self.step < length context.now.run.now.batches }
+        ensures entered { OnOk result (IsEntered context.now.run.now context.now.step) }
+        ensures base { IfOk result (λ out. IsBase context.now.run.now context.now.step out.0) }
+        ensures works { IfOk result (λ out. map named out.1.items ≡ tags context.now.run.now (context.now.step - 1) (length context.now.run.now.plan.nodes)) }
+        ensures reads { IfOk result (λ out. all_reads out.1.items ≡ self.reads) }
+        ensures cause { IfErr result (IsStop context.now.run.now context.now.step) }
     {
         let Graph {
             run: _,
             step,
-            edges,
-            keys,
-            sources,
+            base,
             works,
             tables,
             ran: _,
         } = self;
         drop(tables);
-        let mut keys = keys;
-        let changes = changes_of::<Brand>(alloc, run, step, &mut keys, &sources, Blank::new(1))?;
-        let context = StepContext {
-            alloc,
-            run,
-            step: step + 1,
-        };
-        let sources = changed_sources(alloc, run, step + 1, sources, changes)?;
+        let mut base = base;
         let blank = Blank::new(1);
-        let sweep = advance_all::<G, Brand>(&context, works, &sources, gate, blank)?;
-        let graph = finished(&context, edges, keys, sources, sweep)?;
+        let changes = changes_of::<Brand>(context, step, &mut base.keys, &base.sources, blank)?;
+        base.sources = changed_sources(context, base.sources, changes)?;
+        Ok((base, works))
+    }
+
+    /// The graph at the next step, by the batch of that step. This thread works the nodes in order.
+    fn next<R, G: Gate>(self, context: &CycleContext<'_, R, G>) -> Result<Graph, Stop>
+        requires run { self.run ≡ context.now.at.run.now }
+        requires step { context.now.at.step ≡ self.step + 1 }
+        requires next { self.step < length context.now.at.run.now.batches }
+        ensures reached { IfOk result (HasReached context.now.at.run.now context.now.at.step) }
+        ensures steps { IfOk result (λ graph. SteppedOnce context.now.at.run.now self.reads graph.reads) }
+        ensures cause { IfErr result (IsStop context.now.at.run.now context.now.at.step) }
+    {
+        let (base, works) = self.take_batch(&context.at)?;
+        let sweep = advance_all::<R, G, Brand>(context, works, &base.sources, Blank::new(1))?;
+        let graph = finished(&context.at, base, sweep)?;
         Ok(graph)
     }
 
     /// The same, with the nodes worked by a crew.
     fn next_by<R: Threads + Sync, G: Gate>(
         self,
-        rt: &R,
-        alloc: Global,
-        run: &Run,
+        context: &CycleContext<'_, R, G>,
         crew: &mut Crew,
-        gate: &G,
     ) -> Result<Graph, Stop>
-        requires run { self.run ≡ run.now }
-        requires next { self.step < length run.now.batches }
-        ensures reached { IfOk result (HasReached run.now (self.step + 1)) }
-        ensures steps { IfOk result (λ graph. SteppedOnce run.now self.reads graph.reads) }
-        ensures cause { IfErr result (IsStop run.now (self.step + 1)) }
+        requires run { self.run ≡ context.now.at.run.now }
+        requires step { context.now.at.step ≡ self.step + 1 }
+        requires next { self.step < length context.now.at.run.now.batches }
+        ensures reached { IfOk result (HasReached context.now.at.run.now context.now.at.step) }
+        ensures steps { IfOk result (λ graph. SteppedOnce context.now.at.run.now self.reads graph.reads) }
+        ensures cause { IfErr result (IsStop context.now.at.run.now context.now.at.step) }
         ensures size { crew.new.size ≡ crew.old.size }
     {
-        let Graph {
-            run: _,
-            step,
-            edges,
-            keys,
-            sources,
-            works,
-            tables,
-            ran: _,
-        } = self;
-        drop(tables);
-        let mut keys = keys;
-        let changes = changes_of::<Brand>(alloc, run, step, &mut keys, &sources, Blank::new(1))?;
-        let context = StepContext {
-            alloc,
-            run,
-            step: step + 1,
-        };
-        let sources = changed_sources(alloc, run, step + 1, sources, changes)?;
-        let (works, ran) = crew_step(rt, &context, works, &edges, &sources, crew, gate)?;
-        let numbered = swept(alloc, run, step + 1, works, &sources)?;
+        let (base, works) = self.take_batch(&context.at)?;
+        let (works, ran) = crew_step(context, works, &base.edges, &base.sources, crew)?;
+        let numbered = swept(&context.at, works, &base.sources)?;
         let sweep = numbered.in_order(ran);
-        let graph = finished(&context, edges, keys, sources, sweep)?;
+        let graph = finished(&context.at, base, sweep)?;
         Ok(graph)
     }
 
@@ -345,7 +323,16 @@ impl Graph {
             let mut crew = Crew::new(alloc, workers)?;
             return self.cycle_by(rt, alloc, run, &mut crew, gate);
         }
-        let graph = self.next(alloc, run, gate)?;
+        let context = CycleContext {
+            at: StepContext {
+                alloc,
+                run,
+                step: self.step + 1,
+            },
+            rt,
+            gate,
+        };
+        let graph = self.next(&context)?;
         Ok(graph)
     }
 
@@ -371,7 +358,16 @@ impl Graph {
         ensures cause { IfErr result (IsStop run.now (self.step + 1)) }
         ensures size { crew.new.size ≡ crew.old.size }
     {
-        let graph = self.next_by(rt, alloc, run, crew, gate)?;
+        let context = CycleContext {
+            at: StepContext {
+                alloc,
+                run,
+                step: self.step + 1,
+            },
+            rt,
+            gate,
+        };
+        let graph = self.next_by(&context, crew)?;
         Ok(graph)
     }
 

@@ -15,6 +15,7 @@ ghost use Rattle.tick_table.specs.Ticking.{Ticking};
 ghost use Rattle.update_graph.specs.Entered.{IsEntered};
 ghost use Rattle.update_graph.specs.Graphs.{sources_shown};
 
+use crate::context::StepContext;
 use new_counts::new_copy;
 use source_changes::opening_change;
 use std::alloc::{AllocError, Global};
@@ -98,21 +99,18 @@ pub(crate) fn referred<'a>(
 
 /// The tables of the sources after a step, by their changes.
 pub(crate) fn changed_sources(
-    alloc: Global,
-    run: &Run,
-    step: u64,
+    context: &StepContext<'_>,
     sources: Vec<Shared>,
     changes: Vec<Change>,
 ) -> Result<Vec<Shared>, AllocError>
-    requires entered { IsEntered run.now step }
-    requires sources { news (tables sources.items) ≡ map (λ tick. tick.old) (source_ticks run.now step) }
-    requires changes { changes.items ≡ map change_of (source_ticks run.now step) }
-    ensures { IfOk result (λ changed. tables changed.items ≡ sources_shown run.now step) }
+    requires entered { IsEntered context.now.run.now context.now.step }
+    requires sources { news (tables sources.items) ≡ map (λ tick. tick.old) (source_ticks context.now.run.now context.now.step) }
+    requires changes { changes.items ≡ map change_of (source_ticks context.now.run.now context.now.step) }
+    ensures { IfOk result (λ changed. tables changed.items ≡ sources_shown context.now.run.now context.now.step) }
 {
-    let _ = run;
-    let mut changed = Vec::with_capacity(alloc, sources.len())?;
+    let mut changed = Vec::with_capacity(context.alloc, sources.len())?;
     for (source, change) in sources.into_iter().zip(changes.into_iter()) {
-        let next = applied(alloc, source, change)?;
+        let next = applied(context.alloc, source, change)?;
         changed.push(next)?;
     }
     Ok(changed)

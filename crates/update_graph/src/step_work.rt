@@ -180,9 +180,12 @@ pub(crate) struct StepWork<'s, U: HasRun, G: Gate> {
 
 impl<'s, U: HasRun, G: Gate> Model for StepWork<'s, U, G> {
     ghost use Rattle.std.specs.Coded.{codes};
+    ghost use Rattle.std.specs.Prelude.{◌≡◌};
     ghost use Rattle.tick_model.specs.contracts.plan.Expr as expr_type;
     ghost use Rattle.tick_model.specs.contracts.plan.Pred as pred_type;
-    ghost use Rattle.update_graph.specs.Crews.{IsStepWork, StepView};
+    ghost use Rattle.update_graph.specs.Crews.{StepView};
+    ghost use Rattle.update_graph.specs.Edges.{edges_of};
+    ghost use Rattle.update_graph.specs.Entered.{IsEntered};
 
     ghost Value = { StepView };
 
@@ -190,7 +193,7 @@ impl<'s, U: HasRun, G: Gate> Model for StepWork<'s, U, G> {
 
     ghost view = { λ work. record { run = U.own_run work.run.now; step = work.step; edges = work.edges.now } };
 
-    ghost invariant = { λ work. IsStepWork (U.own_run work.run.now) work.step work.edges.now };
+    ghost invariant = { λ work. IsEntered (U.own_run work.run.now) work.step × (work.edges.now ≡ edges_of (U.own_run work.run.now).plan) };
 }
 
 impl<'s, U: HasRun, G: Gate> StepWork<'s, U, G> {

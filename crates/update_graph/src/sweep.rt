@@ -11,6 +11,7 @@ ghost use Rattle.update_graph.specs.Stands.{ForEach, Stays};
 ghost use Rattle.update_graph.specs.Sweeps.{GrowsBy, IsSame, IsSwept};
 ghost use Rattle.update_graph.specs.Tags.{is_operator, named, op_at, tag, tags};
 
+use crate::context::StepContext;
 use crate::edges::inputs_of;
 use crate::shares::Share;
 use crate::work::Work;
@@ -244,21 +245,19 @@ fn put_node(
 
 /// All nodes at a step, from what they keep at it.
 pub(crate) fn swept(
-    alloc: Global,
-    run: &Run,
-    step: u64,
+    context: &StepContext<'_>,
     works: Vec<Work>,
     sources: &[Shared],
 ) -> Result<Sweep, AllocError>
-    requires entered { IsEntered run.now step }
-    requires sources { tables sources.now ≡ sources_shown run.now step }
-    requires works { map named works.items ≡ tags run.now step (length run.now.plan.nodes) }
-    ensures swept { IfOk result (IsSwept run.now step (length run.now.plan.nodes)) }
+    requires entered { IsEntered context.now.run.now context.now.step }
+    requires sources { tables sources.now ≡ sources_shown context.now.run.now context.now.step }
+    requires works { map named works.items ≡ tags context.now.run.now context.now.step (length context.now.run.now.plan.nodes) }
+    ensures swept { IfOk result (IsSwept context.now.run.now context.now.step (length context.now.run.now.plan.nodes)) }
     ensures same { IfOk result (λ sweep. ForEach IsSame works.items sweep.works.items) }
 {
-    let mut sweep = Sweep::new(alloc);
+    let mut sweep = Sweep::new(context.alloc);
     for work in works {
-        put_node(run, step, work, sources, &mut sweep)?;
+        put_node(context.run, context.step, work, sources, &mut sweep)?;
     }
     Ok(sweep)
 }

@@ -14,7 +14,7 @@ operators_in-requires c i k there = subst (λ n. k < n) c.requires.claimed.nodes
 
 pub returns-clause-works : goal.returns-clause-works
 returns-clause-works c =
-    let run = c.args.run.now in
+    let run = c.args.context.now.run.now in
     let plan = c.args.claims.plan in
     works_back run (plan.first.value.step + 1) (length run.plan.nodes) c.in_ok-works.works.items (sym c.in_ok-works.works.ok.0 ∙ c.in_ok-works.ensures.len ∙ c.requires.claimed.nodes)
     (λ n w there. let t = c.in_ok-works.ensures.tags n w there in (t.0 ∙ run_is run plan c.requires.claimed, t.1, t.2))
@@ -24,11 +24,11 @@ returns-clause-follows c n old new at_old at_new = c.in_ok-works.ensures.follows
 
 pub returns-clause-ran : goal.returns-clause-ran
 returns-clause-ran c =
-    each_once c.args.run.now c.in_ok-works.order.items c.in_ok-ran.ran.items (c.in_ok-ran.ensures ∙ ap (filter (is_operator c.args.run.now)) c.as_slice.ensures.value) (subst (λ n. HasEachOnce n c.in_ok-works.order.items) c.requires.claimed.nodes c.in_ok-works.ensures.once)
+    each_once c.args.context.now.run.now c.in_ok-works.order.items c.in_ok-ran.ran.items (c.in_ok-ran.ensures ∙ ap (filter (is_operator c.args.context.now.run.now)) c.as_slice.ensures.value) (subst (λ n. HasEachOnce n c.in_ok-works.order.items) c.requires.claimed.nodes c.in_ok-works.ensures.once)
 
 pub returns-clause-order : goal.returns-clause-order
 returns-clause-order c =
-    tickets_in_order c.args.run.now c.in_ok-works.order.items c.in_ok-ran.ran.items (c.in_ok-ran.ensures ∙ ap (filter (is_operator c.args.run.now)) c.as_slice.ensures.value) (λ e i j x there at_from at_to.
+    tickets_in_order c.args.context.now.run.now c.in_ok-works.order.items c.in_ok-ran.ran.items (c.in_ok-ran.ensures ∙ ap (filter (is_operator c.args.context.now.run.now)) c.as_slice.ensures.value) (λ e i j x there at_from at_to.
     let own = ap (λ l. get_elem? l e) c.requires.claimed.edges ∙ there in
     c.in_ok-works.ensures.inputs e i j x own (c.requires.late e x own) at_from at_to)
 

@@ -15,13 +15,13 @@ use Rattle.update_graph.proofs.first_seat.open_sources.Goals as goal
 pub loop-node-init : goal.loop-node-init
 loop-node-init c = record {
   of = c.requires.of;
-  opened = subst (λ v. IsOpened c.args.run.now c.args.claims.now.plan v 0 c.new-ready.result.nodes.items) (sym c.requires.first) (subst (IsOpened c.args.run.now c.args.claims.now.plan (first_view c.args.claims.now.plan) 0) (sym c.new-ready.ensures) (opened_first c.args.run.now c.args.claims.now.plan c.requires.claimed));
+  opened = subst (λ v. IsOpened c.args.context.now.run.now c.args.claims.now.plan v 0 c.new-ready.result.nodes.items) (sym c.requires.first) (subst (IsOpened c.args.context.now.run.now c.args.claims.now.plan (first_view c.args.claims.now.plan) 0) (sym c.new-ready.ensures) (opened_first c.args.context.now.run.now c.args.claims.now.plan c.requires.claimed));
   place = refl;
 }
 
 pub loop-node-preserved : goal.loop-node-preserved
 loop-node-preserved c =
-    let run = c.args.run.now in
+    let run = c.args.context.now.run.now in
     let plan = c.args.claims.now.plan in
     let n = c.loop-node.node in
     let within : n < plan.nodes = omega (arith, c.loop-node-test.true, c.nodes-node-end.ensures) in
@@ -60,11 +60,11 @@ loop-node-preserved c =
 
 pub returns-clause-held : goal.returns-clause-held
 returns-clause-held c =
-    opened_held c.args.run.now c.args.claims.now.plan c.requires.claimed c.loop-node.seat.view c.loop-node.node c.loop-node.ready.nodes.items c.loop-node.invariant.opened (omega (arith, c.loop-node-test.false, c.nodes-node-end.ensures))
+    opened_held c.args.context.now.run.now c.args.claims.now.plan c.requires.claimed c.loop-node.seat.view c.loop-node.node c.loop-node.ready.nodes.items c.loop-node.invariant.opened (omega (arith, c.loop-node-test.false, c.nodes-node-end.ensures))
 
 pub returns-clause-sources : goal.returns-clause-sources
 returns-clause-sources c =
-    opened_back c.args.run.now c.args.claims.now.plan c.requires.claimed c.loop-node.seat.view c.loop-node.node c.loop-node.ready.nodes.items c.loop-node.invariant.opened (omega (arith, c.loop-node-test.false, c.nodes-node-end.ensures))
+    opened_back c.args.context.now.run.now c.args.claims.now.plan c.requires.claimed c.loop-node.seat.view c.loop-node.node c.loop-node.ready.nodes.items c.loop-node.invariant.opened (omega (arith, c.loop-node-test.false, c.nodes-node-end.ensures))
 
 pub nodes-node-end-requires-send-W : goal.nodes-node-end-requires-send-W
 nodes-node-end-requires-send-W c κs = search sent depth 60 fits 20000

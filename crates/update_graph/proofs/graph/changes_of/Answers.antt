@@ -14,7 +14,7 @@ use Rattle.update_graph.proofs.graph.changes_of.Goals as goal
 
 pub changes-requires-clause-blocks : goal.changes-requires-clause-blocks
 changes-requires-clause-blocks g c =
-    let run = c.args.run.now in (
+    let run = c.args.context.now.run.now in (
       length run.texts,
       at_place (λ (batch : Batch). AllByRecursion (IsLawfulBlock run.plan (length run.texts)) batch.blocks) run.batches c.as_slice.result.now c.requires.lawful.batches c.as_slice.ensures c.args.step c.index-as_slice-step.result
           (subst (λ batches. c.args.step < length batches) (sym c.as_slice.ensures) c.requires.next) c.index-as_slice-step.is,
@@ -22,38 +22,38 @@ changes-requires-clause-blocks g c =
 
 pub changes-requires-clause-tables : goal.changes-requires-clause-tables
 changes-requires-clause-tables g c =
-    let run = c.args.run.now in
+    let run = c.args.context.now.run.now in
     subst (AreSourceTables (sources_of run.plan.nodes)) (sym (known_are run c.args.step c.deref.result.now (tables c.args.sources.now) (ap (map _) c.deref.ensures.value ∙ c.in_ok-known.ensures) c.requires.sources))
     (sources_bounded run c.requires.lawful c.args.step c.requires.reached.batches)
 
 pub changes-requires-clause-keys : goal.changes-requires-clause-keys
 changes-requires-clause-keys g c =
-    c.requires.keys ∙ sym (known_keys c.args.run.now c.args.step c.deref.result.now (tables c.args.sources.now) (ap (map _) c.deref.ensures.value ∙ c.in_ok-known.ensures) c.requires.sources)
+    c.requires.keys ∙ sym (known_keys c.args.context.now.run.now c.args.step c.deref.result.now (tables c.args.sources.now) (ap (map _) c.deref.ensures.value ∙ c.in_ok-known.ensures) c.requires.sources)
 
 pub returns-in-Ok-clause-entered : goal.returns-in-Ok-clause-entered
 returns-in-Ok-clause-entered g c =
-    let run = c.args.run.now in
+    let run = c.args.context.now.run.now in
     let there = c.index-as_slice-step.is ∙ ap (λ batches. get_or batches c.args.step c.index-as_slice-step.result) c.as_slice.ensures in
-    entered_next run c.args.step c.requires.lawful c.requires.reached c.requires.next
-    (fault_is run c.args.step c.deref.result.now (tables c.args.sources.now) (ap (map _) c.deref.ensures.value ∙ c.in_ok-known.ensures) c.requires.sources c.requires.next c.index-as_slice-step.result there ∙ c.in-Ok.ensures.lawful)
+    entered_next run c.args.step c.args.context.now.step c.requires.step c.requires.lawful c.requires.reached c.requires.next
+    (fault_is run c.args.step c.deref.result.now (tables c.args.sources.now) (ap (map _) c.deref.ensures.value ∙ c.in_ok-known.ensures) c.requires.sources c.args.context.now.step c.requires.step c.requires.next c.index-as_slice-step.result there ∙ c.in-Ok.ensures.lawful)
 
 pub returns-in-Ok-clause-changes : goal.returns-in-Ok-clause-changes
 returns-in-Ok-clause-changes g c =
-    let run = c.args.run.now in
+    let run = c.args.context.now.run.now in
     let there = c.index-as_slice-step.is ∙ ap (λ batches. get_or batches c.args.step c.index-as_slice-step.result) c.as_slice.ensures in
     c.in-Ok.ensures.changes
-    ∙ ap (map change_of) (sym (ticks_are run c.args.step c.deref.result.now (tables c.args.sources.now) (ap (map _) c.deref.ensures.value ∙ c.in_ok-known.ensures) c.requires.sources c.requires.next c.index-as_slice-step.result there))
+    ∙ ap (map change_of) (sym (ticks_are run c.args.step c.deref.result.now (tables c.args.sources.now) (ap (map _) c.deref.ensures.value ∙ c.in_ok-known.ensures) c.requires.sources c.args.context.now.step c.requires.step c.requires.next c.index-as_slice-step.result there))
 
 pub returns-in-Ok-clause-keys : goal.returns-in-Ok-clause-keys
 returns-in-Ok-clause-keys g c =
-    let run = c.args.run.now in
+    let run = c.args.context.now.run.now in
     let there = c.index-as_slice-step.is ∙ ap (λ batches. get_or batches c.args.step c.index-as_slice-step.result) c.as_slice.ensures in
-    c.in-Ok.ensures.keys ∙ keys_after run c.args.step c.deref.result.now (tables c.args.sources.now) (ap (map _) c.deref.ensures.value ∙ c.in_ok-known.ensures) c.requires.sources c.requires.next c.index-as_slice-step.result there
+    c.in-Ok.ensures.keys ∙ keys_after run c.args.step c.deref.result.now (tables c.args.sources.now) (ap (map _) c.deref.ensures.value ∙ c.in_ok-known.ensures) c.requires.sources c.args.context.now.step c.requires.step c.requires.next c.index-as_slice-step.result there
 
 pub returns-clause-cause : goal.returns-clause-cause
 returns-clause-cause g c =
-    let run = c.args.run.now in
+    let run = c.args.context.now.run.now in
     let there = c.index-as_slice-step.is ∙ ap (λ batches. get_or batches c.args.step c.index-as_slice-step.result) c.as_slice.ensures in
     c.refused.ensures run
-    (subst (λ found. IsFault found c.in-Err.fault) (sym (fault_is run c.args.step c.deref.result.now (tables c.args.sources.now) (ap (map _) c.deref.ensures.value ∙ c.in_ok-known.ensures) c.requires.sources c.requires.next c.index-as_slice-step.result there))
+    (subst (λ found. IsFault found c.in-Err.fault) (sym (fault_is run c.args.step c.deref.result.now (tables c.args.sources.now) (ap (map _) c.deref.ensures.value ∙ c.in_ok-known.ensures) c.requires.sources c.args.context.now.step c.requires.step c.requires.next c.index-as_slice-step.result there))
     c.in-Err.ensures.cause)

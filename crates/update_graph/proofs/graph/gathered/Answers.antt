@@ -18,14 +18,12 @@ invariant_of-result c =
     let run = c.args.context.now.run.now in
     let handed : AreHanded c.of-shares.result (Some c.in-Some.tables.items) =
     subst (λ found. AreHanded c.of-shares.result (option_map (λ (all : Vec (Arc Ticking Global) Global). all.items) found)) c.in-Some.is c.in_ok-tables.ensures in
-    subst (λ run. IsGraph run c.args.context.now.step c.args.edges c.args.keys c.args.sources.items c.args.sweep.works.items c.in-Some.tables.items) (sym c.of-about.ensures)
+    subst (λ run. IsGraph run c.args.context.now.step c.args.base c.args.sweep.works.items c.in-Some.tables.items) (sym c.of-about.ensures)
     (record {
       lawful = c.requires.entered.lawful;
       within = c.requires.entered.within;
       reached = reached_here run c.args.context.now.step c.requires.entered c.requires.nodes;
-      edges_are = c.requires.edges;
-      keys_are = c.requires.keys;
-      sources_are = c.requires.sources;
+      base_is = c.requires.base;
       works_are = c.requires.swept.works;
       stepped = c.requires.stepped;
       tables_are = handed_tables run c.args.context.now.step c.requires.entered c.requires.nodes c.of-shares.result (c.of-shares.ensures ∙ c.requires.swept.shares) c.in-Some.tables.items handed;

@@ -4,4 +4,4 @@ use Rattle.update_graph.specs.Sweeps.{IsSwept}
 use Rattle.update_graph.proofs.in_order.advance_all.Given as goal
 
 abbrev pub invariant-loop-work : goal.invariant-loop-work
-invariant-loop-work g l = record { swept : IsSwept l.context.run.now l.context.step (length l.yielded) l.sweep; follows : ForEach Follows l.yielded l.sweep.works.items }
+invariant-loop-work g l = record { swept : IsSwept l.context.at.run.now l.context.at.step (length l.yielded) l.sweep; follows : ForEach Follows l.yielded l.sweep.works.items }

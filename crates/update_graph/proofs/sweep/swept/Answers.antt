@@ -13,26 +13,26 @@ use Rattle.update_graph.proofs.sweep.swept.Goals as goal
 pub put_node-requires-clause-swept : goal.put_node-requires-clause-swept
 put_node-requires-clause-swept c =
     let n = length c.loop-work.yielded in
-    let count = count_works c.args.run.now c.args.step n c.loop-work.sweep.works.items c.loop-work.invariant.swept.works in
-    subst (λ k. IsSwept c.args.run.now c.args.step k c.loop-work.sweep) (sym count) c.loop-work.invariant.swept
+    let count = count_works c.args.context.now.run.now c.args.context.now.step n c.loop-work.sweep.works.items c.loop-work.invariant.swept.works in
+    subst (λ k. IsSwept c.args.context.now.run.now c.args.context.now.step k c.loop-work.sweep) (sym count) c.loop-work.invariant.swept
 
 pub put_node-requires-clause-node : goal.put_node-requires-clause-node
 put_node-requires-clause-node c =
     let n = length c.loop-work.yielded in
-    let count = count_works c.args.run.now c.args.step n c.loop-work.sweep.works.items c.loop-work.invariant.swept.works in
+    let count = count_works c.args.context.now.run.now c.args.context.now.step n c.loop-work.sweep.works.items c.loop-work.invariant.swept.works in
     let gives = c.into_iter-work-iterator.ensures.into_iter_gives in
     let turn = YieldsList-turn (YieldsList-from_vec {s = c.into_iter-work-iterator.result} c.args.works.items gives.0 (gives.1 ∙ c.args.works.ok.0)) c.loop-work.yielded c.loop-work.work-iterator c.loop-work.yielded_by c.next.result c.next.new.self c.in-Some.work c.in-Some.is c.next.ensures.steps in
-    let all = count_works c.args.run.now c.args.step (length c.args.run.now.plan.nodes) c.args.works.items c.requires.works in
+    let all = count_works c.args.context.now.run.now c.args.context.now.step (length c.args.context.now.run.now.plan.nodes) c.args.works.items c.requires.works in
     let less = turn.0 in
     omega arith
 
 pub put_node-requires-clause-work : goal.put_node-requires-clause-work
 put_node-requires-clause-work c =
     let n = length c.loop-work.yielded in
-    let count = count_works c.args.run.now c.args.step n c.loop-work.sweep.works.items c.loop-work.invariant.swept.works in
+    let count = count_works c.args.context.now.run.now c.args.context.now.step n c.loop-work.sweep.works.items c.loop-work.invariant.swept.works in
     let gives = c.into_iter-work-iterator.ensures.into_iter_gives in
     let turn = YieldsList-turn (YieldsList-from_vec {s = c.into_iter-work-iterator.result} c.args.works.items gives.0 (gives.1 ∙ c.args.works.ok.0)) c.loop-work.yielded c.loop-work.work-iterator c.loop-work.yielded_by c.next.result c.next.new.self c.in-Some.work c.in-Some.is c.next.ensures.steps in
-    is_named c.args.run.now c.args.step (length c.args.run.now.plan.nodes) n c.args.works.items c.in-Some.work c.requires.works turn.0 turn.1 ∙ ap (tag c.args.run.now c.args.step) (sym count)
+    is_named c.args.context.now.run.now c.args.context.now.step (length c.args.context.now.run.now.plan.nodes) n c.args.works.items c.in-Some.work c.requires.works turn.0 turn.1 ∙ ap (tag c.args.context.now.run.now c.args.context.now.step) (sym count)
 
 pub loop-work-init : goal.loop-work-init
 loop-work-init c = record {
@@ -43,9 +43,9 @@ loop-work-init c = record {
 pub loop-work-preserved : goal.loop-work-preserved
 loop-work-preserved c =
     let n = length c.loop-work.yielded in
-    let count = count_works c.args.run.now c.args.step n c.loop-work.sweep.works.items c.loop-work.invariant.swept.works in
+    let count = count_works c.args.context.now.run.now c.args.context.now.step n c.loop-work.sweep.works.items c.loop-work.invariant.swept.works in
     record {
-      swept = subst (λ k. IsSwept c.args.run.now c.args.step k c.put_node.new.sweep) (ap (λ k. k + 1) count ∙ sym (length_push c.loop-work.yielded c.in-Some.work)) c.in_ok-put_node.ensures.swept;
+      swept = subst (λ k. IsSwept c.args.context.now.run.now c.args.context.now.step k c.put_node.new.sweep) (ap (λ k. k + 1) count ∙ sym (length_push c.loop-work.yielded c.in-Some.work)) c.in_ok-put_node.ensures.swept;
       same = each_more IsSame c.loop-work.yielded c.loop-work.sweep.works.items c.put_node.new.sweep.works.items c.in-Some.work (sym count) c.loop-work.invariant.same c.in_ok-put_node.ensures.same;
     }
 
@@ -53,8 +53,8 @@ pub returns-clause-swept : goal.returns-clause-swept
 returns-clause-swept c =
     let gives = c.into_iter-work-iterator.ensures.into_iter_gives in
     let ended = YieldsList-end (YieldsList-from_vec {s = c.into_iter-work-iterator.result} c.args.works.items gives.0 (gives.1 ∙ c.args.works.ok.0)) c.loop-work.yielded c.loop-work.work-iterator c.loop-work.yielded_by c.next.result c.next.new.self c.in-None.is c.next.ensures.steps in
-    let all = count_works c.args.run.now c.args.step (length c.args.run.now.plan.nodes) c.args.works.items c.requires.works in
-    subst (λ k. IsSwept c.args.run.now c.args.step k c.loop-work.sweep) (ended.1 ∙ all) c.loop-work.invariant.swept
+    let all = count_works c.args.context.now.run.now c.args.context.now.step (length c.args.context.now.run.now.plan.nodes) c.args.works.items c.requires.works in
+    subst (λ k. IsSwept c.args.context.now.run.now c.args.context.now.step k c.loop-work.sweep) (ended.1 ∙ all) c.loop-work.invariant.swept
 
 pub returns-clause-same : goal.returns-clause-same
 returns-clause-same c =

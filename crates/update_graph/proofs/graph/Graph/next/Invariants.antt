@@ -2,6 +2,3 @@ use Rattle.update_graph.proofs.graph.Graph.next.Given as goal
 
 abbrev pub ghosts-advance_all : goal.ghosts-advance_all
 ghosts-advance_all g a = record { name = a.blank.name; parts = a.blank.parts }
-
-abbrev pub ghosts-changes_of : goal.ghosts-changes_of
-ghosts-changes_of g a = record { name = a.blank.name; parts = a.blank.parts }

@@ -19,8 +19,12 @@ open_all-requires-clause-entered c = entered_first c.args.run.now c.requires
 pub finished-requires-clause-entered : goal.finished-requires-clause-entered
 finished-requires-clause-entered c = entered_first c.args.run.now c.requires
 
-pub finished-requires-clause-keys : goal.finished-requires-clause-keys
-finished-requires-clause-keys c = c.in_ok-keys.ensures ∙ ap (map (λ (table : PlainTable). keys table.rows)) (sym (first_sources c.args.run.now))
+pub finished-requires-clause-base : goal.finished-requires-clause-base
+finished-requires-clause-base c = record {
+  edges = c.in_ok-of.ensures;
+  keys = c.in_ok-new.ensures ∙ ap (map (λ (table : PlainTable). keys table.rows)) (sym (first_sources c.args.run.now));
+  sources = c.in_ok-opened_sources.ensures;
+}
 
 pub finished-requires-clause-swept : goal.finished-requires-clause-swept
 finished-requires-clause-swept c = whole_swept c.args.run.now 0 c.in_ok-sweep.sweep c.requires c.in_ok-sweep.ensures

@@ -1,4 +1,0 @@
-use Rattle.update_graph.proofs.graph.Graph.next_by.Given as goal
-
-abbrev pub ghosts-changes_of : goal.ghosts-changes_of
-ghosts-changes_of g a = record { name = a.blank.name; parts = a.blank.parts }
