@@ -5,7 +5,9 @@ use Rattle.key_lists.specs.Keys.{IsRising}
 use Rattle.key_lists.proofs.Every.{every_weaker}
 use Rattle.key_lists.proofs.Rising.{rising-append}
 use Rattle.row_set.specs.declared.ranges.Range.{Range}
-use Rattle.row_set.specs.Ranges.{keys_in, keys_of, IsRangeFrom, AreApart, IsStored}
+use Rattle.row_set.specs.Ranges.{keys_in, keys_of, IsRangeFrom, AreApart}
+use Rattle.row_set.specs.declared.runs.Runs.{Runs}
+use Rattle.row_set.specs.Runs.{IsStored, lying}
 use Rattle.row_set.specs.Sets.{IsKeySet}
 use Rattle.row_set.proofs.Held.{each_between, each_key, range_rises, length-keys_in}
 
@@ -74,8 +76,8 @@ keys_rise low (range ∷ ranges) h =
 pub keys_are_set : (ranges : List Range) → AreApart 0 ranges → IsKeySet (keys_of ranges)
 keys_are_set ranges h = record { rising = keys_rise 0 ranges h; small = keys_small 0 ranges h }
 
-pub stored_set : (keys : List ℕ) (ranges : List Range) (starts : List ℕ) → keys_of ranges ≡ keys → IsStored ranges starts → IsKeySet keys
-stored_set keys ranges starts is h = subst IsKeySet is (keys_are_set ranges h.apart)
+pub stored_set : (keys : List ℕ) (runs : Runs) → keys_of (lying runs) ≡ keys → IsStored runs → IsKeySet keys
+stored_set keys runs is h = subst IsKeySet is (keys_are_set (lying runs) h.apart)
 
 -- there are not more keys than there are numbers for them
 pub length_below : (low : ℕ) (ranges : List Range) → low ≤ 2 ^ 62 + 1 → AreApart low ranges → low + length (keys_of ranges) ≤ 2 ^ 62 + 1

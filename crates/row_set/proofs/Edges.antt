@@ -152,12 +152,6 @@ edges_keys first last from to ranges new h le small is lt same =
     without_by first last from to (left_edge first head ++ right_edge last tail) ranges new h (subst (λ those. AreApart 0 those) (sym same) (edges_apart first last from to ranges h le small is lt)) is same
     (λ key. edges_hold key first last (slice_range ranges from to) head tail le (met first last from to ranges lt h is))
 
-pub left_is_not : (first : ℕ) (head : Range) → first ≤ head.first → left_edge first head ≡ []
-left_is_not first head le = ap (λ b. cond b (span head.first (first - 1) ∷ []) []) (le-ltb head.first first le)
-
-pub right_is_not : (last : ℕ) (tail : Range) → tail.last ≤ last → right_edge last tail ≡ []
-right_is_not last tail le = ap (λ b. cond b (span (last + 1) tail.last ∷ []) []) (le-ltb last tail.last le)
-
 -- the edges that are left of the ranges that are met
 pub removed : (first last from to : ℕ) (ranges new : List Range) (head tail : Range) (left right : List Range) → AreApart 0 ranges → first ≤ last → last < 2 ^ 62 → Meets first last ranges from to → (from ≡ to → ⊥) → head ≡ get_or ranges from head → tail ≡ get_or ranges (to - 1) tail → left_edge first head ≡ left → right_edge last tail ≡ right → new ≡ take from ranges ++ ((left ++ right) ++ drop to ranges) → AreApart 0 new × (keys_of new ≡ without (keys_from first last) (keys_of ranges))
 removed first last from to ranges new head tail left right h le small is some at_head at_tail left_same right_same same =

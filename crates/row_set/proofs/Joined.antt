@@ -68,7 +68,7 @@ left_is ranges from i h =
     let le : i ≤ length ranges = omega (arith, h.within) in
     (apart_back 0 (take (i - from - 1) (drop from ranges)) (get_or ranges (i - 1) blank ∷ []) (subst (λ those. AreApart 0 those) (middle_last from i ranges h.some le) h.before)).0
 
-right_rest : (ranges : List Range) (from i : ℕ) → AreBoth ranges from i → AreApart 0 (get_or ranges i blank ∷ drop (i + 1) ranges)
+pub right_rest : (ranges : List Range) (from i : ℕ) → AreBoth ranges from i → AreApart 0 (get_or ranges i blank ∷ drop (i + 1) ranges)
 right_rest ranges from i h = subst (λ those. AreApart 0 those) (drop_more ranges i blank h.within) h.after
 
 pub in_order : (ranges : List Range) (from i : ℕ) → AreBoth ranges from i → (get_or ranges (i - 1) blank).last < (get_or ranges i blank).first

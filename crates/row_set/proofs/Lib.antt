@@ -1,7 +1,7 @@
+pub mod Adjacent
 pub mod Apart
 pub mod Batches
 pub mod Behind
-pub mod Clipped
 pub mod Coming
 pub mod Counts
 pub mod Edges
@@ -9,14 +9,16 @@ pub mod Held
 pub mod Joined
 pub mod Longest
 pub mod Lookups
+pub mod Lying
 pub mod Merged
 pub mod Middles
+pub mod Moved
 pub mod Opened
 pub mod Parted
 pub mod Places
-pub mod Runs
 pub mod Shifted
 pub mod Spliced
+pub mod Starts
 pub mod Swept
 pub mod United
 pub mod Windows

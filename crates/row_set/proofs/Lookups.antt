@@ -11,7 +11,8 @@ use Rattle.key_lists.proofs.Parts.{get-append}
 use Rattle.key_lists.proofs.Ranges.{each_from}
 use Rattle.key_lists.proofs.Among.{of_among}
 use Rattle.row_set.specs.declared.ranges.Range.{Range}
-use Rattle.row_set.specs.Ranges.{keys_before, keys_in, keys_of, start_of, holds, AreApart, IsStored}
+use Rattle.row_set.specs.Ranges.{keys_before, keys_in, keys_of, holds, AreApart}
+use Rattle.row_set.specs.Runs.{AreStarts, start_of}
 use Rattle.row_set.specs.Sets.{count_below, found, last_key}
 use Rattle.row_set.proofs.Held.{each_key, holds-true, holds_before, holds_after, among-keys, keys_of-append}
 use Rattle.row_set.proofs.Apart.{apart-drop, each_above, keys_above}
@@ -236,12 +237,11 @@ key_behind i position ranges le =
     ∙ ap (λ keys. slice_get keys (length (keys_of (take i ranges)) + (position - keys_before i ranges))) (sym (keys_of-append (take i ranges) (drop i ranges)) ∙ ap keys_of (take-append-drop i ranges))
     ∙ ap (slice_get (keys_of ranges)) place
 
-pub stored_rise : (ranges : List Range) (starts : List ℕ) → IsStored ranges starts → IsNonDecreasing starts
-stored_rise ranges starts h i j d le lt =
-    let at : (k : ℕ) → k < length starts → get_or starts k d ≡ keys_before (16 * (k + 1)) ranges = λ k few.
-    let next : k + 1 ≡ suc k = omega arith in
-    get_or_default starts k d 0 few ∙ h.counts.counted (suc k) (omega (arith, few)) ∙ ap (λ n. keys_before (16 * n) ranges) (sym next) in
-    omega (arith, at i (omega (arith, le, lt)), at j lt, keys_before_rise (16 * (i + 1)) (16 * (j + 1)) ranges (omega (arith, le)))
+pub starts_rise : (front : ℕ) (all : List Range) (starts : List ℕ) → AreStarts front all starts → IsNonDecreasing starts
+starts_rise front all starts h i j d le lt =
+    let at : (k : ℕ) → k < length starts → get_or starts k d ≡ keys_before (16 * suc k - front) (drop front all) = λ k few.
+    get_or_default starts k d 0 few ∙ h.counted (suc k) (omega (arith, few)) in
+    omega (arith, at i (omega (arith, le, lt)), at j lt, keys_before_rise (16 * suc i - front) (16 * suc j - front) (drop front all) (omega (arith, le)))
 
 abbrev pub IsStartCut : ℕ → List ℕ → ℕ → Type 0
 IsStartCut position starts i = IsPartitionPoint (λ start. start ≤ position) (λ start. position < start) starts i

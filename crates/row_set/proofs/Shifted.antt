@@ -1,18 +1,18 @@
 -- Keys and ranges that move by one difference.
-use Rattle.std.proofs.Common.{◌≡◌, refl, ap, ap₂, sym, ◌∙◌, subst, Bool, true, false, cond, not, ◌&&◌, ◌||◌, ℕ, zero, suc, ◌+◌, ◌-◌, ◌<◌, ◌≤◌, min, arith, List, [], ◌∷◌, ◌++◌, length, map, drop, slice_range, get_or, leb, le-leb, get_or-drop, get_or-take, length-drop, length-take-le, ℤ, pos, negsuc, ◌+ℤ◌, ◌≤ℤ◌, inl, inr}
-use Rattle.std.specs.List.{AllByRecursion, list_any, range_with_len}
-use Rattle.std.proofs.lemmas.Bool.{cases_lt, and_from, and_left, and_right, lt-leb, true≢false}
+use Rattle.std.proofs.Common.{◌≡◌, refl, ap, ap₂, sym, ◌∙◌, subst, cond, ℕ, zero, suc, ◌+◌, ◌-◌, ◌<◌, ◌≤◌, arith, List, [], ◌∷◌, ◌++◌, length, map, take, take_at, drop, slice_range, get_or, leb, le-leb, get_or-drop, get_or-take, length-drop, length-take-le, ℤ, pos, negsuc, ◌+ℤ◌, ◌≤ℤ◌}
+use Rattle.std.specs.List.{AllByRecursion, range_with_len}
+use Rattle.std.proofs.lemmas.Bool.{and_from, and_left, and_right, lt-leb}
 use Rattle.std.proofs.lemmas.Int.{ints}
-use Rattle.std.proofs.lemmas.List.{get_or-map, map-append}
-use Rattle.key_lists.proofs.Every.{all_from, map_same, map_map}
-use Rattle.key_lists.proofs.Booleans.{and_false}
+use Rattle.std.proofs.lemmas.List.{drop_at, drop-drop, get_or-map, get_or_default, length-map, map-append}
+use Rattle.key_lists.proofs.Every.{all_from, map_same}
 use Rattle.row_set.specs.declared.ranges.Range.{Range}
-use Rattle.row_set.specs.Ranges.{keys_in, keys_of, holds, IsRangeFrom, AreApart}
-use Rattle.row_set.specs.Moves.{moved_key, as_key, Lands, Shifts, clip, moved_range, shift}
-use Rattle.row_set.proofs.Held.{each_between, holds-true, holds_before, holds_after}
+use Rattle.row_set.specs.Ranges.{keys_in, keys_of, IsRangeFrom, AreApart}
+use Rattle.row_set.specs.Moves.{moved_key, as_key, Shifts, shift}
 use Rattle.row_set.proofs.Apart.{apart_weaker}
 use Rattle.row_set.proofs.Counts.{blank}
-use Rattle.row_set.proofs.Middles.{span}
+use Rattle.row_set.proofs.Held.{each_between}
+use Rattle.row_set.proofs.Places.{range_at}
+use Rattle.row_set.proofs.Spliced.{IsSplicing, length-splicing, splicing_read}
 
 pub pos-as_key : (number : ℤ) → pos 0 ≤ℤ number → pos (as_key number) ≡ number
 pos-as_key (pos n) h = refl
@@ -42,18 +42,7 @@ shifted_keys delta range h le =
     let size : range.last + 1 - range.first ≡ (shift delta range).last + 1 - (shift delta range).first = omega (arith, ints, first_is, last_is, le) in
     moved_row delta range.first (range.last + 1 - range.first) (shift delta range).first first_is ∙ ap (range_with_len (shift delta range).first) size
 
--- ranges that are apart, and their parts
-pub clip_apart : (low first last : ℕ) (ranges : List Range) → AreApart low ranges → first ≤ last → AllByRecursion (λ range. first ≤ range.last) ranges → AllByRecursion (λ range. range.first ≤ last) ranges → AreApart low (map (clip first last) ranges)
-clip_apart low first last [] h le lows highs = tt
-clip_apart low first last (range ∷ ranges) h le lows highs = (
-  record { above = omega (arith, h.0.above); ascends = omega (arith, h.0.ascends, lows.0, highs.0); small = omega (arith, h.0.small) },
-  apart_weaker (min range.last last + 2) (range.last + 2) (map (clip first last) ranges) (omega arith) (clip_apart (range.last + 2) first last ranges h.1 le lows.1 highs.1),
-)
-
-pub clip_within : (first last : ℕ) (ranges : List Range) → AllByRecursion (λ range. (key : ℕ) → range.first ≤ key → key ≤ range.last → (first ≤ key) × (key ≤ last)) (map (clip first last) ranges)
-clip_within first last [] = tt
-clip_within first last (range ∷ ranges) = (λ key above below. (omega (arith, above), omega (arith, below)), clip_within first last ranges)
-
+-- ranges that are apart stay so
 shift_apart : (delta : ℤ) (low there : ℕ) (ranges : List Range) → pos there ≤ℤ (pos low +ℤ delta) → AreApart low ranges → AllByRecursion (Shifts delta) ranges → AreApart there (map (shift delta) ranges)
 shift_apart delta low there [] le h k = tt
 shift_apart delta low there (range ∷ ranges) le h k =
@@ -67,68 +56,24 @@ shift_apart delta low there (range ∷ ranges) le h k =
       shift_apart delta (range.last + 2) (as_key (pos range.last +ℤ delta) + 2) ranges next h.1 k.1,
     )
 
-pub shifts_clipped : (delta : ℤ) (first last : ℕ) (ranges : List Range) → AllByRecursion (Lands first last delta) ranges → AllByRecursion (Shifts delta) (map (clip first last) ranges)
-shifts_clipped delta first last [] h = tt
-shifts_clipped delta first last (range ∷ ranges) h = (record { first_key = h.0.first_key; last_key = h.0.last_key }, shifts_clipped delta first last ranges h.1)
+pub shifted_apart : (delta : ℤ) (ranges : List Range) → AreApart 0 ranges → AllByRecursion (Shifts delta) ranges → AreApart 0 (map (shift delta) ranges)
+shifted_apart delta [] a k = tt
+shifted_apart delta (range ∷ those) a k =
+    let first_is : pos (as_key (pos range.first +ℤ delta)) ≡ pos range.first +ℤ delta = pos-as_key (pos range.first +ℤ delta) k.0.first_key.whole in
+    let here : pos (as_key (pos range.first +ℤ delta)) ≤ℤ (pos range.first +ℤ delta) = omega (arith, ints, first_is) in
+    let raised : AreApart range.first (range ∷ those) = (record { above = omega arith; ascends = a.0.ascends; small = a.0.small }, a.1) in
+    apart_weaker 0 (as_key (pos range.first +ℤ delta)) (map (shift delta) (range ∷ those)) (omega arith) (shift_apart delta range.first (as_key (pos range.first +ℤ delta)) (range ∷ those) here raised k)
 
-pub moved_apart : (delta : ℤ) (first last : ℕ) (ranges : List Range) → AreApart 0 ranges → first ≤ last → AllByRecursion (λ range. first ≤ range.last) ranges → AllByRecursion (λ range. range.first ≤ last) ranges → AllByRecursion (Lands first last delta) ranges → AreApart 0 (map (moved_range first last delta) ranges)
-moved_apart delta first last ranges h le lows highs lands =
-    subst (λ those. AreApart 0 those) (map_map (shift delta) (clip first last) ranges)
-    (begin (map (clip first last) ranges) (clip_apart 0 first last ranges h le lows highs) (shifts_clipped delta first last ranges lands))
-  where
-    begin : (those : List Range) → AreApart 0 those → AllByRecursion (Shifts delta) those → AreApart 0 (map (shift delta) those)
-    begin [] a k = tt
-    begin (range ∷ those) a k =
-        let first_is : pos (as_key (pos range.first +ℤ delta)) ≡ pos range.first +ℤ delta = pos-as_key (pos range.first +ℤ delta) k.0.first_key.whole in
-        let here : pos (as_key (pos range.first +ℤ delta)) ≤ℤ (pos range.first +ℤ delta) = omega (arith, ints, first_is) in
-        let raised : AreApart range.first (range ∷ those) = (record { above = omega arith; ascends = a.0.ascends; small = a.0.small }, a.1) in
-        apart_weaker 0 (as_key (pos range.first +ℤ delta)) (map (shift delta) (range ∷ those)) (omega arith) (shift_apart delta range.first (as_key (pos range.first +ℤ delta)) (range ∷ those) here raised k)
-
--- the keys of the parts that move
-pub clipped_move : (delta : ℤ) (first last : ℕ) (ranges : List Range) → AllByRecursion (λ range. (key : ℕ) → range.first ≤ key → key ≤ range.last → (first ≤ key) × (key ≤ last)) ranges → AllByRecursion (IsRangeFrom 0) ranges → AllByRecursion (Shifts delta) ranges → map (λ key. as_key (moved_key first last delta key)) (keys_of ranges) ≡ keys_of (map (shift delta) ranges)
-clipped_move delta first last [] w r k = refl
-clipped_move delta first last (range ∷ ranges) w r k =
+-- the keys that move
+pub moved_together : (delta : ℤ) (first last : ℕ) (ranges : List Range) → AllByRecursion (λ range. (key : ℕ) → range.first ≤ key → key ≤ range.last → (first ≤ key) × (key ≤ last)) ranges → AllByRecursion (IsRangeFrom 0) ranges → AllByRecursion (Shifts delta) ranges → map (λ key. as_key (moved_key first last delta key)) (keys_of ranges) ≡ keys_of (map (shift delta) ranges)
+moved_together delta first last [] w r k = refl
+moved_together delta first last (range ∷ ranges) w r k =
     map-append (λ key. as_key (moved_key first last delta key)) (keys_in range) (keys_of ranges)
     ∙ ap₂ ◌++◌
     (map_same (λ key. as_key (moved_key first last delta key)) (λ key. as_key (pos key +ℤ delta)) (keys_in range)
     (each_between (λ key. as_key (moved_key first last delta key) ≡ as_key (pos key +ℤ delta)) range.first range.last (λ key above below. inside first last key delta (w.0 key above below).0 (w.0 key above below).1))
     ∙ shifted_keys delta range k.0 r.0.ascends)
-    (clipped_move delta first last ranges w.1 r.1 k.1)
-
--- the keys of ranges that are met: those of the left edge, those that move, and those of the right edge
-holds_clip : (key first last : ℕ) (range : Range) → holds key (clip first last range) ≡ (holds key (span first last) && holds key range)
-holds_clip key first last range =
-    elim (cases_lt key first) [
-      | inl lt ↦ holds_before key (clip first last range) (omega arith) ∙ sym (ap (λ b. b && holds key range) (holds_before key (span first last) lt))
-      | inr from ↦
-          elim (cases_lt last key) [
-            | inl lt ↦ holds_after key (clip first last range) (omega arith) ∙ sym (ap (λ b. b && holds key range) (holds_after key (span first last) lt))
-            | inr to ↦
-                elim (cases_lt key range.first) [
-                  | inl lt ↦ holds_before key (clip first last range) (omega arith) ∙ sym (ap₂ ◌&&◌ (holds-true key (span first last) from to) (holds_before key range lt))
-                  | inr above ↦
-                      elim (cases_lt range.last key) [
-                        | inl lt ↦ holds_after key (clip first last range) (omega arith) ∙ sym (ap₂ ◌&&◌ (holds-true key (span first last) from to) (holds_after key range lt))
-                        | inr below ↦ holds-true key (clip first last range) (omega arith) (omega arith) ∙ sym (ap₂ ◌&&◌ (holds-true key (span first last) from to) (holds-true key range above below))
-                      ]
-                ]
-          ]
-    ]
-
-and_shared : (b x y : Bool) → ((b && x) || (b && y)) ≡ (b && (x || y))
-and_shared true x y = refl
-and_shared false x y = refl
-
-pub any_clip : (key first last : ℕ) (ranges : List Range) → list_any (holds key) (map (clip first last) ranges) ≡ (holds key (span first last) && list_any (holds key) ranges)
-any_clip key first last [] = sym (and_false (holds key (span first last)))
-any_clip key first last (range ∷ ranges) = ap₂ ◌||◌ (holds_clip key first last range) (any_clip key first last ranges) ∙ and_shared (holds key (span first last)) (holds key range) (list_any (holds key) ranges)
-
-pub halves : (l r b m : Bool) → (l || r) ≡ (not b && m) → (l || ((b && m) || r)) ≡ m
-halves true r true m e = absurd (true≢false e)
-halves true r false m e = e
-halves false r true true e = refl
-halves false r true false e = e
-halves false r false m e = e
+    (moved_together delta first last ranges w.1 r.1 k.1)
 
 -- one of the ranges that are met
 pub slice_at : (from to index : ℕ) (ranges : List Range) → from ≤ index → index < to → get_or (slice_range ranges from to) (index - from) blank ≡ get_or ranges index blank
@@ -148,3 +93,38 @@ pub shifted_at : (delta : ℤ) (from to index : ℕ) (ranges : List Range) → f
 shifted_at delta from to index ranges le lt within =
     get_or-map (shift delta) (slice_range ranges from to) (index - from) blank blank (omega (arith, length-slice from to ranges (omega arith) within))
     ∙ ap (shift delta) (slice_at from to index ranges le lt)
+
+-- the parts of a list in which some elements have been replaced
+pub placed : (from to : ℕ) (old parts new : List Range) → from ≤ to → to ≤ length old → length parts ≡ to - from → new ≡ take from old ++ (parts ++ drop to old) → (take from new ≡ take from old) × ((slice_range new from to ≡ parts) × (drop to new ≡ drop to old))
+placed from to old parts new order within size is =
+    let fore : length (take from old) ≡ from = length-take-le from old (omega (arith, order, within)) in
+    let whole : to ≡ from + (to - from) = omega (arith, order) in
+    let after : drop from new ≡ parts ++ drop to old = ap (drop from) is ∙ drop_at (take from old) (parts ++ drop to old) from fore in (
+      ap (take from) is ∙ take_at (take from old) (parts ++ drop to old) from fore,
+      (
+        ap (take (to - from)) after ∙ take_at parts (drop to old) (to - from) size,
+        ap (λ n. drop n new) whole ∙ sym (drop-drop (to - from) from new) ∙ ap (drop (to - from)) after ∙ drop_at parts (drop to old) (to - from) size,
+      ),
+    )
+
+-- the range at an index to which a move of ranges, one after another, has come
+pub record IsNext (delta : ℤ) (old new : List Range) (index : ℕ) (range : Range) : Type 0 where
+  pub within : index < length new
+  pub same : range ≡ get_or old index blank
+  pub is : IsRangeFrom 0 range
+  pub moves : Shifts delta range
+
+pub next_is : (delta : ℤ) (from to index : ℕ) (old new : List Range) (range : Range) → from ≤ to → to ≤ length old → from ≤ index → index < to → AreApart 0 (slice_range old from to) → AllByRecursion (Shifts delta) (slice_range old from to) → IsSplicing old from to (map (shift delta) (slice_range old from to)) (index - from) index new → range ≡ get_or new index range → IsNext delta old new index range
+next_is delta from to index old new range order within after lt apart lands found read =
+    let others = map (shift delta) (slice_range old from to) in
+    let begins : from ≤ length old = omega (arith, order, within) in
+    let many : length others ≡ to - from = length-map (slice_range old from to) (shift delta) ∙ length-slice from to old order within in
+    let size : length new ≡ length old = omega (arith, length-splicing old from to others (index - from) index new found begins (omega (arith, many, lt)), after, lt, within) in
+    let same : range ≡ get_or old index blank =
+    read ∙ get_or_default new index range blank (omega (arith, size, lt, within)) ∙ splicing_read old from to others (index - from) index new blank found begins (omega (arith, many, lt)) lt in
+    record {
+      within = omega (arith, size, lt, within);
+      same = same;
+      is = subst (λ (range : Range). IsRangeFrom 0 range) (slice_at from to index old after lt ∙ sym same) (range_at 0 (slice_range old from to) apart (index - from) blank (omega (arith, length-slice from to old order within, after, lt)));
+      moves = subst (λ (range : Range). Shifts delta range) (sym same) (shifts_at delta from to index old lands after lt within);
+    }

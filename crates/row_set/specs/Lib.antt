@@ -2,4 +2,5 @@ pub mod Choice
 pub mod Gaps
 pub mod Moves
 pub mod Ranges
+pub mod Runs
 pub mod Sets

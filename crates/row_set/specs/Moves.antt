@@ -2,11 +2,9 @@
 --     moved_key first last delta key      the number to which a key moves, where those from first to last move by delta
 --     moved_keys first last delta keys      the keys, of which those from first to last have moved
 --     IsKey number      the number is one that a key may be
---     clip first last range      what a range has from first to last
 --     shift delta range      the range, moved
 --     Shifts delta range      both ends of the range are keys once they have moved
---     moved_range first last delta range      what a range has from first to last, moved
-use Rattle.std.specs.Prelude.{ℕ, ◌^◌, ◌&&◌, List, map, min, max, nat_le, if◌then◌else◌, ℤ, pos, negsuc, ◌+ℤ◌, ◌≤ℤ◌, ◌<ℤ◌}
+use Rattle.std.specs.Prelude.{ℕ, ◌^◌, ◌&&◌, List, map, nat_le, if◌then◌else◌, ℤ, pos, negsuc, ◌+ℤ◌, ◌≤ℤ◌, ◌<ℤ◌}
 use Rattle.row_set.specs.declared.ranges.Range.{Range}
 
 abbrev pub moved_key : ℕ → ℕ → ℤ → ℕ → ℤ
@@ -24,20 +22,9 @@ pub record IsKey (number : ℤ) : Type 0 where
   pub whole : pos 0 ≤ℤ number
   pub small : number <ℤ pos (2 ^ 62)
 
-abbrev pub clip : ℕ → ℕ → Range → Range
-clip first last range = record { first = max range.first first; last = min range.last last }
-
 abbrev pub shift : ℤ → Range → Range
 shift delta range = record { first = as_key (pos range.first +ℤ delta); last = as_key (pos range.last +ℤ delta) }
 
 pub record Shifts (delta : ℤ) (range : Range) : Type 0 where
   pub first_key : IsKey (pos range.first +ℤ delta)
   pub last_key : IsKey (pos range.last +ℤ delta)
-
-abbrev pub moved_range : ℕ → ℕ → ℤ → Range → Range
-moved_range first last delta range = shift delta (clip first last range)
-
--- both ends of what a range has from first to last are keys once they have moved
-pub record Lands (first last : ℕ) (delta : ℤ) (range : Range) : Type 0 where
-  pub first_key : IsKey (pos (max range.first first) +ℤ delta)
-  pub last_key : IsKey (pos (min range.last last) +ℤ delta)

@@ -4,14 +4,13 @@
 --     ranges_of keys      the longest ranges of rising keys
 --     AreApart low ranges      the ranges ascend from low on, and a key is left out between any two of them
 --     keys_before index ranges      how many keys the ranges before this one hold
---     start_of starts block      the number of keys before a block, as the starts have it
---     AreStarts ranges starts      which keys are counted: those before the 16th range, before the 32nd, and so on
+--     AreRanges ranges      each holds a key, all hold keys below 2 ^ 62 alone, and there are not too many to be counted
 --     Meets low high ranges from to      which ranges meet the keys from low to high
+--     IsPart start key old new index      the ranges from start on are parted at a key, before the one at an index
 --     stretched first last met      the range from first to last, stretched over those that it meets
 --     left_edge first range      what is left of the range before first, if anything
 --     right_edge last range      what is left of it after last, if anything
---     IsStored ranges starts      how a set is kept
-use Rattle.std.specs.Prelude.{◌≡◌, ℕ, ◌+◌, ◌-◌, ◌*◌, ◌^◌, ◌<◌, ◌≤◌, ◌==◌, ◌&&◌, Bool, List, [], ◌∷◌, length, take, drop, slice_range, slice_index_or, min, max, nat_le, nat_lt, if◌then◌else◌}
+use Rattle.std.specs.Prelude.{◌≡◌, ℕ, ◌+◌, ◌-◌, ◌^◌, ◌<◌, ◌≤◌, ◌==◌, ◌&&◌, Bool, List, [], ◌∷◌, length, take, drop, slice_range, slice_index_or, min, max, nat_le, nat_lt, if◌then◌else◌}
 use Rattle.std.specs.List.{AllByRecursion, flat_map, range_with_len}
 use Rattle.row_set.specs.declared.ranges.Range.{Range}
 
@@ -53,13 +52,9 @@ AreApart low (range ∷ ranges) = IsRangeFrom low range × AreApart (range.last 
 abbrev pub keys_before : ℕ → List Range → ℕ
 keys_before index ranges = length (keys_of (take index ranges))
 
--- none before the first block
-abbrev pub start_of : List ℕ → ℕ → ℕ
-start_of starts block = slice_index_or (0 ∷ starts) block 0
-
-pub record AreStarts (ranges : List Range) (starts : List ℕ) : Type 0 where
-  pub counted : (block : ℕ) → block ≤ length starts → start_of starts block ≡ keys_before (16 * block) ranges
-  pub within : 16 * length starts ≤ length ranges - 1
+pub record AreRanges (ranges : List Range) : Type 0 where
+  pub each : AllByRecursion (IsRangeFrom 0) ranges
+  pub few : length (keys_of ranges) ≤ 2 ^ 62 + 1
 
 abbrev pub stretched : ℕ → ℕ → List Range → Range
 stretched first last [] = record { first = first; last = last }
@@ -71,11 +66,6 @@ left_edge first range = if nat_lt range.first first then (record range { last = 
 abbrev pub right_edge : ℕ → Range → List Range
 right_edge last range = if nat_lt last range.last then (record range { first = last + 1 }) ∷ [] else []
 
-pub record IsStored (ranges : List Range) (starts : List ℕ) : Type 0 where
-  pub apart : AreApart 0 ranges
-  pub counts : AreStarts ranges starts
-  pub full : length ranges ≤ 16 * length starts + 16
-
 -- the ranges from `from` up to `to` are those that end at low or after it and begin at high or before it
 pub record Meets (low high : ℕ) (ranges : List Range) (from to : ℕ) : Type 0 where
   pub order : from ≤ to
@@ -84,3 +74,14 @@ pub record Meets (low high : ℕ) (ranges : List Range) (from to : ℕ) : Type 0
   pub lows : AllByRecursion (λ range. low ≤ range.last) (slice_range ranges from to)
   pub highs : AllByRecursion (λ range. range.first ≤ high) (slice_range ranges from to)
   pub after : AllByRecursion (λ range. high < range.first) (drop to ranges)
+
+-- from start on, those before the index end before the key, and the others begin at it or after it; the keys stay, and so do
+-- the ranges before start
+pub record IsPart (start key : ℕ) (old new : List Range) (index : ℕ) : Type 0 where
+  pub order : start ≤ index
+  pub within : index ≤ length new
+  pub front : take start new ≡ take start old
+  pub keys : keys_of (drop start new) ≡ keys_of (drop start old)
+  pub ends : AllByRecursion (λ range. range.last < key) (slice_range new start index)
+  pub apart : (low : ℕ) → AreApart low (drop start old) → AreApart low (slice_range new start index)
+  pub begins : AreApart key (drop index new)

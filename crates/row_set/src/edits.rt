@@ -3,28 +3,10 @@ ghost use Rattle.std.specs.Prelude.{◌≡◌, ℕ, ◌+◌, ◌-◌, ◌*◌, �
 ghost use Rattle.std.specs.List.{AllByRecursion};
 ghost use Rattle.key_lists.specs.Keys.{without};
 ghost use Rattle.row_set.specs.Gaps.{listed};
-ghost use Rattle.row_set.specs.Ranges.{AreApart, AreStarts, IsStored, keys_before, keys_of, keys_from, left_edge, right_edge, start_of, stretched};
+ghost use Rattle.row_set.specs.Ranges.{left_edge, right_edge, stretched};
 ghost use Rattle.row_set.specs.Sets.{united};
 
-use crate::ranges::{BLOCK, Range};
-use crate::search::{count_in, keys_before_block};
-use std::alloc::AllocError;
-
-/// Makes room for some more ranges and the starts of their blocks.
-pub(crate) fn make_room(
-    ranges: &mut Vec<Range>,
-    starts: &mut Vec<u64>,
-    more: usize,
-) -> Result<(), AllocError>
-    ensures ranges { ranges.new.items ≡ ranges.old.items }
-    ensures starts { starts.new.items ≡ starts.old.items }
-    ensures ranges_room { OnOk result (vec_len ranges.new + more ≤ vec_capacity ranges.new) }
-    ensures starts_room { OnOk result (vec_len ranges.new + more ≤ 16 * vec_capacity starts.new + 16) }
-{
-    ranges.reserve(more)?;
-    let blocks = (ranges.len() + more) / BLOCK;
-    starts.reserve(blocks.saturating_sub(starts.len()))
-}
+use crate::ranges::Range;
 
 /// Puts a range at an index, in the place of the one there or, where that is one of the last to stay, before it.
 fn put(ranges: &mut Vec<Range>, at: usize, to: usize, range: Range)
@@ -74,36 +56,34 @@ pub(crate) fn splice(ranges: &mut Vec<Range>, from: usize, to: usize, others: &[
     }
 }
 
-/// Counts the keys before each block anew from the range at `from` on. The starts of those before are right, and there is
-/// room.
-pub(crate) fn recount(starts: &mut Vec<u64>, ranges: &[Range], from: usize)
-    requires within { from ≤ length ranges.now }
-    requires before { (block : ℕ) → block ≤ length starts.old.items → 16 * block < from → start_of starts.old.items block ≡ keys_before (16 * block) ranges.now }
-    requires room { length ranges.now ≤ 16 * vec_capacity starts.old + 16 }
-    requires apart { AreApart 0 ranges.now }
-    ensures stored { IsStored ranges.now starts.new.items }
-    ensures capacity { vec_capacity starts.old ≤ vec_capacity starts.new }
+/// Puts other ranges in the place of as many from an index on.
+pub(crate) fn put_at(ranges: &mut [Range], from: usize, others: &[Range])
+    requires { from + length others.now ≤ length ranges.old }
+    ensures { ranges.new ≡ take from ranges.old ++ (others.now ++ drop (from + length others.now) ranges.old) }
 {
-    starts.truncate(from.saturating_sub(1) / BLOCK);
-    count_rest(starts, ranges);
+    ranges[from..from + others.len()].copy_from_slice(others);
 }
 
-/// Puts the starts of the blocks that are missing behind those that are there. There is room for them.
-fn count_rest(starts: &mut Vec<u64>, ranges: &[Range])
-    requires starts { AreStarts ranges.now starts.old.items }
-    requires room { length ranges.now ≤ 16 * vec_capacity starts.old + 16 }
-    requires apart { AreApart 0 ranges.now }
-    ensures stored { IsStored ranges.now starts.new.items }
-    ensures capacity { vec_capacity starts.old ≤ vec_capacity starts.new }
+/// Puts other ranges in the place of those up to `end`, of which `from` stay, behind the first `front` places. Those that stay
+/// are moved so that the places up to `end` are full, and the places before them are free: it says how many.
+pub(crate) fn slide(
+    ranges: &mut [Range],
+    front: usize,
+    from: usize,
+    end: usize,
+    others: &[Range],
+) -> usize
+    requires order { front + from ≤ end }
+    requires within { end ≤ length ranges.old }
+    requires places { from + length others.now ≤ end }
+    ensures front { result + from + length others.now ≡ end }
+    ensures ranges { drop result ranges.new ≡ take from (drop front ranges.old) ++ (others.now ++ drop end ranges.old) }
+    ensures len { length ranges.new ≡ length ranges.old }
 {
-    let mut next = keys_before_block(starts, starts.len());
-    let mut from = starts.len() * BLOCK;
-    while from + BLOCK < ranges.len() {
-        let to = from + BLOCK;
-        next += count_in(&ranges[from..to]);
-        let _ = starts.push(next);
-        from = to;
-    }
+    let place = end - others.len();
+    ranges.copy_within(front..front + from, place - from);
+    put_at(ranges, place, others);
+    place - from
 }
 
 /// The range from `first` to `last`, stretched over those that it meets.
@@ -145,25 +125,4 @@ pub(crate) fn right_edge(range: Range, last: u64) -> Option<Range>
     } else {
         None
     }
-}
-
-/// Adds every key from `first` to `last`, where all ranges end before them: the last one is stretched over them where it
-/// touches them, or else a range of their own is put behind it. There is room for that.
-pub(crate) fn append_keys(ranges: &mut Vec<Range>, starts: &mut Vec<u64>, first: u64, last: u64)
-    requires stored { IsStored ranges.old.items starts.old.items }
-    requires behind { AllByRecursion (λ range. range.last < first) ranges.old.items }
-    requires order { first ≤ last }
-    requires small { last < 2 ^ 62 }
-    requires ranges_room { vec_len ranges.old < vec_capacity ranges.old }
-    requires starts_room { vec_len ranges.old + 1 ≤ 16 * vec_capacity starts.old + 16 }
-    ensures stored { IsStored ranges.new.items starts.new.items }
-    ensures keys { keys_of ranges.new.items ≡ united (keys_from first last) (keys_of ranges.old.items) }
-{
-    let count = ranges.len();
-    if count > 0 && ranges[count - 1].last + 1 == first {
-        ranges[count - 1].last = last;
-        return;
-    }
-    let _ = ranges.push(Range { first, last });
-    count_rest(starts, ranges);
 }

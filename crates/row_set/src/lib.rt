@@ -7,11 +7,14 @@
 #![tactic(auto)]
 
 mod algebra;
+mod blocks;
+mod changes;
 mod edits;
 mod gaps;
 mod iter;
 mod ranges;
 mod rows;
+mod runs;
 mod search;
 mod shifts;
 mod sweeps;

@@ -8,41 +8,36 @@ ghost use Rattle.row_set.specs.Moves.{IsKey, moved_key, moved_keys};
 ghost use Rattle.row_set.specs.Sets.{IsKeySet, count_below, common, found, last_key, united};
 
 use crate::algebra::{Choice, KEYS_END, rest_from, stretch_from};
-use crate::edits::{append_keys, make_room, recount};
+use crate::changes::{put_range, put_ranges, take_range, take_ranges};
 use crate::iter::Keys;
-use crate::ranges::{BLOCK, Range};
-use crate::search::{self, all_end_before};
+use crate::ranges::Range;
+use crate::runs::Runs;
+use crate::search;
 use crate::shifts::shift_keys;
-use crate::sweeps::{insert_ranges, remove_ranges};
 use std::alloc::{AllocError, Global};
 use std::marker::Model;
 
 /// An ordered set of row keys. A contract sees the rising list of the keys.
 pub struct RowSet {
-    /// The longest ranges, rising.
-    ranges: Vec<Range>,
-    /// The number of keys before the first range of each block but the first. A set of few ranges has none.
-    starts: Vec<u64>,
+    runs: Runs,
 }
 
 impl Drop for RowSet {
     fn drop(self) {
-        let Self {
-            ranges: _,
-            starts: _,
-        } = self;
+        let Self { runs: _ } = self;
     }
 }
 
 impl Model for RowSet {
     ghost use Rattle.std.specs.Prelude.{List, ℕ};
-    ghost use Rattle.row_set.specs.Ranges.{keys_of, IsStored};
+    ghost use Rattle.row_set.specs.Ranges.{keys_of};
+    ghost use Rattle.row_set.specs.Runs.{IsStored, lying};
 
     ghost Value = { List ℕ };
 
-    ghost view = { λ set. keys_of set.ranges.items };
+    ghost view = { λ set. keys_of (lying set.runs) };
 
-    ghost invariant = { λ set. IsStored set.ranges.items set.starts.items };
+    ghost invariant = { λ set. IsStored set.runs };
 }
 
 impl RowSet {
@@ -51,8 +46,7 @@ impl RowSet {
         ensures { result ≡ [] }
     {
         RowSet {
-            ranges: Vec::new(alloc),
-            starts: Vec::new(alloc),
+            runs: Runs::new(alloc),
         }
     }
 
@@ -60,10 +54,9 @@ impl RowSet {
     pub fn with_capacity(alloc: Global, ranges: usize) -> Result<RowSet, AllocError>
         ensures { IfOk result (λ keys. keys ≡ []) }
     {
-        Ok(RowSet {
-            ranges: Vec::with_capacity(alloc, ranges)?,
-            starts: Vec::with_capacity(alloc, ranges / BLOCK)?,
-        })
+        let mut runs = Runs::new(alloc);
+        runs.reserve(ranges)?;
+        Ok(RowSet { runs })
     }
 
     /// The set of these keys, in any order.
@@ -104,7 +97,7 @@ impl RowSet {
         ensures range { result ≡ find (holds key) (ranges_of self.now) }
         ensures keys { IsKeySet self.now }
     {
-        search::range_at(&self.ranges, key)
+        search::range_at(self.ranges(), key)
     }
 
     /// The number of keys.
@@ -112,7 +105,7 @@ impl RowSet {
         ensures count { result ≡ length self.now }
         ensures keys { IsKeySet self.now }
     {
-        search::count_keys(&self.ranges, &self.starts)
+        self.runs.len()
     }
 
     /// Whether there is no key.
@@ -120,7 +113,7 @@ impl RowSet {
         ensures empty { result ≡ (length self.now == 0) }
         ensures keys { IsKeySet self.now }
     {
-        self.ranges.is_empty()
+        self.ranges().is_empty()
     }
 
     /// The key at a position, or None past the end.
@@ -128,7 +121,7 @@ impl RowSet {
         ensures key { result ≡ slice_get self.now position }
         ensures keys { IsKeySet self.now }
     {
-        search::key_at(&self.ranges, &self.starts, position)
+        self.runs.key_at(position)
     }
 
     /// The position of a key, or else, as an error, the number of smaller keys.
@@ -136,7 +129,7 @@ impl RowSet {
         ensures position { result ≡ found key self.now }
         ensures keys { IsKeySet self.now }
     {
-        search::position_of(&self.ranges, &self.starts, key)
+        self.runs.position_of(key)
     }
 
     /// The number of smaller keys.
@@ -154,7 +147,7 @@ impl RowSet {
         ensures key { result ≡ slice_get self.now 0 }
         ensures keys { IsKeySet self.now }
     {
-        search::first_key(&self.ranges)
+        search::first_key(self.ranges())
     }
 
     /// The greatest key, or None where there is none.
@@ -162,7 +155,7 @@ impl RowSet {
         ensures key { result ≡ last_key self.now }
         ensures keys { IsKeySet self.now }
     {
-        search::last_key(&self.ranges)
+        search::last_key(self.ranges())
     }
 
     /// The least key that is not below this one, or None where all are.
@@ -170,7 +163,7 @@ impl RowSet {
         ensures next { result ≡ find (nat_le key) self.now }
         ensures keys { IsKeySet self.now }
     {
-        search::next_key(&self.ranges, key)
+        search::next_key(self.ranges(), key)
     }
 
     /// The keys, rising.
@@ -192,7 +185,7 @@ impl RowSet {
         ensures apart { AreApart 0 result.now }
         ensures keys { IsKeySet self.now }
     {
-        &self.ranges
+        self.runs.as_slice()
     }
 
     /// Adds every key from `first` to `last`. After a refusal the set is as before.
@@ -202,13 +195,11 @@ impl RowSet {
         ensures ok { OnOk result (self.new ≡ united (keys_from first last) self.old) }
         ensures err { OnErr result (self.new ≡ self.old) }
     {
-        make_room(&mut self.ranges, &mut self.starts, 1)?;
-        if all_end_before(&self.ranges, first) {
-            append_keys(&mut self.ranges, &mut self.starts, first, last);
+        if self.runs.stretch(first, last) {
             return Ok(());
         }
-        let from = insert_ranges(&mut self.ranges, &[Range { first, last }]);
-        recount(&mut self.starts, &self.ranges, from);
+        self.runs.reserve(1)?;
+        put_range(&mut self.runs, first, last);
         Ok(())
     }
 
@@ -219,9 +210,8 @@ impl RowSet {
         ensures ok { OnOk result (self.new ≡ without (keys_from first last) self.old) }
         ensures err { OnErr result (self.new ≡ self.old) }
     {
-        make_room(&mut self.ranges, &mut self.starts, 1)?;
-        let from = remove_ranges(&mut self.ranges, &[Range { first, last }]);
-        recount(&mut self.starts, &self.ranges, from);
+        self.runs.reserve(1)?;
+        take_range(&mut self.runs, first, last);
         Ok(())
     }
 
@@ -234,9 +224,8 @@ impl RowSet {
             return Ok(());
         }
         let others = keys.ranges();
-        make_room(&mut self.ranges, &mut self.starts, others.len())?;
-        let from = insert_ranges(&mut self.ranges, others);
-        recount(&mut self.starts, &self.ranges, from);
+        self.runs.reserve(others.len())?;
+        put_ranges(&mut self.runs, others);
         Ok(())
     }
 
@@ -249,9 +238,8 @@ impl RowSet {
             return Ok(());
         }
         let others = keys.ranges();
-        make_room(&mut self.ranges, &mut self.starts, others.len())?;
-        let from = remove_ranges(&mut self.ranges, others);
-        recount(&mut self.starts, &self.ranges, from);
+        self.runs.reserve(others.len())?;
+        take_ranges(&mut self.runs, others);
         Ok(())
     }
 
@@ -265,9 +253,8 @@ impl RowSet {
         ensures ok { OnOk result (self.new ≡ moved_keys first last delta self.old) }
         ensures err { OnErr result (self.new ≡ self.old) }
     {
-        make_room(&mut self.ranges, &mut self.starts, 2)?;
-        let from = shift_keys(&mut self.ranges, first, last, delta);
-        recount(&mut self.starts, &self.ranges, from);
+        self.runs.reserve(2)?;
+        shift_keys(&mut self.runs, first, last, delta);
         Ok(())
     }
 
@@ -297,7 +284,7 @@ impl RowSet {
         ensures { IfOk result (λ keys. keys ≡ take count (drop first self.now)) }
     {
         let end = first.saturating_add(count).min(self.len());
-        let mut window = RowSet::new(*self.ranges.allocator());
+        let mut window = RowSet::new(*self.runs.all.allocator());
         if first < end {
             let low = self.get(first).unwrap();
             let high = self.get(end - 1).unwrap();
@@ -310,10 +297,13 @@ impl RowSet {
     pub fn copy(&self) -> Result<RowSet, AllocError>
         ensures { IfOk result (λ keys. keys ≡ self.now) }
     {
-        let alloc = *self.ranges.allocator();
+        let alloc = *self.runs.all.allocator();
         Ok(RowSet {
-            ranges: Vec::from_slice(alloc, &self.ranges)?,
-            starts: Vec::from_slice(alloc, &self.starts)?,
+            runs: Runs {
+                all: Vec::from_slice(alloc, &self.runs.all)?,
+                front: self.runs.front,
+                starts: Vec::from_slice(alloc, &self.runs.starts)?,
+            },
         })
     }
 
@@ -324,7 +314,7 @@ impl RowSet {
         let mut first = self.ranges();
         let mut second = other.ranges();
         let room = choice.room(first.len(), second.len());
-        let mut kept = RowSet::with_capacity(*self.ranges.allocator(), room)?;
+        let mut kept = RowSet::with_capacity(*self.runs.all.allocator(), room)?;
         let mut at = 0;
         while at < KEYS_END {
             let here = stretch_from(first, at);

@@ -3,10 +3,10 @@ ghost use Rattle.std.specs.Prelude.{◌≡◌, ◌<◌, ◌≤◌, length, take,
 ghost use Rattle.std.specs.Bool.{OnTrue};
 ghost use Rattle.std.specs.List.{AllByRecursion};
 ghost use Rattle.std.specs.List.Sorted.{IsNonDecreasing, IsPartitionPoint};
-ghost use Rattle.row_set.specs.Ranges.{AreApart, IsStored, Meets, holds, keys_before, keys_of, start_of};
-ghost use Rattle.row_set.specs.Sets.{found, last_key};
+ghost use Rattle.row_set.specs.Ranges.{AreApart, AreRanges, Meets, holds, keys_of};
+ghost use Rattle.row_set.specs.Sets.{last_key};
 
-use crate::ranges::{BLOCK, Range};
+use crate::ranges::Range;
 
 /// How many of the ranges end before the key. Where all do, this is seen at once.
 pub(crate) fn ended_before(ranges: &[Range], key: u64) -> usize
@@ -84,7 +84,7 @@ pub(crate) fn meeting(ranges: &[Range], low: u64, high: u64) -> (usize, usize)
 
 /// How many keys the ranges hold.
 pub(crate) fn count_in(ranges: &[Range]) -> u64
-    requires { AreApart 0 ranges.now }
+    requires { AreRanges ranges.now }
     ensures { result ≡ length (keys_of ranges.now) }
 {
     let mut count = 0;
@@ -92,32 +92,6 @@ pub(crate) fn count_in(ranges: &[Range]) -> u64
         count += range.last - range.first + 1;
     }
     count
-}
-
-/// The number of keys before a block.
-pub(crate) fn keys_before_block(starts: &[u64], block: usize) -> u64
-    requires { block ≤ length starts.now }
-    ensures { result ≡ start_of starts.now block }
-{
-    if block == 0 { 0 } else { starts[block - 1] }
-}
-
-/// The number of keys in the ranges before this one. Those of its own block are counted.
-pub(crate) fn keys_before(ranges: &[Range], starts: &[u64], index: usize) -> u64
-    requires stored { IsStored ranges.now starts.now }
-    requires within { index ≤ length ranges.now }
-    ensures { result ≡ keys_before index ranges.now }
-{
-    let block = (index / BLOCK).min(starts.len());
-    keys_before_block(starts, block) + count_in(&ranges[block * BLOCK..index])
-}
-
-/// The number of keys in all ranges.
-pub(crate) fn count_keys(ranges: &[Range], starts: &[u64]) -> u64
-    requires { IsStored ranges.now starts.now }
-    ensures { result ≡ length (keys_of ranges.now) }
-{
-    keys_before(ranges, starts, ranges.len())
 }
 
 /// The range that holds the key.
@@ -130,20 +104,6 @@ pub(crate) fn range_at(ranges: &[Range], key: u64) -> Option<Range>
         Some(ranges[index])
     } else {
         None
-    }
-}
-
-/// The position of the key among those of the ranges, or else, as an error, the number of smaller ones.
-pub(crate) fn position_of(ranges: &[Range], starts: &[u64], key: u64) -> Result<u64, u64>
-    requires { IsStored ranges.now starts.now }
-    ensures { result ≡ found key (keys_of ranges.now) }
-{
-    let index = ended_before(ranges, key);
-    let before = keys_before(ranges, starts, index);
-    if index < ranges.len() && ranges[index].first <= key {
-        Ok(before + (key - ranges[index].first))
-    } else {
-        Err(before)
     }
 }
 
@@ -161,7 +121,7 @@ pub(crate) fn next_key(ranges: &[Range], key: u64) -> Option<u64>
 }
 
 /// How many of the rising positions are not past this one.
-fn started_by(starts: &[u64], position: u64) -> usize
+pub(crate) fn started_by(starts: &[u64], position: u64) -> usize
     requires { IsNonDecreasing starts.now }
     ensures within { result ≤ length starts.now }
     ensures cut { IsPartitionPoint (λ start. start ≤ position) (λ start. position < start) starts.now result }
@@ -169,18 +129,8 @@ fn started_by(starts: &[u64], position: u64) -> usize
     starts.partition_point(|start| *start <= position)
 }
 
-/// The key at a position.
-pub(crate) fn key_at(ranges: &[Range], starts: &[u64], position: u64) -> Option<u64>
-    requires { IsStored ranges.now starts.now }
-    ensures { result ≡ slice_get (keys_of ranges.now) position }
-{
-    let block = started_by(starts, position);
-    let offset = position - keys_before_block(starts, block);
-    key_in(&ranges[block * BLOCK..], offset)
-}
-
 /// The key at a position, looked for from the first range on.
-fn key_in(ranges: &[Range], position: u64) -> Option<u64>
+pub(crate) fn key_in(ranges: &[Range], position: u64) -> Option<u64>
     requires { AreApart 0 ranges.now }
     ensures { result ≡ slice_get (keys_of ranges.now) position }
 {

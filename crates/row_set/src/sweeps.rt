@@ -1,5 +1,5 @@
 //! Edits of a set's ranges by many others, in one sweep from the least key on.
-ghost use Rattle.std.specs.Prelude.{◌≡◌, ◌+◌, ◌^◌, ◌<◌, ◌≤◌, length, take, vec_len, vec_capacity};
+ghost use Rattle.std.specs.Prelude.{◌≡◌, ◌+◌, ◌^◌, ◌<◌, ◌≤◌, length, take, drop, vec_len, vec_capacity};
 ghost use Rattle.std.specs.List.{AllByRecursion};
 ghost use Rattle.key_lists.specs.Keys.{without};
 ghost use Rattle.row_set.specs.Gaps.{ArePassed, IsGap, around};
@@ -11,14 +11,22 @@ use crate::gaps::{Gap, count_given, pass, put_after, put_before, with_places};
 use crate::ranges::Range;
 use crate::search::{few_ended_before, meeting};
 
-/// An empty gap past the ranges that end before the others.
-fn gap_for(ranges: &[Range], others: &[Range]) -> Gap
-    requires { AreApart 0 ranges.now }
+/// The places that are free before the ranges or, where none is, an empty gap past the ranges that end before the others.
+fn gap_for(ranges: &[Range], front: usize, others: &[Range]) -> Gap
+    requires free { front ≤ length ranges.now }
+    requires apart { AreApart 0 (drop front ranges.now) }
     ensures gap { IsGap result ranges.now }
-    ensures same { around result ranges.now ≡ ranges.now }
+    ensures same { around result ranges.now ≡ drop front ranges.now }
     ensures passed { ArePassed (take result.start ranges.now) others.now }
-    ensures empty { result.end ≡ result.start }
+    ensures size { result.end ≡ result.start + front }
+    ensures first { 0 < result.start → front ≡ 0 }
 {
+    if front > 0 {
+        return Gap {
+            start: 0,
+            end: front,
+        };
+    }
     let index = match others {
         [] => ranges.len(),
         [range, ..] => few_ended_before(ranges, range.first.saturating_sub(1)),
@@ -87,11 +95,10 @@ fn remove_next(ranges: &mut Vec<Range>, gap: Gap, first: u64, last: u64, size: u
     put_before(ranges, gap, left)
 }
 
-/// Adds every key of other ranges, which an empty gap has not passed yet. There is room for each of them.
+/// Adds every key of other ranges, which the gap has not passed yet. There is room for each of them.
 fn insert_each(ranges: &mut Vec<Range>, gap: Gap, others: &[Range]) -> Gap
     requires gap { IsGap gap ranges.old.items }
-    requires empty { gap.end ≡ gap.start }
-    requires room { vec_len ranges.old + length others.now ≤ vec_capacity ranges.old }
+    requires room { vec_len ranges.old + gap.start + length others.now ≤ vec_capacity ranges.old + gap.end }
     requires apart { AreApart 0 (around gap ranges.old.items) }
     requires others_apart { AreApart 0 others.now }
     requires passed { ArePassed (take gap.start ranges.old.items) others.now }
@@ -100,7 +107,7 @@ fn insert_each(ranges: &mut Vec<Range>, gap: Gap, others: &[Range]) -> Gap
     ensures keys { keys_of (around result ranges.new.items) ≡ united (keys_of others.now) (keys_of (around gap ranges.old.items)) }
     ensures before { take gap.start ranges.new.items ≡ take gap.start ranges.old.items }
     ensures start { gap.start ≤ result.start }
-    ensures growth { vec_len ranges.new + result.start ≤ vec_len ranges.old + length others.now + result.end }
+    ensures growth { vec_len ranges.new + result.start + gap.end ≤ vec_len ranges.old + gap.start + length others.now + result.end }
     ensures capacity { vec_capacity ranges.old ≤ vec_capacity ranges.new }
 {
     let mut at = gap;
@@ -110,12 +117,11 @@ fn insert_each(ranges: &mut Vec<Range>, gap: Gap, others: &[Range]) -> Gap
     at
 }
 
-/// Removes every key of other ranges, which an empty gap has not passed yet. There is room for one more range for each of
+/// Removes every key of other ranges, which the gap has not passed yet. There is room for one more range for each of
 /// them.
 fn remove_each(ranges: &mut Vec<Range>, gap: Gap, others: &[Range]) -> Gap
     requires gap { IsGap gap ranges.old.items }
-    requires empty { gap.end ≡ gap.start }
-    requires room { vec_len ranges.old + length others.now ≤ vec_capacity ranges.old }
+    requires room { vec_len ranges.old + gap.start + length others.now ≤ vec_capacity ranges.old + gap.end }
     requires apart { AreApart 0 (around gap ranges.old.items) }
     requires others_apart { AreApart 0 others.now }
     requires passed { ArePassed (take gap.start ranges.old.items) others.now }
@@ -124,7 +130,7 @@ fn remove_each(ranges: &mut Vec<Range>, gap: Gap, others: &[Range]) -> Gap
     ensures keys { keys_of (around result ranges.new.items) ≡ without (keys_of others.now) (keys_of (around gap ranges.old.items)) }
     ensures before { take gap.start ranges.new.items ≡ take gap.start ranges.old.items }
     ensures start { gap.start ≤ result.start }
-    ensures growth { vec_len ranges.new + result.start ≤ vec_len ranges.old + length others.now + result.end }
+    ensures growth { vec_len ranges.new + result.start + gap.end ≤ vec_len ranges.old + gap.start + length others.now + result.end }
     ensures capacity { vec_capacity ranges.old ≤ vec_capacity ranges.new }
 {
     let mut at = gap;
@@ -134,26 +140,29 @@ fn remove_each(ranges: &mut Vec<Range>, gap: Gap, others: &[Range]) -> Gap
     at
 }
 
-/// Adds every key of other ranges. The ranges before the index that it gives stay.
-pub(crate) fn insert_ranges(ranges: &mut Vec<Range>, others: &[Range]) -> usize
-    requires apart { AreApart 0 ranges.old.items }
+/// Adds every key of other ranges, and moves the ranges over the first `front` places, which are free. Those before the index
+/// that it gives stay: where places are free, none do.
+pub(crate) fn insert_ranges(ranges: &mut Vec<Range>, front: usize, others: &[Range]) -> usize
+    requires free { front ≤ vec_len ranges.old }
+    requires apart { AreApart 0 (drop front ranges.old.items) }
     requires others_apart { AreApart 0 others.now }
     requires room { vec_len ranges.old + length others.now ≤ vec_capacity ranges.old }
     ensures apart { AreApart 0 ranges.new.items }
-    ensures keys { keys_of ranges.new.items ≡ united (keys_of others.now) (keys_of ranges.old.items) }
+    ensures keys { keys_of ranges.new.items ≡ united (keys_of others.now) (keys_of (drop front ranges.old.items)) }
     ensures within { result ≤ vec_len ranges.new }
+    ensures first { 0 < result → front ≡ 0 }
     ensures before { take result ranges.new.items ≡ take result ranges.old.items }
     ensures growth { vec_len ranges.new ≤ vec_len ranges.old + length others.now }
     ensures capacity { vec_capacity ranges.old ≤ vec_capacity ranges.new }
 {
-    let gap = gap_for(ranges, others);
+    let gap = gap_for(ranges, front, others);
     let left = insert_each(ranges, gap, others);
     cut(ranges, left.start, left.end);
     gap.start
 }
 
 /// How many of the others come before the first that meets the ranges.
-fn count_unmet(ranges: &[Range], others: &[Range]) -> usize
+pub(crate) fn count_unmet(ranges: &[Range], others: &[Range]) -> usize
     requires apart { AreApart 0 ranges.now }
     requires others_apart { AreApart 0 others.now }
     ensures within { result ≤ length others.now }
@@ -168,40 +177,23 @@ fn count_unmet(ranges: &[Range], others: &[Range]) -> usize
     others.len()
 }
 
-/// Removes every key of other ranges, of which the first is best one that meets the ranges. The ranges before the index that
-/// it gives stay.
-fn remove_met(ranges: &mut Vec<Range>, others: &[Range]) -> usize
-    requires apart { AreApart 0 ranges.old.items }
+/// Removes every key of other ranges, and moves the ranges over the first `front` places, which are free. Those before the index
+/// that it gives stay: where places are free, none do.
+pub(crate) fn remove_ranges(ranges: &mut Vec<Range>, front: usize, others: &[Range]) -> usize
+    requires free { front ≤ vec_len ranges.old }
+    requires apart { AreApart 0 (drop front ranges.old.items) }
     requires others_apart { AreApart 0 others.now }
     requires room { vec_len ranges.old + length others.now ≤ vec_capacity ranges.old }
     ensures apart { AreApart 0 ranges.new.items }
-    ensures keys { keys_of ranges.new.items ≡ without (keys_of others.now) (keys_of ranges.old.items) }
+    ensures keys { keys_of ranges.new.items ≡ without (keys_of others.now) (keys_of (drop front ranges.old.items)) }
     ensures within { result ≤ vec_len ranges.new }
+    ensures first { 0 < result → front ≡ 0 }
     ensures before { take result ranges.new.items ≡ take result ranges.old.items }
     ensures growth { vec_len ranges.new ≤ vec_len ranges.old + length others.now }
     ensures capacity { vec_capacity ranges.old ≤ vec_capacity ranges.new }
 {
-    let gap = gap_for(ranges, others);
+    let gap = gap_for(ranges, front, others);
     let left = remove_each(ranges, gap, others);
     cut(ranges, left.start, left.end);
     gap.start
-}
-
-/// Removes every key of other ranges. The ranges before the index that it gives stay.
-pub(crate) fn remove_ranges(ranges: &mut Vec<Range>, others: &[Range]) -> usize
-    requires apart { AreApart 0 ranges.old.items }
-    requires others_apart { AreApart 0 others.now }
-    requires room { vec_len ranges.old + length others.now ≤ vec_capacity ranges.old }
-    ensures apart { AreApart 0 ranges.new.items }
-    ensures keys { keys_of ranges.new.items ≡ without (keys_of others.now) (keys_of ranges.old.items) }
-    ensures within { result ≤ vec_len ranges.new }
-    ensures before { take result ranges.new.items ≡ take result ranges.old.items }
-    ensures growth { vec_len ranges.new ≤ vec_len ranges.old + length others.now }
-    ensures capacity { vec_capacity ranges.old ≤ vec_capacity ranges.new }
-{
-    let unmet = count_unmet(ranges, others);
-    if unmet == others.len() {
-        return ranges.len();
-    }
-    remove_met(ranges, &others[unmet..])
 }

@@ -1,6 +1,7 @@
 use Rattle.std.proofs.Common.{ap, sym, ◌∙◌, slice_get, arith}
 use Rattle.std.proofs.lemmas.Option.{slice_get_past}
 use Rattle.row_set.specs.Ranges.{keys_of}
+use Rattle.row_set.proofs.Apart.{each_range}
 use Rattle.row_set.proofs.Counts.{blank, keys_before_all, length-keys_more}
 use Rattle.row_set.proofs.Lookups.{key_in}
 use Rattle.row_set.proofs.Places.{range_at}
@@ -21,7 +22,7 @@ returns-then-offset-count c =
 
 pub loop-range-preserved : goal.loop-range-preserved
 loop-range-preserved c =
-    omega (arith, c.loop-range.invariant, c.if-offset-count.false, length-keys_more c.loop-range.range-index blank c.args.ranges.now c.requires c.loop-range-test.true)
+    omega (arith, c.loop-range.invariant, c.if-offset-count.false, length-keys_more c.loop-range.range-index blank c.args.ranges.now (each_range 0 c.args.ranges.now c.requires) c.loop-range-test.true)
 
 pub returns : goal.returns
 returns c =

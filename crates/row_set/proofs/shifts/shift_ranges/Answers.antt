@@ -3,7 +3,7 @@ use Rattle.std.specs.List.{AllByRecursion}
 use Rattle.std.proofs.lemmas.List.{length-map, set_split}
 use Rattle.row_set.specs.declared.ranges.Range.{Range}
 use Rattle.row_set.specs.Moves.{Shifts, as_key, shift}
-use Rattle.row_set.proofs.Clipped.{IsNext, next_is}
+use Rattle.row_set.proofs.Shifted.{IsNext, next_is}
 use Rattle.row_set.proofs.Counts.{blank}
 use Rattle.row_set.proofs.Middles.{span}
 use Rattle.row_set.proofs.Spliced.{IsSplicing, splicing_replaces}

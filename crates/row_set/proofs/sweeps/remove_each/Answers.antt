@@ -22,7 +22,7 @@ loop-index-init c = record {
   passed = c.requires.passed;
   before = refl;
   start = omega arith;
-  growth = omega (arith, c.requires.empty);
+  growth = omega arith;
   capacity = omega arith;
 }
 

@@ -12,6 +12,6 @@ invariant-loop-index l = record {
   passed : ArePassed (take l.at.start l.ranges.items) (drop l.index l.others);
   before : take l.fn.gap.start l.ranges.items ≡ take l.fn.gap.start l.fn.ranges.items;
   start : l.fn.gap.start ≤ l.at.start;
-  growth : vec_len l.ranges + l.at.start ≤ vec_len l.fn.ranges + l.index + l.at.end;
+  growth : vec_len l.ranges + l.at.start + l.fn.gap.end ≤ vec_len l.fn.ranges + l.fn.gap.start + l.index + l.at.end;
   capacity : vec_capacity l.fn.ranges ≤ vec_capacity l.ranges;
 }

@@ -8,7 +8,7 @@ use Rattle.key_lists.proofs.Among.{each_among, of_among}
 use Rattle.key_lists.proofs.Every.{all_from, every_weaker}
 use Rattle.row_set.specs.Ranges.{keys_from}
 use Rattle.row_set.specs.Sets.{united}
-use Rattle.row_set.proofs.Runs.{no_more_than, run_begun, run_on}
+use Rattle.row_set.proofs.Adjacent.{no_more_than, run_begun, run_on}
 use Rattle.row_set.proofs.United.{united_rises}
 use Rattle.row_set.proofs.rows.RowSet.from_keys.Goals.{then-key-last+in_ok-insert_range, else-key-last}
 use Rattle.row_set.proofs.rows.RowSet.from_keys.Goals as goal

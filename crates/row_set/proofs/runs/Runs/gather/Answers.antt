@@ -1,0 +1,8 @@
+use Rattle.std.proofs.Common.{sym, ◌∙◌, subst}
+use Rattle.row_set.specs.Ranges.{AreRanges}
+use Rattle.row_set.specs.Runs.{lying}
+use Rattle.row_set.proofs.Counts.{apart_ranges}
+use Rattle.row_set.proofs.runs.Runs.gather.Goals as goal
+
+pub recount-requires-clause-ranges : goal.recount-requires-clause-ranges
+recount-requires-clause-ranges c = subst AreRanges (sym (c.deref.ensures.value ∙ c.cut.ensures.items)) (apart_ranges (lying c.args.self.now) c.requires.apart)
