@@ -192,9 +192,7 @@ fn matched_change<L: Ledger>(
     let update = rows.left.update();
     let touched = set.union(update.modified())?;
     let now = touched.minus(update.added())?;
-    let before = update
-        .shifted()
-        .unapply_without(rows.left.prev_rows(), update.removed(), &now)?;
+    let before = update.keys_before(rows.left.prev_rows(), &now)?;
     let width = rows.left.width() + rows.take.len() as u32;
     mapped(alloc, rows, width, rows.left, before, now, reads)
 }

@@ -1,7 +1,8 @@
 -- The stretches of a set of keys, part by part.
-use Rattle.std.proofs.Common.{◌≡◌, refl, ap, sym, ◌∙◌, subst, ◌&&◌, ℕ, ◌+◌, ◌^◌, ◌<◌, arith, List, map, leb, ℤ, false, pos, ◌+ℤ◌, ◌-ℤ◌}
+use Rattle.std.proofs.Common.{◌≡◌, refl, ap, sym, ◌∙◌, subst, ◌&&◌, ℕ, ◌+◌, ◌^◌, ◌<◌, arith, List, map, leb, ℤ, false, pos, [], ◌∷◌, ◌+ℤ◌, ◌-ℤ◌}
 use Rattle.std.specs.List.{AllByRecursion}
-use Rattle.std.proofs.lemmas.List.{map-append}
+use Rattle.std.specs.Prelude.{filter}
+use Rattle.std.proofs.lemmas.List.{append-nil, map-append}
 use Rattle.key_lists.proofs.Every.{every_both, every_weaker, every-filter, every-map, every_unmapped, map_map, map_own, every}
 use Rattle.key_lists.specs.Keys.{IsRising}
 use Rattle.row_set.specs.Sets.{IsKeySet}
@@ -15,8 +16,8 @@ use Rattle.shift_data.proofs.Lawful.{lawful, moves_by, not_past}
 use Rattle.shift_data.specs.declared.parts.Part.{Part}
 use Rattle.shift_data.specs.ShiftLists.{IsShiftList}
 use Rattle.shift_data.specs.Parts.{from_on, within, IsPart}
-use Rattle.shift_data.specs.Stretches.{joined}
-use Rattle.shift_data.proofs.Keys.{cut, within_spans, each_within}
+use Rattle.shift_data.specs.Stretches.{is_moving, joined}
+use Rattle.shift_data.proofs.Keys.{Spans, cut, within_spans, each_within}
 use Rattle.shift_data.proofs.Stretched.{range_by, stretched}
 use Rattle.shift_data.proofs.ShiftOf.{IsSmall, shift_of}
 
@@ -53,6 +54,20 @@ pub canonical_shift : (shifts : List ShiftRange) (keys : List ℕ) → IsKeySet 
 canonical_shift shifts keys set h =
     shift_of_keys (pair_by shifts) keys (λ key. refl) set
     (every_weaker (λ key. is_past (2 ^ 62) (moved shifts key) ≡ false) (λ key. as_key (moved shifts key) < 2 ^ 62) keys (λ key inside. (not_past (2 ^ 62) (moved shifts key) inside).1) (lawful shifts keys h).inside)
+
+-- rows that stay where they are make no range
+to_last : (key : ℕ) (keys : List ℕ) → (last : ℕ) × Spans key last (key ∷ keys)
+to_last key [] = (key, (refl, refl))
+to_last key (next ∷ keys) = let rest = to_last next keys in (rest.0, (refl, rest.1))
+
+pub canonical_still : (shifts : List ShiftRange) (keys : List ℕ) → shifts ≡ [] → IsLawful shifts keys → canonical shifts keys ≡ []
+canonical_still shifts [] still h = refl
+canonical_still shifts (key ∷ keys) still h =
+    let last = to_last key keys in
+    ap (filter is_moving)
+    (ap stretches (sym (append-nil (map (pair_by shifts) (key ∷ keys))))
+    ∙ stretched (pair_by shifts) (λ key. refl) (pos 0) key last.0 (key ∷ keys) [] last.1
+    (every_weaker (λ k. delta (pair_by shifts k) ≡ delta_at shifts k) (λ k. delta (pair_by shifts k) ≡ pos 0) (key ∷ keys) (λ k by. by ∙ ap (λ ranges. delta_at ranges k) still) (canonical_goes shifts (key ∷ keys) h).by))
 
 -- by two lawful shifts each row goes by the sum of what it moves
 module _ (shifts next : List ShiftRange) (keys : List ℕ) (h : IsLawful shifts keys) (k : IsLawful next (landed shifts keys)) where

@@ -218,6 +218,9 @@ impl ShiftData {
         ensures { IfOk result (λ shift. shift ≡ canonical self.now (without left_out.now keys.now)) }
     {
         let alloc = *self.ranges.allocator();
+        if self.ranges.is_empty() {
+            return Ok(ShiftData::new(alloc));
+        }
         let ranges = canonical_without(alloc, &self.ranges, keys, left_out)?;
         Ok(ShiftData { ranges })
     }

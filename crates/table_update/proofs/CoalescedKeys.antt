@@ -1,5 +1,5 @@
 -- What two updates, one after the other, remove, add and modify, by edits of the sets of the second.
-use Rattle.std.proofs.Common.{◌≡◌, refl, ap, ap₂, sym, ◌∙◌, subst, Bool, true, false, cond, not, ◌&&◌, ◌||◌, ◌==◌, ℕ, ◌<◌, ◌≤◌, ◌^◌, arith, List, [], ◌∷◌, ◌++◌, map, filter, Some, None, Option, true≢false, inl, inr}
+use Rattle.std.proofs.Common.{◌≡◌, refl, ap, ap₂, sym, ◌∙◌, subst, Bool, true, false, cond, not, ◌&&◌, ◌||◌, ◌==◌, ℕ, ◌<◌, ◌^◌, List, [], ◌∷◌, ◌++◌, map, filter, Some, None, true≢false, inl, inr}
 use Rattle.std.specs.Prelude.{find, option_map}
 use Rattle.std.specs.List.{AllByRecursion, cons_option}
 use Rattle.std.proofs.lemmas.Bool.{and_parts, or_right, or_cases, not-false, eqb-true, cases_Bool, cases_eq, eq-eqb, ne_eqb, or_left}
@@ -12,9 +12,9 @@ use Rattle.row_set.specs.Sets.{united}
 use Rattle.row_set.proofs.United.{among-united, united_rises}
 use Rattle.tick_model.specs.declared.update.KeyPair.{KeyPair}
 use Rattle.tick_model.specs.Rules.{landed, update_fault}
-use Rattle.tick_model.specs.Shifts.{moved, as_key, composed, onward}
+use Rattle.tick_model.specs.Shifts.{moved, as_key, composed}
 use Rattle.tick_model.specs.Updates.{Update, kept_pair, new_keys, old_keys}
-use Rattle.tick_laws.specs.Checked.{keys_after, IsChecked}
+use Rattle.tick_laws.specs.Checked.{keys_after}
 use Rattle.tick_laws.proofs.CheckedUpdates.{among-put_keys, keys_after-rise}
 use Rattle.shift_data.specs.Moves.{IsLawful, pair_through, unapplied}
 use Rattle.table_update.specs.Coalesced.{key_pairs, kept_by_both, is_modified, modified_after, removed_by_both, added_by_both, modified_by_both}
@@ -134,7 +134,7 @@ either_places f a b place (key ∷ keys) =
     twice false x y = refl
 
 -- a modified key is that of a row that stays
-modified_stays : (limit : ℕ) (old : List ℕ) (update : Update) → KeepsRules limit old update → (key : ℕ) → is_among key update.modified ≡ true → is_among key (landed update.shifted (without update.removed old)) ≡ true
+pub modified_stays : (limit : ℕ) (old : List ℕ) (update : Update) → KeepsRules limit old update → (key : ℕ) → is_among key update.modified ≡ true → is_among key (landed update.shifted (without update.removed old)) ≡ true
 modified_stays limit old update rules key here =
     let places = landed update.shifted (without update.removed old) in
     let known = of_among (λ key. not (is_among key (places ++ update.added)) ≡ false) key update.modified (none_pass (λ key. not (is_among key (places ++ update.added))) update.modified rules.modified) here in

@@ -1,10 +1,12 @@
--- What two updates that move no rows, one after the other, remove, add, modify and move, by edits of the sets of the first.
+-- What an update that moves no rows modifies, and what two such, one after the other, remove, add, modify and move, by edits of
+-- the sets of the first.
 use Rattle.std.proofs.Common.{◌≡◌, refl, ap, ap₂, sym, ◌∙◌, Bool, true, false, not, ◌&&◌, ◌||◌, ℕ, ◌^◌, arith, List, [], filter, pos, ◌+ℤ◌, None, true≢false}
+use Rattle.std.specs.List.{AllByRecursion}
 use Rattle.std.proofs.lemmas.Bool.{not-false}
 use Rattle.std.proofs.lemmas.Int.{ints}
 use Rattle.key_lists.specs.Keys.{is_among, IsRising, without}
 use Rattle.key_lists.proofs.Among.{among-filter, of_among}
-use Rattle.key_lists.proofs.Every.{every, map_own, map_same, none_pass}
+use Rattle.key_lists.proofs.Every.{every, filter_all, filter_same, map_own, map_same, none_pass}
 use Rattle.key_lists.proofs.Rising.{rising_some, rising_same}
 use Rattle.key_lists.proofs.Booleans.{or_turned}
 use Rattle.row_set.specs.Sets.{united}
@@ -17,9 +19,10 @@ use Rattle.tick_model.specs.Sources.{same_key}
 use Rattle.tick_model.specs.Updates.{Update}
 use Rattle.tick_laws.specs.Checked.{keys_after}
 use Rattle.tick_laws.proofs.WholeUpdates.{nothing_moves}
-use Rattle.shift_data.specs.Moves.{pair_through}
+use Rattle.shift_data.specs.Moves.{IsLawful, pair_through, unapplied}
 use Rattle.table_update.specs.Coalesced.{kept_by_both, removed_by_both, added_by_both, modified_by_both}
 use Rattle.table_update.proofs.KeysAfter.{rules_kept}
+use Rattle.table_update.proofs.Occupied.{landed-unapplied}
 use Rattle.table_update.proofs.CoalescedKeys.{kept_keys, kept_pairs, in_between, is_apart, united_removed, united_added, united_modified}
 
 -- no range moves no key
@@ -31,6 +34,14 @@ landed_still keys = map_own (λ key. as_key (moved [] key)) keys (every (λ key.
 
 pub still_places : (shifts : List ShiftRange) (keys : List ℕ) → shifts ≡ [] → landed shifts keys ≡ keys
 still_places shifts keys still = ap (λ ranges. landed ranges keys) still ∙ landed_still keys
+
+-- where no row moves, those that are asked for have the keys by which they are asked for
+pub unapplied_still : (shifts : List ShiftRange) (survivors asked : List ℕ) → shifts ≡ [] → IsLawful shifts survivors → IsRising asked → AllByRecursion (λ key. is_among key (landed shifts survivors) ≡ true) asked → unapplied shifts survivors asked ≡ asked
+unapplied_still shifts survivors asked still lawful rise stay =
+    sym (still_places shifts (unapplied shifts survivors asked) still)
+    ∙ landed-unapplied shifts survivors asked lawful rise
+    ∙ filter_same (λ key. is_among key (landed shifts survivors)) (λ _. true) asked stay
+    ∙ filter_all asked
 
 same_pair : (first next : List ShiftRange) (key : ℕ) → first ≡ [] → next ≡ [] → pair_through first next key ≡ same_key key
 same_pair first next key still next_still =

@@ -1,9 +1,10 @@
 //! The update itself: its parts, the keys before and after it, and whether it may be applied.
 
-ghost use Rattle.std.specs.Prelude.{◌≡◌, ◌^◌, ◌≤◌, ◌⊎◌, ◌++◌, Some, None, find, not, IfOk, IfErr, OnOk};
+ghost use Rattle.std.specs.Prelude.{◌≡◌, ◌^◌, ◌≤◌, ◌⊎◌, ◌++◌, Some, None, find, not, IfOk, IfErr, OnOk, IsTrue};
+ghost use Rattle.std.specs.List.{AllByRecursion};
 ghost use Rattle.key_lists.specs.Keys.{is_among, without};
 ghost use Rattle.row_set.specs.Sets.{IsKeySet, common};
-ghost use Rattle.shift_data.specs.Moves.{IsLawful};
+ghost use Rattle.shift_data.specs.Moves.{IsLawful, unapplied};
 ghost use Rattle.tick_laws.specs.Checked.{keys_after};
 ghost use Rattle.tick_laws.specs.Replaced.{no_update};
 ghost use Rattle.tick_model.specs.Changes.{is_empty};
@@ -152,9 +153,20 @@ impl Update {
         requires { update_fault (2 ^ 62) old.now self.now ≡ None }
         ensures { IfOk result (λ keys. keys ≡ old_modified old.now self.now) }
     {
-        let modified = self.modified();
-        self.shifted()
-            .unapply_without(old, self.removed(), modified)
+        self.keys_before(old, self.modified())
+    }
+
+    /// The old keys of rows that stay, by their keys of now. Where no row moves they are the same.
+    pub fn keys_before(&self, old: &RowSet, now: &RowSet) -> Result<RowSet, AllocError>
+        requires lawful { IsLawful self.now.shifted (without self.now.removed old.now) }
+        requires stay { AllByRecursion (λ key. IsTrue (is_among key (landed self.now.shifted (without self.now.removed old.now)))) now.now }
+        ensures { IfOk result (λ before. before ≡ unapplied self.now.shifted (without self.now.removed old.now) now.now) }
+    {
+        if self.is_still() {
+            let _ = now.ranges();
+            return now.copy();
+        }
+        self.shifted().unapply_without(old, self.removed(), now)
     }
 
     /// Whether the update may be applied to a table with these keys, where the keys of the rows that move are to stay below

@@ -1,15 +1,17 @@
-use Rattle.std.proofs.Common.{◌≡◌, ap, ap₂, sym, ◌∙◌, subst, ◌+◌, ◌*◌, ◌≤◌, arith, ℕ, List, length}
-use Rattle.key_lists.specs.Keys.{without}
+use Rattle.std.proofs.Common.{◌≡◌, ap, ap₂, sym, ◌∙◌, subst, ◌+◌, ◌*◌, ◌≤◌, arith, ℕ, List, length, true}
+use Rattle.std.specs.List.{AllByRecursion}
+use Rattle.key_lists.specs.Keys.{is_among, without}
 use Rattle.lookup_join.specs.Matched.{matched_table, matched_tick}
-use Rattle.lookup_join.proofs.Compared.{are_compared, are_mapped, compared_few}
+use Rattle.lookup_join.proofs.Compared.{are_compared, are_mapped, compared_few, compared_kept}
 use Rattle.row_changes.specs.Parts.{AreCompared}
 use Rattle.row_set.specs.Sets.{united}
 use Rattle.shift_data.specs.Moves.{IsLawful, unapplied}
 use Rattle.shown_rows.proofs.Restricted.{exact_shift}
-use Rattle.tick_model.specs.declared.update.ShiftRange.{ShiftRange}
+use Rattle.tick_model.specs.Rules.{landed}
 use Rattle.tick_model.specs.Tables.{keys}
 use Rattle.tick_model.specs.Updates.{Update, between, pairs}
 use Rattle.std.proofs.Math.Nat.{mul-le-mul_left}
+use Rattle.tick_table.proofs.Between.{new_keys-pairs}
 use Rattle.tick_table.specs.Exact.{tick_of}
 use Rattle.lookup_join.proofs.lookup.matched_change.Goals as goal
 
@@ -20,12 +22,22 @@ reads_within row first second last modified added out taken notes compared h k m
     more : 2 * compared + added ≤ 2 * (modified + out) + added
     more = omega (arith, m)
 
-pub unapply_without-requires : goal.unapply_without-requires
-unapply_without-requires g c =
+pub keys_before-requires-clause-lawful : goal.keys_before-requires-clause-lawful
+keys_before-requires-clause-lawful g c =
     let left = c.args.rows.now.left.now in
-    subst (λ (shifts : List ShiftRange). IsLawful shifts (without c.removed.result.now c.prev_rows.result.now)) (sym (c.shifted.ensures ∙ ap (λ (update : Update). update.shifted) c.update-update.ensures))
-    (subst (λ (ks : List ℕ). IsLawful left.update.shifted ks) (sym (ap₂ without (c.removed.ensures.keys ∙ ap (λ (update : Update). update.removed) c.update-update.ensures) c.prev_rows.ensures.keys))
-    (exact_shift left c.requires.matched.left_exact))
+    subst (λ (update : Update). IsLawful update.shifted (without update.removed c.prev_rows.result.now)) (sym c.update-update.ensures)
+    (subst (λ (ks : List ℕ). IsLawful left.update.shifted (without left.update.removed ks)) (sym c.prev_rows.ensures.keys) (exact_shift left c.requires.matched.left_exact))
+
+pub keys_before-requires-clause-stay : goal.keys_before-requires-clause-stay
+keys_before-requires-clause-stay g c =
+    let rows = c.args.rows.now in
+    let left = rows.left.now in
+    let now_are : c.in_ok-now.now ≡ without left.update.added (united c.in_ok-set.set left.update.modified) =
+    c.in_ok-now.ensures ∙ ap₂ without (c.added.ensures.keys ∙ ap (λ (update : Update). update.added) c.update-update.ensures) (c.in_ok-touched.ensures ∙ ap (united c.in_ok-set.set) (c.modified.ensures.keys ∙ ap (λ (update : Update). update.modified) c.update-update.ensures)) in
+    subst (λ (update : Update). AllByRecursion (λ key. is_among key (landed update.shifted (without update.removed c.prev_rows.result.now)) ≡ true) c.in_ok-now.now) (sym c.update-update.ensures)
+    (subst (λ (ks : List ℕ). AllByRecursion (λ key. is_among key (landed left.update.shifted (without left.update.removed ks)) ≡ true) c.in_ok-now.now) (sym c.prev_rows.ensures.keys)
+    (subst (λ (ks : List ℕ). AllByRecursion (λ key. is_among key ks ≡ true) c.in_ok-now.now) (new_keys-pairs left.old left.update)
+    (compared_kept rows.on.now rows.pick rows.take.now left c.requires.matched.left_exact rows.right.now c.requires.matched.right_exact c.in_ok-set.set c.in_ok-now.now c.in_ok-set.ensures.keys now_are)))
 
 pub mapped-requires-clause-tables : goal.mapped-requires-clause-tables
 mapped-requires-clause-tables g c =
@@ -43,8 +55,7 @@ mapped-requires-clause-compared g c =
     let now_are : c.in_ok-now.now ≡ without left.update.added (united c.in_ok-set.set left.update.modified) =
     c.in_ok-now.ensures ∙ ap₂ without (c.added.ensures.keys ∙ ap (λ (update : Update). update.added) c.update-update.ensures) (c.in_ok-touched.ensures ∙ ap (united c.in_ok-set.set) (c.modified.ensures.keys ∙ ap (λ (update : Update). update.modified) c.update-update.ensures)) in
     let before_are : c.in_ok-before.before ≡ unapplied left.update.shifted (without left.update.removed (keys left.old.rows)) c.in_ok-now.now =
-    c.in_ok-before.ensures ∙ ap (λ (shifts : List ShiftRange). unapplied shifts (without c.removed.result.now c.prev_rows.result.now) c.in_ok-now.now) (c.shifted.ensures ∙ ap (λ (update : Update). update.shifted) c.update-update.ensures)
-    ∙ ap (λ (ks : List ℕ). unapplied left.update.shifted ks c.in_ok-now.now) (ap₂ without (c.removed.ensures.keys ∙ ap (λ (update : Update). update.removed) c.update-update.ensures) c.prev_rows.ensures.keys) in
+    c.in_ok-before.ensures ∙ ap₂ (λ (update : Update) (ks : List ℕ). unapplied update.shifted (without update.removed ks) c.in_ok-now.now) c.update-update.ensures c.prev_rows.ensures.keys in
     subst (λ (before : List ℕ). AreCompared (matched_table rows.on.now rows.pick rows.take.now left.old right.old) (matched_table rows.on.now rows.pick rows.take.now left.new right.new) (pairs left.old left.update) before c.in_ok-now.now) (sym before_are)
     (are_compared rows.on.now rows.pick rows.take.now left e right f c.in_ok-set.set c.in_ok-now.now set_is now_are)
 
