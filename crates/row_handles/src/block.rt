@@ -12,7 +12,7 @@ const BLOCK_LEN: usize = 128;
 #[derive(Clone, Copy)]
 pub(crate) struct Row {
     pub(crate) depth: u32,
-    pub(crate) handle: usize,
+    pub(crate) handle: u32,
 }
 
 impl Row {
@@ -21,6 +21,13 @@ impl Row {
         ensures { result ≡ ceiling - self.now.depth }
     {
         ceiling.saturating_sub(self.depth as u64)
+    }
+
+    /// The handle as it is shown.
+    fn handle(&self) -> usize
+        ensures { result ≡ self.now.handle }
+    {
+        self.handle as usize
     }
 }
 
@@ -35,7 +42,7 @@ pub(crate) struct Span {
 #[derive(Drop)]
 pub(crate) struct Block {
     /// The number by which the places of its rows name the block.
-    pub(crate) number: usize,
+    pub(crate) number: u32,
     /// The key of the first row.
     pub(crate) first: u64,
     /// The key of a row is the ceiling less the row's depth. It may be no key of a row, and no key at all.
@@ -88,7 +95,7 @@ impl Block {
         }
         let row = self.rows[place];
         if row.key(self.ceiling) == key {
-            Some(row.handle)
+            Some(row.handle())
         } else {
             None
         }

@@ -16,7 +16,7 @@ fn vacate(places: &mut Slab<Place>, rows: &[Row])
     ensures { (handle : ℕ) → has_handle handle rows.now ≡ false → get places.new handle ≡ get places.old handle }
 {
     for row in rows {
-        let _ = places.try_remove(row.handle);
+        let _ = places.try_remove(row.handle as usize);
     }
 }
 
@@ -50,7 +50,7 @@ impl Index {
         vacate(&mut self.places, &block.rows[leaving.from..leaving.to]);
         take_out(&mut block.rows, leaving.from, leaving.to);
         if block.rows.is_empty() {
-            let _ = self.ceilings.try_remove(block.number);
+            let _ = self.ceilings.try_remove(block.number as usize);
             self.blocks.remove(index);
             return index;
         }

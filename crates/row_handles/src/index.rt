@@ -15,7 +15,7 @@ const MIDDLE: u32 = 1 << 31;
 /// Where the row with a handle stands: the number of its block and its depth there.
 #[derive(Clone, Copy)]
 pub(crate) struct Place {
-    pub(crate) block: usize,
+    pub(crate) block: u32,
     pub(crate) depth: u32,
 }
 
@@ -42,6 +42,13 @@ pub(crate) fn begun_by(blocks: &[Block], key: u64) -> usize
         Some(last) if last.first <= key => blocks.len(),
         _ => blocks.partition_point(|block| block.first <= key),
     }
+}
+
+/// A number of a row or a block in 32 bits: memory runs out before there are more of them.
+pub(crate) fn short(number: usize) -> Result<u32, AllocError>
+    ensures { IfOk result (λ short. short ≡ number) }
+{
+    u32::try_from(number).ok().ok_or(AllocError)
 }
 
 impl Index {
@@ -76,7 +83,7 @@ impl Index {
         ensures { key_with handle (rows self.now.blocks.items) ≡ Some result }
     {
         let place = self.places[handle];
-        self.ceilings[place.block].saturating_sub(place.depth as u64)
+        self.ceilings[place.block as usize].saturating_sub(place.depth as u64)
     }
 
     /// Puts a row into a block at an index.
@@ -94,7 +101,7 @@ impl Index {
         ensures sound { IsIndex self.new }
     {
         self.places.reserve(1)?;
-        let handle = self.places.vacant_key();
+        let handle = short(self.places.vacant_key())?;
         let block = &mut self.blocks[index];
         let place = block.rows_below(key);
         block.rows.insert(place, Row { depth, handle })?;
@@ -122,8 +129,8 @@ impl Index {
         let next = begun_by(&self.blocks, key);
         self.ceilings.reserve(1)?;
         self.places.reserve(1)?;
-        let number = self.ceilings.vacant_key();
-        let handle = self.places.vacant_key();
+        let number = short(self.ceilings.vacant_key())?;
+        let handle = short(self.places.vacant_key())?;
         let ceiling = key + MIDDLE as u64;
         let mut rows = Vec::new(*self.blocks.allocator());
         rows.push(Row {

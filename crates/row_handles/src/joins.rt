@@ -15,14 +15,14 @@ use std::alloc::AllocError;
 const JOINED_LEN: usize = 64;
 
 /// Puts the rows into the block with this number.
-fn settle(places: &mut Slab<Place>, rows: &[Row], number: usize)
+fn settle(places: &mut Slab<Place>, rows: &[Row], number: u32)
     requires there { AllByRecursion (λ row. ContainsKey places.old row.handle) rows.now }
     requires distinct { AreDistinct (map handle_in rows.now) }
     ensures settled { AllByRecursion (λ row. get places.new row.handle ≡ Some (place_in number row.depth)) rows.now }
     ensures others { (handle : ℕ) → has_handle handle rows.now ≡ false → get places.new handle ≡ get places.old handle }
 {
     for row in rows {
-        places[row.handle] = Place {
+        places[row.handle as usize] = Place {
             block: number,
             depth: row.depth,
         };
@@ -52,7 +52,7 @@ impl Index {
         left.rows.extend_from_slice(&moved)?;
         settle(&mut self.places, &moved, left.number);
         let gone = self.blocks.remove(index + 1);
-        let _ = self.ceilings.try_remove(gone.number);
+        let _ = self.ceilings.try_remove(gone.number as usize);
         Ok(())
     }
 

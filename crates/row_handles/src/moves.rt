@@ -8,18 +8,18 @@ ghost use Rattle.row_handles.specs.Blocks.{AtBlock, IsBlock, IsIndex, number_of,
 ghost use Rattle.row_handles.specs.Moves.{AreRenamed, IsBesideRange, IsCut, IsMovable, IsSplit, moved_block};
 
 use crate::block::{Block, Row, Span};
-use crate::index::{Index, Place, begun_by};
+use crate::index::{Index, Place, begun_by, short};
 use shift_data::ShiftData;
 use slab::Slab;
 use std::alloc::AllocError;
 use tick_model::update::ShiftRange;
 
 /// Makes the rows those of the block with this number.
-fn rename(places: &mut Slab<Place>, rows: &[Row], number: usize)
+fn rename(places: &mut Slab<Place>, rows: &[Row], number: u32)
     ensures { AreRenamed number rows.now places.old places.new }
 {
     for row in rows {
-        if let Some(place) = places.get_mut(row.handle) {
+        if let Some(place) = places.get_mut(row.handle as usize) {
             place.block = number;
         }
     }
@@ -37,7 +37,7 @@ impl Index {
         ensures sound { IsIndex self.new }
     {
         self.ceilings.reserve(1)?;
-        let number = self.ceilings.vacant_key();
+        let number = short(self.ceilings.vacant_key())?;
         let alloc = *self.blocks.allocator();
         let block = &self.blocks[index];
         let ceiling = block.ceiling;
@@ -104,7 +104,7 @@ impl Index {
         block.first = shifts.landing(block.first);
         let depth = block.rows[0].depth;
         block.ceiling = block.first + depth as u64;
-        self.ceilings[block.number] = block.ceiling;
+        self.ceilings[block.number as usize] = block.ceiling;
     }
 
     /// Moves whole blocks: those from the first range to the last. Returns where they are.

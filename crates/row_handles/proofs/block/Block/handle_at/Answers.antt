@@ -1,4 +1,4 @@
-use Rattle.std.proofs.Common.{◌-◌, ◌<◌, ◌≤◌, sym, ◌∙◌, length, arith}
+use Rattle.std.proofs.Common.{◌-◌, ◌<◌, ◌≤◌, ap, sym, ◌∙◌, length, arith, Some}
 use Rattle.key_lists.proofs.Parts.{first_left}
 use Rattle.row_handles.proofs.Listings.{handle_none, handle_here, handle_not_here}
 use Rattle.row_handles.proofs.block.Block.handle_at.Goals as goal
@@ -13,7 +13,8 @@ pub returns-then-key : goal.returns-then-key
 returns-then-key c =
     let block = c.args.self.now in
     let lt : c.rows_below-place.result < length block.rows.items = omega (arith, c.if-place-len.false, c.len.ensures, c.rows_below-place.ensures.within) in
-    sym (handle_here block.ceiling c.args.key block.rows.items c.rows_below-place.result c.index.result.now lt c.index.ensures c.rows_below-place.ensures.below (sym c.key.ensures ∙ c.if-key.true))
+    ap Some c.handle.ensures
+    ∙ sym (handle_here block.ceiling c.args.key block.rows.items c.rows_below-place.result c.index.result.now lt c.index.ensures c.rows_below-place.ensures.below (sym c.key.ensures ∙ c.if-key.true))
 
 pub returns-else-key : goal.returns-else-key
 returns-else-key c =

@@ -14,26 +14,26 @@ returns-in_err-insert-clause-sound c =
     same_index c.args.self.now _ c.in_err-insert.ensures.items (λ key x there. ap (λ s. get s key) c.reserve.ensures.rest_kept ∙ there) (λ key x there. ap (λ s. get s key) c.reserve-2.ensures.rest_kept ∙ there) c.requires.sound
 
 abbrev block : goal.After-insert_reserved-2 → Block
-block c = record { number = c.vacant_key-number.result; first = c.args.key; ceiling = c.args.key + 2147483648; rows = c.push.new.self }
+block c = record { number = c.in_ok-number.number; first = c.args.key; ceiling = c.args.key + 2147483648; rows = c.push.new.self }
 
 abbrev new : goal.After-insert_reserved-2 → Index
 new c = record { blocks = c.insert.new.self; ceilings = c.insert_reserved.new.self; places = c.insert_reserved-2.new.self }
 
-same_handle : (c : goal.After-insert_reserved-2) → c.insert_reserved-2.result ≡ c.vacant_key-handle.result
-same_handle c = c.insert_reserved-2.ensures.key ∙ sym c.vacant_key-handle.ensures.value
+same_handle : (c : goal.After-insert_reserved-2) → c.insert_reserved-2.result ≡ c.in_ok-handle.handle
+same_handle c = c.insert_reserved-2.ensures.key ∙ sym c.vacant_key-2.ensures.value ∙ sym c.in_ok-handle.ensures
 
-same_number : (c : goal.After-insert_reserved-2) → c.insert_reserved.result ≡ c.vacant_key-number.result
-same_number c = c.insert_reserved.ensures.key ∙ sym c.vacant_key-number.ensures.value
+same_number : (c : goal.After-insert_reserved-2) → c.insert_reserved.result ≡ c.in_ok-number.number
+same_number c = c.insert_reserved.ensures.key ∙ sym c.vacant_key.ensures.value ∙ sym c.in_ok-number.ensures
 
-begins : (c : goal.After-insert_reserved-2) → Begins c.args.key 2147483648 c.vacant_key-handle.result c.begun_by-next.result (block c) c.args.self.now (new c)
+begins : (c : goal.After-insert_reserved-2) → Begins c.args.key 2147483648 c.in_ok-handle.handle c.begun_by-next.result (block c) c.args.self.now (new c)
 begins c =
     let next = c.begun_by-next.result in
     record {
       blocks = c.in_ok-insert.ensures.items;
-      items = c.in_ok-push.ensures.items ∙ ap (λ rows. rows ++ (record { depth = 2147483648; handle = c.vacant_key-handle.result }) ∷ []) c.new-rows.ensures.items;
+      items = c.in_ok-push.ensures.items ∙ ap (λ rows. rows ++ (record { depth = 2147483648; handle = c.in_ok-handle.handle }) ∷ []) c.new-rows.ensures.items;
       first = refl;
       ceiling = refl;
-      vacant = sym (ap (λ s. get s c.vacant_key-number.result) c.reserve.ensures.rest_kept) ∙ c.vacant_key-number.ensures.vacant;
+      vacant = sym (ap (λ s. get s c.in_ok-number.number) c.reserve.ensures.rest_kept) ∙ ap (get c.reserve.new.self) c.in_ok-number.ensures ∙ c.vacant_key.ensures.vacant;
       begun = subst (λ bs. AllByRecursion (λ other. other.first ≤ c.args.key) (take next bs)) c.deref.ensures.value c.begun_by-next.ensures.begun;
       back = subst (λ bs. AllByRecursion (λ other. c.args.key < other.first) (drop next bs)) c.deref.ensures.value c.begun_by-next.ensures.others;
       beside = c.requires.beside;
@@ -46,8 +46,8 @@ begins c =
 
 pub returns-clause-ok : goal.returns-clause-ok
 returns-clause-ok c =
-    more_rows c.args.key c.vacant_key-handle.result (rows c.args.self.now.blocks.items) (rows c.insert.new.self.items)
-    (begun_more c.args.key 2147483648 c.vacant_key-handle.result c.begun_by-next.result (block c) c.args.self.now (new c) c.requires.sound (begins c))
+    more_rows c.args.key c.in_ok-handle.handle (rows c.args.self.now.blocks.items) (rows c.insert.new.self.items)
+    (begun_more c.args.key 2147483648 c.in_ok-handle.handle c.begun_by-next.result (block c) c.args.self.now (new c) c.requires.sound (begins c))
     ∙ ap (λ handle. with_row c.args.key handle (rows c.args.self.now.blocks.items)) (sym (same_handle c))
 
 pub returns-clause-fresh : goal.returns-clause-fresh
@@ -57,4 +57,4 @@ returns-clause-fresh c =
     vacant_none index.ceilings index.places c.insert_reserved-2.result (rows index.blocks.items) vacant (located index.ceilings index.places index.blocks.items c.requires.sound.placed)
 
 pub returns-clause-sound : goal.returns-clause-sound
-returns-clause-sound c = begun_index c.args.key 2147483648 c.vacant_key-handle.result c.begun_by-next.result (block c) c.args.self.now (new c) c.requires.sound (begins c) c.requires.small
+returns-clause-sound c = begun_index c.args.key 2147483648 c.in_ok-handle.handle c.begun_by-next.result (block c) c.args.self.now (new c) c.requires.sound (begins c) c.requires.small

@@ -29,13 +29,13 @@ other c = record { number = c.index_mut-block.result.now.number; first = c.min-b
 abbrev new : goal.After-insert_reserved → Index
 new c = record { blocks = with_item c.args.self.now.blocks c.args.index (other c); ceilings = c.args.self.now.ceilings; places = c.insert_reserved.new.self }
 
-same_handle : (c : goal.After-insert_reserved) → c.insert_reserved.result ≡ c.vacant_key-handle.result
-same_handle c = c.insert_reserved.ensures.key ∙ sym c.vacant_key-handle.ensures.value
+same_handle : (c : goal.After-insert_reserved) → c.insert_reserved.result ≡ c.in_ok-handle.handle
+same_handle c = c.insert_reserved.ensures.key ∙ sym c.vacant_key.ensures.value ∙ sym c.in_ok-handle.ensures
 
 vacant : (c : goal.After-insert_reserved) → get c.args.self.now.places c.insert_reserved.result ≡ None
 vacant c = sym (ap (λ s. get s c.insert_reserved.result) c.reserve.ensures.rest_kept) ∙ c.insert_reserved.ensures.was_vacant
 
-inserts : (c : goal.After-insert_reserved) → Inserts c.args.key c.args.depth c.vacant_key-handle.result c.args.index c.rows_below-place.result c.index_mut-block.result.now (other c) c.args.self.now (new c)
+inserts : (c : goal.After-insert_reserved) → Inserts c.args.key c.args.depth c.in_ok-handle.handle c.args.index c.rows_below-place.result c.index_mut-block.result.now (other c) c.args.self.now (new c)
 inserts c =
     let next : c.args.index + 1 ≡ suc c.args.index = omega arith in
     record {
@@ -59,8 +59,8 @@ inserts c =
 
 pub returns-clause-ok : goal.returns-clause-ok
 returns-clause-ok c =
-    more_rows c.args.key c.vacant_key-handle.result (rows c.args.self.now.blocks.items) (rows (new c).blocks.items)
-    (inserted_more c.args.key c.args.depth c.vacant_key-handle.result c.args.index c.rows_below-place.result c.index_mut-block.result.now (other c) c.args.self.now (new c) c.requires.sound (inserts c))
+    more_rows c.args.key c.in_ok-handle.handle (rows c.args.self.now.blocks.items) (rows (new c).blocks.items)
+    (inserted_more c.args.key c.args.depth c.in_ok-handle.handle c.args.index c.rows_below-place.result c.index_mut-block.result.now (other c) c.args.self.now (new c) c.requires.sound (inserts c))
     ∙ ap (λ handle. with_row c.args.key handle (rows c.args.self.now.blocks.items)) (sym (same_handle c))
 
 pub returns-clause-fresh : goal.returns-clause-fresh
@@ -70,4 +70,4 @@ returns-clause-fresh c =
 
 pub returns-clause-sound : goal.returns-clause-sound
 returns-clause-sound c =
-    inserted_index c.args.key c.args.depth c.vacant_key-handle.result c.args.index c.rows_below-place.result c.index_mut-block.result.now (other c) c.args.self.now (new c) c.requires.sound (inserts c) c.requires.small
+    inserted_index c.args.key c.args.depth c.in_ok-handle.handle c.args.index c.rows_below-place.result c.index_mut-block.result.now (other c) c.args.self.now (new c) c.requires.sound (inserts c) c.requires.small

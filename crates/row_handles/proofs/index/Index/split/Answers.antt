@@ -14,7 +14,7 @@ abbrev left : goal.After-insert_reserved → Block
 left c = record { number = c.index_mut-left.result.now.number; first = c.index_mut-left.result.now.first; ceiling = c.index_mut-left.result.now.ceiling; rows = c.truncate.new.self }
 
 abbrev right : goal.After-insert_reserved → Block
-right c = record { number = c.vacant_key-number.result; first = c.key.result; ceiling = c.index-block.result.now.ceiling; rows = c.in_ok-rows.rows }
+right c = record { number = c.in_ok-number.number; first = c.key.result; ceiling = c.index-block.result.now.ceiling; rows = c.in_ok-rows.rows }
 
 abbrev new : goal.After-insert_reserved → Index
 new c = record { blocks = with_item c.insert.new.self c.args.index (left c); ceilings = c.insert_reserved.new.self; places = c.rename.new.places }
@@ -55,13 +55,13 @@ splits c =
       left_first = ap (λ b. b.first) (same c);
       left_ceiling = ap (λ b. b.ceiling) (same c);
       left_rows = c.truncate.ensures.items ∙ ap (λ b. take from b.rows.items) (same c);
-      vacant = sym (ap (λ s. get s c.vacant_key-number.result) c.reserve.ensures.rest_kept) ∙ c.vacant_key-number.ensures.vacant;
+      vacant = sym (ap (λ s. get s c.in_ok-number.number) c.reserve.ensures.rest_kept) ∙ ap (get c.reserve.new.self) c.in_ok-number.ensures ∙ c.vacant_key.ensures.vacant;
       right_begun = begins_first c.key.result block.ceiling c.index.result.now c.in_ok-rows.rows.items some c.index.ensures c.key.ensures;
       right_ceiling = refl;
       right_rows = right_rows c;
       ceilings = λ key x there. keeps_fresh c.reserve.new.self c.insert_reserved.new.self c.insert_reserved.result _ c.insert_reserved.ensures.updates c.insert_reserved.ensures.was_vacant key x (ap (λ s. get s key) c.reserve.ensures.rest_kept ∙ there);
-      held = ap (get c.insert_reserved.new.self) (c.vacant_key-number.ensures.value ∙ sym c.insert_reserved.ensures.key) ∙ c.insert_reserved.ensures.updates.changed;
-      renamed = subst (λ rs. AreRenamed c.vacant_key-number.result rs c.args.self.now.places c.rename.new.places) (ap (λ s. take (length s - from) (drop from s)) (c.deref-2.ensures.value ∙ ap (λ b. b.rows.items) (same c)) ∙ rest c) c.rename.ensures;
+      held = ap (get c.insert_reserved.new.self) (c.in_ok-number.ensures ∙ c.vacant_key.ensures.value ∙ sym c.insert_reserved.ensures.key) ∙ c.insert_reserved.ensures.updates.changed;
+      renamed = subst (λ rs. AreRenamed c.in_ok-number.number rs c.args.self.now.places c.rename.new.places) (ap (λ s. take (length s - from) (drop from s)) (c.deref-2.ensures.value ∙ ap (λ b. b.rows.items) (same c)) ∙ rest c) c.rename.ensures;
     }
 
 pub returns-clause-ok : goal.returns-clause-ok
