@@ -1,7 +1,9 @@
 -- The lists of rows by their cells, where one of them becomes another.
-use Rattle.std.proofs.Common.{◌≡◌, ◌≢◌, refl, ap, sym, ◌∙◌, subst, Bool, true, false, List, [], ◌∷◌, ◌++◌, ℕ, zero, suc, ◌+◌, ◌≤◌, ◌<◌, length, length-append, take, drop, arith, ℤ, Option, Some, None, option_map, IsSome, inl, inr, if◌then◌else◌}
+use Rattle.std.proofs.Common.{◌≡◌, ◌≢◌, refl, ap, sym, ◌∙◌, subst, Bool, true, false, List, [], ◌∷◌, ◌++◌, ℕ, zero, suc, ◌-◌, ◌≤◌, ◌<◌, length, take, drop, arith, ℤ, Option, Some, None, option_map, IsSome, inl, inr, if◌then◌else◌}
 use Rattle.std.specs.Option.{option_map_or}
+use Rattle.std.specs.Prelude.{slice_get}
 use Rattle.std.specs.List.{AllByRecursion}
+use Rattle.std.proofs.lemmas.List.{drop_all}
 use Rattle.std.specs.Map.{KeepsOthers, lookup}
 use Rattle.std.specs.HashMap.{UpdatesBy}
 use Rattle.std.specs.Ordering.{int_eq}
@@ -9,7 +11,6 @@ use Rattle.std.specs.Cmp.Lexicographic.{pointwise}
 use Rattle.std.specs.Cmp.Rules.{signed_items}
 use Rattle.std.specs.Global.{Vec}
 use Rattle.std.proofs.lemmas.Bool.{cases_eq, false_from_ne_true}
-use Rattle.std.proofs.lemmas.List.{length-drop, length-take}
 use Rattle.std.proofs.lemmas.Option.{none-some, same_Some}
 use Rattle.slab.specs.Slab.{get, with_value}
 use Rattle.slab.proofs.SlabLemmas.{Updates-with_value}
@@ -18,7 +19,8 @@ use Rattle.row_handles.specs.Entries.{Entry}
 use Rattle.row_groups.specs.declared.lists.KeyedRows.{KeyedRows}
 use Rattle.row_groups.specs.declared.lists.Lists.{Lists}
 use Rattle.row_groups.specs.declared.place.Slot.{Slot}
-use Rattle.row_groups.specs.Slots.{is_before, slots_with, slots_without}
+use Rattle.row_groups.specs.Slots.{is_before, IsParted, slots_with, slots_without}
+use Rattle.row_groups.proofs.Ends.{passed_all, put_last}
 use Rattle.row_groups.specs.Rows.{AreNumbered, Becomes, ByNumber, Numbers, cells_with, number_under, slots_numbered, slots_under}
 use Rattle.row_groups.proofs.Parts.{unlike}
 
@@ -270,8 +272,13 @@ own_short number group lists sound was calm =
     subst (λ (rows : List Slot). length rows ≤ 1) (under_number group.cells.items number lists (sound.cells group.cells.items number (with_group number lists.groups group was)) ∙ with_rows number lists.groups group was)
     (sound.alone calm group.cells.items)
 
-pub shorter : (slots : List Slot) (n : ℕ) → length (take n slots ++ drop (n + 1) slots) ≤ length slots
-shorter slots n = omega (arith, length-append (take n slots) (drop (n + 1) slots), length-take n slots, length-drop (n + 1) slots)
+pub shorter : (entries : List Entry) (at : ℤ) (key : ℕ) (slots : List Slot) → length (slots_without entries at key slots) ≤ length slots
+shorter entries at key [] = omega arith
+shorter entries at key (slot ∷ slots) = by_test (is_before entries at key slot) (shorter entries at key slots)
+  where
+    by_test : (b : Bool) → length (slots_without entries at key slots) ≤ length slots → length (if b then slot ∷ slots_without entries at key slots else slots) ≤ suc (length slots)
+    by_test true less = omega (arith, less)
+    by_test false less = omega arith
 
 -- lists that stay
 pub same_numbered : (old new : Lists) → AreNumbered old → new.crowded ≡ old.crowded → ((cells : List ℤ) → number_under cells new.numbers ≡ number_under cells old.numbers) → ((number : ℕ) → get new.groups number ≡ get old.groups number) → AreNumbered new
@@ -321,6 +328,17 @@ placed_without entries at key (s ∷ slots) zero lt h k = sym (ap (λ b. if b th
 placed_without entries at key (s ∷ slots) (suc n) lt h k =
     ap (λ ss. s ∷ ss) (placed_without entries at key slots n (omega arith) h.1 k)
     ∙ sym (ap (λ b. if b then s ∷ slots_without entries at key slots else slots) h.0)
+
+-- a row behind all others
+pub placed_alone : (entries : List Entry) (at : ℤ) (key : ℕ) (slot : Slot) (slots : List Slot) → length slots ≡ 0 → slots ++ slot ∷ [] ≡ slots_with entries at key slot slots
+placed_alone entries at key slot [] none = refl
+placed_alone entries at key slot (s ∷ slots) none = absurd (omega arith)
+
+pub placed_last : (entries : List Entry) (at : ℤ) (key : ℕ) (slot last : Slot) (slots : List Slot) → slice_get slots (length slots - 1) ≡ Some last → IsParted (is_before entries at key) slots → is_before entries at key last ≡ true → slots ++ slot ∷ [] ≡ slots_with entries at key slot slots
+placed_last entries at key slot last slots is parted own =
+    put_last slots (length slots) slot refl
+    ∙ placed_with entries at key slot slots (length slots) (omega arith) (passed_all (is_before entries at key) slots (length slots) last refl is parted own)
+    (subst (AllByRecursion (λ s. is_before entries at key s ≡ false)) (sym (drop_all (length slots) slots (omega arith))) tt)
 
 -- where all rows stand before the place, none is there
 pub none_there : (entries : List Entry) (at : ℤ) (key : ℕ) (slots : List Slot) (n : ℕ) → length slots ≤ n → AllByRecursion (λ s. is_before entries at key s ≡ true) (take n slots) → slots ≡ slots_without entries at key slots

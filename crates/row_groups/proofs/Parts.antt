@@ -1,15 +1,17 @@
 -- Lists of which a first part true_from_ne_false a test, and lists in chunks.
-use Rattle.std.proofs.Common.{◌≡◌, refl, ap, sym, ◌∙◌, subst, Bool, true, false, ℕ, zero, suc, ◌+◌, ◌-◌, ◌<◌, ◌≤◌, arith, List, [], ◌∷◌, ◌++◌, length, take, drop, get_or, set, append_assoc, length-append, Some, IsSome}
+use Rattle.std.proofs.Common.{◌≡◌, refl, ap, sym, ◌∙◌, subst, Bool, true, false, ℕ, zero, suc, ◌+◌, ◌-◌, ◌<◌, ◌≤◌, arith, List, [], ◌∷◌, ◌++◌, length, take, drop, take_all, get_or, set, append_assoc, length-append, length-take, length-drop, Some, IsSome}
 use Rattle.std.specs.Prelude.{slice_get}
 use Rattle.std.specs.List.{AllByRecursion}
 use Rattle.std.specs.Global.{Vec}
 use Rattle.std.proofs.lemmas.Grind.{flat_map-append}
 use Rattle.std.proofs.lemmas.Bool.{true_from_ne_false}
+use Rattle.std.proofs.lemmas.List.{take-append-drop}
+use Rattle.row_groups.specs.declared.chunks.Spot.{Spot}
 use Rattle.row_groups.specs.declared.place.Slot.{Slot}
 use Rattle.key_lists.proofs.Every.{every-append}
 use Rattle.key_lists.proofs.Parts.{every_front, every_back, every_at, some_at, around, split_list, set_around, put_among, taken_among, drop_among, got_among}
 use Rattle.row_handles.specs.Entries.{Entry, key_with}
-use Rattle.row_groups.specs.Slots.{AreFilled, AreKnown, IsParted, joined}
+use Rattle.row_groups.specs.Slots.{AreFilled, AreKnown, AtChunk, IsParted, joined, position_in}
 
 pub unlike : (b : Bool) → b ≡ true → b ≡ false → ⊥
 unlike b e f = cc
@@ -155,6 +157,57 @@ none_behind [] zero e = refl
 none_behind [] (suc n) e = refl
 none_behind (chunk ∷ chunks) zero e = absurd (omega arith)
 none_behind (chunk ∷ chunks) (suc n) e = none_behind chunks n (omega arith)
+
+-- a row in a chunk of its own before a chunk
+pub chunk_before : (chunks : List (Vec Slot)) (i place : ℕ) (own : Vec Slot) (slot : Slot) → own.items ≡ slot ∷ [] → place ≡ 0 → joined (take i chunks ++ own ∷ drop i chunks) ≡ take (length (joined (take i chunks)) + place) (joined chunks) ++ slot ∷ drop (length (joined (take i chunks)) + place) (joined chunks)
+chunk_before chunks i place own slot is none =
+    let front = joined (take i chunks) in
+    let back = joined (drop i chunks) in
+    let at : length front + 0 ≡ length front + place = omega (arith, none) in
+    joined-append (take i chunks) (own ∷ drop i chunks)
+    ∙ ap (λ rows. front ++ (rows ++ back)) is
+    ∙ put_among front [] back (length front + place) 0 slot at (omega arith)
+    ∙ ap (λ rows. take (length front + place) rows ++ slot ∷ drop (length front + place) rows) (sym (joined-append (take i chunks) (drop i chunks)) ∙ ap joined (take-append-drop i chunks))
+
+-- the rows up to a chunk and those in it are the rows up to the next
+pub counted_next : (chunks : List (Vec Slot)) (i : ℕ) (chunk : Vec Slot) → i < length chunks → chunk ≡ get_or chunks i chunk → length (joined (take (suc i) chunks)) ≡ length (joined (take i chunks)) + length chunk.items
+counted_next [] i chunk lt at = absurd (omega arith)
+counted_next (other ∷ chunks) zero chunk lt at =
+    let e = length-append other.items [] in
+    omega (arith, e, ap (λ c. length c.items) at)
+counted_next (other ∷ chunks) (suc i) chunk lt at =
+    let rest = counted_next chunks i chunk (omega arith) at in
+    let own = length-append other.items (joined (take (suc i) chunks)) in
+    let less = length-append other.items (joined (take i chunks)) in
+    omega (arith, rest, own, less)
+
+-- a spot among all rows
+pub spot_within : (chunks : List (Vec Slot)) (spot : Spot) → spot.chunk < length chunks → AtChunk chunks spot.chunk (λ rows. spot.place ≤ length rows) → position_in chunks spot ≤ length (joined chunks)
+spot_within chunks spot lt le =
+    let chunk = some_at chunks spot.chunk lt in
+    let own : spot.place ≤ length chunk.0.items = le chunk.0 chunk.1 in
+    omega (arith, counted_to chunks spot.chunk chunk.0 lt chunk.1, own)
+
+pub spot_inside : (chunks : List (Vec Slot)) (spot : Spot) → spot.chunk < length chunks → AtChunk chunks spot.chunk (λ rows. spot.place < length rows) → position_in chunks spot < length (joined chunks)
+spot_inside chunks spot lt less =
+    let chunk = some_at chunks spot.chunk lt in
+    let own : spot.place < length chunk.0.items = less chunk.0 chunk.1 in
+    omega (arith, counted_to chunks spot.chunk chunk.0 lt chunk.1, own)
+
+pub spot_behind : (chunks : List (Vec Slot)) (spot : Spot) → length chunks ≤ spot.chunk → length (joined chunks) ≤ position_in chunks spot
+spot_behind chunks spot le = omega (arith, ap (λ cs. length (joined cs)) (take_all spot.chunk chunks le))
+
+-- the end of a chunk is the beginning of the next
+pub next_spot : (chunks : List (Vec Slot)) (spot next : Spot) → spot.chunk < length chunks → AtChunk chunks spot.chunk (λ rows. spot.place ≡ length rows) → next.chunk ≡ spot.chunk + 1 → next.place ≡ 0 → position_in chunks next ≡ position_in chunks spot
+next_spot chunks spot next lt end index none =
+    let chunk = some_at chunks spot.chunk lt in
+    let own : spot.place ≡ length chunk.0.items = end chunk.0 chunk.1 in
+    let after : next.chunk ≡ suc spot.chunk = omega (arith, index) in
+    omega (arith, ap (λ n. length (joined (take n chunks))) after, counted_next chunks spot.chunk chunk.0 lt chunk.1, own, none)
+
+-- one row less
+pub one_less : {X : Type 0} (xs : List X) (n : ℕ) → n < length xs → length (take n xs ++ drop (n + 1) xs) + 1 ≡ length xs
+one_less xs n lt = omega (arith, length-append (take n xs) (drop (n + 1) xs), length-take n xs, length-drop (n + 1) xs)
 
 -- the last row is that of the last chunk
 pub last_got : (chunks : List (Vec Slot)) (chunk : Vec Slot) → AreFilled chunks → slice_get chunks (length chunks - 1) ≡ Some chunk → slice_get chunk.items (length chunk.items - 1) ≡ slice_get (joined chunks) (length (joined chunks) - 1)

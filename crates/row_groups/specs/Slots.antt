@@ -4,11 +4,13 @@
 --     slots_with entries at key slot slots      one row more, at a place
 --     slots_without entries at key slots      the rows without the one at a place
 --     joined chunks      the rows of all chunks
-use Rattle.std.specs.Prelude.{ℕ, ◌^◌, ◌<◌, ◌≡◌, ◌&&◌, ◌||◌, Bool, true, false, nat_lt, int_lt, List, [], ◌∷◌, length, slice_index_or, unwrap_or, IsSome, ℤ, if◌then◌else◌}
+--     position_in chunks spot      the position of a spot among all rows
+use Rattle.std.specs.Prelude.{ℕ, ◌+◌, ◌^◌, ◌<◌, ◌≡◌, ◌&&◌, ◌||◌, Bool, true, false, nat_lt, int_lt, List, [], ◌∷◌, length, take, slice_index_or, unwrap_or, IsSome, ℤ, if◌then◌else◌}
 use Rattle.std.specs.List.{AllByRecursion, flat_map}
 use Rattle.std.specs.Ordering.{int_eq}
 use Rattle.std.specs.Global.{Vec}
 use Rattle.row_handles.specs.Entries.{Entry, AreHandled, key_with}
+use Rattle.row_groups.specs.declared.chunks.Spot.{Spot}
 use Rattle.row_groups.specs.declared.place.Slot.{Slot}
 use Rattle.row_groups.specs.Members.{Member, member_of}
 
@@ -43,6 +45,9 @@ AreRanked entries (slot ∷ slots) =
 
 abbrev pub joined : List (Vec Slot) → List Slot
 joined = flat_map (λ chunk. chunk.items)
+
+abbrev pub position_in : List (Vec Slot) → Spot → ℕ
+position_in chunks spot = length (joined (take spot.chunk chunks)) + spot.place
 
 abbrev pub AreFilled : List (Vec Slot) → Type 0
 AreFilled = AllByRecursion (λ chunk. 0 < length chunk.items)

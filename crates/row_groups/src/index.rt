@@ -40,13 +40,14 @@ impl Index {
         }
     }
 
-    /// Puts a row that has its handle into its group. Returns the number of the group.
+    /// Puts a row that has its handle into its group, which may have the number `near`. Returns the number of the group.
     fn enter(
         &mut self,
         handle: Handle,
         key: u64,
         cells: &[i64],
         at: i64,
+        near: usize,
     ) -> Result<usize, AllocError>
         requires others { Holds (left_rows (key ∷ []) self.old.handles) self.old }
         requires handle { handle_under key self.old.handles ≡ Some handle }
@@ -66,13 +67,19 @@ impl Index {
             at,
             key,
         };
-        let number = self.lists.put(cells, &place, Slot { at, handle })?;
+        let number = self.lists.put(cells, &place, Slot { at, handle }, near)?;
         self.table.keep(handle, Kept { number, at });
         Ok(number)
     }
 
-    /// Puts a row in under a key that has none. Returns the number of its group.
-    pub(crate) fn add(&mut self, key: u64, cells: &[i64], at: i64) -> Result<usize, AllocError>
+    /// Puts a row in under a key that has none. Its group may have the number `near`. Returns the number of its group.
+    pub(crate) fn add(
+        &mut self,
+        key: u64,
+        cells: &[i64],
+        at: i64,
+        near: usize,
+    ) -> Result<usize, AllocError>
         requires sound { IsIndex self.old }
         requires small { key < 2 ^ 62 }
         requires absent { handle_under key self.old.handles ≡ None }
@@ -84,7 +91,7 @@ impl Index {
         ensures numbers { (other : ℕ) → IsSome (cells_with other self.old.lists.groups) → cells_with other self.new.lists.groups ≡ cells_with other self.old.lists.groups }
     {
         let handle = self.handles.add(key)?;
-        match self.enter(handle, key, cells, at) {
+        match self.enter(handle, key, cells, at, near) {
             Ok(number) => Ok(number),
             Err(refusal) => {
                 self.handles.remove_one(key);

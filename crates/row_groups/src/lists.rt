@@ -77,7 +77,7 @@ impl Lists {
         ensures sound { AreNumbered self.new }
     {
         let mut rows = Sequence::new(self.alloc);
-        rows.insert(0, slot)?;
+        rows.push(slot)?;
         let key = Vec::from_slice(self.alloc, cells)?;
         let kept = Vec::from_slice(self.alloc, cells)?;
         self.groups.reserve(1)?;
@@ -85,13 +85,25 @@ impl Lists {
         Ok(self.groups.insert_reserved(KeyedRows { cells: kept, rows }))
     }
 
-    /// Puts a row in at its place among the rows with these cells. Returns the number of their group. After a refusal all is as
-    /// it was.
+    /// The number of the group with these cells. Where the group with the number `near` has them, no hash is taken.
+    fn number_near(&self, cells: &[i64], near: usize) -> Option<usize>
+        requires { AreNumbered self.now }
+        ensures { result ≡ number_under cells.now self.now.numbers }
+    {
+        match self.groups.get(near) {
+            Some(group) if group.cells.as_slice() == cells => Some(near),
+            _ => self.numbers.get(cells).copied(),
+        }
+    }
+
+    /// Puts a row in at its place among the rows with these cells, whose group may have the number `near`. Returns the number of
+    /// their group. After a refusal all is as it was.
     pub(crate) fn put(
         &mut self,
         cells: &[i64],
         place: &Place<'_>,
         slot: Slot,
+        near: usize,
     ) -> Result<usize, AllocError>
         requires sound { AreNumbered self.old }
         requires known { AreKnown place.now.handles.now (slots_under cells.now self.old) }
@@ -102,13 +114,11 @@ impl Lists {
         ensures err { OnErr result (Becomes cells.now (slots_under cells.now self.old) self.old self.new) }
         ensures sound { AreNumbered self.new }
     {
-        let Some(number) = self.numbers.get(cells).copied() else {
+        let Some(number) = self.number_near(cells, near) else {
             return self.begin(cells, slot);
         };
         self.crowded = true;
-        let rows = &mut self.groups[number].rows;
-        let position = rows.count_before(place);
-        rows.insert(position, slot)?;
+        self.groups[number].rows.put(place, slot)?;
         Ok(number)
     }
 
@@ -138,10 +148,7 @@ impl Lists {
         ensures sound { AreNumbered self.new }
     {
         let rows = &mut self.groups[number].rows;
-        let position = rows.count_before(place);
-        if position < rows.len() {
-            rows.remove(position);
-        }
+        rows.take(place);
         if rows.is_empty() {
             self.give_up(number);
         }

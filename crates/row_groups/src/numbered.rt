@@ -55,7 +55,26 @@ impl NumberedGroups {
         ensures number { IfOk result (λ number. IsNumberOf number cells.now self.new.names) }
         ensures names { IsPart self.old self.new }
     {
-        self.index.add(key, cells, at)
+        self.add_near(key, cells, at, usize::MAX)
+    }
+
+    /// Puts a row in as `add` does. Where its group has the number `near`, no hash is taken.
+    pub fn add_near(
+        &mut self,
+        key: u64,
+        cells: &[i64],
+        at: i64,
+        near: usize,
+    ) -> Result<usize, AllocError>
+        requires small { key < 2 ^ 62 }
+        requires absent { member_under key self.old.members ≡ None }
+        requires width { length cells.now ≡ self.old.width }
+        ensures members { OnOk result (groups_of self.new ≡ record (groups_of self.old) { members = with_member (member_of key cells.now at) self.old.members }) }
+        ensures refused { OnErr result (groups_of self.new ≡ groups_of self.old) }
+        ensures number { IfOk result (λ number. IsNumberOf number cells.now self.new.names) }
+        ensures names { IsPart self.old self.new }
+    {
+        self.index.add(key, cells, at, near)
     }
 
     /// Takes out the rows under these keys; it is no matter whether all of them have one. It takes no memory.

@@ -1,10 +1,10 @@
 //! The rows of a group in order.
 ghost use Rattle.std.specs.Prelude.{◌≡◌, ◌+◌, ◌-◌, ◌<◌, ◌≤◌, ◌++◌, ◌∷◌, ◌==◌, [], true, false, length, take, drop, slice_get, OnOk, OnErr, Some};
 ghost use Rattle.std.specs.List.{AllByRecursion};
-ghost use Rattle.row_groups.specs.Slots.{AreKnown, is_before, IsParted};
+ghost use Rattle.row_groups.specs.Slots.{AreKnown, is_before, IsParted, slots_with, slots_without};
 
 use crate::chunks::{
-    begun_before, count_rows, insert_row, push_row, remove_row, rows_before, spot_of,
+    begun_before, count_rows, insert_at, push_row, remove_at, rows_before, spot_before, spot_of,
 };
 use crate::place::{Place, Slot};
 use std::alloc::{AllocError, Global};
@@ -126,27 +126,47 @@ impl Sequence {
         Ok(())
     }
 
-    /// Puts a row in at a position. After a refusal all is as it was.
-    pub(crate) fn insert(&mut self, position: usize, slot: Slot) -> Result<(), AllocError>
-        requires { position ≤ length self.old }
-        ensures ok { OnOk result (self.new ≡ take position self.old ++ slot ∷ drop position self.old) }
+    /// Puts a row in at a place: behind all others at once where a look at the last one shows that it belongs there. After a
+    /// refusal all is as it was.
+    pub(crate) fn put(&mut self, place: &Place<'_>, slot: Slot) -> Result<(), AllocError>
+        requires known { AreKnown place.now.handles.now self.old }
+        requires parted { IsParted (is_before place.now.handles.now place.now.at place.now.key) self.old }
+        ensures ok { OnOk result (self.new ≡ slots_with place.now.handles.now place.now.at place.now.key slot self.old) }
         ensures err { OnErr result (self.new ≡ self.old) }
     {
-        if position == self.len {
+        if self.len == 0 {
             return self.push(slot);
         }
+        if let Some(last) = self.last() {
+            if place.is_after(last) {
+                return self.push(slot);
+            }
+        }
         let len = self.len.checked_add(1).ok_or(AllocError)?;
-        insert_row(&mut self.chunks, position, slot)?;
+        let spot = spot_before(&self.chunks, place);
+        insert_at(&mut self.chunks, spot, slot)?;
         self.len = len;
         Ok(())
     }
 
-    /// Takes out the row at a position.
-    pub(crate) fn remove(&mut self, position: usize)
-        requires { position < length self.old }
-        ensures { self.new ≡ take position self.old ++ drop (position + 1) self.old }
+    /// Takes out the first row that does not stand before a place, if there is one.
+    pub(crate) fn take(&mut self, place: &Place<'_>)
+        requires known { AreKnown place.now.handles.now self.old }
+        requires parted { IsParted (is_before place.now.handles.now place.now.at place.now.key) self.old }
+        ensures { self.new ≡ slots_without place.now.handles.now place.now.at place.now.key self.old }
     {
-        remove_row(&mut self.chunks, position);
+        if self.len == 0 {
+            return;
+        }
+        let mut spot = spot_before(&self.chunks, place);
+        if spot.place >= self.chunks[spot.chunk].len() {
+            spot.chunk += 1;
+            spot.place = 0;
+        }
+        if spot.chunk >= self.chunks.len() {
+            return;
+        }
+        remove_at(&mut self.chunks, spot);
         self.len -= 1;
     }
 }

@@ -1,4 +1,4 @@
-use Rattle.std.proofs.Common.{◌≡◌, ◌+◌, ◌<◌, ◌≤◌, ◌++◌, ap, sym, ◌∙◌, subst, refl, suc, take, drop, length, arith, ℕ, List, [], Some, inl, inr}
+use Rattle.std.proofs.Common.{◌≡◌, ◌≤◌, ap, sym, ◌∙◌, subst, refl, length, arith, ℕ, List, [], Some, inl, inr}
 use Rattle.std.proofs.lemmas.Bool.{cases_eq}
 use Rattle.std.proofs.lemmas.Option.{none-some}
 use Rattle.key_lists.proofs.Parts.{no_items}
@@ -8,31 +8,20 @@ use Rattle.row_groups.specs.declared.place.Slot.{Slot}
 use Rattle.row_groups.specs.Slots.{slots_without}
 use Rattle.row_groups.specs.Rows.{AreNumbered, Becomes, cells_with}
 use Rattle.slab.specs.Slab.{get, with_value}
-use Rattle.row_groups.proofs.Listed.{becomes_after, changed, changes_cells, changes_numbered, changes_rows, none_there, own_short, placed_without, same_items, shorter, under_number, with_rows}
+use Rattle.row_groups.proofs.Listed.{becomes_after, changed, changes_cells, changes_numbered, changes_rows, own_short, same_items, shorter, under_number, with_rows}
 use Rattle.row_groups.proofs.lists.Lists.take.Goals as goal
-use Rattle.row_groups.proofs.lists.Lists.take.Goals.{then-position-len, else-position-len}
 
 pub returns-then-is_empty-clause-rows : goal.returns-then-is_empty-clause-rows
 returns-then-is_empty-clause-rows c = λ cells own.
     let old = c.args.self.now in
     let number = c.args.number in
     let group = c.index_mut.result.now in
-    let left = c.if-position-len.rows in
+    let left = c.take.new.self in
     let mid : Lists = record old { groups = with_value old.groups number (record group { rows = left }) } in
     let without = slots_without c.args.place.now.handles.now c.args.place.now.at c.args.place.now.key in
     let was = c.index_mut.ensures.value in
     let rows = group.rows in
-    let count = c.count_before-position in
-    let rest : left ≡ without rows = elim c.if-position-len.branch [
-      | then-position-len w ↦
-          let lt : count.result < length rows = omega arith in
-          let next : count.result + 1 ≡ suc count.result = omega arith in
-          w.rows-is ∙ w.remove.ensures ∙ ap (λ n. take count.result rows ++ drop n rows) next
-          ∙ placed_without c.args.place.now.handles.now c.args.place.now.at c.args.place.now.key rows count.result lt count.ensures.before count.ensures.others
-      | else-position-len w ↦
-          let le : length rows ≤ count.result = omega arith in
-          w.rows-is ∙ none_there c.args.place.now.handles.now c.args.place.now.at c.args.place.now.key rows count.result le count.ensures.before
-    ] in
+    let rest = c.take.ensures in
     let changes = changed number group left old mid c.requires.sound was refl refl in
     let same = same_items cells number group old.groups was own in
     let held = under_number cells number old (c.requires.sound.cells cells number own) ∙ with_rows number old.groups group was in
@@ -45,22 +34,12 @@ returns-else-is_empty-clause-rows c = λ cells own.
     let old = c.args.self.now in
     let number = c.args.number in
     let group = c.index_mut.result.now in
-    let left = c.if-position-len.rows in
+    let left = c.take.new.self in
     let mid : Lists = record old { groups = with_value old.groups number (record group { rows = left }) } in
     let without = slots_without c.args.place.now.handles.now c.args.place.now.at c.args.place.now.key in
     let was = c.index_mut.ensures.value in
     let rows = group.rows in
-    let count = c.count_before-position in
-    let rest : left ≡ without rows = elim c.if-position-len.branch [
-      | then-position-len w ↦
-          let lt : count.result < length rows = omega arith in
-          let next : count.result + 1 ≡ suc count.result = omega arith in
-          w.rows-is ∙ w.remove.ensures ∙ ap (λ n. take count.result rows ++ drop n rows) next
-          ∙ placed_without c.args.place.now.handles.now c.args.place.now.at c.args.place.now.key rows count.result lt count.ensures.before count.ensures.others
-      | else-position-len w ↦
-          let le : length rows ≤ count.result = omega arith in
-          w.rows-is ∙ none_there c.args.place.now.handles.now c.args.place.now.at c.args.place.now.key rows count.result le count.ensures.before
-    ] in
+    let rest = c.take.ensures in
     let same = same_items cells number group old.groups was own in
     let held = under_number cells number old (c.requires.sound.cells cells number own) ∙ with_rows number old.groups group was in
     subst (λ slots. Becomes cells slots old mid) (rest ∙ ap without (sym held))
@@ -71,7 +50,7 @@ returns-then-is_empty-clause-fewer c = λ other cells e.
     let old = c.args.self.now in
     let number = c.args.number in
     let group = c.index_mut.result.now in
-    let left = c.if-position-len.rows in
+    let left = c.take.new.self in
     let mid : Lists = record old { groups = with_value old.groups number (record group { rows = left }) } in
     let new = c.give_up.new.self in
     elim (cases_eq other number) [
@@ -84,7 +63,7 @@ returns-else-is_empty-clause-fewer c = λ other cells e.
     let old = c.args.self.now in
     let number = c.args.number in
     let group = c.index_mut.result.now in
-    let left = c.if-position-len.rows in
+    let left = c.take.new.self in
     let mid : Lists = record old { groups = with_value old.groups number (record group { rows = left }) } in
     sym (changes_cells number group left old mid (changed number group left old mid c.requires.sound c.index_mut.ensures.value refl refl) other) ∙ e
 
@@ -96,21 +75,17 @@ kept old number group left sound was fewer =
 pub give_up-requires : goal.give_up-requires
 give_up-requires c =
     let rows = c.index_mut.result.now.rows in
-    let left = c.if-position-len.rows in
-    let fewer : length left ≤ length rows = elim c.if-position-len.branch [
-      | then-position-len w ↦ subst (λ (slots : List Slot). length slots ≤ length rows) (sym (w.rows-is ∙ w.remove.ensures)) (shorter rows c.count_before-position.result)
-      | else-position-len w ↦ subst (λ (slots : List Slot). length slots ≤ length rows) (sym w.rows-is) (omega arith)
-    ] in
+    let left = c.take.new.self in
+    let place = c.args.place.now in
+    let fewer : length left ≤ length rows = subst (λ (slots : List Slot). length slots ≤ length rows) (sym c.take.ensures) (shorter place.handles.now place.at place.key rows) in
     let is = kept c.args.self.now c.args.number c.index_mut.result.now left c.requires.sound c.index_mut.ensures.value fewer in
     record { numbers = is.numbers; cells = is.cells; alone = is.alone }
 
 pub returns-else-is_empty-clause-sound : goal.returns-else-is_empty-clause-sound
 returns-else-is_empty-clause-sound c =
     let rows = c.index_mut.result.now.rows in
-    let left = c.if-position-len.rows in
-    let fewer : length left ≤ length rows = elim c.if-position-len.branch [
-      | then-position-len w ↦ subst (λ (slots : List Slot). length slots ≤ length rows) (sym (w.rows-is ∙ w.remove.ensures)) (shorter rows c.count_before-position.result)
-      | else-position-len w ↦ subst (λ (slots : List Slot). length slots ≤ length rows) (sym w.rows-is) (omega arith)
-    ] in
+    let left = c.take.new.self in
+    let place = c.args.place.now in
+    let fewer : length left ≤ length rows = subst (λ (slots : List Slot). length slots ≤ length rows) (sym c.take.ensures) (shorter place.handles.now place.at place.key rows) in
     let is = kept c.args.self.now c.args.number c.index_mut.result.now left c.requires.sound c.index_mut.ensures.value fewer in
     record { numbers = is.numbers; cells = is.cells; alone = is.alone }

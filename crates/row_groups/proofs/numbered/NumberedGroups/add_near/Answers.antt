@@ -5,7 +5,7 @@ use Rattle.row_groups.specs.Rows.{cells_with}
 use Rattle.row_groups.specs.Indexes.{names_of, numbered_of}
 use Rattle.row_groups.proofs.Groupings.{absent_under}
 use Rattle.row_groups.proofs.Named.{keeps_all, number_is, part_of}
-use Rattle.row_groups.proofs.numbered.NumberedGroups.add.Goals as goal
+use Rattle.row_groups.proofs.numbered.NumberedGroups.add_near.Goals as goal
 
 pub add-requires-clause-absent : goal.add-requires-clause-absent
 add-requires-clause-absent c =

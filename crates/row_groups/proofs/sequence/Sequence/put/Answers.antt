@@ -1,0 +1,38 @@
+use Rattle.std.proofs.Common.{◌≡◌, ◌-◌, ◌<◌, ◌≤◌, true, false, ap, sym, ◌∙◌, subst, take, drop, length, IsSome}
+use Rattle.std.specs.List.{AllByRecursion}
+use Rattle.std.proofs.lemmas.Result.{on_ok_weaker}
+use Rattle.key_lists.proofs.Parts.{every_got}
+use Rattle.row_handles.specs.Entries.{key_with}
+use Rattle.row_groups.specs.Slots.{AtChunk, is_before, joined, position_in, slots_with}
+use Rattle.row_groups.proofs.Listed.{placed_alone, placed_last, placed_with}
+use Rattle.row_groups.proofs.Parts.{spot_within}
+use Rattle.row_groups.proofs.sequence.Sequence.put.Goals as goal
+
+pub returns-then-self-eq0-clause-ok : goal.returns-then-self-eq0-clause-ok
+returns-then-self-eq0-clause-ok c =
+    let place = c.args.place.now in
+    let none : length c.args.self.now ≡ 0 = sym (ap length c.self.view_is) ∙ sym c.self.invariant.counted ∙ c.if-self-eq0.true in
+    on_ok_weaker c.push.result (λ is. is ∙ placed_alone place.handles.now place.at place.key c.args.slot c.args.self.now none) c.push.ensures.ok
+
+pub is_after-requires : goal.is_after-requires
+is_after-requires c =
+    every_got (λ slot. IsSome (key_with slot.handle c.args.place.now.handles.now)) c.args.self.now (length c.args.self.now - 1) c.in-Some.last (sym c.last.ensures ∙ c.in-Some.is) c.requires.known
+
+pub returns-then-is_after-clause-ok : goal.returns-then-is_after-clause-ok
+returns-then-is_after-clause-ok c =
+    let place = c.args.place.now in
+    on_ok_weaker c.push-then-is_after.result (λ is. is ∙ placed_last place.handles.now place.at place.key c.args.slot c.in-Some.last c.args.self.now (sym c.last.ensures ∙ c.in-Some.is) c.requires.parted (sym c.is_after.ensures ∙ c.if-is_after.true)) c.push-then-is_after.ensures.ok
+
+pub returns-clause-ok : goal.returns-clause-ok
+returns-clause-ok c =
+    let chunks = c.self.inside.chunks.items in
+    let place = c.args.place.now in
+    let test = is_before place.handles.now place.at place.key in
+    let spot = c.spot_before-spot.result in
+    let e = c.deref.ensures.value in
+    let at : AtChunk chunks spot.chunk (λ rows. spot.place ≤ length rows) = subst (λ cs. AtChunk cs spot.chunk (λ rows. spot.place ≤ length rows)) e c.spot_before-spot.ensures.place in
+    c.in_ok-insert_at.ensures.ok
+    ∙ placed_with place.handles.now place.at place.key c.args.slot (joined chunks) (position_in chunks spot) (spot_within chunks spot (subst (λ cs. spot.chunk < length cs) e c.spot_before-spot.ensures.chunk) at)
+    (subst (λ cs. AllByRecursion (λ slot. test slot ≡ true) (take (position_in cs spot) (joined cs))) e c.spot_before-spot.ensures.before)
+    (subst (λ cs. AllByRecursion (λ slot. test slot ≡ false) (drop (position_in cs spot) (joined cs))) e c.spot_before-spot.ensures.others)
+    ∙ ap (slots_with place.handles.now place.at place.key c.args.slot) c.self.view_is
