@@ -1,3 +1,4 @@
+pub mod Changing
 pub mod Unmoved
 pub mod Untouched
 pub mod GroupRows

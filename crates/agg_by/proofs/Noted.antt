@@ -182,10 +182,18 @@ told_of rows p g none append one (key ∷ keys) (number ∷ numbers) there are =
     let cells = kept_cells rows.members key in
     ap₂ (λ a b. a || b) (one number cells (are.0 cells (kept_own rows.members key there.0))) (told_of rows p g none append one keys numbers there.1 are.1) ∙ sym (append (cells ∷ []) (map (kept_cells rows.members) keys))
 
--- what is noted of some cells and then of others is noted of all
-pub together : {X : Type 0} (f : List ℕ → Bool) (g : List X → Bool) (start middle numbers : List ℕ) (xs ys all : List X) → f [] ≡ false → ((xs ys : List X) → g (xs ++ ys) ≡ (g xs || g ys)) → start ≡ [] → f middle ≡ (f start || g xs) → f numbers ≡ (f middle || g ys) → xs ++ ys ≡ all → f numbers ≡ g all
-together f g start middle numbers xs ys all none append nothing first last same =
-    last ∙ ap (λ b. b || g ys) (first ∙ ap (λ b. b || g xs) (ap f nothing ∙ none)) ∙ sym (append xs ys) ∙ ap g same
+-- cells of which all is told that is told of others name the same groups
+pub named_same : (xs ys : List (List ℤ)) → ((test : List ℤ → Bool) → list_any test xs ≡ list_any test ys) → (names : Names) (number : ℕ) → is_named xs names number ≡ is_named ys names number
+named_same xs ys same names number =
+    elim (name_at number names) as (λ named. option_map_or (λ own. list_any (same_cells own) xs) named false ≡ option_map_or (λ own. list_any (same_cells own) ys) named false) [
+      | None ↦ refl
+      | Some own ↦ same (same_cells own)
+    ]
+
+-- what is noted of some cells, then of others and then of more is noted of all
+pub together : {X : Type 0} (f : List ℕ → Bool) (g : List X → Bool) (start first second numbers : List ℕ) (xs ys zs all : List X) → f [] ≡ false → ((xs ys : List X) → g (xs ++ ys) ≡ (g xs || g ys)) → start ≡ [] → f first ≡ (f start || g xs) → f second ≡ (f first || g ys) → f numbers ≡ (f second || g zs) → g ((xs ++ ys) ++ zs) ≡ g all → f numbers ≡ g all
+together f g start first second numbers xs ys zs all none append nothing one two three same =
+    three ∙ ap (λ b. b || g zs) (two ∙ ap (λ b. b || g ys) (one ∙ ap (λ b. b || g xs) (ap f nothing ∙ none)) ∙ sym (append xs ys)) ∙ sym (append (xs ++ ys) zs) ∙ same
 
 -- a step: from the part that stays, the groups of before and of now
 record IsFound {X : Type 0} (p : X → Bool) (xs : List X) : Type 0 where
@@ -204,7 +212,7 @@ any_found p (x ∷ xs) e =
     ]
 
 -- the number of the group with some key cells, if one is
-abbrev MayName : List ℤ → Names → Type 0
+abbrev pub MayName : List ℤ → Names → Type 0
 MayName cells names = ((number : ℕ) × (name_at number names ≡ Some cells)) ⊎ ((number : ℕ) → name_at number names ≢ Some cells)
 
 not_first : (cells : List ℤ) (name : Option (List ℤ)) (names : Names) → name ≢ Some cells → MayName cells names → MayName cells (name ∷ names)
@@ -215,7 +223,7 @@ not_first cells name names differ (inr none) = inr none_here
     none_here zero e = differ e
     none_here (suc number) e = none number e
 
-find_name : (cells : List ℤ) (names : Names) → MayName cells names
+pub find_name : (cells : List ℤ) (names : Names) → MayName cells names
 find_name cells [] = inr (λ number e. none-some cells e)
 find_name cells (None ∷ names) = not_first cells None names (none-some cells) (find_name cells names)
 find_name cells (Some own ∷ names) = by_cells (same_cells own cells) refl (find_name cells names)

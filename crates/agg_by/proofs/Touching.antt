@@ -1,7 +1,7 @@
 -- The rows that a step takes out of their groups are there before, those that it puts in are there now, and the others move in order.
-use Rattle.std.proofs.Common.{◌≡◌, refl, ap, sym, ◌∙◌, subst, Bool, true, false, not, ◌&&◌, ◌||◌, filter}
+use Rattle.std.proofs.Common.{◌≡◌, refl, ap, sym, ◌∙◌, subst, Bool, true, false, not, ◌&&◌, ◌||◌, ℕ, [], filter, if◌then◌else◌}
 use Rattle.std.specs.List.{AllByRecursion}
-use Rattle.std.proofs.lemmas.Bool.{and_parts}
+use Rattle.std.proofs.lemmas.Bool.{and_parts, or_right}
 use Rattle.key_lists.specs.Keys.{is_among, without}
 use Rattle.key_lists.proofs.Among.{among-filter, each_among, of_among}
 use Rattle.key_lists.proofs.Every.{every, every_weaker, every-filter, every-map, every_unmapped, filter_filter, filter_same}
@@ -41,7 +41,7 @@ module _ (t : Ticking) (e : IsExact t) where
       (every-filter (λ pair. is_among pair.new (keys t.new.rows) ≡ true) (is_modified t e) (kept t e)
       (every_unmapped (λ key. is_among key (keys t.new.rows) ≡ true) (λ (pair : KeyPair). pair.new) (kept t e) e.tick.of_new)))
 
-  pub come_there : AllByRecursion (λ key. is_among key (keys t.new.rows) ≡ true) (come t)
+  come_there : AllByRecursion (λ key. is_among key (keys t.new.rows) ≡ true) (come t)
   come_there =
       every_weaker (λ key. is_among key (come t) ≡ true) (λ key. is_among key (keys t.new.rows) ≡ true) (come t)
       (λ key own.
@@ -55,7 +55,7 @@ module _ (t : Ticking) (e : IsExact t) where
   neither true m = refl
   neither false m = refl
 
-  pub lawful_left : IsLawful t.update.shifted (without (gone t) (keys t.old.rows))
+  lawful_left : IsLawful t.update.shifted (without (gone t) (keys t.old.rows))
   lawful_left =
       subst (IsLawful t.update.shifted)
       (filter_filter (λ key. not (is_among key (gone t))) (λ key. not (is_among key t.update.removed)) (keys t.old.rows)
@@ -63,3 +63,32 @@ module _ (t : Ticking) (e : IsExact t) where
       (every (λ key. (not (is_among key t.update.removed) && not (is_among key (gone t))) ≡ not (is_among key (gone t))) (keys t.old.rows)
       (λ key. subst (λ b. (not (is_among key t.update.removed) && not b) ≡ not b) (sym (among-united key t.update.removed (old_modified (keys t.old.rows) t.update))) (neither (is_among key t.update.removed) (is_among key (old_modified (keys t.old.rows) t.update))))))
       (lawful_some t.update.shifted (λ key. not (is_among key (gone t))) (without t.update.removed (keys t.old.rows)) (exact_shift t e))
+
+  -- and so it is with the rows of the update alone
+  of_gone : (key : ℕ) → is_among key (gone t) ≡ true → is_among key (keys t.old.rows) ≡ true
+  of_gone key own = of_among (λ key. is_among key (keys t.old.rows) ≡ true) key (gone t) gone_there own
+
+  pub left_there : (b : Bool) → AllByRecursion (λ key. is_among key (keys t.old.rows) ≡ true) (if b then t.update.removed else gone t)
+  left_there false = gone_there
+  left_there true =
+      every_weaker (λ key. is_among key t.update.removed ≡ true) (λ key. is_among key (keys t.old.rows) ≡ true) t.update.removed
+      (λ key own. of_gone key (among-united key t.update.removed (old_modified (keys t.old.rows) t.update) ∙ ap (λ b. b || is_among key (old_modified (keys t.old.rows) t.update)) own))
+      (each_among t.update.removed)
+
+  pub changing_there : (b : Bool) → AllByRecursion (λ key. is_among key (keys t.old.rows) ≡ true) (if b then old_modified (keys t.old.rows) t.update else [])
+  changing_there false = tt
+  changing_there true =
+      every_weaker (λ key. is_among key (old_modified (keys t.old.rows) t.update) ≡ true) (λ key. is_among key (keys t.old.rows) ≡ true) (old_modified (keys t.old.rows) t.update)
+      (λ key own. of_gone key (among-united key t.update.removed (old_modified (keys t.old.rows) t.update) ∙ or_right (is_among key t.update.removed) (is_among key (old_modified (keys t.old.rows) t.update)) own))
+      (each_among (old_modified (keys t.old.rows) t.update))
+
+  pub came_there : (b : Bool) → AllByRecursion (λ key. is_among key (keys t.new.rows) ≡ true) (if b then t.update.added else come t)
+  came_there false = come_there
+  came_there true =
+      every_weaker (λ key. is_among key t.update.added ≡ true) (λ key. is_among key (keys t.new.rows) ≡ true) t.update.added
+      (λ key own. of_among (λ key. is_among key (keys t.new.rows) ≡ true) key (come t) come_there (among-united key t.update.added t.update.modified ∙ ap (λ b. b || is_among key t.update.modified) own))
+      (each_among t.update.added)
+
+  pub moves_lawful : (b : Bool) → IsLawful t.update.shifted (without (if b then t.update.removed else gone t) (keys t.old.rows))
+  moves_lawful true = exact_shift t e
+  moves_lawful false = lawful_left

@@ -32,10 +32,10 @@ module _ (t : Ticking) (e : IsExact t) where
   abbrev pub quiet : List KeyPair
   quiet = filter is_quiet (kept t e)
 
-  abbrev was_row : KeyPair → PlainRow
+  abbrev pub was_row : KeyPair → PlainRow
   was_row pair = record { key = pair.new; cells = cells_at pair.old t.old.rows }
 
-  abbrev now_row : KeyPair → PlainRow
+  abbrev pub now_row : KeyPair → PlainRow
   now_row pair = record { key = pair.new; cells = cells_at pair.new t.new.rows }
 
   abbrev old_row : KeyPair → PlainRow
@@ -72,26 +72,28 @@ module _ (t : Ticking) (e : IsExact t) where
   not_come false true = refl
   not_come false false = refl
 
-  come_at : (key : ℕ) → is_among key (keys t.new.rows) ≡ true → not (is_among key (come t)) ≡ is_among key (new_keys quiet)
+  pub come_at : (key : ℕ) → is_among key (keys t.new.rows) ≡ true → not (is_among key (come t)) ≡ is_among key (new_keys quiet)
   come_at key own =
       ap not (among-united key t.update.added t.update.modified ∙ ap (λ b. b || is_among key t.update.modified) (added_at key own))
       ∙ not_come (is_among key (new_keys (kept t e))) (is_among key t.update.modified)
       ∙ sym (quiet_new key)
 
-  new_within : Within (λ pair. pair.new) quiet t.new.rows
-  new_within =
-      within_from (λ pair. pair.new) quiet t.new.rows e.tick.new_table.rising
-      (rising-filter (λ (pair : KeyPair). pair.new) is_quiet (kept t e) e.tick.rising_new)
-      (every-map (λ key. is_among key (keys t.new.rows) ≡ true) (λ (pair : KeyPair). pair.new) quiet
-      (every-filter (λ pair. is_among pair.new (keys t.new.rows) ≡ true) is_quiet (kept t e)
+  new_within : (test : KeyPair → Bool) → Within (λ pair. pair.new) (filter test (kept t e)) t.new.rows
+  new_within test =
+      within_from (λ pair. pair.new) (filter test (kept t e)) t.new.rows e.tick.new_table.rising
+      (rising-filter (λ (pair : KeyPair). pair.new) test (kept t e) e.tick.rising_new)
+      (every-map (λ key. is_among key (keys t.new.rows) ≡ true) (λ (pair : KeyPair). pair.new) (filter test (kept t e))
+      (every-filter (λ pair. is_among pair.new (keys t.new.rows) ≡ true) test (kept t e)
       (every_unmapped (λ key. is_among key (keys t.new.rows) ≡ true) (λ (pair : KeyPair). pair.new) (kept t e) e.tick.of_new)))
 
-  new_rows : removing (come t) t.new.rows ≡ map now_row quiet
-  new_rows =
-      filter_same (λ row. not (is_among row.key (come t))) (λ row. is_among row.key (new_keys quiet)) t.new.rows
-      (every_weaker (λ row. is_among row.key (keys t.new.rows) ≡ true) (λ row. not (is_among row.key (come t)) ≡ is_among row.key (new_keys quiet)) t.new.rows
-      (λ row own. come_at row.key own) (rows_among t.new.rows))
-      ∙ named_rows (λ pair. pair.new) quiet t.new.rows e.tick.new_table.rising new_within
+  -- the rows of now but those under some keys are those of the pairs that pass a test, where the keys of these are all others
+  pub new_rows : (test : KeyPair → Bool) (these : List ℕ) → ((key : ℕ) → is_among key (keys t.new.rows) ≡ true → not (is_among key these) ≡ is_among key (new_keys (filter test (kept t e))))
+      → removing these t.new.rows ≡ map now_row (filter test (kept t e))
+  new_rows test these others =
+      filter_same (λ row. not (is_among row.key these)) (λ row. is_among row.key (new_keys (filter test (kept t e)))) t.new.rows
+      (every_weaker (λ row. is_among row.key (keys t.new.rows) ≡ true) (λ row. not (is_among row.key these) ≡ is_among row.key (new_keys (filter test (kept t e)))) t.new.rows
+      (λ row own. others row.key own) (rows_among t.new.rows))
+      ∙ named_rows (λ pair. pair.new) (filter test (kept t e)) t.new.rows e.tick.new_table.rising (new_within test)
 
   not_gone : (r m o : Bool) → o ≡ true → not (r || (m && (not r && o))) ≡ (not m && (not r && o))
   not_gone true true o h = refl
@@ -109,38 +111,40 @@ module _ (t : Ticking) (e : IsExact t) where
   pub old_at : (test : KeyPair → Bool) (key : ℕ) → is_among key (old_keys (filter test (kept t e))) ≡ (test (kept_pair t.update key) && (not (is_among key t.update.removed) && is_among key (keys t.old.rows)))
   old_at test key = ap (is_among key) (old_some t e test) ∙ among-filter (λ key. test (kept_pair t.update key)) key staying_keys ∙ ap (λ b. test (kept_pair t.update key) && b) (staying_at key)
 
-  gone_at : (key : ℕ) → is_among key (keys t.old.rows) ≡ true → not (is_among key (gone t)) ≡ is_among key (old_keys quiet)
+  pub gone_at : (key : ℕ) → is_among key (keys t.old.rows) ≡ true → not (is_among key (gone t)) ≡ is_among key (old_keys quiet)
   gone_at key own =
       ap not (among-united key t.update.removed (old_modified (keys t.old.rows) t.update)
       ∙ ap (λ b. is_among key t.update.removed || b) (among-filter (λ key. is_modified t e (kept_pair t.update key)) key staying_keys ∙ ap (λ b. is_modified t e (kept_pair t.update key) && b) (staying_at key)))
       ∙ not_gone (is_among key t.update.removed) (is_modified t e (kept_pair t.update key)) (is_among key (keys t.old.rows)) own
       ∙ sym (old_at is_quiet key)
 
-  old_within : Within (λ pair. pair.old) quiet t.old.rows
-  old_within =
-      within_from (λ pair. pair.old) quiet t.old.rows e.tick.old_table.rising
-      (rising-filter (λ (pair : KeyPair). pair.old) is_quiet (kept t e) e.tick.rising_old)
-      (every-map (λ key. is_among key (keys t.old.rows) ≡ true) (λ (pair : KeyPair). pair.old) quiet
-      (every-filter (λ pair. is_among pair.old (keys t.old.rows) ≡ true) is_quiet (kept t e)
+  old_within : (test : KeyPair → Bool) → Within (λ pair. pair.old) (filter test (kept t e)) t.old.rows
+  old_within test =
+      within_from (λ pair. pair.old) (filter test (kept t e)) t.old.rows e.tick.old_table.rising
+      (rising-filter (λ (pair : KeyPair). pair.old) test (kept t e) e.tick.rising_old)
+      (every-map (λ key. is_among key (keys t.old.rows) ≡ true) (λ (pair : KeyPair). pair.old) (filter test (kept t e))
+      (every-filter (λ pair. is_among pair.old (keys t.old.rows) ≡ true) test (kept t e)
       (every_unmapped (λ key. is_among key (keys t.old.rows) ≡ true) (λ (pair : KeyPair). pair.old) (kept t e) e.tick.of_old)))
 
-  old_rows : removing (gone t) t.old.rows ≡ map old_row quiet
-  old_rows =
-      filter_same (λ row. not (is_among row.key (gone t))) (λ row. is_among row.key (old_keys quiet)) t.old.rows
-      (every_weaker (λ row. is_among row.key (keys t.old.rows) ≡ true) (λ row. not (is_among row.key (gone t)) ≡ is_among row.key (old_keys quiet)) t.old.rows
-      (λ row own. gone_at row.key own) (rows_among t.old.rows))
-      ∙ named_rows (λ pair. pair.old) quiet t.old.rows e.tick.old_table.rising old_within
+  module _ (test : KeyPair → Bool) (these : List ℕ) (others : (key : ℕ) → is_among key (keys t.old.rows) ≡ true → not (is_among key these) ≡ is_among key (old_keys (filter test (kept t e)))) where
+    old_rows : removing these t.old.rows ≡ map old_row (filter test (kept t e))
+    old_rows =
+        filter_same (λ row. not (is_among row.key these)) (λ row. is_among row.key (old_keys (filter test (kept t e)))) t.old.rows
+        (every_weaker (λ row. is_among row.key (keys t.old.rows) ≡ true) (λ row. not (is_among row.key these) ≡ is_among row.key (old_keys (filter test (kept t e)))) t.old.rows
+        (λ row own. others row.key own) (rows_among t.old.rows))
+        ∙ named_rows (λ pair. pair.old) (filter test (kept t e)) t.old.rows e.tick.old_table.rising (old_within test)
 
-  moved_rows : staying_rows t ≡ map was_row quiet
-  moved_rows =
-      ap (shifting t.update.shifted) old_rows ∙ map_map (moved_row t.update.shifted) old_row quiet
-      ∙ map_same (λ pair. moved_row t.update.shifted (old_row pair)) was_row quiet
-      (every-filter (λ pair. moved_row t.update.shifted (old_row pair) ≡ was_row pair) is_quiet (kept t e)
-      (every-map (λ pair. moved_row t.update.shifted (old_row pair) ≡ was_row pair) (kept_pair t.update) staying_keys
-      (every (λ key. moved_row t.update.shifted (old_row (kept_pair t.update key)) ≡ was_row (kept_pair t.update key)) staying_keys (λ key. refl))))
+    -- and so are those of before, where they move
+    pub moved_rows : shifting t.update.shifted (removing these t.old.rows) ≡ map was_row (filter test (kept t e))
+    moved_rows =
+        ap (shifting t.update.shifted) old_rows ∙ map_map (moved_row t.update.shifted) old_row (filter test (kept t e))
+        ∙ map_same (λ pair. moved_row t.update.shifted (old_row pair)) was_row (filter test (kept t e))
+        (every-filter (λ pair. moved_row t.update.shifted (old_row pair) ≡ was_row pair) test (kept t e)
+        (every-map (λ pair. moved_row t.update.shifted (old_row pair) ≡ was_row pair) (kept_pair t.update) staying_keys
+        (every (λ key. moved_row t.update.shifted (old_row (kept_pair t.update key)) ≡ was_row (kept_pair t.update key)) staying_keys (λ key. refl))))
 
   pub unmoved : removing (come t) t.new.rows ≡ staying_rows t
-  unmoved = new_rows ∙ sym same_rows ∙ sym moved_rows
+  unmoved = new_rows is_quiet (come t) come_at ∙ sym same_rows ∙ sym (moved_rows is_quiet (gone t) gone_at)
 
   -- a pair whose row is none of those that go or are modified is quiet, and so is one whose row is none of those that come or are modified
   pub quiet_before : AllByRecursion (λ pair. is_among pair.old (gone t) ≡ false → is_modified t e pair ≡ false) (kept t e)

@@ -1,14 +1,15 @@
 -- A whole step: what is kept before it, and what it reads.
-use Rattle.std.proofs.Common.{◌≡◌, refl, ap, ap₂, sym, ◌∙◌, subst, Bool, true, false, not, cond, ℕ, suc, ◌+◌, ◌*◌, ◌^◌, ◌≤◌, arith, List, [], ◌∷◌, ◌++◌, map, filter, length, None, ℤ}
-use Rattle.std.specs.List.{AllByRecursion, list_any}
+use Rattle.std.proofs.Common.{◌≡◌, refl, ap, ap₂, sym, ◌∙◌, subst, Bool, true, false, not, cond, ℕ, suc, ◌+◌, ◌*◌, ◌^◌, ◌≤◌, arith, List, [], ◌∷◌, map, filter, length, None, if◌then◌else◌}
+use Rattle.std.specs.List.{AllByRecursion, AllZip, list_any}
 use Rattle.std.proofs.lemmas.Bool.{and_parts}
+use Rattle.std.proofs.lemmas.List.Elements.{length_all_zip}
 use Rattle.std.proofs.lemmas.List.{length-append, length-map}
 use Rattle.std.proofs.Math.Nat.{mul-le-mul_left}
 use Rattle.key_lists.specs.Keys.{is_among, IsRising, without}
 use Rattle.key_lists.proofs.Among.{each_among}
 use Rattle.key_lists.proofs.Every.{every_unmapped, every_weaker, every-filter, every-map, filter_passes}
 use Rattle.key_lists.proofs.Rising.{as_filter, rising-filter, rising_some}
-use Rattle.row_groups.specs.Members.{Grouped, Numbered, groups_of}
+use Rattle.row_groups.specs.Members.{Grouped, IsNumberUnder, Numbered, groups_of}
 use Rattle.row_set.proofs.United.{length-united}
 use Rattle.shown_rows.proofs.Restricted.{kept, modified_even}
 use Rattle.table_update.specs.Kept.{old_modified}
@@ -29,12 +30,10 @@ use Rattle.agg_by.specs.declared.running.Running.{Running}
 use Rattle.agg_by.specs.declared.running.Running.TheVariants.{Count, Sum, Min, Max, First, Last}
 use Rattle.agg_by.specs.Answers.{IsWithin}
 use Rattle.agg_by.specs.Kept.{AnswerAll, Are, IsMade, Keeps, agg_of, indexed}
-use Rattle.agg_by.specs.Steps.{come, first_keys, gone, is_touched, kept_cells, key_at, starts, staying, stays, touched_cells, touched_firsts}
-use Rattle.agg_by.proofs.Answering.{own_cells}
+use Rattle.agg_by.specs.Steps.{changing_before, come, coming, first_keys, gone, is_touched, keeps_groups, key_at, leaving, starts, staying, stays, touched_cells, touched_firsts}
 use Rattle.agg_by.proofs.FirstKeys.{few_firsts, first_keys_rise, firsts_are}
 use Rattle.agg_by.proofs.GroupParts.{is_tick, staying_is, tick, touched}
 use Rattle.agg_by.proofs.GroupRows.{keys-agg}
-use Rattle.agg_by.proofs.Touching.{gone_there}
 
 within_one : (width : ℕ) (running : Running) → IsColumn width (agg_of running) → IsWithin width running
 within_one width Count h = tt
@@ -64,40 +63,45 @@ touched_count : (t : Ticking) → IsExact t → length (gone t) + length (come t
 touched_count t e =
     omega (arith, length-united t.update.removed (old_modified (keys t.old.rows) t.update), length-united t.update.added t.update.modified, modified_even t e)
 
--- the reads of noting, and of the operator's step
-pub noted_reads : (width aggs gone come firsts first second third : ℕ) → second ≤ first + width * come → third ≤ second + aggs * firsts → firsts ≤ gone + come → third ≤ first + (width + aggs) * (gone + come)
-noted_reads width aggs gone come firsts first second third h k few = omega (arith, h, k, mul-le-mul_left aggs few)
+-- the rows that are moved or changed are counted
+pub moved_count : (t : Ticking) → IsExact t → (b : Bool) → length (if b then t.update.removed else gone t) + 2 * length (if b then old_modified (keys t.old.rows) t.update else []) + length (if b then t.update.added else come t) ≤ counted t.update
+moved_count t e true = omega (arith, modified_even t e)
+moved_count t e false = omega (arith, touched_count t e)
+
+pub came_few : (by : List ℕ) (t : Ticking) → IsExact t → (came : List ℕ) → came ≡ coming by t → length came ≤ counted t.update
+came_few by t e came is = omega (arith, ap length is, moved_count t e (keeps_groups by t))
+
+-- the reads of noting, of bringing on, and of the operator's step
+pub noted_reads : (width aggs come firsts all first second third : ℕ) → second ≤ first + width * come → third ≤ second + aggs * firsts → come ≤ all → firsts ≤ all → third ≤ first + (width + aggs) * all
+noted_reads width aggs come firsts all first second third h k few fewer = omega (arith, h, k, mul-le-mul_left width few, mul-le-mul_left aggs fewer)
+
+pub moving_reads : (by : List ℕ) (t : Ticking) → IsExact t → (gone come : List ℕ) → gone ≡ leaving by t → come ≡ coming by t → (rows : Numbered) (numbers : List ℕ) → AllZip (IsNumberUnder rows) (changing_before by t) numbers
+    → (first second third last : ℕ) → second ≤ first + t.old.width * length gone → third ≤ second + 2 * t.new.width * length numbers → last ≤ third + t.new.width * length come → last ≤ first + t.new.width * counted t.update
+moving_reads by t e gone come g c rows numbers all first second third last h k l =
+    omega (arith, h, k, l, ap (λ width. width * length gone) e.tick.one_width, mul-le-mul_left t.new.width few)
+  where
+    few : length gone + 2 * length numbers + length come ≤ counted t.update
+    few = omega (arith, length_all_zip (IsNumberUnder rows) (changing_before by t) numbers all, ap length g, ap length c, moved_count t e (keeps_groups by t))
 
 pub wider_reads : (width by aggs first last all out : ℕ) → last ≤ first + 3 * (width + aggs) * all → last ≤ first + 4 * (width + (by + aggs)) * (all + out)
 wider_reads width by aggs first last all out h = omega (arith, h)
-
--- the key cells of the touched rows, those of before as they are kept
-pub touched_is : (by : List ℕ) (t : Ticking) (e : IsExact t) (index : Grouped) (went came : List ℕ) → index ≡ indexed by None t.old.rows → went ≡ gone t → came ≡ come t
-    → map (kept_cells index.members) went ++ map (key_at by t.new.rows) came ≡ touched_cells by t
-touched_is by t e index went came are w c =
-    ap (λ (cells : List (List ℤ)). cells ++ map (key_at by t.new.rows) came)
-    (own_cells by t.old e.tick.old_table index are went (subst (AllByRecursion (λ key. is_among key (keys t.old.rows) ≡ true)) (sym w) (gone_there t e)))
-    ∙ ap₂ (λ (went came : List ℕ). map (key_at by t.old.rows) went ++ map (key_at by t.new.rows) came) w c
 
 touched_few : (by : List ℕ) (t : Ticking) → length (touched_cells by t) ≡ length (gone t) + length (come t)
 touched_few by t =
     length-append (map (key_at by t.old.rows) (gone t)) (map (key_at by t.new.rows) (come t))
     ∙ ap₂ (λ m n. m + n) (length-map (gone t) (key_at by t.old.rows)) (length-map (come t) (key_at by t.new.rows))
 
--- there are no more of them than of the touched rows
-pub firsts_few : (by : List ℕ) (t : Ticking) (went came : List ℕ) → went ≡ gone t → came ≡ come t → (rows : Numbered) (firsts : List ℕ) → IsRising firsts → ((first : ℕ) → is_among first firsts ≡ list_any (starts rows.members first) (touched_cells by t))
-    → length firsts ≤ length went + length came
-firsts_few by t went came w c rows firsts rising found =
-    subst (λ (n : ℕ). length firsts ≤ n) (touched_few by t ∙ sym (ap₂ (λ (went came : List ℕ). length went + length came) w c)) (few_firsts rows.members (touched_cells by t) firsts rising found)
+-- there are no more of them than of the counted rows
+pub firsts_few : (by : List ℕ) (t : Ticking) → IsExact t → (rows : Numbered) (firsts : List ℕ) → IsRising firsts → ((first : ℕ) → is_among first firsts ≡ list_any (starts rows.members first) (touched_cells by t)) → length firsts ≤ counted t.update
+firsts_few by t e rows firsts rising found = omega (arith, few_firsts rows.members (touched_cells by t) firsts rising found, touched_few by t, touched_count t e)
 
 -- the reads of a whole step, as far as it goes: its groups are noted, they are brought on, and their change is made
-module _ (t : Ticking) (e : IsExact t) (went came : List ℕ) (w : went ≡ gone t) (c : came ≡ come t) (begun : Kept) (aggs : List Agg) (same : begun.aggs ≡ aggs) (first second third : ℕ)
-    (noted : second ≤ first + (t.new.width + length begun.aggs) * (length went + length came)) (brought : third ≤ second + t.new.width * (length went + length came)) where
-  step_reads : (fourth firsts : ℕ) → fourth ≤ third + 2 * length begun.aggs * firsts → firsts ≤ length went + length came → fourth ≤ first + 3 * (t.new.width + length aggs) * counted t.update
+module _ (t : Ticking) (e : IsExact t) (begun : Kept) (aggs : List Agg) (same : begun.aggs ≡ aggs) (first second third : ℕ)
+    (noted : second ≤ first + (t.new.width + length begun.aggs) * counted t.update) (brought : third ≤ second + t.new.width * counted t.update) where
+  step_reads : (fourth firsts : ℕ) → fourth ≤ third + 2 * length begun.aggs * firsts → firsts ≤ counted t.update → fourth ≤ first + 3 * (t.new.width + length aggs) * counted t.update
   step_reads fourth firsts h few =
-      let most : length went + length came ≤ counted t.update = omega (arith, ap length w, ap length c, touched_count t e) in
       subst (λ (aggs : List Agg). fourth ≤ first + 3 * (t.new.width + length aggs) * counted t.update) same
-      (omega (arith, noted, brought, h, mul-le-mul_left (length begun.aggs) few, mul-le-mul_left t.new.width most, mul-le-mul_left (length begun.aggs) most))
+      (omega (arith, noted, brought, h, mul-le-mul_left (length begun.aggs) few))
 
   pub brought_reads : third ≤ first + 3 * (t.new.width + length aggs) * counted t.update
   brought_reads = step_reads third 0 (omega arith) (omega arith)
@@ -106,7 +110,7 @@ module _ (t : Ticking) (e : IsExact t) (went came : List ℕ) (w : went ≡ gone
       → (fourth : ℕ) → fourth ≤ third + 2 * length after.aggs * length firsts → fourth ≤ first + 3 * (t.new.width + length aggs) * counted t.update
   changed_reads after made firsts rising found fourth h =
       step_reads fourth (length firsts) (subst (λ (aggs : List Agg). fourth ≤ third + 2 * length aggs * length firsts) made.aggs h)
-      (firsts_few begun.by t went came w c after.rows firsts rising found)
+      (firsts_few begun.by t e after.rows firsts rising found)
 
 -- what is found among the rows by what is kept of them
 pub found_firsts : (by : List ℕ) (t : Ticking) (table : PlainTable) → IsTable table → (index : Grouped) (firsts : List ℕ) → index ≡ indexed by None table.rows → IsRising firsts

@@ -5,9 +5,12 @@
 --     is_touched by input cells      whether a group is touched
 --     first_keys by rows      the keys of the first rows of the groups
 --     touched_firsts by input rows      those of the touched groups
+--     keeps_groups by input      whether rows that stay differ in none of these columns
+--     leaving by input, coming by input      the old keys of the rows that leave their groups, and the new keys of those that come to one: modified rows are not among them where all stay in theirs
+--     changing_before by input, changing by input      the old keys of the modified rows that stay in their groups, and their new keys
 --     kept_cells members key      the key cells that are kept under a key
 --     stays by input pair      whether both rows of a pair are first rows of one touched group
-use Rattle.std.specs.Prelude.{ℕ, ◌==◌, ◌&&◌, Bool, false, List, [], ◌++◌, filter, map, option_map, slice_get, unwrap_or, ℤ}
+use Rattle.std.specs.Prelude.{ℕ, ◌==◌, ◌&&◌, Bool, false, not, List, [], ◌++◌, filter, map, option_map, slice_get, unwrap_or, ℤ, if◌then◌else◌}
 use Rattle.std.specs.List.{list_any}
 use Rattle.std.specs.Option.{option_map_or}
 use Rattle.key_lists.specs.Keys.{is_among, without}
@@ -30,6 +33,21 @@ come input = united input.update.added input.update.modified
 -- the rows that stay as they are, each under its key of now
 abbrev pub staying_rows : Ticking → List PlainRow
 staying_rows input = shifting input.update.shifted (removing (gone input) input.old.rows)
+
+abbrev pub keeps_groups : List ℕ → Ticking → Bool
+keeps_groups by input = not (list_any (λ column. is_among column input.update.columns) by)
+
+abbrev pub leaving : List ℕ → Ticking → List ℕ
+leaving by input = if keeps_groups by input then input.update.removed else gone input
+
+abbrev pub coming : List ℕ → Ticking → List ℕ
+coming by input = if keeps_groups by input then input.update.added else come input
+
+abbrev pub changing_before : List ℕ → Ticking → List ℕ
+changing_before by input = if keeps_groups by input then old_modified (keys input.old.rows) input.update else []
+
+abbrev pub changing : List ℕ → Ticking → List ℕ
+changing by input = if keeps_groups by input then input.update.modified else []
 
 -- the key cells of the row under a key
 abbrev pub key_at : List ℕ → List PlainRow → ℕ → List ℤ

@@ -1,13 +1,13 @@
 //! The operator: what it keeps, and its step.
 
-ghost use Rattle.std.specs.Prelude.{◌≡◌, ℕ, ◌+◌, ◌*◌, ◌≤◌, None, length, IfOk, OnErr, OnOk};
+ghost use Rattle.std.specs.Prelude.{◌≡◌, ℕ, ◌+◌, ◌*◌, ◌<◌, ◌≤◌, None, length, IfOk, OnErr, OnOk};
 ghost use Rattle.std.specs.List.{AllByRecursion, AllZip};
 ghost use Rattle.agg_by.specs.Aggregator.{IsAggregator, IsColumn, StandsFor, grouped};
 ghost use Rattle.agg_by.specs.Answers.{IsWithin};
 ghost use Rattle.agg_by.specs.Kept.{Are, IsMade, Keeps, indexed};
 ghost use Rattle.agg_by.specs.Notes.{IsNoted};
 ghost use Rattle.agg_by.specs.Rows.{AreReady};
-ghost use Rattle.agg_by.specs.Steps.{come as come_of, first_keys, gone as gone_of, touched_cells, touched_firsts};
+ghost use Rattle.agg_by.specs.Steps.{changing_before, coming, first_keys, leaving, touched_cells, touched_firsts};
 ghost use Rattle.agg_by.specs.Touched.{is_named};
 ghost use Rattle.key_lists.specs.Keys.{is_among};
 ghost use Rattle.row_groups.specs.Members.{IsNumberUnder, groups_of};
@@ -167,6 +167,7 @@ fn grouped_step<L: Ledger>(
 ) -> Result<(Change, Vec<i64>), AllocError>
     requires exact { IsExact input.now }
     requires few { length kept.old.by + length kept.old.aggs ≤ 32 }
+    requires by { AllByRecursion (λ column. column < input.now.new.width) kept.old.by }
     requires columns { AllByRecursion (IsColumn input.now.new.width) kept.old.aggs }
     requires rows { groups_of kept.old.rows ≡ indexed kept.old.by None input.now.old.rows }
     requires running { Are kept.old.by kept.old.rows.names kept.old.aggs input.now.old.rows kept.old.running.items }
@@ -210,13 +211,14 @@ fn noted_groups<L: Ledger>(
     requires few { length kept.now.by + length kept.now.aggs ≤ 32 }
     requires keeps { Keeps kept.now input.now.old.rows }
     requires within { AllByRecursion (IsWithin input.now.old.width) kept.now.running.items }
-    requires gone { moving.now.gone ≡ gone_of input.now }
+    requires gone { moving.now.gone ≡ leaving kept.now.by input.now }
     requires numbers { AllZip (IsNumberUnder kept.now.rows) moving.now.gone moving.now.numbers.items }
-    requires come { moving.now.come ≡ come_of input.now }
+    requires changing { AllZip (IsNumberUnder kept.now.rows) (changing_before kept.now.by input.now) moving.now.changing.items }
+    requires come { moving.now.come ≡ coming kept.now.by input.now }
     ensures touched { OnOk result ((number : ℕ) → is_among number touched.new ≡ is_named (touched_cells kept.now.by input.now) kept.now.rows.names number) }
     ensures noted { IfOk result (λ notes. IsNoted notes (agg_table kept.now.by kept.now.aggs input.now.old)) }
     ensures keys { IfOk result (λ notes. notes.keys ≡ touched_firsts kept.now.by input.now input.now.old.rows) }
-    ensures reads { reads.new ≤ reads.old + (input.now.new.width + length kept.now.aggs) * (length moving.now.gone + length moving.now.come) }
+    ensures reads { reads.new ≤ reads.old + (input.now.new.width + length kept.now.aggs) * counted input.now.update }
 {
     touched.note_before(kept, input, moving, key_cells, reads)?;
     let before = firsts_of(alloc, &kept.rows, touched.numbers())?;

@@ -9,10 +9,10 @@ ghost use Rattle.tick_model.specs.Agg.{agg_table, key_cells};
 ghost use Rattle.tick_model.specs.Tables.{IsTable, cells_at, keys};
 ghost use Rattle.tick_model.specs.Updates.{removing, shifting};
 ghost use Rattle.tick_model.specs.declared.table.PlainRow.{PlainRow};
-ghost use Rattle.tick_table.specs.Exact.{IsExact};
+ghost use Rattle.tick_table.specs.Exact.{IsExact, counted};
 ghost use Rattle.agg_by.specs.Answers.{IsWithin};
 ghost use Rattle.agg_by.specs.Moments.{table_at};
-ghost use Rattle.agg_by.specs.Steps.{come as come_of, first_keys, gone as gone_of, key_at, starts, touched_cells};
+ghost use Rattle.agg_by.specs.Steps.{changing, changing_before, coming, first_keys, key_at, leaving, starts, touched_cells};
 ghost use Rattle.agg_by.specs.Touched.{AreNoted, is_named, starts_numbered};
 
 use crate::moment::Moment;
@@ -93,18 +93,20 @@ impl Kept {
     ) -> Result<(), AllocError>
         requires exact { IsExact input.now }
         requires keeps { Keeps self.old input.now.old.rows }
-        requires gone { moving.now.gone ≡ gone_of input.now }
+        requires gone { moving.now.gone ≡ leaving self.old.by input.now }
         requires numbers { AllZip (IsNumberUnder self.old.rows) moving.now.gone moving.now.numbers.items }
-        requires come { moving.now.come ≡ come_of input.now }
+        requires changing { AllZip (IsNumberUnder self.old.rows) (changing_before self.old.by input.now) moving.now.changing.items }
+        requires come { moving.now.come ≡ coming self.old.by input.now }
         requires touched { (number : ℕ) → is_among number touched.old ≡ is_named (touched_cells self.old.by input.now) self.old.rows.names number }
         ensures keeps { OnOk result (Keeps self.new input.now.new.rows) }
         ensures firsts { OnOk result ((first : ℕ) → list_any (starts_numbered self.new.rows first) touched.new ≡ list_any (starts self.new.rows.members first) (touched_cells self.old.by input.now)) }
         ensures made { OnOk result (IsMade self.old self.new) }
-        ensures reads { reads.new ≤ reads.old + input.now.new.width * (length moving.now.gone + length moving.now.come) }
+        ensures reads { reads.new ≤ reads.old + input.now.new.width * counted input.now.update }
     {
         let numbers = moving.numbers.as_slice();
         self.take_rows(input, &moving.gone, numbers, reads)?;
         self.move_rows(input, &moving.gone, numbers)?;
+        self.change_rows(input, moving.changing.as_slice(), reads)?;
         self.put_rows(input, &moving.come, touched, key_cells, reads)
     }
 
@@ -157,6 +159,32 @@ impl Kept {
         Ok(())
     }
 
+    /// Puts the cells of now of the modified rows that stay in their groups, which have these numbers, in place of those from
+    /// before, in what answers the aggregates.
+    fn change_rows<L: Ledger>(
+        &mut self,
+        input: &TickTable,
+        numbers: &[usize],
+        reads: &mut Steps<L>,
+    ) -> Result<(), AllocError>
+        requires exact { IsExact input.now }
+        requires keeps { Keeps self.old (shifting input.now.update.shifted (removing (leaving self.old.by input.now) input.now.old.rows)) }
+        requires numbers { AllZip (IsNumberUnder self.old.rows) (changing self.old.by input.now) numbers.now }
+        ensures made { OnOk result (IsMade self.old self.new) }
+        ensures rows { OnOk result (self.new.rows ≡ self.old.rows) }
+        ensures keeps { OnOk result (Keeps self.new (removing (coming self.old.by input.now) input.now.new.rows)) }
+        ensures reads { reads.new ≤ reads.old + 2 * input.now.new.width * length numbers.now }
+    {
+        for place in 0..numbers.len() {
+            let number = numbers[place];
+            let before = input.modified_row_before(place as u64, reads);
+            take_all(&mut self.running, number, before)?;
+            let now = input.modified_row(place as u64, reads);
+            put_all(&mut self.running, number, now)?;
+        }
+        Ok(())
+    }
+
     /// Puts rows in, and notes their groups.
     fn put_rows<L: Ledger>(
         &mut self,
@@ -177,10 +205,13 @@ impl Kept {
         ensures reads { reads.new ≤ reads.old + input.now.new.width * length come.now }
     {
         let mut rows = RowsNow::of(input);
+        let mut place: usize = 0;
         for key in come {
             let row = rows.row(key, reads);
             self.read_key_cells(row, key_cells)?;
-            let number = self.rows.add(key, key_cells.as_slice(), 0)?;
+            let near = touched.near(place);
+            place = place.wrapping_add(1);
+            let number = self.rows.add_near(key, key_cells.as_slice(), 0, near)?;
             touched.note(number)?;
             put_all(&mut self.running, number, row)?;
         }

@@ -3,7 +3,7 @@
 ghost use Rattle.std.specs.Prelude.{◌≡◌, Bool, ℕ, ◌+◌, ◌*◌, ◌≤◌, ◌||◌, [], None, IsTrue, OnOk, length, map};
 ghost use Rattle.std.specs.List.{AllByRecursion, AllZip, list_any};
 ghost use Rattle.agg_by.specs.Kept.{indexed};
-ghost use Rattle.agg_by.specs.Steps.{come as come_of, gone as gone_of, key_at, starts, touched_cells};
+ghost use Rattle.agg_by.specs.Steps.{changing_before, coming, key_at, leaving, starts, touched_cells};
 ghost use Rattle.agg_by.specs.Touched.{is_named, starts_numbered, with_number};
 ghost use Rattle.key_lists.specs.Keys.{is_among};
 ghost use Rattle.row_groups.specs.Members.{IsNumberUnder, groups_of};
@@ -24,6 +24,8 @@ pub(crate) struct TouchedGroups {
     numbers: Vec<usize>,
     /// Which numbers are in the list.
     marks: Vec<bool>,
+    /// For each row that comes, the number of the group that had its key cells before the step, or that of no group.
+    near: Vec<usize>,
 }
 
 impl Model for TouchedGroups {
@@ -45,6 +47,7 @@ impl TouchedGroups {
         TouchedGroups {
             numbers: Vec::new(alloc),
             marks: Vec::new(alloc),
+            near: Vec::new(alloc),
         }
     }
 
@@ -63,6 +66,12 @@ impl TouchedGroups {
             self.marks[*number] = false;
         }
         self.numbers.clear();
+        self.near.clear();
+    }
+
+    /// The number that the group of a row that comes is likely to have, by the place of the row among those that come.
+    pub fn near(&self, place: usize) -> usize {
+        self.near.get(place).copied().unwrap_or(usize::MAX)
     }
 
     /// Notes a group.
@@ -90,15 +99,17 @@ impl TouchedGroups {
     ) -> Result<(), AllocError>
         requires exact { IsExact input.now }
         requires rows { groups_of kept.now.rows ≡ indexed kept.now.by None input.now.old.rows }
-        requires gone { moving.now.gone ≡ gone_of input.now }
+        requires gone { moving.now.gone ≡ leaving kept.now.by input.now }
         requires numbers { AllZip (IsNumberUnder kept.now.rows) moving.now.gone moving.now.numbers.items }
-        requires come { moving.now.come ≡ come_of input.now }
+        requires changing { AllZip (IsNumberUnder kept.now.rows) (changing_before kept.now.by input.now) moving.now.changing.items }
+        requires come { moving.now.come ≡ coming kept.now.by input.now }
         ensures named { OnOk result ((number : ℕ) → is_among number self.new ≡ is_named (touched_cells kept.now.by input.now) kept.now.rows.names number) }
         ensures firsts { OnOk result ((first : ℕ) → list_any (starts_numbered kept.now.rows first) self.new ≡ list_any (starts kept.now.rows.members first) (touched_cells kept.now.by input.now)) }
         ensures reads { reads.new ≤ reads.old + input.now.new.width * length moving.now.come }
     {
         self.clear();
         self.note_all(moving.numbers.as_slice())?;
+        self.note_all(moving.changing.as_slice())?;
         self.note_coming(kept, input, &moving.come, key_cells, reads)
     }
 
@@ -135,7 +146,9 @@ impl TouchedGroups {
         let mut rows = RowsNow::of(input);
         for key in keys {
             kept.read_key_cells(rows.row(key, reads), key_cells)?;
-            if let Some(number) = kept.rows.find(key_cells.as_slice()) {
+            let found = kept.rows.find(key_cells.as_slice());
+            self.near.push(found.unwrap_or(usize::MAX))?;
+            if let Some(number) = found {
                 self.note(number)?;
             }
         }

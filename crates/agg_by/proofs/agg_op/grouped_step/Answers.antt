@@ -37,6 +37,9 @@ bring_on-requires-clause-keeps g c =
 pub bring_on-requires-clause-numbers : goal.bring_on-requires-clause-numbers
 bring_on-requires-clause-numbers g c = c.in_ok-moving.ensures.numbers
 
+pub bring_on-requires-clause-changing : goal.bring_on-requires-clause-changing
+bring_on-requires-clause-changing g c = c.in_ok-moving.ensures.changing
+
 pub bring_on-requires-clause-touched : goal.bring_on-requires-clause-touched
 bring_on-requires-clause-touched g c = c.in_ok-notes.ensures.touched
 
@@ -91,22 +94,22 @@ returns-clause-change g c =
 
 pub returns-in_err-notes-clause-reads : goal.returns-in_err-notes-clause-reads
 returns-in_err-notes-clause-reads g c =
-    brought_reads c.args.input.now c.requires.exact c.in_ok-moving.moving.gone c.in_ok-moving.moving.come c.in_ok-moving.ensures.gone c.in_ok-moving.ensures.come c.begin.new.self c.args.kept.now.aggs c.in_ok-begin.ensures.made.aggs
+    brought_reads c.args.input.now c.requires.exact c.begin.new.self c.args.kept.now.aggs c.in_ok-begin.ensures.made.aggs
     c.args.reads.now c.noted_groups.new.reads c.noted_groups.new.reads c.noted_groups.ensures.reads (omega arith)
 
 pub returns-in_err-bring_on-clause-reads : goal.returns-in_err-bring_on-clause-reads
 returns-in_err-bring_on-clause-reads g c =
-    brought_reads c.args.input.now c.requires.exact c.in_ok-moving.moving.gone c.in_ok-moving.moving.come c.in_ok-moving.ensures.gone c.in_ok-moving.ensures.come c.begin.new.self c.args.kept.now.aggs c.in_ok-begin.ensures.made.aggs
+    brought_reads c.args.input.now c.requires.exact c.begin.new.self c.args.kept.now.aggs c.in_ok-begin.ensures.made.aggs
     c.args.reads.now c.noted_groups.new.reads c.bring_on.new.reads c.noted_groups.ensures.reads c.bring_on.ensures.reads
 
 pub returns-in_err-firsts-clause-reads : goal.returns-in_err-firsts-clause-reads
 returns-in_err-firsts-clause-reads g c =
-    brought_reads c.args.input.now c.requires.exact c.in_ok-moving.moving.gone c.in_ok-moving.moving.come c.in_ok-moving.ensures.gone c.in_ok-moving.ensures.come c.begin.new.self c.args.kept.now.aggs c.in_ok-begin.ensures.made.aggs
+    brought_reads c.args.input.now c.requires.exact c.begin.new.self c.args.kept.now.aggs c.in_ok-begin.ensures.made.aggs
     c.args.reads.now c.noted_groups.new.reads c.bring_on.new.reads c.noted_groups.ensures.reads c.bring_on.ensures.reads
 
 pub returns-in_err-change-clause-reads : goal.returns-in_err-change-clause-reads
 returns-in_err-change-clause-reads g c =
-    changed_reads c.args.input.now c.requires.exact c.in_ok-moving.moving.gone c.in_ok-moving.moving.come c.in_ok-moving.ensures.gone c.in_ok-moving.ensures.come c.begin.new.self c.args.kept.now.aggs c.in_ok-begin.ensures.made.aggs
+    changed_reads c.args.input.now c.requires.exact c.begin.new.self c.args.kept.now.aggs c.in_ok-begin.ensures.made.aggs
     c.args.reads.now c.noted_groups.new.reads c.bring_on.new.reads c.noted_groups.ensures.reads c.bring_on.ensures.reads
     c.bring_on.new.self c.in_ok-bring_on.ensures.made c.in_ok-firsts.firsts c.in_ok-firsts.ensures.rising
     (λ first. c.in_ok-firsts.ensures.firsts first ∙ ap (list_any (starts_numbered c.bring_on.new.self.rows first)) c.numbers.ensures ∙ c.in_ok-bring_on.ensures.firsts first)
@@ -114,7 +117,7 @@ returns-in_err-change-clause-reads g c =
 
 pub returns-in_err-shown-clause-reads : goal.returns-in_err-shown-clause-reads
 returns-in_err-shown-clause-reads g c =
-    changed_reads c.args.input.now c.requires.exact c.in_ok-moving.moving.gone c.in_ok-moving.moving.come c.in_ok-moving.ensures.gone c.in_ok-moving.ensures.come c.begin.new.self c.args.kept.now.aggs c.in_ok-begin.ensures.made.aggs
+    changed_reads c.args.input.now c.requires.exact c.begin.new.self c.args.kept.now.aggs c.in_ok-begin.ensures.made.aggs
     c.args.reads.now c.noted_groups.new.reads c.bring_on.new.reads c.noted_groups.ensures.reads c.bring_on.ensures.reads
     c.bring_on.new.self c.in_ok-bring_on.ensures.made c.in_ok-firsts.firsts c.in_ok-firsts.ensures.rising
     (λ first. c.in_ok-firsts.ensures.firsts first ∙ ap (list_any (starts_numbered c.bring_on.new.self.rows first)) c.numbers.ensures ∙ c.in_ok-bring_on.ensures.firsts first)
@@ -122,7 +125,7 @@ returns-in_err-shown-clause-reads g c =
 
 pub returns-clause-reads : goal.returns-clause-reads
 returns-clause-reads g c =
-    changed_reads c.args.input.now c.requires.exact c.in_ok-moving.moving.gone c.in_ok-moving.moving.come c.in_ok-moving.ensures.gone c.in_ok-moving.ensures.come c.begin.new.self c.args.kept.now.aggs c.in_ok-begin.ensures.made.aggs
+    changed_reads c.args.input.now c.requires.exact c.begin.new.self c.args.kept.now.aggs c.in_ok-begin.ensures.made.aggs
     c.args.reads.now c.noted_groups.new.reads c.bring_on.new.reads c.noted_groups.ensures.reads c.bring_on.ensures.reads
     c.bring_on.new.self c.in_ok-bring_on.ensures.made c.in_ok-firsts.firsts c.in_ok-firsts.ensures.rising
     (λ first. c.in_ok-firsts.ensures.firsts first ∙ ap (list_any (starts_numbered c.bring_on.new.self.rows first)) c.numbers.ensures ∙ c.in_ok-bring_on.ensures.firsts first)

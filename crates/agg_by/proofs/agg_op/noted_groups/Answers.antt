@@ -6,11 +6,15 @@ use Rattle.row_groups.specs.Members.{groups_of}
 use Rattle.agg_by.specs.declared.notes.Notes.{Notes}
 use Rattle.agg_by.specs.Steps.{first_keys, touched_firsts}
 use Rattle.agg_by.specs.Touched.{starts_numbered}
-use Rattle.agg_by.proofs.Whole.{firsts_few, found_firsts, noted_reads, touched_there}
+use Rattle.tick_table.specs.Exact.{counted}
+use Rattle.agg_by.proofs.Whole.{came_few, firsts_few, found_firsts, noted_reads, touched_there}
 use Rattle.agg_by.proofs.agg_op.noted_groups.Goals as goal
 
 pub note_before-requires-clause-numbers : goal.note_before-requires-clause-numbers
 note_before-requires-clause-numbers g c = c.requires.numbers
+
+pub note_before-requires-clause-changing : goal.note_before-requires-clause-changing
+note_before-requires-clause-changing g c = c.requires.changing
 
 pub take-requires-clause-firsts : goal.take-requires-clause-firsts
 take-requires-clause-firsts g c =
@@ -35,14 +39,21 @@ returns-clause-keys g c =
 
 pub returns-in_err-note_before-clause-reads : goal.returns-in_err-note_before-clause-reads
 returns-in_err-note_before-clause-reads g c =
-    noted_reads c.args.input.now.new.width (length c.args.kept.now.aggs) (length c.args.moving.now.gone) (length c.args.moving.now.come) 0 c.args.reads.now c.note_before.new.reads c.note_before.new.reads c.note_before.ensures.reads (omega arith) (omega arith)
+    let t = c.args.input.now in
+    noted_reads t.new.width (length c.args.kept.now.aggs) (length c.args.moving.now.come) 0 (counted t.update) c.args.reads.now c.note_before.new.reads c.note_before.new.reads c.note_before.ensures.reads (omega arith)
+    (came_few c.args.kept.now.by t c.requires.exact c.args.moving.now.come c.requires.come) (omega arith)
 
 pub returns-in_err-before-clause-reads : goal.returns-in_err-before-clause-reads
 returns-in_err-before-clause-reads g c =
-    noted_reads c.args.input.now.new.width (length c.args.kept.now.aggs) (length c.args.moving.now.gone) (length c.args.moving.now.come) 0 c.args.reads.now c.note_before.new.reads c.note_before.new.reads c.note_before.ensures.reads (omega arith) (omega arith)
+    let t = c.args.input.now in
+    noted_reads t.new.width (length c.args.kept.now.aggs) (length c.args.moving.now.come) 0 (counted t.update) c.args.reads.now c.note_before.new.reads c.note_before.new.reads c.note_before.ensures.reads (omega arith)
+    (came_few c.args.kept.now.by t c.requires.exact c.args.moving.now.come c.requires.come) (omega arith)
 
 pub returns-clause-reads : goal.returns-clause-reads
 returns-clause-reads g c =
+    let t = c.args.input.now in
+    let by = c.args.kept.now.by in
     let rows = c.args.kept.now.rows in
-    noted_reads c.args.input.now.new.width (length c.args.kept.now.aggs) (length c.args.moving.now.gone) (length c.args.moving.now.come) (length c.in_ok-before.before) c.args.reads.now c.note_before.new.reads c.take.new.reads c.note_before.ensures.reads c.take.ensures.reads
-    (firsts_few c.args.kept.now.by c.args.input.now _ _ c.requires.gone c.requires.come rows c.in_ok-before.before c.in_ok-before.ensures.rising (λ first. c.in_ok-before.ensures.firsts first ∙ ap (list_any (starts_numbered rows first)) c.numbers.ensures ∙ c.in_ok-note_before.ensures.firsts first))
+    noted_reads t.new.width (length c.args.kept.now.aggs) (length c.args.moving.now.come) (length c.in_ok-before.before) (counted t.update) c.args.reads.now c.note_before.new.reads c.take.new.reads c.note_before.ensures.reads c.take.ensures.reads
+    (came_few by t c.requires.exact c.args.moving.now.come c.requires.come)
+    (firsts_few by t c.requires.exact rows c.in_ok-before.before c.in_ok-before.ensures.rising (λ first. c.in_ok-before.ensures.firsts first ∙ ap (list_any (starts_numbered rows first)) c.numbers.ensures ∙ c.in_ok-note_before.ensures.firsts first))

@@ -42,8 +42,8 @@ row-row-requires g c = record {
       (next_has c.loop-key.yielded c.into_iter-key-iterator.ensures.into_iter_gives c.loop-key.yielded_by c.in-Some.ensures.steps (λ key. IsTrue (is_among key (keys c.args.input.now.new.rows))) c.requires.come);
 }
 
-pub add-requires : goal.add-requires
-add-requires g c =
+pub add_near-requires : goal.add_near-requires
+add_near-requires g c =
     let rows = c.args.input.now.new.rows in
     let yielded = c.loop-key.yielded in
     let gives = c.into_iter-key-iterator.ensures.into_iter_gives in
@@ -66,7 +66,7 @@ loop-key-preserved g c =
     let by = c.loop-key.self.by in
     let aggs = c.loop-key.self.aggs in
     let kept = c.loop-key.self.rows in
-    let more = c.add.new.self in
+    let more = c.add_near.new.self in
     let number = c.in_ok-number.number in
     let yielded = c.loop-key.yielded in
     let gives = c.into_iter-key-iterator.ensures.into_iter_gives in
@@ -94,7 +94,7 @@ loop-key-preserved g c =
           let keeps = c.loop-key.invariant.keeps (key ∷ left) next in
           let widened : AllByRecursion (Answers by more.names before) items =
           every_weaker (Answers by kept.names before) (Answers by more.names before) items
-          (same_answers by kept.names more.names before before (λ column. same_named by column before kept more c.add.ensures.names (ap (λ (grouped : Grouped). grouped.members) keeps.rows))) keeps.running.1 in record {
+          (same_answers by kept.names more.names before before (λ column. same_named by column before kept more c.add_near.ensures.names (ap (λ (grouped : Grouped). grouped.members) keeps.rows))) keeps.running.1 in record {
             rows =
                 c.in_ok-number.ensures.members ∙ ap (λ (cells : List ℤ). let more : Grouped = record (groups_of kept) { members = with_member (member_of key cells (pos 0)) kept.members } in more) cells
                 ∙ indexed_gains by rows rising key left own new_to (groups_of kept) keeps.rows;
@@ -102,11 +102,11 @@ loop-key-preserved g c =
                 subst (AnswerAll by more.names aggs (removing left rows)) (sym (with_items_is c.loop-key.self.running new long ∙ gained))
                 (all_changed f (Answers by more.names before) (Answers by more.names (removing left rows)) aggs items (with_agg number (cells_at key rows)) (gains by rows rising key left own new_to more.names number is) (keeps.running.0, widened));
           };
-      names = part_again c.args.self.now.rows kept more c.loop-key.invariant.names c.add.ensures.names;
+      names = part_again c.args.self.now.rows kept more c.loop-key.invariant.names c.add_near.ensures.names;
       noted =
           subst (AreNoted c.args.touched.now (map noted (yielded ++ key ∷ [])) more.names) (sym c.in_ok-note.ensures)
           (subst (λ (cells : List (List ℤ)). AreNoted c.args.touched.now cells more.names (with_number number c.loop-key.touched)) (sym (map-append noted yielded (key ∷ [])))
-          (noted_more c.args.touched.now c.loop-key.touched (map noted yielded) (noted key) kept more number c.add.ensures.names (subst (λ (by : List ℕ). IsNumberOf number (key_at by rows key) more.names) c.loop-key.invariant.by is) c.loop-key.invariant.noted));
+          (noted_more c.args.touched.now c.loop-key.touched (map noted yielded) (noted key) kept more number c.add_near.ensures.names (subst (λ (by : List ℕ). IsNumberOf number (key_at by rows key) more.names) c.loop-key.invariant.by is) c.loop-key.invariant.noted));
       reads = reads_next c.args.input.now.new.width c.args.reads.now c.loop-key.reads c.row-row.new.reads yielded key c.loop-key.invariant.reads (omega (arith, c.row-row.ensures.reads, width));
     }
 

@@ -1,4 +1,4 @@
-use Rattle.std.proofs.Common.{◌≡◌, ◌≢◌, ap, sym, ◌∙◌, subst, arith, [], IsTrue, ℕ, List, ℤ, Some, length, ◌≤◌, ◌+◌, ◌*◌}
+use Rattle.std.proofs.Common.{◌≡◌, ◌≢◌, ap, sym, ◌∙◌, subst, arith, [], ◌∷◌, ◌++◌, IsTrue, ℕ, List, ℤ, Some, length, ◌≤◌, ◌+◌, ◌*◌}
 use Rattle.key_lists.specs.Keys.{is_among}
 use Rattle.row_changes.proofs.Comparing.{reads_next, reads_within}
 use Rattle.row_groups.specs.Members.{IsNumberOf, group_of, name_at}
@@ -7,6 +7,7 @@ use Rattle.tick_model.specs.Agg.{key_cells}
 use Rattle.tick_model.specs.Tables.{cells_at, keys as keys_of}
 use Rattle.tick_table.specs.Ticking.{Ticking}
 use Rattle.agg_by.specs.Steps.{key_at}
+use Rattle.agg_by.specs.Touched.{with_number}
 use Rattle.agg_by.proofs.Noted.{HaveNoted, noted_alien, noted_first, noted_nothing, noted_own}
 use Rattle.agg_by.proofs.touched.TouchedGroups.note_coming.Goals as goal
 
@@ -23,20 +24,20 @@ loop-key-init g c = record {
   reads = omega arith;
 }
 
-pub loop-key-preserved-in-Continue-branch-2 : goal.loop-key-preserved-in-Continue-branch-2
-loop-key-preserved-in-Continue-branch-2 g c =
+pub loop-key-preserved-in-Continue-branch-3 : goal.loop-key-preserved-in-Continue-branch-3
+loop-key-preserved-in-Continue-branch-3 g c =
     let rows = c.args.input.now.new.rows in
     let names = c.args.kept.now.rows.names in
     let by = c.args.kept.now.by in
     let key = c.in-Some.key in
-    let number = c.in-Some-find.number in
+    let number = c.in-Some-found.number in
     let table = c.loop-key.invariant.table in
     let cells : c.as_slice.result.now ≡ key_at by rows key = c.as_slice.ensures.value ∙ c.in_ok-read_key_cells.ensures ∙ ap (key_cells by) (c.row.ensures.cells ∙ ap (λ (table : Ticking). cells_at key table.new.rows) table) in
     let width = ap (λ (table : Ticking). table.new.width) table in record {
       table = c.row.ensures.same ∙ table;
       noted =
-          noted_own (key_at by rows) c.args.kept.now.rows c.args.self.now c.loop-key.self c.loop-key.yielded key c.loop-key.invariant.noted number c.note.new.self c.in_ok-note.ensures
-          (subst (λ (cells : List ℤ). IsNumberOf number cells names) cells c.in-Some-find.ensures.found);
+          noted_own (key_at by rows) c.args.kept.now.rows c.args.self.now c.loop-key.self c.loop-key.yielded key c.loop-key.invariant.noted number c.note.new.self (c.in_ok-note.ensures ∙ ap (with_number number) c.self.view_is)
+          (subst (λ (cells : List ℤ). IsNumberOf number cells names) cells c.in-Some-found.ensures.found);
       reads = reads_next c.args.input.now.new.width c.args.reads.now c.loop-key.reads c.row.new.reads c.loop-key.yielded key c.loop-key.invariant.reads (omega (arith, c.row.ensures.reads, width));
     }
 
@@ -51,9 +52,10 @@ loop-key-preserved g c =
     let width = ap (λ (table : Ticking). table.new.width) table in record {
       table = c.row.ensures.same ∙ table;
       noted =
-          noted_alien (key_at by rows) kept c.args.self.now c.loop-key.self c.loop-key.yielded key c.loop-key.invariant.noted
-          (subst (λ (cells : List ℤ). (number : ℕ) → name_at number kept.names ≢ Some cells) cells (c.find.ensures.unnamed c.in_default.is))
-          (subst (λ (cells : List ℤ). group_of cells kept.members ≡ []) cells (c.find.ensures.empty c.in_default.is));
+          subst (λ (numbers : List ℕ). HaveNoted (key_at by rows) kept c.args.self.now numbers (c.loop-key.yielded ++ key ∷ [])) (sym c.self.view_is)
+          (noted_alien (key_at by rows) kept c.args.self.now c.loop-key.self c.loop-key.yielded key c.loop-key.invariant.noted
+          (subst (λ (cells : List ℤ). (number : ℕ) → name_at number kept.names ≢ Some cells) cells (c.find-found.ensures.unnamed c.in_default.is))
+          (subst (λ (cells : List ℤ). group_of cells kept.members ≡ []) cells (c.find-found.ensures.empty c.in_default.is)));
       reads = reads_next c.args.input.now.new.width c.args.reads.now c.loop-key.reads c.row.new.reads c.loop-key.yielded key c.loop-key.invariant.reads (omega (arith, c.row.ensures.reads, width));
     }
 
@@ -84,3 +86,9 @@ returns g c =
       firsts = noted.firsts;
       reads = subst (λ (keys : List ℕ). c.loop-key.reads ≤ c.args.reads.now + c.args.input.now.new.width * length keys) all c.loop-key.invariant.reads;
     }
+
+pub returns-in_err-push-clause-reads : goal.returns-in_err-push-clause-reads
+returns-in_err-push-clause-reads g c =
+    reads_within c.args.input.now.new.width c.args.reads.now c.loop-key.reads c.row.new.reads c.loop-key.yielded c.in-Some.key _ _
+    (yielded_next c.loop-key.yielded c.into_iter-key-iterator.ensures.into_iter_gives c.loop-key.yielded_by c.in-Some.ensures.steps) c.loop-key.invariant.reads
+    (omega (arith, c.row.ensures.reads, ap (λ (table : Ticking). table.new.width) c.loop-key.invariant.table))
