@@ -1,9 +1,9 @@
 -- What a ticking table tells of its rows, now and before the step.
-use Rattle.std.proofs.Common.{◌≡◌, refl, ap, ap₂, sym, ◌∙◌, subst, true, false, cond, not, ℕ, zero, suc, ◌+◌, ◌*◌, ◌<◌, ◌≤◌, ◌^◌, arith, List, [], ◌∷◌, length, take, drop, get_or, ℤ, zero-mul}
-use Rattle.std.specs.Prelude.{Err, Ok, map}
+use Rattle.std.proofs.Common.{◌≡◌, refl, ap, ap₂, sym, ◌∙◌, subst, true, false, cond, not, ℕ, zero, suc, ◌+◌, ◌*◌, ◌<◌, ◌≤◌, ◌^◌, arith, List, [], ◌∷◌, ◌++◌, length, length-drop, take, drop, get_or, ℤ, zero-mul}
+use Rattle.std.specs.Prelude.{Err, Ok, flat_map, map}
 use Rattle.std.specs.List.{AllByRecursion}
 use Rattle.std.proofs.lemmas.Bool.{not-true, or_right}
-use Rattle.std.proofs.lemmas.List.{get_or-map, map-id}
+use Rattle.std.proofs.lemmas.List.{get_or-map, map-id, take-append-drop}
 use Rattle.key_lists.specs.Keys.{is_among, IsRising, without}
 use Rattle.key_lists.proofs.Among.{each_among}
 use Rattle.key_lists.proofs.Every.{every_both, every-filter, filter_all, filter_passes, filter_same, map_map}
@@ -31,6 +31,13 @@ use Rattle.tick_table.proofs.Paired.{at_mapped, at_paired, at_place, at_under, k
 use Rattle.tick_table.proofs.Puts.{rest_next}
 use Rattle.tick_table.proofs.SlotCells.{slot_fits}
 use Rattle.tick_table.proofs.TableColumns.{length-mapped}
+
+told_flat : (width : ℕ) (rows : List PlainRow) (ks : List ℕ) (cells : List ℤ) → length cells ≡ length ks * width → AllByRecursion (λ row. cells_at row.key rows ≡ row.cells) (rows_under width ks cells) → cells ≡ flat_map (λ key. cells_at key rows) ks
+told_flat width rows [] [] whole h = refl
+told_flat width rows [] (cell ∷ cells) whole h = absurd (omega (arith, whole))
+told_flat width rows (key ∷ ks) cells whole h =
+    sym (take-append-drop width cells)
+    ∙ ap₂ (λ (row rest : List ℤ). row ++ rest) (sym h.0) (told_flat width rows ks (drop width cells) (omega (arith, whole, length-drop width cells)) h.1)
 
 -- what holds of the rows whose cells stand one after the other holds of the one at a place
 told_at : (P : ℕ → List ℤ → Type 0) (width : ℕ) (ks : List ℕ) (cells : List ℤ) (n : ℕ) → n < length ks → AllByRecursion (λ row. P row.key row.cells) (rows_under width ks cells) → P (get_or ks n 0) (take width (drop (n * width) cells))
@@ -95,6 +102,11 @@ module _ (rows before : List ℕ) (placed : Placed) (update : Update) (told : Li
   pub told_within : (n : ℕ) → n < length (told_keys table.update) → n * placed.width + placed.width ≤ length told
   told_within n below =
       let fits = slot_fits n (length (told_keys update)) placed.width (omega (arith, below, ap (λ (update : Update). length (told_keys update)) update_is)) in omega (arith, fits, k.whole)
+
+  pub told_all : told ≡ flat_map (λ key. cells_at key table.new.rows) (told_keys table.update)
+  told_all =
+      told_flat placed.width (paired rows placed.rows) (told_keys update) told k.whole k.told_rows
+      ∙ ap₂ (λ (update : Update) (rows : List PlainRow). flat_map (λ key. cells_at key rows) (told_keys update)) update_is new_is
 
   pub told_cells : (n : ℕ) → n < length (told_keys table.update) → take placed.width (drop (n * placed.width) told) ≡ cells_at (get_or (told_keys table.update) n 0) table.new.rows
   told_cells n below =

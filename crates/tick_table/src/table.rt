@@ -1,6 +1,6 @@
 //! The table itself: what it is made of, what it answers and how a change is applied.
 
-ghost use Rattle.std.specs.Prelude.{◌++◌, ◌≡◌, ◌+◌, ◌*◌, ◌^◌, ◌<◌, ◌≤◌, IsTrue, None, false, length, map, slice_index, IfOk, OnErr, OnOk};
+ghost use Rattle.std.specs.Prelude.{◌++◌, ◌≡◌, ◌+◌, ◌*◌, ◌^◌, ◌<◌, ◌≤◌, IsTrue, None, false, flat_map, length, map, slice_index, IfOk, OnErr, OnOk};
 ghost use Rattle.key_lists.specs.Keys.{is_among};
 ghost use Rattle.table_update.specs.Kept.{old_modified};
 ghost use Rattle.tick_model.specs.Changes.{change_of, changed, told_keys};
@@ -19,6 +19,7 @@ use new_counts::NewCopy;
 use row_set::RowSet;
 use std::alloc::{AllocError, Global};
 use std::marker::Model;
+use std::mem;
 use std::sync::Arc;
 use std::sync::ledger::Ledger;
 use table_update::Update;
@@ -233,6 +234,17 @@ impl TickTable {
         row
     }
 
+    /// The cells of the rows that the update tells, one row after the other: those that it adds and then those that it modifies. Each
+    /// is one read.
+    pub fn told_cells<L: Ledger>(&self, reads: &mut Steps<L>) -> &[i64]
+        ensures cells { result.now ≡ flat_map (λ key. cells_at key self.now.new.rows) (told_keys self.now.update) }
+        ensures reads { reads.new ≡ reads.old + length result.now }
+    {
+        let cells = self.told.as_slice();
+        read_all(cells, reads);
+        cells
+    }
+
     /// How often the table was copied whole since it was made: 0 as long as each change was applied where the rows lie. A
     /// contract sees no difference between a table and its copy.
     pub fn copies(&self) -> u32 {
@@ -284,6 +296,21 @@ impl TickTable {
             told: cells,
             copies,
         })
+    }
+
+    /// Applies a change where the table lies, as `apply` does. After a refusal the table has no rows.
+    pub fn bring_on(&mut self, change: Change) -> Result<(), AllocError>
+        requires lawful { update_fault (2 ^ 62) (keys self.old.new.rows) change.update ≡ None }
+        requires whole { length change.cells ≡ length (told_keys change.update) * self.old.new.width }
+        ensures old { OnOk result (self.new.old ≡ self.old.new) }
+        ensures new { OnOk result (self.new.new ≡ changed self.old.new change) }
+        ensures update { OnOk result (self.new.update ≡ change.update) }
+        ensures exact { OnOk result ((tick : Tick) → IsTick tick → self.old.new ≡ tick.old → change ≡ change_of tick → self.new ≡ ticking tick) }
+    {
+        let empty = TickTable::new(self.placed.allocator(), self.width())?;
+        let table = mem::replace(self, empty);
+        *self = table.apply(change)?;
+        Ok(())
     }
 
     /// The cells of a row now.
