@@ -5,7 +5,6 @@ pub mod CellRows
 pub mod ChangeRecords
 pub mod ChangesBack
 pub mod Digits
-pub mod Here
 pub mod Quoting
 pub mod ReadBack
 pub mod ReadChanges

@@ -123,8 +123,7 @@ fn update_text(
     requires some { is_empty table.now.update ≡ false }
     ensures { IfOk result (λ text. text.items ≡ records_text (update_shown step shown.now texts.now table.now)) }
 {
-    let _rows = table.rows();
     let _width = table.width();
-    let cells = told_cells(alloc, table)?;
-    change_text(alloc, step, shown, texts, table.update(), &cells)
+    let cells = told_cells(table);
+    change_text(alloc, step, shown, texts, table.update(), cells)
 }

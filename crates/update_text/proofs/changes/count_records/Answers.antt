@@ -1,11 +1,18 @@
-use Rattle.std.proofs.Common.{◌≡◌, ap, ◌∙◌, arith, ℕ, ◌≤◌, Bool, true, false, cond, length}
+use Rattle.std.proofs.Common.{◌≡◌, ap, ◌∙◌, subst, arith, ℕ, ◌+◌, ◌≤◌, ◌^◌, Bool, true, false, cond, List, length}
 use Rattle.std.specs.Prelude.{not}
 use mir.Val.{bool_byte}
 use Rattle.key_lists.specs.Keys.{runs}
+use Rattle.row_set.specs.Ranges.{ranges_of}
+use Rattle.row_set.specs.Sets.{IsKeySet}
+use Rattle.row_set.proofs.Counts.{few_keys}
+use Rattle.row_set.proofs.Longest.{keys_of-ranges_of, ranges_of_apart}
 use Rattle.tick_model.specs.Changes.{is_none}
 use Rattle.update_text.proofs.ChangeRecords.{length-ranges}
-use Rattle.update_text.proofs.Here.{few_in_set}
 use Rattle.update_text.proofs.changes.count_records.Goals as goal
+
+-- no more than there are keys
+few_in_set : (ks : List ℕ) → IsKeySet ks → length ks ≤ 2 ^ 62 + 1
+few_in_set ks h = subst (λ (some : List ℕ). length some ≤ 2 ^ 62 + 1) (keys_of-ranges_of ks h) (few_keys (ranges_of ks) (ranges_of_apart ks h))
 
 -- the record of the columns is one or none
 one_or_none : (n : ℕ) (empty : Bool) → n ≡ bool_byte (not empty) → n ≡ cond empty 0 1
