@@ -16,6 +16,7 @@ pub mod PlacedPairs
 pub mod Sides
 pub mod KeptCells
 pub mod Ranked
+pub mod Runs
 pub mod RankedEdits
 pub mod Entering
 pub mod ModifiedRows

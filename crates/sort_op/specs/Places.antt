@@ -3,11 +3,12 @@
 --     AreFound entries some positions      these are the positions at which one of some entries stands
 --     key_at entries position      the key of the entry at a position, or 0 past the end
 --     keys_at entries positions      the keys of the entries at these positions
+--     IsRun all first run      these stand one behind the other, from a position on
 --     AreApart keys      no key comes twice
 --     AreUnder order some positions      these are the positions of the keys that are some, in the order of keys
 --     left_from first positions all      all but those at the positions, where the first one stands at `first`
 --     other_places count positions      the positions below a number but these
-use Rattle.std.specs.Prelude.{◌≡◌, ℕ, suc, Bool, false, List, [], ◌∷◌, if◌then◌else◌, map, slice_get}
+use Rattle.std.specs.Prelude.{◌≡◌, ℕ, suc, ◌+◌, ◌<◌, Bool, false, List, [], ◌∷◌, if◌then◌else◌, length, map, slice_get}
 use Rattle.std.specs.List.{range_with_len}
 use Rattle.std.specs.Option.{option_map_or}
 use Rattle.key_lists.specs.Keys.{is_among, without}
@@ -25,6 +26,9 @@ key_at entries position = option_map_or (λ entry. entry.key) (slice_get entries
 
 abbrev pub keys_at : List Entry → List ℕ → List ℕ
 keys_at entries = map (key_at entries)
+
+abbrev pub IsRun : {X : Type 0} → List X → ℕ → List X → Type 0
+IsRun all first run = (offset : ℕ) → offset < length run → slice_get all (first + offset) ≡ slice_get run offset
 
 abbrev pub AreApart : List ℕ → Type 0
 AreApart [] = Unit {0}

@@ -14,6 +14,7 @@ mod entry;
 mod modified;
 mod operator;
 mod order;
+mod order_keys;
 mod positions;
 mod row_order;
 mod rows;

@@ -2,7 +2,7 @@
 //!
 //! A row stands in the list by its handle, which it keeps where its key moves, so that a shift writes nothing in the list; and
 //! its sort cells lie beside those of the other rows, so that no row has memory of its own.
-ghost use Rattle.std.specs.Prelude.{◌≡◌, ◌<◌, ◌≤◌, [], true, false, drop, insert, length, map, remove, slice_get, take, None, Some, IfOk, IsTrue, OnErr, OnOk};
+ghost use Rattle.std.specs.Prelude.{◌≡◌, ◌<◌, ◌≤◌, [], true, false, drop, insert, length, map, remove, slice_get, take, None, Some, IfOk, IsSome, IsTrue, OnErr, OnOk};
 ghost use Rattle.std.specs.List.{AllByRecursion};
 ghost use Rattle.std.specs.Option.{option_map_or};
 ghost use Rattle.key_lists.specs.Keys.{is_among, without};
@@ -12,8 +12,8 @@ ghost use Rattle.tick_model.specs.Shifts.{as_key, moved};
 ghost use Rattle.tick_model.specs.Tables.{same_cells};
 ghost use Rattle.sort_op.specs.declared.entry.Entry.{Entry};
 ghost use Rattle.sort_op.specs.Entries.{Rises, comes_before, is_in, keys_in, place_of, rekeyed};
-ghost use Rattle.sort_op.specs.Places.{key_at, left_from};
-ghost use Rattle.sort_op.specs.Ranks.{IsRanking, arrived, listed};
+ghost use Rattle.sort_op.specs.Places.{IsRun, key_at, left_from};
+ghost use Rattle.sort_op.specs.Ranks.{IsRanking, arrived, key_in, listed};
 ghost use Rattle.sort_op.specs.Sorted.{sort_cells};
 
 use crate::sort_cells::SortCells;
@@ -97,6 +97,26 @@ impl RowOrder {
             Some(handle) => self.handles.key_of(*handle),
             None => 0,
         }
+    }
+
+    /// The key of the row with a handle.
+    pub(crate) fn key_of(&self, handle: Handle) -> u64
+        requires { IsSome (key_with handle self.now.handles) }
+        ensures { result ≡ key_in self.now.handles handle }
+    {
+        self.handles.key_of(handle)
+    }
+
+    /// The handles of rows that stand one behind the other, from a position on. There are some, but past the end.
+    pub(crate) fn run_at(&self, position: usize) -> &[Handle]
+        ensures run { IsRun self.now.rows position result.now }
+        ensures some { length result.now ≡ 0 → length self.now.rows ≤ position }
+        ensures ranking { IsRanking self.now }
+    {
+        if position >= self.rows.len() {
+            return &[];
+        }
+        self.rows.run_at(position)
     }
 
     /// Whether a row stands at a position before another.

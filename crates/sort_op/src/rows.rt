@@ -6,13 +6,14 @@ ghost use Rattle.tick_model.specs.Tables.{cells_at, keys};
 ghost use Rattle.sort_op.specs.Ranks.{listed};
 ghost use Rattle.sort_op.specs.Sorted.{entries_of};
 
+use crate::order_keys::OrderKeys;
 use crate::row_order::RowOrder;
 use row_changes::Rows;
 use row_set::RowSet;
 use shift_data::ShiftData;
 use std::alloc::AllocError;
 use std::sync::ledger::Ledger;
-use tick_table::{Steps, TickTable};
+use tick_table::{RowsNow, Steps, TickTable};
 
 /// The rows of a sort. The order is the one now; of the one before the step there are the keys at the positions that the step
 /// touches. A row that it does not touch is the same now, at the position to which it moves.
@@ -76,5 +77,20 @@ impl<L: Ledger> Rows<L> for SortedRows<'_> {
 
     fn now(&self, key: u64, cells: &mut Vec<i64>, reads: &mut Steps<L>) -> Result<(), AllocError> {
         self.row(key, cells, reads)
+    }
+
+    fn all_now(
+        &self,
+        rows: &RowSet,
+        cells: &mut Vec<i64>,
+        reads: &mut Steps<L>,
+    ) -> Result<(), AllocError> {
+        let mut input = RowsNow::of(self.input);
+        let mut keys = OrderKeys::of(self.order);
+        for position in rows {
+            let key = keys.key_at(position);
+            cells.extend_from_slice(input.row(key, reads))?;
+        }
+        Ok(())
     }
 }
