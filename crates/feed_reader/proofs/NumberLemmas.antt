@@ -1,5 +1,5 @@
 -- What the tests of numbers come to.
-use Rattle.std.proofs.Common.{◌≡◌, ℕ, zero, suc, ◌+◌, ◌-◌, ◌*◌, ◌^◌, ◌<◌, ◌≤◌, List, [], ◌∷◌, ◌++◌, take, get_or, true, false, Some, None, pos, neg_ℤ, refl, sym, ap, ◌∙◌, subst, length, length-take-le, eqb, ltb, leb, arith}
+use Rattle.std.proofs.Common.{◌≡◌, ℕ, zero, suc, ◌+◌, ◌-◌, ◌*◌, ◌^◌, ◌<◌, ◌≤◌, List, [], ◌∷◌, ◌++◌, take, get_or, true, false, Some, None, pos, neg_ℤ, refl, sym, ap, ◌∙◌, length, length-take-le, eqb, ltb, leb, arith}
 use Rattle.std.specs.Prelude.{option_map, ◌&&◌, if◌then◌else◌}
 use Rattle.std.specs.Char.{is_ascii_digit, digit_value}
 use Rattle.std.specs.Str.{all_ascii_digits}
@@ -44,11 +44,16 @@ number_not_digits limit (x ∷ xs) digits =
     ap (λ b. if b then Some own else None)
     (and_left (leb (length (x ∷ xs)) 19 && all_ascii_digits (x ∷ xs)) (ltb own limit) (and_right (leb (length (x ∷ xs)) 19) (all_ascii_digits (x ∷ xs)) digits))
 
-pub number_stops : (limit : ℕ) (text digits : List ℕ) (i : ℕ) → digits ≡ text → i < length digits → is_ascii_digit (get_or digits i 0) ≡ false → number_below limit text ≡ None
-number_stops limit text digits i same within not = number_not_digits limit text (subst (λ (of : List ℕ). all_ascii_digits of ≡ false) same (not_all_digits digits i within not))
+pub number_stops : (limit : ℕ) (digits : List ℕ) (i : ℕ) → i < length digits → is_ascii_digit (get_or digits i 0) ≡ false → number_below limit digits ≡ None
+number_stops limit digits i within not = number_not_digits limit digits (not_all_digits digits i within not)
 
--- a text that does not begin with a minus sign
-pub signed_plain : (limit : ℕ) (text : List ℕ) → ((rest : List ℕ) → text ≡ 45 ∷ rest → ⊥) → option_map pos (number_below limit text) ≡ signed_below limit text
-signed_plain limit [] plain = refl
-signed_plain limit (first ∷ others) plain =
-    sym (cond-false (eqb first 45) (option_map neg_ℤ (option_map pos (number_below limit others))) (option_map pos (number_below limit (first ∷ others))) (ne_eqb first 45 (λ e. plain others (ap (λ n. n ∷ others) e))))
+-- no text, and one that does not begin with a minus sign
+pub signed_none : (limit : ℕ) (text : List ℕ) → length text ≡ 0 → None ≡ signed_below limit text
+signed_none limit [] none = refl
+signed_none limit (first ∷ others) none = absurd (omega (arith, none))
+
+pub signed_plain : (limit first : ℕ) (text others : List ℕ) → text ≡ first ∷ others → (first ≡ 45 → ⊥) → option_map pos (number_below limit text) ≡ signed_below limit text
+signed_plain limit first text others is plain =
+    ap (λ (t : List ℕ). option_map pos (number_below limit t)) is
+    ∙ sym (ap (signed_below limit) is
+    ∙ cond-false (eqb first 45) (option_map neg_ℤ (option_map pos (number_below limit others))) (option_map pos (number_below limit (first ∷ others))) (ne_eqb first 45 plain))

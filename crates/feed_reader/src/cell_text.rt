@@ -29,6 +29,14 @@ impl Model for CellText {
     ghost view = { λ a. held_bytes a.held };
 }
 
+impl Default for CellText {
+    fn default() -> CellText {
+        CellText {
+            held: Held::Short(ArrayString::new()),
+        }
+    }
+}
+
 impl CellText {
     /// The text that a field spells.
     pub(crate) fn of(alloc: Global, field: &str) -> Result<CellText, AllocError>

@@ -17,10 +17,9 @@ use tick_model::plan::{ColumnSpec, Kind};
 const MOST_DIGITS: usize = 19;
 
 /// The number that 1 to 19 digits spell, where it is below the limit. So few digits always fit: they are added up without a test.
-fn number(text: &str, limit: u64) -> Option<u64>
-    ensures { result ≡ number_below limit text.now }
+fn number(digits: &[u8], limit: u64) -> Option<u64>
+    ensures { result ≡ number_below limit digits.now }
 {
-    let digits = text.as_bytes();
     if digits.is_empty() || digits.len() > MOST_DIGITS {
         return None;
     }
@@ -35,36 +34,39 @@ fn number(text: &str, limit: u64) -> Option<u64>
 }
 
 /// The same as a signed number.
-fn natural(text: &str, limit: u64) -> Option<i64>
+fn natural(digits: &[u8], limit: u64) -> Option<i64>
     requires { limit ≤ 2 ^ 63 }
-    ensures { result ≡ option_map pos (number_below limit text.now) }
+    ensures { result ≡ option_map pos (number_below limit digits.now) }
 {
-    number(text, limit).map(|size| size as i64)
+    number(digits, limit).map(|size| size as i64)
 }
 
 /// The number that an optional minus sign and 1 to 19 digits spell, where its size is below the limit.
-fn signed_number(text: &str, limit: u64) -> Option<i64>
+fn signed_number(text: &[u8], limit: u64) -> Option<i64>
     requires { limit ≤ 2 ^ 63 }
     ensures { result ≡ signed_below limit text.now }
 {
-    match text.strip_prefix('-') {
-        Some(digits) => natural(digits, limit).map(|size| -size),
-        None => natural(text, limit),
+    let Some((first, digits)) = text.split_first() else {
+        return None;
+    };
+    if *first != b'-' {
+        return natural(text, limit);
     }
+    natural(digits, limit).map(|size| -size)
 }
 
 /// The key of a row of a source.
 pub(crate) fn key(text: &str) -> Option<u64>
     ensures { result ≡ key_of text.now }
 {
-    number(text, SOURCE_KEYS)
+    number(text.as_bytes(), SOURCE_KEYS)
 }
 
 /// How far a range moves.
 pub(crate) fn delta(text: &str) -> Option<i64>
     ensures { result ≡ delta_of text.now }
 {
-    match signed_number(text, SOURCE_KEYS) {
+    match signed_number(text.as_bytes(), SOURCE_KEYS) {
         Some(0) => None,
         delta => delta,
     }
@@ -78,7 +80,7 @@ fn cell(alloc: Global, kind: Kind, field: &str) -> Result<Option<RawCell>, Alloc
         return Ok(Some(RawCell::Null));
     }
     match kind {
-        Kind::Long => Ok(signed_number(field, 1 << 63).map(RawCell::Long)),
+        Kind::Long => Ok(signed_number(field.as_bytes(), 1 << 63).map(RawCell::Long)),
         Kind::Text => Ok(Some(RawCell::Text(CellText::of(alloc, field)?))),
     }
 }
@@ -94,11 +96,7 @@ pub(crate) fn cells(
     requires few { first ≤ 2 }
     ensures { IfOk result (λ cells. cells ≡ cells_of columns.now (drop first (fields_of fields.now))) }
 {
-    let texts = columns
-        .iter()
-        .filter(|column| matches!(column.kind, Kind::Text))
-        .count();
-    let mut cells = RowCells::with_capacity(alloc, columns.len(), texts)?;
+    let mut cells = RowCells::with_capacity(alloc, columns.len())?;
     for (place, column) in columns.iter().enumerate() {
         match cell(alloc, column.kind, field(fields, first + place))? {
             Some(cell) => cells.push(cell)?,

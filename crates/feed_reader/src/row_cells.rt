@@ -8,24 +8,25 @@ use crate::cell_text::CellText;
 use crate::noted::Noted;
 use crate::ranks::Ranks;
 use crate::raw::RawCell;
+use smallvec::SmallVec;
 use std::alloc::{AllocError, Global};
 use std::marker::Model;
 use tick_model::formula::NULL;
 use tick_model::items::Items;
 
 /// A text of a row, and the place of its cell.
-#[derive(Drop)]
+#[derive(Default, Drop)]
 pub(crate) struct PlacedText {
     place: usize,
     text: CellText,
 }
 
 /// The cells of a row as they will stand in the run, and its texts beside them until they have ranks: what is no text is coded as it
-/// stands. Contracts see the cells.
+/// stands. The texts of a row with few of them take no memory of their own. Contracts see the cells.
 #[derive(Drop)]
 pub struct RowCells {
     numbers: Vec<i64>,
-    texts: Vec<PlacedText>,
+    texts: SmallVec<PlacedText, 2>,
 }
 
 impl Model for RowCells {
@@ -42,17 +43,13 @@ impl Model for RowCells {
 }
 
 impl RowCells {
-    /// No cells, with room for so many, and for so many texts among them.
-    pub(crate) fn with_capacity(
-        alloc: Global,
-        count: usize,
-        texts: usize,
-    ) -> Result<RowCells, AllocError>
+    /// No cells, with room for so many.
+    pub(crate) fn with_capacity(alloc: Global, count: usize) -> Result<RowCells, AllocError>
         ensures { IfOk result (λ cells. cells ≡ []) }
     {
         Ok(RowCells {
             numbers: Vec::with_capacity(alloc, count)?,
-            texts: Vec::with_capacity(alloc, texts)?,
+            texts: SmallVec::new(alloc),
         })
     }
 
@@ -77,7 +74,8 @@ impl RowCells {
     pub(crate) fn note<'a>(&'a self, texts: &mut Noted<'a>) -> Result<(), AllocError>
         ensures { OnOk result (texts.new ≡ with_texts texts.old (flat_map cell_texts self.now)) }
     {
-        for placed in &self.texts {
+        let placed_texts = self.texts.as_slice();
+        for placed in placed_texts {
             texts.note(placed.text.as_str())?;
         }
         Ok(())
@@ -88,7 +86,8 @@ impl RowCells {
         ensures { result ≡ map (coded_cell ranks.now) self }
     {
         let RowCells { mut numbers, texts } = self;
-        for placed in &texts {
+        let placed_texts = texts.as_slice();
+        for placed in placed_texts {
             numbers[placed.place] = ranks.rank(placed.text.as_str()) as i64;
         }
         Items::of(numbers)

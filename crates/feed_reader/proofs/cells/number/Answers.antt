@@ -5,23 +5,23 @@ use Rattle.feed_reader.proofs.cells.number.Goals as goal
 
 pub returns-then-not-is_ascii_digit : goal.returns-then-not-is_ascii_digit
 returns-then-not-is_ascii_digit c =
-    let digits = c.as_bytes-digits.result.now in
+    let digits = c.args.digits.now in
     let not : is_ascii_digit (get_or digits c.loop-digit.digit-index 0) ≡ false = search rules in
-    sym (number_stops c.args.limit c.args.text.now digits c.loop-digit.digit-index c.as_bytes-digits.ensures.value c.loop-digit-test.true not)
+    sym (number_stops c.args.limit digits c.loop-digit.digit-index c.loop-digit-test.true not)
 
 pub overflow_mul-number : goal.overflow_mul-number
 overflow_mul-number c =
-    let small = number_small c.as_bytes-digits.result.now c.loop-digit.digit-index c.loop-digit.number c.loop-digit-test.true (omega arith) c.loop-digit.invariant.0 c.loop-digit.invariant.1 in
+    let small = number_small c.args.digits.now c.loop-digit.digit-index c.loop-digit.number c.loop-digit-test.true (omega arith) c.loop-digit.invariant.0 c.loop-digit.invariant.1 in
     record { fits = omega (arith, small) }
 
 pub overflow_add-number : goal.overflow_add-number
 overflow_add-number c =
-    let small = number_small c.as_bytes-digits.result.now c.loop-digit.digit-index c.loop-digit.number c.loop-digit-test.true (omega arith) c.loop-digit.invariant.0 c.loop-digit.invariant.1 in
+    let small = number_small c.args.digits.now c.loop-digit.digit-index c.loop-digit.number c.loop-digit-test.true (omega arith) c.loop-digit.invariant.0 c.loop-digit.invariant.1 in
     record { fits = omega (arith, small, c.from.ensures) }
 
 pub loop-digit-preserved : goal.loop-digit-preserved
 loop-digit-preserved c =
-    let digits = c.as_bytes-digits.result.now in
+    let digits = c.args.digits.now in
     let i = c.loop-digit.digit-index in
     let is : is_ascii_digit (get_or digits i 0) ≡ true = search rules in
     let worth : c.from.result ≡ get_or digits i 0 - 48 = search rules in (

@@ -15,11 +15,11 @@ invariant_of-self-in-Continue-branch-2 c = order_kept c.self.inside.numbers.item
 
 pub invariant_of-self-in-Continue-branch-4 : goal.invariant_of-self-in-Continue-branch-4
 invariant_of-self-in-Continue-branch-4 c =
-    order_more c.self.inside.numbers.items c.push-in-Text.new.self.items c.self.inside.texts.items c.push-in-Text-2.new.self.items _ (record { place = c.len-place.result; text = c.in-Text.text }) c.in_ok-push-in-Text.ensures.items c.in_ok-push-in-Text-2.ensures.items (search rules) c.self.invariant
+    order_more c.self.inside.numbers.items c.push-in-Text.new.self.items c.self.inside.texts.items c.push-in-Text-2.new.self.items _ (record { place = c.len-place.result; text = c.in-Text.text }) c.in_ok-push-in-Text.ensures.items c.in_ok-push-in-Text-2.ensures.ok (search rules) c.self.invariant
 
 pub invariant_of-self-in_err-push-in-Text-2 : goal.invariant_of-self-in_err-push-in-Text-2
 invariant_of-self-in_err-push-in-Text-2 c =
-    subst (λ (texts : List PlacedText). AreInOrder 0 texts (length c.push-in-Text.new.self.items)) (sym c.in_err-push-in-Text-2.ensures.items)
+    subst (λ (texts : List PlacedText). AreInOrder 0 texts (length c.push-in-Text.new.self.items)) (ap (λ texts. texts.items) (sym c.in_err-push-in-Text-2.ensures.err))
     (order_kept c.self.inside.numbers.items c.push-in-Text.new.self.items c.self.inside.texts.items _ c.in_ok-push-in-Text.ensures.items c.self.invariant)
 
 pub returns-in_ok-push-in-Null : goal.returns-in_ok-push-in-Null
@@ -35,4 +35,4 @@ returns-in_ok-push-in-Long c =
 
 pub returns-in_ok-push-in-Text-2 : goal.returns-in_ok-push-in-Text-2
 returns-in_ok-push-in-Text-2 c =
-    text_onto c.self.inside.numbers.items c.push-in-Text.new.self.items c.self.inside.texts.items c.push-in-Text-2.new.self.items c.args.self.now _ (record { place = c.len-place.result; text = c.in-Text.text }) c.args.cell c.in_ok-push-in-Text.ensures.items c.in_ok-push-in-Text-2.ensures.items (search rules) (sym c.in-Text.is) c.self.invariant c.self.view_is
+    text_onto c.self.inside.numbers.items c.push-in-Text.new.self.items c.self.inside.texts.items c.push-in-Text-2.new.self.items c.args.self.now _ (record { place = c.len-place.result; text = c.in-Text.text }) c.args.cell c.in_ok-push-in-Text.ensures.items c.in_ok-push-in-Text-2.ensures.ok (search rules) (sym c.in-Text.is) c.self.invariant c.self.view_is
