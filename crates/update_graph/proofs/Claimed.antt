@@ -64,10 +64,10 @@ module _ (run : Run) (plan : Plan Kept) (s : IsForStep run plan) where
   next_tagged next n same = (ap (λ (t : Tag). t.run) same ∙ sym s.of_run, ap (λ (t : Tag). t.node) same, ap (λ (t : Tag). t.step) same)
 
 -- what the hands of a crew work by is for the step of the claims
-pub step_of_view : (plan : Plan Kept) (run own : Run) (step : ℕ) (edges : List Edge) (view : StepView) → run ≡ own → record { run = own; step = step; edges = edges } ≡ view → IsEntered own step × (edges ≡ edges_of own.plan)
-    → plan.first.value.run ≡ view.run → plan.first.value.step + 1 ≡ view.step → plan.edges.items ≡ view.edges → IsForStep run plan
-step_of_view plan run own step edges view same seen work run_is step_is edges_is =
-    subst (λ r. IsForStep r plan) (sym same) record {
+pub step_of_view : (plan : Plan Kept) {own : Run} {step : ℕ} {edges : List Edge} {view : StepView} → record { run = own; step = step; edges = edges } ≡ view → IsEntered own step × (edges ≡ edges_of own.plan)
+    → plan.first.value.run ≡ view.run → plan.first.value.step + 1 ≡ view.step → plan.edges.items ≡ view.edges → IsForStep own plan
+step_of_view plan {own} seen work run_is step_is edges_is =
+    record {
       entered = subst (IsEntered own) (sym (step_is ∙ sym (ap (λ (v : StepView). v.step) seen))) work.0;
       of_run = run_is ∙ sym (ap (λ (v : StepView). v.run) seen);
       edges = edges_is ∙ sym (ap (λ (v : StepView). v.edges) seen) ∙ work.1;

@@ -88,3 +88,7 @@ no_nodes run step n count works same many none =
 -- as many as there are
 pub whole_works : (run : Run) (step n : ℕ) (works : List Kept) → map named works ≡ tags run step n → map named works ≡ tags run step (length works)
 whole_works run step n works same = same ∙ ap (tags run step) (sym (count_works run step n works same))
+
+-- the step before one that a run enters
+pub next_step : (run : Run) (step n : ℕ) → 1 ≤ step → (work : Kept) → named work ≡ tag run (step - 1) n → work.step + 1 ≡ step
+next_step run step n later work same = let before : work.step ≡ step - 1 = ap (λ (t : Tag). t.step) same in omega (arith, before, later)

@@ -1,7 +1,7 @@
 -- How much a step of an operator reads, in the words of the run.
-use Rattle.std.proofs.Common.{◌≡◌, sym, ap, ◌∙◌, subst, ℕ, ◌+◌, ◌<◌, ◌≤◌, inl, inr, arith, true, false, true≢false, List, [], ◌∷◌, ◌++◌, length}
-use Rattle.std.specs.Prelude.{slice_index}
-use Rattle.std.specs.List.{AllByRecursion, range_with_len, sum_by}
+use Rattle.std.proofs.Common.{◌≡◌, refl, sym, ap, ◌∙◌, subst, ℕ, zero, suc, ◌+◌, ◌<◌, ◌≤◌, ◌&&◌, inl, inr, arith, Bool, true, false, true≢false, List, [], ◌∷◌, ◌++◌, length, get_or, Option, Some, None}
+use Rattle.std.specs.Prelude.{option_to_list, slice_index}
+use Rattle.std.specs.List.{AllByRecursion, flat_map, range_with_len, sum_by}
 use Rattle.std.proofs.lemmas.Bool.{cases_lt}
 use Rattle.std.proofs.lemmas.List.{get_or_append_left, get_or_push, length_push}
 use Rattle.std.proofs.lemmas.List.Sums.{sum_by-cons}
@@ -45,3 +45,17 @@ all_within run step reads h =
 -- where all shares have tables, it is not so that one has none
 pub defined_all : (shares : List Tag) → AllByRecursion (λ (share : Tag). is_defined share.run share.step share.node ≡ true) shares → all_defined shares ≡ false → ⊥
 defined_all shares h none = true≢false (sym (pass_all (λ (share : Tag). is_defined share.run share.step share.node) shares h) ∙ none)
+
+-- and where one has none, it is not so that all have
+none_of : (b : Bool) → (b && false) ≡ false
+none_of true = refl
+none_of false = refl
+
+pub one_undefined : (shares : List (Option Tag)) (k : ℕ) (d : Option Tag) (share : Tag) → k < length shares → d ≡ get_or shares k d → d ≡ Some share → is_defined share.run share.step share.node ≡ false → all_defined (flat_map option_to_list shares) ≡ false
+one_undefined [] k d share less there is none = absurd (omega (arith, less))
+one_undefined (x ∷ xs) zero d share less there is none = subst (λ y. all_defined (option_to_list y ++ flat_map option_to_list xs) ≡ false) (sym (sym there ∙ is)) (ap (λ b. b && all_defined (flat_map option_to_list xs)) none)
+one_undefined (x ∷ xs) (suc k) d share less there is none = go x (one_undefined xs k d share (omega (arith, less)) there is none)
+  where
+    go : (y : Option Tag) → all_defined (flat_map option_to_list xs) ≡ false → all_defined (option_to_list y ++ flat_map option_to_list xs) ≡ false
+    go None h = h
+    go (Some t) h = ap (λ b. is_defined t.run t.step t.node && b) h ∙ none_of (is_defined t.run t.step t.node)

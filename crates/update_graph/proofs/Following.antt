@@ -5,7 +5,6 @@ use Rattle.std.specs.Prelude.{IfOk, Result, Ok, Err}
 use mathlib.Core.Option.{some-injective, some-ne-none}
 use Rattle.graph_words.specs.declared.graph.Plan.{Plan}
 use Rattle.graph_words.specs.Rule.{FollowsGiven, IsGiven}
-use Rattle.graph_words.proofs.Marks.{below_of}
 use Rattle.tick_laws.proofs.ReachedTables.{reached_tables}
 use Rattle.tick_model.specs.declared.feed.Run.{Run}
 use Rattle.tick_model.specs.Spoiled.{node_fault}
@@ -13,7 +12,7 @@ use Rattle.tick_model.specs.States.{state}
 use Rattle.update_graph.specs.Entered.{IsEntered}
 use Rattle.update_graph.specs.Graphs.{SteppedOnce}
 use Rattle.update_graph.specs.Stands.{Follows, ForEach, HasReadOnce, is_defined}
-use Rattle.update_graph.specs.Sweeps.{GrowsBy, IsSame}
+use Rattle.update_graph.specs.Sweeps.{GrowsBy}
 use Rattle.update_graph.specs.Tags.{Kept, Tag, all_reads, is_operator, named, tag, tags}
 use Rattle.update_graph.proofs.ClaimedWorks.{count_works, whole_works, work_at}
 use Rattle.update_graph.proofs.PlanEdges.{item_there}
@@ -40,9 +39,6 @@ module _ (run : Run) (step node : ℕ) where
 pub source_follows : (old new : Kept) → is_operator new.run new.node ≡ false → Follows old new
 source_follows old new none is = absurd (true≢false (sym is ∙ none))
 
-pub source_same : (old new : Kept) → is_operator new.run new.node ≡ false → IsSame old new
-source_same old new none is = absurd (true≢false (sym is ∙ none))
-
 -- a work follows the one that was given, which is the one that was taken
 pub follows_taken : (plan : Plan Kept) (n : ℕ) (work new : Kept) → IsGiven plan n work → Follows work new → FollowsGiven Follows plan n new
 follows_taken plan n work new taken follows old given = subst (λ (w : Kept). Follows w new) (some-injective work old (sym taken ∙ given)) follows
@@ -62,16 +58,6 @@ module _ (Holds : Kept → Kept → Type 0) where
 
   pub each_none : (news : List Kept) → ForEach Holds [] news
   each_none news n old new at_old at_new = absurd (some-ne-none old (sym at_old))
-
--- works that follow, as they are kept
-pub follow_same : (olds mids news : List Kept) → length news ≡ length mids → ForEach Follows olds mids → ForEach IsSame mids news → ForEach Follows olds news
-follow_same olds mids news long follows sames n old new at_old at_new is defined =
-    let below = below_of news n new at_new in
-    let mid = get_or mids n new in
-    let at_mid = item_there mids n new (omega (arith, long, below)) in
-    let same = sames n mid new at_mid at_new is in
-    subst (λ (w : Kept). HasReadOnce old.reads w.reads) (sym same)
-    (follows n old mid at_old at_mid (subst (λ (w : Kept). is_operator w.run w.node ≡ true) same is) (subst (λ (w : Kept). is_defined w.run w.step w.node ≡ true) same defined))
 
 -- each operator has taken exactly one step more, where all nodes have tables
 pub all_once : (run : Run) (step : ℕ) (olds news : List Kept) → IsEntered run step → node_fault 0 (state run step) ≡ None → length olds ≡ length run.plan.nodes → map named news ≡ tags run step (length run.plan.nodes) → ForEach Follows olds news

@@ -1,4 +1,3 @@
-mod Advancing
 mod Batches
 mod Changing
 mod Claimed
@@ -10,7 +9,6 @@ mod ExampleRuns
 mod FirstSeat
 mod Following
 mod Handing
-mod Holding
 mod Numbered
 mod Numbering
 mod OperatorLaws

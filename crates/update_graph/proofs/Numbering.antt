@@ -1,8 +1,8 @@
 -- The numbers of nodes, counted and listed.
-use Rattle.std.proofs.Common.{◌≡◌, ◌≢◌, refl, ap, ap₂, sym, ◌∙◌, ℕ, zero, suc, ◌+◌, ◌<◌, ◌≤◌, ◌==◌, arith, inl, inr, Bool, true, false, cond, List, [], ◌∷◌, ◌++◌, append-nil, take, length, get_or}
+use Rattle.std.proofs.Common.{◌≡◌, ◌≢◌, refl, ap, ap₂, sym, ◌∙◌, ℕ, zero, suc, ◌+◌, ◌<◌, ◌==◌, arith, Bool, true, false, cond, List, [], ◌∷◌, ◌++◌, append-nil, take, length, get_or}
 use Rattle.std.specs.Prelude.{count_by, filter}
 use Rattle.std.specs.List.{AllByRecursion, range_with_len}
-use Rattle.std.proofs.lemmas.Bool.{cases_lt, eq-eqb, ne_eqb}
+use Rattle.std.proofs.lemmas.Bool.{eq-eqb, ne_eqb}
 use Rattle.std.proofs.lemmas.List.{take_more, map-id}
 use Rattle.std.proofs.lemmas.List.Elements.{filter-append}
 use Rattle.std.proofs.lemmas.List.FromFn.{map-range_with_len_more}
@@ -49,51 +49,10 @@ next_source nodes n within is = source_more nodes n within true is
 pub no_next_source : (nodes : List Node) (n : ℕ) → n < length nodes → is_source (get_or nodes n no_node) ≡ false → source_number nodes (n + 1) ≡ source_number nodes n
 no_next_source nodes n within is = source_more nodes n within false is ∙ omega arith
 
--- how often a number stands among those of a range that pass
+-- how often a number stands in a list
 count_cons : (m x : ℕ) (xs : List ℕ) → count_by (λ k. k == m) (x ∷ xs) ≡ cond (x == m) 1 0 + count_by (λ k. k == m) xs
 count_cons m x xs = sum_by-cons (λ k. cond (k == m) 1 0) x xs
 
-pub counted_before : (p : ℕ → Bool) (a n m : ℕ) → m < a → count_by (λ k. k == m) (filter p (range_with_len a n)) ≡ 0
-counted_before p a zero m less = refl
-counted_before p a (suc n) m less =
-    let rest = filter p (range_with_len (a + 1) n) in
-    let none = counted_before p (a + 1) n m (omega (arith, less)) in
-    elim (p a) as (λ b. count_by (λ k. k == m) (cond b (a ∷ rest) rest) ≡ 0) [
-      | true ↦ count_cons m a rest ∙ ap₂ (λ b k. cond b 1 0 + k) (ne_eqb a m (λ e. omega (arith, e, less))) none
-      | false ↦ none
-    ]
-
-pub counted_past : (p : ℕ → Bool) (a n m : ℕ) → a + n ≤ m → count_by (λ k. k == m) (filter p (range_with_len a n)) ≡ 0
-counted_past p a zero m more = refl
-counted_past p a (suc n) m more =
-    let rest = filter p (range_with_len (a + 1) n) in
-    let none = counted_past p (a + 1) n m (omega (arith, more)) in
-    elim (p a) as (λ b. count_by (λ k. k == m) (cond b (a ∷ rest) rest) ≡ 0) [
-      | true ↦ count_cons m a rest ∙ ap₂ (λ b k. cond b 1 0 + k) (ne_eqb a m (λ e. omega (arith, e, more))) none
-      | false ↦ none
-    ]
-
-pub counted_once : (p : ℕ → Bool) (a n m : ℕ) → a ≤ m → m < a + n → count_by (λ k. k == m) (filter p (range_with_len a n)) ≡ cond (p m) 1 0
-counted_once p a zero m low high = absurd (omega (arith, low, high))
-counted_once p a (suc n) m low high =
-    let rest = filter p (range_with_len (a + 1) n) in
-    elim (cases_lt a m) [
-      | inl less ↦
-          let once = counted_once p (a + 1) n m (omega (arith, less)) (omega (arith, high)) in
-          elim (p a) as (λ b. count_by (λ k. k == m) (cond b (a ∷ rest) rest) ≡ cond (p m) 1 0) [
-            | true ↦ count_cons m a rest ∙ ap₂ (λ b k. cond b 1 0 + k) (ne_eqb a m (λ e. omega (arith, e, less))) once ∙ omega arith
-            | false ↦ once
-          ]
-      | inr least ↦
-          let same : a ≡ m = omega (arith, low, least) in
-          let none = counted_before p (a + 1) n m (omega (arith, same)) in
-          (elim (p a) as (λ b. p a ≡ b → count_by (λ k. k == m) (cond b (a ∷ rest) rest) ≡ cond (p m) 1 0) [
-            | true ↦ λ e. count_cons m a rest ∙ ap₂ (λ b k. cond b 1 0 + k) (eq-eqb a m same) none ∙ sym (ap (λ b. cond b 1 0) (ap p (sym same) ∙ e))
-            | false ↦ λ e. none ∙ sym (ap (λ b. cond b 1 0) (ap p (sym same) ∙ e))
-          ]) refl
-    ]
-
--- how often a number stands in a list
 pub count_none : (m : ℕ) (xs : List ℕ) → ((i : ℕ) → get_elem? xs i ≡ some m → ⊥) → count_by (λ k. k == m) xs ≡ 0
 count_none m [] none = refl
 count_none m (x ∷ xs) none = count_cons m x xs ∙ ap₂ (λ b k. cond b 1 0 + k) (ne_eqb x m (λ e. none 0 (ap some e))) (count_none m xs (λ i at_i. none (suc i) at_i))

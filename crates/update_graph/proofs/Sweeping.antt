@@ -1,22 +1,20 @@
 -- A step's nodes, one more at a time.
-use Rattle.std.proofs.Common.{◌≡◌, refl, ap, ap₂, sym, ◌∙◌, subst, ℕ, suc, ◌+◌, ◌<◌, ◌≤◌, ◌==◌, arith, inl, inr, Bool, true, false, cond, not, true≢false, List, [], ◌∷◌, ◌++◌, map, drop, length, get_or, Option, Some, None}
+use Rattle.std.proofs.Common.{◌≡◌, refl, ap, ap₂, sym, ◌∙◌, subst, ℕ, suc, ◌+◌, ◌<◌, ◌≤◌, ◌==◌, arith, inl, inr, Bool, true, false, cond, not, List, [], ◌∷◌, ◌++◌, map, drop, length, get_or, Option, Some, None}
 use Rattle.std.specs.Arc.{arc_value}
 use Rattle.std.specs.Prelude.{count_by, filter, option_map}
-use Rattle.std.specs.List.{list_all, range_with_len}
+use Rattle.std.specs.List.{range_with_len}
 use Rattle.std.specs.declared.alloc.Global.{Global}
 use Rattle.std.specs.declared.sync.Arc.{Arc}
 use Rattle.std.proofs.Math.Seq.{drop-cons}
 use Rattle.std.proofs.lemmas.Bool.{cases_lt}
 use Rattle.std.proofs.lemmas.List.{drop_all, get_or-map, get_or_past, length-map, map_push}
 use Rattle.std.proofs.lemmas.List.FromFn.{get_or-map-range_with_len, length-map-range_with_len, map-range_with_len_more}
-use Rattle.key_lists.proofs.Every.{every-map, map_map, pass_all}
 use Rattle.merge_op.specs.Merged.{tables}
 use Rattle.tick_laws.specs.Bounded.{AreSourceTables}
 use Rattle.tick_laws.specs.Reached.{IsReached}
 use Rattle.tick_laws.proofs.EvalNodes.{length_outcomes}
 use Rattle.tick_laws.proofs.LawfulSources.{sources_bounded}
 use Rattle.tick_laws.proofs.Paired.{source_there}
-use Rattle.tick_laws.proofs.ReachedTables.{reached_tables}
 use Rattle.tick_model.specs.declared.feed.Run.{Run}
 use Rattle.tick_model.specs.declared.plan.Node.{Node}
 use Rattle.tick_model.specs.declared.table.NodeFault.{NodeFault}
@@ -28,24 +26,23 @@ use Rattle.tick_model.specs.Spoiled.{ByNode, Cause, node_fault}
 use Rattle.tick_model.specs.States.{state}
 use Rattle.tick_table.specs.Exact.{ticking}
 use Rattle.tick_table.specs.Ticking.{Ticking}
-use mathlib.Core.Option.{some}
+use mathlib.Core.Option.{some, some-injective}
 use lib.ListN.{get_elem?}
 use Rattle.std.proofs.lemmas.List.FromFn.{get_or-range_with_len, length-range_with_len}
 use Rattle.std.proofs.lemmas.List.Kept.{AllPairs-filter}
 use Rattle.graph_words.specs.declared.graph.Edge.{Edge}
 use Rattle.graph_words.specs.Seats.{HasEachOnce}
-use Rattle.update_graph.specs.declared.sweep.Sweep.{Sweep}
+use Rattle.graph_words.proofs.Marks.{below_of}
 use Rattle.update_graph.specs.Edges.{edges_of}
 use Rattle.update_graph.specs.Entered.{IsEntered}
 use Rattle.update_graph.specs.Faults.{fault_in}
-use Rattle.update_graph.specs.Graphs.{RanInOrder, RanOnce, nodes_shown, reads_at, sources_shown}
-use Rattle.update_graph.specs.Stands.{AreHanded, HasStepped, is_defined, shown}
-use Rattle.update_graph.specs.Sweeps.{IsSwept, IsWhole}
+use Rattle.update_graph.specs.Graphs.{RanInOrder, RanOnce, reads_at, sources_shown}
+use Rattle.update_graph.specs.Stands.{HasStepped, is_defined, shown}
 use Rattle.update_graph.specs.Tags.{Kept, Tag, all_reads, is_operator, named, no_node, node_at, operators, tag, tags}
 use Rattle.update_graph.proofs.ClaimedWorks.{count_works}
 use Rattle.update_graph.proofs.EnteredTicks.{source_table_at, tick_of_source}
 use Rattle.update_graph.proofs.PlanEdges.{edge_ends, item_there}
-use Rattle.update_graph.proofs.Numbering.{count_filter, count_none, count_only, counted_once, counted_past, range_all}
+use Rattle.update_graph.proofs.Numbering.{count_filter, count_none, count_only}
 
 -- one more tag
 pub tags_more : (run : Run) (step n : ℕ) (before after : List Tag) (next : Tag) → after ≡ before ++ next ∷ [] → before ≡ tags run step n → next ≡ tag run step n → after ≡ tags run step (n + 1)
@@ -118,22 +115,11 @@ turn false = refl
 past : (node : Node) → node ≡ no_node → ◌≡◌ {A = ℕ} 0 (cond (is_source node) 0 1)
 past node e = subst (λ (node : Node). ◌≡◌ {A = ℕ} 0 (cond (is_source node) 0 1)) (sym e) refl
 
--- each node with an operator was worked once
-pub ran_once : (run : Run) (ran : List ℕ) → ran ≡ operators run (length run.plan.nodes) → RanOnce run.plan ran
-ran_once run ran same m =
-    ap (count_by (λ k. k == m)) same
-    ∙ elim (cases_lt m (length run.plan.nodes)) [
-      | inl less ↦ counted_once (is_operator run) 0 (length run.plan.nodes) m (omega arith) (omega (arith, less)) ∙ turn (is_source (node_at run m))
-      | inr more ↦
-          counted_past (is_operator run) 0 (length run.plan.nodes) m (omega (arith, more))
-          ∙ past (node_at run m) (get_or_past run.plan.nodes m no_node (omega (arith, more)))
-    ]
-
 neither : (b : Bool) → ◌≡◌ {A = ℕ} (cond b 0 0) 0
 neither true = refl
 neither false = refl
 
--- and so it is where each node stands once in the list
+-- each node with an operator was worked once, where each node stands once in the list
 pub each_once : (run : Run) (order ran : List ℕ) → ran ≡ filter (is_operator run) order → HasEachOnce (length run.plan.nodes) order → RanOnce run.plan ran
 each_once run order ran same each m =
     ap (count_by (λ k. k == m)) same
@@ -147,18 +133,7 @@ each_once run order ran same each m =
           ∙ (neither (is_operator run m) ∙ past (node_at run m) (get_or_past run.plan.nodes m no_node (omega (arith, more))))
     ]
 
--- none is worked before one of its inputs, where they are worked in order of their numbers
-pub numbers_in_order : (run : Run) → IsLawfulRun run → (ran : List ℕ) → ran ≡ operators run (length run.plan.nodes) → RanInOrder run.plan ran
-numbers_in_order run lawful ran same =
-    subst (RanInOrder run.plan) (sym same)
-    (AllPairs-filter (λ first later. (e : ℕ) (x : Edge) → get_elem? (edges_of run.plan) e ≡ some x → x.from ≡ later → x.to ≡ first → ⊥) (is_operator run) (range_with_len 0 (length run.plan.nodes)) (λ i j d less within e x there from to.
-    let long = length-range_with_len 0 (length run.plan.nodes) in
-    let first = get_or-range_with_len 0 (length run.plan.nodes) i d (omega arith) in
-    let later = get_or-range_with_len 0 (length run.plan.nodes) j d (omega arith) in
-    let up = edge_ends run lawful e x there in
-    omega (arith, less, first, later, up, from, to)))
-
--- and where the edges were handed on late, and the nodes stand in order of their tickets
+-- and none before one of its inputs, where each stands before those that it hands on to, as in order of their tickets
 pub tickets_in_order : (run : Run) (order ran : List ℕ) → ran ≡ filter (is_operator run) order → ((e i j : ℕ) (x : Edge) → get_elem? (edges_of run.plan) e ≡ some x → get_elem? order i ≡ some x.from → get_elem? order j ≡ some x.to → i < j) → RanInOrder run.plan ran
 tickets_in_order run order ran same before =
     subst (RanInOrder run.plan) (sym same)
@@ -168,14 +143,33 @@ tickets_in_order run order ran same before =
     let up = before e j i x there first later in
     omega (arith, less, up)))
 
--- a sweep of all nodes
-pub whole_swept : (run : Run) (step : ℕ) (sweep : Sweep) → IsLawfulRun run → IsSwept run step (length run.plan.nodes) sweep → IsWhole run step sweep
-whole_swept run step sweep lawful s = record {
-  works = s.works;
-  shares = s.shares;
-  ran = ran_once run sweep.ran.items s.ran;
-  order = numbers_in_order run lawful sweep.ran.items s.ran;
+-- so it is with all nodes in order of their numbers
+range_at : (n i k : ℕ) → get_elem? (range_with_len 0 n) i ≡ some k → (i ≡ k) × (k < n)
+range_at n i k at_i =
+    let long = length-range_with_len 0 n in
+    let within = below_of (range_with_len 0 n) i k at_i in
+    let own = get_or-range_with_len 0 n i 0 (omega (arith, long, within)) in
+    let here : k ≡ get_or (range_with_len 0 n) i 0 = some-injective k (get_or (range_with_len 0 n) i 0) (sym at_i ∙ item_there (range_with_len 0 n) i 0 within) in
+    (omega (arith, own, here), omega (arith, own, here, long, within))
+
+range_each : (n : ℕ) → HasEachOnce n (range_with_len 0 n)
+range_each n = record {
+  long = length-range_with_len 0 n;
+  each = λ k less. (k, item_there (range_with_len 0 n) k 0 (let long = length-range_with_len 0 n in omega (arith, long, less)) ∙ ap some (let own = get_or-range_with_len 0 n k 0 less in let here : get_or (range_with_len 0 n) k 0 ≡ k = omega (arith, own) in here));
+  below = λ i k at_i. (range_at n i k at_i).1;
+  once = λ i j k at_i at_j. (range_at n i k at_i).0 ∙ sym (range_at n j k at_j).0;
 }
+
+pub ran_once : (run : Run) (ran : List ℕ) → ran ≡ operators run (length run.plan.nodes) → RanOnce run.plan ran
+ran_once run ran same = each_once run (range_with_len 0 (length run.plan.nodes)) ran same (range_each (length run.plan.nodes))
+
+pub numbers_in_order : (run : Run) → IsLawfulRun run → (ran : List ℕ) → ran ≡ operators run (length run.plan.nodes) → RanInOrder run.plan ran
+numbers_in_order run lawful ran same =
+    tickets_in_order run (range_with_len 0 (length run.plan.nodes)) ran same (λ e i j x there at_from at_to.
+    let first = (range_at (length run.plan.nodes) i x.from at_from).0 in
+    let later = (range_at (length run.plan.nodes) j x.to at_to).0 in
+    let up = (edge_ends run lawful e x there).0 in
+    omega (arith, first, later, up))
 
 -- the least fault, from one node on
 fault_passed : (k : ℕ) (o : Outcome) (others : List Outcome) → fault_in o ≡ None → node_fault k (o ∷ others) ≡ node_fault (k + 1) others
@@ -244,40 +238,6 @@ reached_here run step e fine = record {
     | inr more ↦ let same : s ≡ step = omega (arith, below, more) in ap (λ s. node_fault 0 (state run s)) same ∙ fine
   ];
 }
-
-module _ (run : Run) (step : ℕ) (e : IsEntered run step) (fine : node_fault 0 (state run step) ≡ None) (shares : List Tag) (same : shares ≡ tags run step (length run.plan.nodes)) where
-  -- then every node hands on a table
-  all_handed : list_all (λ (share : Tag). is_defined share.run share.step share.node) shares ≡ true
-  all_handed =
-      ap (list_all (λ (share : Tag). is_defined share.run share.step share.node)) same
-      ∙ pass_all (λ (share : Tag). is_defined share.run share.step share.node) (tags run step (length run.plan.nodes))
-      (every-map (λ (share : Tag). is_defined share.run share.step share.node ≡ true) (tag run step) (range_with_len 0 (length run.plan.nodes))
-      (range_all (λ k. is_defined run step k ≡ true) 0 (length run.plan.nodes) (λ k less. (reached_tables run e.lawful step (reached_here run step e fine)).each k (omega (arith, less)))))
-
-  pub some_handed : AreHanded shares None → ⊥
-  some_handed h = true≢false (sym all_handed ∙ h)
-
-  pub handed_tables : (all : List (Arc Ticking Global)) → AreHanded shares (Some all) → tables all ≡ nodes_shown run step
-  handed_tables all h =
-      h.1
-      ∙ ap (map (λ (share : Tag). shown share.run share.step share.node)) same
-      ∙ map_map (λ (share : Tag). shown share.run share.step share.node) (tag run step) (range_with_len 0 (length run.plan.nodes))
-
--- the table of one of all nodes
-pub all_shown : (run : Run) (step : ℕ) (all : List (Arc Ticking Global)) → tables all ≡ nodes_shown run step → length all ≡ length run.plan.nodes
-all_shown run step all same =
-    let a = length-map all (λ (x : Arc Ticking Global). arc_value {X = Ticking} x) in
-    let b = ap length same in
-    let c = length-map-range_with_len (shown run step) 0 (length run.plan.nodes) in
-    omega arith
-
-pub one_shown : (run : Run) (step : ℕ) (all : List (Arc Ticking Global)) → tables all ≡ nodes_shown run step → (n : ℕ) → n < length run.plan.nodes → (table : Arc Ticking Global) → table ≡ get_or all n table → arc_value {X = Ticking} table ≡ shown run step n
-one_shown run step all same n within table there =
-    let long = all_shown run step all same in
-    ap (λ (x : Arc Ticking Global). arc_value {X = Ticking} x) there
-    ∙ sym (get_or-map (λ (x : Arc Ticking Global). arc_value {X = Ticking} x) all n table (shown run step n) (omega (arith, long, within)))
-    ∙ ap (λ these. get_or these n (shown run step n)) same
-    ∙ get_or-map-range_with_len (shown run step) 0 (length run.plan.nodes) n n (shown run step n) within (omega arith)
 
 -- what was found of the nodes
 abbrev pub cause_of : ℕ × NodeFault → Cause

@@ -11,11 +11,11 @@
 --     HasReached run step graph      all nodes of the run stand at the step, whose batch breaks no rule and which no node spoils; those with an operator were worked once, after their inputs, and each has taken one step for each step of the run
 --     AreSources run step tables      these are the tables of the sources, in order of the nodes
 --     IsBase run step base      what a graph keeps beside its nodes is of this step
---     IsGraph run step base works tables      all that it keeps is
+--     IsGraph run step base works      all that it keeps is
 use Rattle.std.specs.Prelude.{◌≡◌, ℕ, ◌+◌, ◌==◌, ◌<◌, ◌≤◌, AllPairs, List, [], None, count_by, length, map, if◌then◌else◌, slice_index, slice_index_or, true}
 use mathlib.Core.Option.{some}
 use lib.ListN.{get_elem?}
-use Rattle.std.specs.List.{range_with_len, sum_by}
+use Rattle.std.specs.List.{sum_by}
 use Rattle.std.specs.declared.alloc.Global.{Global}
 use Rattle.std.specs.declared.sync.Arc.{Arc}
 use Rattle.graph_words.specs.declared.graph.Edge.{Edge}
@@ -34,7 +34,7 @@ use Rattle.tick_table.specs.Exact.{ticking}
 use Rattle.tick_table.specs.Ticking.{Ticking}
 use Rattle.update_graph.specs.declared.graph.Base.{Base}
 use Rattle.update_graph.specs.Edges.{edges_of}
-use Rattle.update_graph.specs.Stands.{HasReadOnce, HasStepped, most_reads, shown}
+use Rattle.update_graph.specs.Stands.{HasReadOnce, HasStepped, most_reads}
 use Rattle.update_graph.specs.Tags.{Kept, all_reads, is_operator, named, no_node, operators, tags}
 
 pub record GraphView : Type 0 where
@@ -76,12 +76,9 @@ pub record HasReached (run : Run) (step : ℕ) (graph : GraphView) : Type 0 wher
   pub order : RanInOrder run.plan graph.ran
   pub stepped : HaveStepped run (step + 1) graph.reads
 
--- each source's table at a step, with its update; and each node's
+-- each source's table at a step, with its update
 abbrev pub sources_shown : Run → ℕ → List Ticking
 sources_shown run step = map ticking (source_ticks run step)
-
-abbrev pub nodes_shown : Run → ℕ → List Ticking
-nodes_shown run step = map (shown run step) (range_with_len 0 (length run.plan.nodes))
 
 abbrev pub AreSources : Run → ℕ → List (Arc Ticking Global) → Type 0
 AreSources run step own = tables own ≡ sources_shown run step
@@ -91,11 +88,10 @@ pub record IsBase (run : Run) (step : ℕ) (base : Base) : Type 0 where
   pub keys : base.keys ≡ map (λ table. keys_of table.rows) (sources_at run step)
   pub sources : AreSources run step base.sources.items
 
-pub record IsGraph (run : Run) (step : ℕ) (base : Base) (works : List Kept) (all : List (Arc Ticking Global)) : Type 0 where
+pub record IsGraph (run : Run) (step : ℕ) (base : Base) (works : List Kept) : Type 0 where
   pub lawful : IsLawfulRun run
   pub within : step ≤ length run.batches
   pub reached : IsReached run step
   pub base_is : IsBase run step base
   pub works_are : map named works ≡ tags run step (length run.plan.nodes)
   pub stepped : HaveStepped run (step + 1) (all_reads works)
-  pub tables_are : tables all ≡ nodes_shown run step

@@ -29,7 +29,7 @@ use Rattle.tick_laws.specs.Operated.{operated}
 use Rattle.tick_model.specs.declared.feed.Run.{Run}
 use Rattle.tick_model.specs.declared.table.PlainTable.{PlainTable}
 use Rattle.tick_model.specs.Changes.{change_of, is_empty}
-use Rattle.tick_model.specs.Evaluation.{Fault, NoInput, has_table, inputs_of, outcome_at, table_at}
+use Rattle.tick_model.specs.Evaluation.{Fault, NoInput, has_table, inputs_of, outcome_at, source_number, table_at}
 use Rattle.tick_model.specs.States.{state, tick}
 use Rattle.tick_model.specs.Updates.{Update}
 use Rattle.tick_table.specs.Exact.{counted, ticking}
@@ -95,7 +95,7 @@ reads_of (Defined ready) = ready.value.operator.reads
 reads_of state = []
 
 abbrev pub IsKept : Run → ℕ → ℕ → State → Type 0
-IsKept run step node Source = (is_operator run node ≡ false) × (is_defined run step node ≡ true)
+IsKept run step node (Source place) = (is_operator run node ≡ false) × (is_defined run step node ≡ true) × (place ≡ source_number run.plan.nodes node)
 IsKept run step node (Defined ready) = (is_defined run step node ≡ true) × IsReady run (table_at (state run step)) (step + 1) node ready.value.operator ready.value.table × (arc_value {X = Ticking} ready.value.table ≡ shown run step node)
 IsKept run step node (Failed fault) = outcome_at (state run step) node ≡ Fault fault
 IsKept run step node Undefined = outcome_at (state run step) node ≡ NoInput

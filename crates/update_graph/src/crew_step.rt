@@ -6,8 +6,7 @@ ghost use mathlib.Core.Option.{some};
 ghost use lib.ListN.{get_elem?};
 ghost use Rattle.graph_words.specs.Seats.{IsSeatOf};
 ghost use Rattle.graph_words.specs.Views.{first_view};
-ghost use Rattle.steal_workers.specs.Holdings.{AllBack, AllLate, IsHeld, SourcesBack};
-ghost use Rattle.steal_workers.specs.Lists.{IsListed};
+ghost use Rattle.steal_workers.specs.Holdings.{AllBack, AllLate};
 ghost use Rattle.update_graph.specs.Edges.{edges_of};
 ghost use Rattle.update_graph.specs.Entered.{IsEntered};
 ghost use Rattle.update_graph.specs.Graphs.{AreSources, RanInOrder, RanOnce};
@@ -18,12 +17,12 @@ ghost use Rattle.update_graph.specs.Tags.{is_operator, named, tags};
 use crate::context::{CycleContext, StepContext};
 use crate::edges::Edges;
 use crate::first_seat::open_sources;
-use crate::step_work::{HasRun, StepWork, run_is_shared};
+use crate::step_work::StepWork;
 use crate::work::Work;
 use crate::worker::{StepClaims, StepSeat};
 use std::alloc::{AllocError, Global};
 use std::thread::Threads;
-use steal_workers::{Crew, Ready};
+use steal_workers::Crew;
 use tick_io::Gate;
 use tick_model::feed::Run;
 use tick_model::sources::is_source;
@@ -98,30 +97,6 @@ fn end_step(
     Ok((works, ran))
 }
 
-/// Works the nodes with operators by the hands of a crew, from those on the list.
-fn work_by<R: Threads + Sync, U: HasRun, G: Gate>(
-    rt: &R,
-    work: &StepWork<'_, U, G>,
-    claims: &StepClaims,
-    seat: StepSeat,
-    ready: Ready,
-    crew: &mut Crew,
-) -> Result<StepSeat, AllocError>
-    requires claimed { IsClaimed work.now.run claims.now.plan }
-    requires step { work.now.step ≡ claims.now.plan.first.value.step + 1 }
-    requires edges { work.now.edges ≡ claims.now.plan.edges.items }
-    requires of { IsSeatOf claims.now seat }
-    requires alone { seat.view.parts ≡ 1024 }
-    requires held { IsHeld claims.now.plan seat.view (IsListed ready.nodes.items) }
-    requires sources { SourcesBack claims.now.plan seat.view }
-    ensures size { crew.new.size ≡ crew.old.size }
-    ensures of { IfOk result (λ worked. IsSeatOf claims.now worked) }
-    ensures all { IfOk result (λ worked. AllBack claims.now.plan worked.view) }
-    ensures late { IfOk result (λ worked. AllLate claims.now.plan worked.view) }
-{
-    crew.run(rt, claims, seat, ready, work)
-}
-
 /// Works all nodes that are claimed.
 fn work_claimed<R: Threads + Sync, G: Gate>(
     context: &CycleContext<'_, R, G>,
@@ -145,9 +120,8 @@ fn work_claimed<R: Threads + Sync, G: Gate>(
     let mut seat = seat;
     let at = &context.at;
     let ready = open_sources(at, claims, &mut seat, edges, sources)?;
-    run_is_shared();
-    let work = StepWork::new(at.alloc, at.run, at.step, edges, context.gate);
-    work_by(context.rt, &work, claims, seat, ready, crew)
+    let work = StepWork::new(at, edges, context.gate);
+    crew.run(context.rt, claims, seat, ready, &work)
 }
 
 /// What all nodes keep at the next step, from what they keep at this one, and the nodes with an operator, in the order in which

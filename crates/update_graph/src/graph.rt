@@ -17,18 +17,15 @@ ghost use Rattle.update_graph.specs.Entered.{IsEntered};
 ghost use Rattle.update_graph.specs.Graphs.{HasReached, HaveStepped, IsBase, RanInOrder, RanOnce, SteppedOnce, most_in, read_in, reads_at, sources_shown};
 ghost use Rattle.update_graph.specs.Stands.{HasStepped, is_defined};
 ghost use Rattle.update_graph.specs.Stops.{IsStop};
-ghost use Rattle.update_graph.specs.Sweeps.{IsWhole};
-ghost use Rattle.update_graph.specs.Tags.{all_reads, is_operator, named, op_at, tags};
+ghost use Rattle.update_graph.specs.Tags.{all_reads, is_operator, named, op_at, tag, tags};
 
 use crate::context::{CycleContext, StepContext};
 use crate::crew_step::crew_step;
 use crate::edges::Edges;
 use crate::in_order::advance_all;
 use crate::opening::open_all;
-use crate::shares::tables_of;
 use crate::sources::{changed_sources, opened_sources, referred};
 use crate::stop::{Stop, refused};
-use crate::sweep::{Sweep, swept};
 use crate::work::Work;
 use new_counts::new_count;
 use operators::Operator;
@@ -41,7 +38,6 @@ use std::thread::Threads;
 use steal_workers::Crew;
 use tick_io::Gate;
 use tick_model::feed::Run;
-use tick_model::items::Items;
 use tick_model::table::NodeFault;
 use tick_table::{Change, Shared, Steps, TickTable};
 
@@ -64,8 +60,6 @@ pub struct Graph {
     base: Base,
     /// What each node keeps.
     works: Vec<Work>,
-    /// The table of each node.
-    tables: Vec<Shared>,
     ran: Vec<u32>,
 }
 
@@ -82,7 +76,7 @@ impl Model for Graph {
 
     ghost view = { λ graph. record { run = graph.run.value; step = graph.step; ran = graph.ran.items; reads = all_reads graph.works.items } };
 
-    ghost invariant = { λ graph. IsGraph graph.run.value graph.step graph.base graph.works.items graph.tables.items };
+    ghost invariant = { λ graph. IsGraph graph.run.value graph.step graph.base graph.works.items };
 }
 
 // Written out, so that a crate which lets a graph go does not prove anew how each part of it is let go.
@@ -93,7 +87,6 @@ impl Drop for Graph {
             step: _,
             base: _,
             works: _,
-            tables: _,
             ran: _,
         } = self;
     }
@@ -150,56 +143,35 @@ fn least_fault(works: &[Work]) -> Option<(u32, NodeFault)>
     None
 }
 
-/// The graph at a step at which all nodes have tables.
-fn gathered(context: &StepContext<'_>, base: Base, sweep: Sweep) -> Result<Graph, AllocError>
-    requires entered { IsEntered context.now.run.now context.now.step }
-    requires nodes { node_fault 0 (state context.now.run.now context.now.step) ≡ None }
-    requires base { IsBase context.now.run.now context.now.step base }
-    requires swept { IsWhole context.now.run.now context.now.step sweep }
-    requires stepped { HaveStepped context.now.run.now (context.now.step + 1) (all_reads sweep.works.items) }
-    ensures reached { IfOk result (HasReached context.now.run.now context.now.step) }
-    ensures reads { IfOk result (λ graph. graph.reads ≡ all_reads sweep.works.items) }
-{
-    let Sweep {
-        works,
-        shares,
-        ran,
-        sources: _,
-    } = sweep;
-    let shares = Items::of(shares);
-    let about = Snapshot::of(context.run);
-    match tables_of(context.alloc, shares)? {
-        Some(tables) => Ok(Graph {
-            run: about,
-            step: context.step,
-            base,
-            works,
-            tables,
-            ran,
-        }),
-        None => unreachable!(),
-    }
-}
-
 /// The graph at a step that all nodes have reached, unless one has failed.
-fn finished(context: &StepContext<'_>, base: Base, sweep: Sweep) -> Result<Graph, Stop>
+fn finished(
+    context: &StepContext<'_>,
+    base: Base,
+    works: Vec<Work>,
+    ran: Vec<u32>,
+) -> Result<Graph, Stop>
     requires entered { IsEntered context.now.run.now context.now.step }
     requires base { IsBase context.now.run.now context.now.step base }
-    requires swept { IsWhole context.now.run.now context.now.step sweep }
+    requires works { map named works.items ≡ tags context.now.run.now context.now.step (length context.now.run.now.plan.nodes) }
+    requires once { RanOnce context.now.run.now.plan ran.items }
+    requires order { RanInOrder context.now.run.now.plan ran.items }
     ensures reached { IfOk result (HasReached context.now.run.now context.now.step) }
-    ensures reads { IfOk result (λ graph. graph.reads ≡ all_reads sweep.works.items) }
+    ensures reads { IfOk result (λ graph. graph.reads ≡ all_reads works.items) }
     ensures cause { IfErr result (IsStop context.now.run.now context.now.step) }
 {
-    match least_fault(&sweep.works) {
+    match least_fault(&works) {
         Some((node, kind)) => Err(Stop::Node {
             step: context.step,
             node,
             kind,
         }),
-        None => {
-            let graph = gathered(context, base, sweep)?;
-            Ok(graph)
-        }
+        None => Ok(Graph {
+            run: Snapshot::of(context.run),
+            step: context.step,
+            base,
+            works,
+            ran,
+        }),
     }
 }
 
@@ -225,7 +197,7 @@ impl Graph {
             run,
             step: 0,
         };
-        let graph = finished(&context, base, sweep)?;
+        let graph = finished(&context, base, sweep.works, sweep.ran)?;
         Ok(graph)
     }
 
@@ -246,52 +218,13 @@ impl Graph {
             step,
             base,
             works,
-            tables,
             ran: _,
         } = self;
-        drop(tables);
         let mut base = base;
         let blank = Blank::new(1);
         let changes = changes_of::<Brand>(context, step, &mut base.keys, &base.sources, blank)?;
         base.sources = changed_sources(context, base.sources, changes)?;
         Ok((base, works))
-    }
-
-    /// The graph at the next step, by the batch of that step. This thread works the nodes in order.
-    fn next<R, G: Gate>(self, context: &CycleContext<'_, R, G>) -> Result<Graph, Stop>
-        requires run { self.run ≡ context.now.at.run.now }
-        requires step { context.now.at.step ≡ self.step + 1 }
-        requires next { self.step < length context.now.at.run.now.batches }
-        ensures reached { IfOk result (HasReached context.now.at.run.now context.now.at.step) }
-        ensures steps { IfOk result (λ graph. SteppedOnce context.now.at.run.now self.reads graph.reads) }
-        ensures cause { IfErr result (IsStop context.now.at.run.now context.now.at.step) }
-    {
-        let (base, works) = self.take_batch(&context.at)?;
-        let sweep = advance_all::<R, G, Brand>(context, works, &base.sources, Blank::new(1))?;
-        let graph = finished(&context.at, base, sweep)?;
-        Ok(graph)
-    }
-
-    /// The same, with the nodes worked by a crew.
-    fn next_by<R: Threads + Sync, G: Gate>(
-        self,
-        context: &CycleContext<'_, R, G>,
-        crew: &mut Crew,
-    ) -> Result<Graph, Stop>
-        requires run { self.run ≡ context.now.at.run.now }
-        requires step { context.now.at.step ≡ self.step + 1 }
-        requires next { self.step < length context.now.at.run.now.batches }
-        ensures reached { IfOk result (HasReached context.now.at.run.now context.now.at.step) }
-        ensures steps { IfOk result (λ graph. SteppedOnce context.now.at.run.now self.reads graph.reads) }
-        ensures cause { IfErr result (IsStop context.now.at.run.now context.now.at.step) }
-        ensures size { crew.new.size ≡ crew.old.size }
-    {
-        let (base, works) = self.take_batch(&context.at)?;
-        let (works, ran) = crew_step(context, works, &base.edges, &base.sources, crew)?;
-        let numbered = swept(&context.at, works, &base.sources)?;
-        let sweep = numbered.in_order(ran);
-        let graph = finished(&context.at, base, sweep)?;
-        Ok(graph)
     }
 
     /// The graph at the next step of its run, by the batch of that step. The gate is called round the work of each node with an
@@ -332,7 +265,9 @@ impl Graph {
             rt,
             gate,
         };
-        let graph = self.next(&context)?;
+        let (base, works) = self.take_batch(&context.at)?;
+        let sweep = advance_all::<R, G, Brand>(&context, works, &base.sources, Blank::new(1))?;
+        let graph = finished(&context.at, base, sweep.works, sweep.ran)?;
         Ok(graph)
     }
 
@@ -367,7 +302,9 @@ impl Graph {
             rt,
             gate,
         };
-        let graph = self.next_by(&context, crew)?;
+        let (base, works) = self.take_batch(&context.at)?;
+        let (works, ran) = crew_step(&context, works, &base.edges, &base.sources, crew)?;
+        let graph = finished(&context.at, base, works, ran)?;
         Ok(graph)
     }
 
@@ -378,6 +315,17 @@ impl Graph {
         ensures reached { IsReached self.now.run self.now.step }
     {
         self.step
+    }
+
+    /// What is kept of a node.
+    fn work(&self, node: u32) -> &Work
+        requires { node < length self.now.run.plan.nodes }
+        ensures work { named result.now ≡ tag self.now.run self.now.step node }
+        ensures reads { result.now.reads ≡ reads_at self.now.reads node }
+        ensures defined { is_defined self.now.run self.now.step node ≡ true }
+    {
+        let works = self.works.as_slice();
+        &works[node as usize]
     }
 
     /// The table of a node, as it is and as it was before the step.
@@ -393,8 +341,7 @@ impl Graph {
         requires { node < length self.now.run.plan.nodes }
         ensures { arc_value {X = Ticking} result.now ≡ ticking (tick self.now.run self.now.step node) }
     {
-        let tables = self.tables.as_slice();
-        &tables[node as usize]
+        self.work(node).table(&self.base.sources)
     }
 
     /// The operator of a node. It has taken one step for each step of the run, from the opening to now, and no step read more
@@ -406,8 +353,7 @@ impl Graph {
         ensures reads { result.now.reads ≡ reads_at self.now.reads node }
         ensures stepped { HasStepped self.now.run (self.now.step + 1) node result.now.reads }
     {
-        let works = self.works.as_slice();
-        works[node as usize].operator()
+        self.work(node).operator()
     }
 
     /// The nodes with an operator that were worked for the step, in the order in which they were worked.

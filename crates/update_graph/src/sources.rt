@@ -1,6 +1,6 @@
 //! The sources, and how tables are changed in place.
 
-ghost use Rattle.std.specs.Prelude.{◌≡◌, ◌*◌, ◌^◌, ◌≤◌, IfOk, None, length, map};
+ghost use Rattle.std.specs.Prelude.{◌≡◌, ◌*◌, ◌^◌, ◌≤◌, IfOk, None, OnOk, length, map};
 ghost use Rattle.std.specs.Arc.{arc_value};
 ghost use Rattle.merge_op.specs.Merged.{news, tables};
 ghost use Rattle.source_changes.specs.Openings.{IsOpenedTable};
@@ -26,32 +26,38 @@ use tick_model::items::Items;
 use tick_model::table::PlainTable;
 use tick_table::{Change, Shared, TickTable};
 
-/// A table after a change. It is changed in place where nobody else holds it, and else copied first.
-pub(crate) fn applied(alloc: Global, table: Shared, change: Change) -> Result<Shared, AllocError>
-    requires lawful { update_fault (2 ^ 62) (keys (arc_value {X = Ticking} table).new.rows) change.update ≡ None }
-    requires whole { length change.cells ≡ length (told_keys change.update) * (arc_value {X = Ticking} table).new.width }
-    ensures { IfOk result (λ shared. (tick : Tick) → IsTick tick → (arc_value {X = Ticking} table).new ≡ tick.old → change ≡ change_of tick
-        → arc_value {X = Ticking} shared ≡ ticking tick) }
+/// Changes a table where it lies. Where somebody else holds it, a copy is changed in its place.
+pub(crate) fn change_table(
+    alloc: Global,
+    table: &mut Shared,
+    change: Change,
+) -> Result<(), AllocError>
+    requires lawful { update_fault (2 ^ 62) (keys (arc_value {X = Ticking} table.old).new.rows) change.update ≡ None }
+    requires whole { length change.cells ≡ length (told_keys change.update) * (arc_value {X = Ticking} table.old).new.width }
+    ensures { OnOk result ((tick : Tick) → IsTick tick → (arc_value {X = Ticking} table.old).new ≡ tick.old → change ≡ change_of tick
+        → arc_value {X = Ticking} table.new ≡ ticking tick) }
 {
-    let own = match Arc::try_unwrap(table) {
-        Ok(own) => own,
-        Err(shared) => shared.copy(new_copy())?,
-    };
-    let changed = own.apply(change)?;
-    Ok(Arc::new(alloc, changed)?)
+    match Arc::get_mut(table) {
+        Some(own) => own.bring_on(change),
+        None => {
+            let mut own = table.copy(new_copy())?;
+            own.bring_on(change)?;
+            *table = Arc::new(alloc, own)?;
+            Ok(())
+        }
+    }
 }
 
-/// A table after a step in which nothing changes.
-pub(crate) fn rested(alloc: Global, table: Shared) -> Result<Shared, AllocError>
-    requires { IsExact (arc_value {X = Ticking} table) }
-    ensures { IfOk result (λ shared. arc_value {X = Ticking} shared ≡ ticking (unchanged (arc_value {X = Ticking} table).new)) }
+/// A step in which nothing of a table changes.
+pub(crate) fn rest_table(alloc: Global, table: &mut Shared) -> Result<(), AllocError>
+    requires { IsExact (arc_value {X = Ticking} table.old) }
+    ensures { OnOk result (arc_value {X = Ticking} table.new ≡ ticking (unchanged (arc_value {X = Ticking} table.old).new)) }
 {
     let change = Change {
         update: Update::none(alloc),
         cells: Items::new(alloc),
     };
-    let rested = applied(alloc, table, change)?;
-    Ok(rested)
+    change_table(alloc, table, change)
 }
 
 /// The table of a source after the opening.
@@ -62,10 +68,10 @@ fn opened_source(alloc: Global, table: &PlainTable) -> Result<Shared, AllocError
     requires few { table.now.width ≤ 32 }
     ensures { IfOk result (λ shared. arc_value {X = Ticking} shared ≡ ticking (opened table.now)) }
 {
-    let own = Arc::new(alloc, TickTable::new(alloc, table.width)?)?;
+    let mut own = TickTable::new(alloc, table.width)?;
     let change = opening_change(alloc, table)?;
-    let opened = applied(alloc, own, change)?;
-    Ok(opened)
+    own.bring_on(change)?;
+    Ok(Arc::new(alloc, own)?)
 }
 
 /// The tables of the sources at step 0, in order of the nodes.
@@ -110,7 +116,8 @@ pub(crate) fn changed_sources(
 {
     let mut changed = Vec::with_capacity(context.alloc, sources.len())?;
     for (source, change) in sources.into_iter().zip(changes.into_iter()) {
-        let next = applied(context.alloc, source, change)?;
+        let mut next = source;
+        change_table(context.alloc, &mut next, change)?;
         changed.push(next)?;
     }
     Ok(changed)

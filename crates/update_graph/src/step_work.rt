@@ -1,7 +1,6 @@
 //! What a crew's hand does to a node of a step.
 
 ghost use Rattle.std.specs.Prelude.{◌≡◌, ◌+◌, ◌<◌, ◌^◌, ℕ, IfOk, OnOk, length, map, true};
-ghost use Rattle.std.specs.Thread.{IsSync};
 ghost use mathlib.Core.Option.{some};
 ghost use lib.ListN.{get_elem?};
 ghost use Rattle.graph_words.specs.declared.graph.Edge.{Edge};
@@ -9,8 +8,6 @@ ghost use Rattle.graph_words.specs.declared.table.Mark.TheVariants.{Unmarked, Pu
 ghost use Rattle.graph_words.specs.Marks.{at};
 ghost use Rattle.graph_words.specs.Seats.{AtEdge, Has, IsSeatOf};
 ghost use Rattle.steal_workers.specs.Lists.{IsListed};
-ghost use Rattle.tick_model.specs.contracts.feed.Run as run_type;
-ghost use Rattle.tick_model.specs.declared.feed.Run.{Run};
 ghost use Rattle.tick_model.specs.Evaluation.{inputs_of};
 ghost use Rattle.update_graph.specs.Edges.{edges_of};
 ghost use Rattle.update_graph.specs.Entered.{IsEntered};
@@ -20,9 +17,9 @@ ghost use Rattle.update_graph.specs.Tags.{is_operator, named, op_at, tag};
 
 use crate::context::StepContext;
 use crate::edges::Edges;
-use crate::shares::Share;
+use crate::shares::{Share, Shares};
 use crate::work::Work;
-use crate::worker::{StepClaims, StepSeat, begin_node, settle_node};
+use crate::worker::{StepClaims, StepSeat, begin_node};
 use new_counts::new_count;
 use std::alloc::{AllocError, Global};
 use std::marker::{Brand, Model};
@@ -30,36 +27,7 @@ use std::sync::ledger::{Blank, Ledger};
 use steal_workers::{NodeWork, Ready};
 use tick_io::{Gate, Inside};
 use tick_model::feed::Run;
-use tick_model::items::Items;
 use tick_table::Steps;
-
-/// What has a run.
-pub(crate) trait HasRun: Sync {
-    ghost own_run: { Self → Run };
-
-    /// The run.
-    fn run(&self) -> &Run
-        ensures { result.now ≡ Self.own_run self.now };
-}
-
-/// A run may be shared.
-pub(crate) fn run_is_shared()
-    ensures { IsSync run_type.the_row }
-{
-    is_shared::<Run>()
-}
-
-fn is_shared<T: Sync>()
-    ensures { IsSync T.row }
-{}
-
-impl HasRun for Run {
-    ghost own_run = { λ run. run };
-
-    fn run(&self) -> &Run {
-        self
-    }
-}
 
 /// Hands a share on along an edge, whose `from` node is put back. A node that this makes ready is added to the list.
 fn hand_over(
@@ -120,11 +88,11 @@ pub(crate) fn hand_all(
 }
 
 /// What is kept of a node at the step, and what it hands on, with this counter of the cells that are read.
-fn advanced_by<L: Ledger>(
+fn advanced<L: Ledger>(
     context: &StepContext<'_>,
     node: u32,
     work: Work,
-    shares: Items<Share>,
+    shares: Shares,
     inside: &Inside,
     blank: Blank,
 ) -> Result<(Work, Share), AllocError>
@@ -146,39 +114,15 @@ fn advanced_by<L: Ledger>(
     work.take_step(context, node, shares, &mut reads, inside)
 }
 
-/// The same, with a counter of its own.
-fn advanced(
-    context: &StepContext<'_>,
-    node: u32,
-    work: Work,
-    shares: Items<Share>,
-    inside: &Inside,
-) -> Result<(Work, Share), AllocError>
-    requires inside { inside.now.node ≡ node }
-    requires work { named work ≡ tag context.now.run.now work.step node }
-    requires next { work.step + 1 ≡ context.now.step }
-    requires entered { IsEntered context.now.run.now context.now.step }
-    requires node { node < length context.now.run.now.plan.nodes }
-    requires operator { is_operator context.now.run.now node ≡ true }
-    requires shares { shares ≡ map (tag context.now.run.now context.now.step) (inputs_of (op_at context.now.run.now node)) }
-    ensures work { IfOk result (λ out. named out.0 ≡ tag context.now.run.now context.now.step node) }
-    ensures follows { IfOk result (λ out. Follows work out.0) }
-    ensures share { IfOk result (λ out. out.1 ≡ tag context.now.run.now context.now.step node) }
-{
-    advanced_by::<Brand>(context, node, work, shares, inside, Blank::new(1))
-}
-
 /// What the hands of a crew work the nodes of a step by. A contract sees the run, the step and the edges.
 #[derive(Drop)]
-pub(crate) struct StepWork<'s, U: HasRun, G: Gate> {
-    alloc: Global,
-    run: &'s U,
-    step: u64,
+pub(crate) struct StepWork<'s, G: Gate> {
+    context: &'s StepContext<'s>,
     edges: &'s Edges,
     gate: &'s G,
 }
 
-impl<'s, U: HasRun, G: Gate> Model for StepWork<'s, U, G> {
+impl<'s, G: Gate> Model for StepWork<'s, G> {
     ghost use Rattle.std.specs.Coded.{codes};
     ghost use Rattle.std.specs.Prelude.{◌≡◌};
     ghost use Rattle.tick_model.specs.contracts.plan.Expr as expr_type;
@@ -191,35 +135,31 @@ impl<'s, U: HasRun, G: Gate> Model for StepWork<'s, U, G> {
 
     ghost coded = { Prim.hlevel (codes, expr_type.the_row.coded, pred_type.the_row.coded) };
 
-    ghost view = { λ work. record { run = U.own_run work.run.now; step = work.step; edges = work.edges.now } };
+    ghost view = { λ work. record { run = work.context.now.run.now; step = work.context.now.step; edges = work.edges.now } };
 
-    ghost invariant = { λ work. IsEntered (U.own_run work.run.now) work.step × (work.edges.now ≡ edges_of (U.own_run work.run.now).plan) };
+    ghost invariant = { λ work. IsEntered work.context.now.run.now work.context.now.step × (work.edges.now ≡ edges_of work.context.now.run.now.plan) };
 }
 
-impl<'s, U: HasRun, G: Gate> StepWork<'s, U, G> {
+impl<'s, G: Gate> StepWork<'s, G> {
     /// The work of the nodes for a step that the run enters.
     pub(crate) fn new(
-        alloc: Global,
-        run: &'s U,
-        step: u64,
+        context: &'s StepContext<'s>,
         edges: &'s Edges,
         gate: &'s G,
-    ) -> StepWork<'s, U, G>
-        requires entered { IsEntered (U.own_run run.now) step }
-        requires edges { edges.now ≡ edges_of (U.own_run run.now).plan }
-        ensures { result ≡ record { run = U.own_run run.now; step = step; edges = edges.now } }
+    ) -> StepWork<'s, G>
+        requires entered { IsEntered context.now.run.now context.now.step }
+        requires edges { edges.now ≡ edges_of context.now.run.now.plan }
+        ensures { result ≡ record { run = context.now.run.now; step = context.now.step; edges = edges.now } }
     {
         StepWork {
-            alloc,
-            run,
-            step,
+            context,
             edges,
             gate,
         }
     }
 }
 
-impl<'s, U: HasRun, G: Gate> NodeWork<Work, Share> for StepWork<'s, U, G> {
+impl<'s, G: Gate> NodeWork<Work, Share> for StepWork<'s, G> {
     ghost run = { λ work. work.run };
 
     ghost step = { λ work. work.step };
@@ -233,18 +173,15 @@ impl<'s, U: HasRun, G: Gate> NodeWork<Work, Share> for StepWork<'s, U, G> {
         node: u32,
         ready: &mut Ready,
     ) -> Result<(), AllocError> {
-        let run = self.run.run();
+        let context = self.context;
+        let run = context.run;
         claims.look(seat);
-        let (work, shares) = begin_node(self.alloc, run, claims, seat, self.edges, node)?;
-        let context = StepContext {
-            alloc: self.alloc,
-            run,
-            step: self.step,
-        };
+        let (work, shares) = begin_node(context.alloc, run, claims, seat, self.edges, node)?;
         let inside = self.gate.admit(node);
-        let worked = advanced(&context, node, work, shares, &inside);
+        let worked = advanced::<Brand>(context, node, work, shares, &inside, Blank::new(1));
         self.gate.dismiss(inside);
-        let share = settle_node(run, claims, seat, node, worked)?;
+        let (next, share) = worked?;
+        claims.put_back(seat, node, next);
         hand_all(claims, seat, run, self.edges, node, &share, ready)?;
         Ok(())
     }

@@ -7,19 +7,16 @@ ghost use Rattle.tick_model.specs.Evaluation.{inputs_of as inputs_in, source_num
 ghost use Rattle.tick_model.specs.LawfulRuns.{IsLawfulRun};
 ghost use Rattle.update_graph.specs.Entered.{IsEntered};
 ghost use Rattle.update_graph.specs.Graphs.{AreSources, sources_shown};
-ghost use Rattle.update_graph.specs.Stands.{ForEach, Stays};
-ghost use Rattle.update_graph.specs.Sweeps.{GrowsBy, IsSame, IsSwept};
-ghost use Rattle.update_graph.specs.Tags.{is_operator, named, op_at, tag, tags};
+ghost use Rattle.update_graph.specs.Stands.{Stays};
+ghost use Rattle.update_graph.specs.Sweeps.{GrowsBy, IsSwept};
+ghost use Rattle.update_graph.specs.Tags.{is_operator, named, tag, tags};
 
-use crate::context::StepContext;
 use crate::edges::inputs_of;
-use crate::shares::Share;
+use crate::shares::{Share, Shares};
 use crate::work::Work;
 use std::alloc::{AllocError, Global};
 use tick_model::feed::Run;
-use tick_model::items::Items;
 use tick_model::plan::Op;
-use tick_model::sources::is_source;
 use tick_table::Shared;
 
 /// The nodes that a step has reached, in order of their numbers.
@@ -42,14 +39,14 @@ pub(crate) fn shares_for(
     step: u64,
     op: &Op,
     shares: &[Share],
-) -> Result<Items<Share>, AllocError>
+) -> Result<Shares, AllocError>
     requires shares { shares.now ≡ tags run.now step (length shares.now) }
     requires inputs { AllByRecursion (λ input. input < length shares.now) (inputs_in op.now) }
     ensures { IfOk result (λ handed. handed ≡ map (tag run.now step) (inputs_in op.now)) }
 {
     let _ = step;
     let inputs = inputs_of(alloc, op)?;
-    let mut handed = Items::new(alloc);
+    let mut handed = Shares::new(alloc);
     let inputs = inputs.as_slice();
     for input in inputs {
         let share = shares[*input as usize].copy(run)?;
@@ -121,7 +118,7 @@ pub(crate) fn source_at(
     ensures share { IfOk result (λ out. out.1 ≡ tag run.now step node) }
 {
     let table = sources[place].clone()?;
-    let work = Work::of_source(run, node, step);
+    let work = Work::of_source(run, node, step, place);
     let share = Share::new(run, node, step, Some(table));
     Ok((work, share))
 }
@@ -139,27 +136,6 @@ impl Sweep {
             shares: Vec::new(alloc),
             ran: Vec::new(alloc),
             sources: 0,
-        }
-    }
-
-    /// The same, with another order of the nodes that were worked.
-    pub(crate) fn in_order(self, ran: Vec<u32>) -> Sweep
-        ensures works { result.works.items ≡ self.works.items }
-        ensures shares { result.shares.items ≡ self.shares.items }
-        ensures ran { result.ran.items ≡ ran.items }
-    {
-        let Sweep {
-            works,
-            shares,
-            ran: numbers,
-            sources,
-        } = self;
-        drop(numbers);
-        Sweep {
-            works,
-            shares,
-            ran,
-            sources,
         }
     }
 
@@ -211,53 +187,4 @@ impl Sweep {
         self.ran.push(node)?;
         Ok(())
     }
-}
-
-/// One more node, which is at the step.
-fn put_node(
-    run: &Run,
-    step: u64,
-    work: Work,
-    sources: &[Shared],
-    sweep: &mut Sweep,
-) -> Result<(), AllocError>
-    requires entered { IsEntered run.now step }
-    requires sources { tables sources.now ≡ sources_shown run.now step }
-    requires swept { IsSwept run.now step (length sweep.old.works.items) sweep.old }
-    requires node { length sweep.old.works.items < length run.now.plan.nodes }
-    requires work { named work ≡ tag run.now step (length sweep.old.works.items) }
-    ensures swept { OnOk result (IsSwept run.now step (length sweep.old.works.items + 1) sweep.new) }
-    ensures same { OnOk result (GrowsBy (IsSame work) sweep.old.works.items sweep.new.works.items) }
-{
-    let node = &run.plan.nodes.as_slice()[sweep.works.len()];
-    if is_source(node) {
-        drop(work);
-        return sweep.put_source(run, step, sources);
-    }
-    match work.share(run) {
-        Ok(share) => sweep.put(run, step, work, share),
-        Err(error) => {
-            drop(work);
-            Err(error)
-        }
-    }
-}
-
-/// All nodes at a step, from what they keep at it.
-pub(crate) fn swept(
-    context: &StepContext<'_>,
-    works: Vec<Work>,
-    sources: &[Shared],
-) -> Result<Sweep, AllocError>
-    requires entered { IsEntered context.now.run.now context.now.step }
-    requires sources { tables sources.now ≡ sources_shown context.now.run.now context.now.step }
-    requires works { map named works.items ≡ tags context.now.run.now context.now.step (length context.now.run.now.plan.nodes) }
-    ensures swept { IfOk result (IsSwept context.now.run.now context.now.step (length context.now.run.now.plan.nodes)) }
-    ensures same { IfOk result (λ sweep. ForEach IsSame works.items sweep.works.items) }
-{
-    let mut sweep = Sweep::new(context.alloc);
-    for work in works {
-        put_node(context.run, context.step, work, sources, &mut sweep)?;
-    }
-    Ok(sweep)
 }

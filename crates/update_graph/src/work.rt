@@ -5,7 +5,7 @@ ghost use Rattle.std.specs.Arc.{arc_value};
 ghost use Rattle.std.specs.List.{AllByRecursion};
 ghost use Rattle.operators.specs.Operating.{idled};
 ghost use Rattle.tick_laws.specs.Reached.{table_before};
-ghost use Rattle.tick_model.specs.Evaluation.{Fault, fault_of, inputs_of, outcome_at, table_at};
+ghost use Rattle.tick_model.specs.Evaluation.{Fault, fault_of, inputs_of, outcome_at, source_number, table_at};
 ghost use Rattle.tick_model.specs.Sources.{unchanged};
 ghost use Rattle.tick_model.specs.States.{state as state_of};
 ghost use Rattle.tick_model.specs.declared.table.NodeFault.{NodeFault};
@@ -13,12 +13,13 @@ ghost use Rattle.tick_table.specs.Exact.{IsExact, ticking};
 ghost use Rattle.tick_table.specs.Ticking.{Ticking};
 ghost use Rattle.update_graph.specs.Entered.{IsEntered};
 ghost use Rattle.update_graph.specs.Faults.{fault_in};
+ghost use Rattle.update_graph.specs.Graphs.{AreSources};
 ghost use Rattle.update_graph.specs.Stands.{Follows, HasReadOnce, HasStepped, IsKept, IsReady, Stays, all_defined, is_defined, most_reads, most_tried, reads_of, shown};
 ghost use Rattle.update_graph.specs.Tags.{is_operator, named, op_at, tag};
 
 use crate::context::StepContext;
-use crate::shares::{Share, shares_stay, tables_of};
-use crate::sources::{applied, rested};
+use crate::shares::{Share, Shares};
+use crate::sources::{change_table, rest_table};
 use graph_words::Tagged;
 use operators::{Operator, StepFault};
 use std::alloc::{AllocError, Global};
@@ -41,8 +42,8 @@ pub(crate) struct Ready {
 /// What is kept of a node.
 #[derive(Drop)]
 pub(crate) enum State {
-    /// It is a source, of which nothing is kept here.
-    Source,
+    /// It is a source, whose table is kept with those of all sources, at this place.
+    Source(usize),
     /// It has a table. What it keeps lies in a place of its own, which changes hands where the node is idle.
     Defined(Box<Ready>),
     /// It has none although its inputs have theirs.
@@ -114,12 +115,13 @@ impl Work {
     }
 
     /// What is kept of a source.
-    pub(crate) fn of_source(run: &Run, node: u32, step: u64) -> Work
+    pub(crate) fn of_source(run: &Run, node: u32, step: u64, place: usize) -> Work
         requires source { is_operator run.now node ≡ false }
         requires defined { is_defined run.now step node ≡ true }
+        requires place { place ≡ source_number run.now.plan.nodes node }
         ensures { named result ≡ tag run.now step node }
     {
-        Work::new(run, node, step, State::Source)
+        Work::new(run, node, step, State::Source(place))
     }
 
     /// What is kept of a node with an operator at the next step, and what it hands on. Its operator steps once, or does nothing
@@ -152,6 +154,7 @@ impl Work {
             step: self.step + 1,
         };
         let node = self.node;
+        let shares = Shares::of(alloc, shares)?;
         let inside = gate.admit(node);
         let advanced = self.take_step(&context, node, shares, reads, &inside);
         gate.dismiss(inside);
@@ -163,7 +166,7 @@ impl Work {
         self,
         context: &StepContext<'_>,
         node: u32,
-        shares: Items<Share>,
+        shares: Shares,
         reads: &mut Steps<L>,
         inside: &Inside,
     ) -> Result<(Work, Share), AllocError>
@@ -181,7 +184,7 @@ impl Work {
         ensures none { all_defined shares ≡ false → reads.new ≡ reads.old }
     {
         let ready = self.into_ready(context.run, context.step, node);
-        if shares_stay(shares.as_slice()) {
+        if shares.all_stay() {
             drop(shares);
             return stay(context, node, ready, inside);
         }
@@ -210,25 +213,26 @@ impl Work {
         } = self;
         match state {
             State::Defined(ready) => ready,
-            State::Source => unreachable!(),
+            State::Source(_) => unreachable!(),
             State::Failed(_) => unreachable!(),
             State::Undefined => unreachable!(),
         }
     }
 
-    /// What a node with an operator hands on.
-    pub(crate) fn share(&self, run: &Run) -> Result<Share, AllocError>
-        requires run { run.now ≡ self.now.run }
-        requires operator { is_operator self.now.run self.now.node ≡ true }
-        ensures { IfOk result (λ share. share ≡ named self.now) }
+    /// The table of a node that has one. That of a source is among these.
+    pub(crate) fn table<'a>(&'a self, sources: &'a [Shared]) -> &'a Shared
+        requires entered { IsEntered self.now.run self.now.step }
+        requires node { self.now.node < length self.now.run.plan.nodes }
+        requires defined { is_defined self.now.run self.now.step self.now.node ≡ true }
+        requires sources { AreSources self.now.run self.now.step sources.now }
+        ensures { arc_value {X = Ticking} result.now ≡ shown self.now.run self.now.step self.now.node }
     {
-        let table = match &self.state {
-            State::Source => unreachable!(),
-            State::Defined(ready) => Some(ready.table.clone()?),
-            State::Failed(_) => None,
-            State::Undefined => None,
-        };
-        Ok(Share::new(run, self.node, self.step, table))
+        match &self.state {
+            State::Source(place) => &sources[*place],
+            State::Defined(ready) => &ready.table,
+            State::Failed(_) => unreachable!(),
+            State::Undefined => unreachable!(),
+        }
     }
 
     /// The operator of a node that has a table.
@@ -240,7 +244,7 @@ impl Work {
         ensures stepped { HasStepped self.now.run (self.now.step + 1) self.now.node result.now.reads }
     {
         match &self.state {
-            State::Source => unreachable!(),
+            State::Source(_) => unreachable!(),
             State::Defined(ready) => &ready.operator,
             State::Failed(_) => unreachable!(),
             State::Undefined => unreachable!(),
@@ -254,7 +258,7 @@ impl Work {
             → HasStepped self.now.run (self.now.step + 1) self.now.node self.now.reads }
     {
         match &self.state {
-            State::Source => None,
+            State::Source(_) => None,
             State::Defined(_) => None,
             State::Failed(fault) => Some(*fault),
             State::Undefined => None,
@@ -310,29 +314,20 @@ fn holding(run: &Run, node: u32, step: u64, ready: Box<Ready>) -> Result<(Work, 
     ))
 }
 
-/// What a node keeps after a step in which its table does not change: the same, but that its table tells of no change.
+/// What a node keeps after a step in which nothing of it changes: its operator takes a step in which it does nothing, and its
+/// table tells of no change.
 fn rest(alloc: Global, ready: Box<Ready>) -> Result<Box<Ready>, AllocError>
     requires { IsExact (arc_value {X = Ticking} ready.value.table) }
-    ensures operator { IfOk result (λ resting. resting.value.operator ≡ ready.value.operator) }
+    ensures operator { IfOk result (λ resting. resting.value.operator ≡ idled ready.value.operator) }
     ensures table { IfOk result (λ resting. arc_value {X = Ticking} resting.value.table ≡ ticking (unchanged (arc_value {X = Ticking} ready.value.table).new)) }
-{
-    if ready.table.update().is_empty() {
-        return Ok(ready);
-    }
-    let Ready { operator, table } = Box::into_inner(ready);
-    let table = rested(alloc, table)?;
-    let resting = Box::new(alloc, Ready { operator, table })?;
-    Ok(resting)
-}
-
-/// What a node keeps, whose operator takes a step in which it does nothing.
-fn idle(ready: Box<Ready>) -> Box<Ready>
-    ensures operator { result.value.operator ≡ idled ready.value.operator }
-    ensures table { result.value.table ≡ ready.value.table }
 {
     let mut ready = ready;
     ready.operator.idle();
-    ready
+    if ready.table.update().is_empty() {
+        return Ok(ready);
+    }
+    rest_table(alloc, &mut ready.table)?;
+    Ok(ready)
 }
 
 /// A node none of whose inputs changes in a step: its operator does nothing, and its table stays as it is.
@@ -355,7 +350,7 @@ pub(crate) fn stay(
     ensures share { IfOk result (λ out. out.1 ≡ tag context.now.run.now context.now.step node) }
 {
     let _ = inside;
-    let ready = rest(context.alloc, idle(ready))?;
+    let ready = rest(context.alloc, ready)?;
     holding(context.run, node, context.step, ready)
 }
 
@@ -382,7 +377,7 @@ pub(crate) fn advance_inside<L: Ledger>(
     context: &StepContext<'_>,
     node: u32,
     ready: Ready,
-    shares: Items<Share>,
+    shares: Shares,
     reads: &mut Steps<L>,
     inside: &Inside,
 ) -> Result<(Work, Share), AllocError>
@@ -399,13 +394,17 @@ pub(crate) fn advance_inside<L: Ledger>(
     ensures none { all_defined shares ≡ false → reads.new ≡ reads.old }
 {
     let _ = inside;
-    let handed = tables_of(context.alloc, shares)?;
+    let handed = shares.tables(context.alloc)?;
+    drop(shares);
     match handed {
         Some(inputs) => {
-            let Ready { operator, table } = ready;
+            let Ready {
+                operator,
+                mut table,
+            } = ready;
             match operator.step(context.alloc, &inputs, reads) {
                 Ok((operator, change)) => {
-                    let table = applied(context.alloc, table, change)?;
+                    change_table(context.alloc, &mut table, change)?;
                     let ready = Ready { operator, table };
                     with_table(context.alloc, context.run, node, context.step, ready)
                 }

@@ -4,26 +4,23 @@ ghost use Rattle.std.specs.Prelude.{◌≡◌, ◌+◌, ◌<◌, ◌^◌, ℕ, I
 ghost use mathlib.Core.Option.{some};
 ghost use lib.ListN.{get_elem?};
 ghost use Rattle.graph_words.specs.declared.graph.Edge.{Edge};
-ghost use Rattle.graph_words.specs.declared.table.Mark.TheVariants.{Unmarked, Taken, PutBack};
+ghost use Rattle.graph_words.specs.declared.table.Mark.TheVariants.{Unmarked};
 ghost use Rattle.graph_words.specs.Marks.{at};
-ghost use Rattle.graph_words.specs.Rule.{FollowsGiven, IsGiven};
+ghost use Rattle.graph_words.specs.Rule.{IsGiven};
 ghost use Rattle.graph_words.specs.Seats.{Has, IsSeatOf};
-ghost use Rattle.graph_words.specs.Views.{mark_node};
 ghost use Rattle.steal_workers.specs.Holdings.{IsNew};
 ghost use Rattle.tick_model.specs.Evaluation.{inputs_of};
 ghost use Rattle.update_graph.specs.Edges.{froms_to};
 ghost use Rattle.update_graph.specs.Holdings.{IsForStep};
-ghost use Rattle.update_graph.specs.Stands.{Follows};
 ghost use Rattle.update_graph.specs.Steps.{IsBegun, IsTaking};
 ghost use Rattle.update_graph.specs.Tags.{named, op_at, tag};
 
 use crate::edges::Edges;
-use crate::shares::Share;
+use crate::shares::{Share, Shares};
 use crate::work::Work;
 use graph_words::{ClaimSeat, Claims};
 use std::alloc::{AllocError, Global};
 use tick_model::feed::Run;
-use tick_model::items::Items;
 
 /// The claims on the nodes of a step.
 pub(crate) type StepClaims = Claims<Work, Share>;
@@ -38,7 +35,7 @@ fn take_shares(
     seat: &mut StepSeat,
     edges: &Edges,
     node: u32,
-) -> Result<Items<Share>, AllocError>
+) -> Result<Shares, AllocError>
     requires of { IsSeatOf claims.now seat.old }
     requires edges { edges.now ≡ claims.now.plan.edges.items }
     requires few { length edges.now < 2 ^ 32 }
@@ -49,7 +46,7 @@ fn take_shares(
     ensures taken { OnOk result (IsTaking edges.now seat.old.view seat.new.view node (length edges.now)) }
     ensures shares { IfOk result (λ shares. shares ≡ map (tag claims.now.plan.first.value.run (claims.now.plan.first.value.step + 1)) (froms_to node edges.now)) }
 {
-    let mut shares = Items::new(alloc);
+    let mut shares = Shares::new(alloc);
     let numbers = edges.inputs(node);
     for number in numbers {
         let share = claims.take_share(seat, *number);
@@ -66,7 +63,7 @@ pub(crate) fn begin_node(
     seat: &mut StepSeat,
     edges: &Edges,
     node: u32,
-) -> Result<(Work, Items<Share>), AllocError>
+) -> Result<(Work, Shares), AllocError>
     requires claims { IsForStep run.now claims.now.plan }
     requires of { IsSeatOf claims.now seat.old }
     requires edges { edges.now ≡ claims.now.plan.edges.items }
@@ -83,30 +80,4 @@ pub(crate) fn begin_node(
     let shares = take_shares(alloc, claims, seat, edges, node)?;
     let work = claims.take_work(seat, node);
     Ok((work, shares))
-}
-
-/// Puts the work of a node back, as it is at the next step. What the node hands on.
-pub(crate) fn settle_node(
-    run: &Run,
-    claims: &StepClaims,
-    seat: &mut StepSeat,
-    node: u32,
-    worked: Result<(Work, Share), AllocError>,
-) -> Result<Share, AllocError>
-    requires claims { IsForStep run.now claims.now.plan }
-    requires of { IsSeatOf claims.now seat.old }
-    requires node { node < claims.now.plan.nodes }
-    requires taken { at seat.old.view.nodes node ≡ Taken }
-    requires work { IfOk worked (λ out. named out.0 ≡ tag run.now (claims.now.plan.first.value.step + 1) node) }
-    requires follows { IfOk worked (λ out. FollowsGiven Follows claims.now.plan node out.0) }
-    requires share { IfOk worked (λ out. out.1 ≡ tag run.now (claims.now.plan.first.value.step + 1) node) }
-    ensures parts { seat.new.view.parts ≡ seat.old.view.parts }
-    ensures of { OnOk result (IsSeatOf claims.now seat.new) }
-    ensures view { OnOk result (seat.new.view ≡ mark_node seat.old.view node PutBack) }
-    ensures share { IfOk result (λ share. share ≡ tag run.now (claims.now.plan.first.value.step + 1) node) }
-{
-    let _ = run;
-    let (work, share) = worked?;
-    claims.put_back(seat, node, work);
-    Ok(share)
 }

@@ -7,7 +7,7 @@ use Rattle.tick_model.specs.Evaluation.{inputs_of}
 use Rattle.update_graph.specs.declared.work.Ready.{Ready}
 use Rattle.update_graph.specs.Stands.{IsReady}
 use Rattle.update_graph.specs.Tags.{no_node}
-use Rattle.update_graph.proofs.Advancing.{next_step}
+use Rattle.update_graph.proofs.ClaimedWorks.{next_step}
 use Rattle.update_graph.proofs.EnteredTicks.{lesser}
 use Rattle.update_graph.proofs.Sweeping.{length-tags}
 use Rattle.update_graph.proofs.in_order.advance_node.Goals as goal

@@ -4,11 +4,11 @@ use Rattle.tick_model.specs.Sources.{opened}
 use Rattle.update_graph.proofs.Changing.{change_fits, change_lawful}
 use Rattle.update_graph.proofs.sources.opened_source.Goals as goal
 
-pub applied-requires-clause-lawful : goal.applied-requires-clause-lawful
-applied-requires-clause-lawful c = change_lawful (opened c.args.table.now) c.requires.tick _ (ap (λ (t : Ticking). t.new) (c.in_ok-own.ensures.ok ∙ c.in_ok-new.ensures)) _ c.in_ok-change.ensures
+pub bring_on-requires-clause-lawful : goal.bring_on-requires-clause-lawful
+bring_on-requires-clause-lawful c = change_lawful (opened c.args.table.now) c.requires.tick _ (ap (λ (t : Ticking). t.new) c.in_ok-own.ensures) _ c.in_ok-change.ensures
 
-pub applied-requires-clause-whole : goal.applied-requires-clause-whole
-applied-requires-clause-whole c = change_fits (opened c.args.table.now) c.requires.tick _ (ap (λ (t : Ticking). t.new) (c.in_ok-own.ensures.ok ∙ c.in_ok-new.ensures)) _ c.in_ok-change.ensures
+pub bring_on-requires-clause-whole : goal.bring_on-requires-clause-whole
+bring_on-requires-clause-whole c = change_fits (opened c.args.table.now) c.requires.tick _ (ap (λ (t : Ticking). t.new) c.in_ok-own.ensures) _ c.in_ok-change.ensures
 
 pub returns : goal.returns
-returns c = c.in_ok-opened.ensures (opened c.args.table.now) c.requires.tick (ap (λ (t : Ticking). t.new) (c.in_ok-own.ensures.ok ∙ c.in_ok-new.ensures)) c.in_ok-change.ensures
+returns c = c.in_ok-new.ensures.ok ∙ c.in_ok-bring_on.ensures.exact (opened c.args.table.now) c.requires.tick (ap (λ (t : Ticking). t.new) c.in_ok-own.ensures) c.in_ok-change.ensures

@@ -25,14 +25,14 @@ step-requires g c =
       stands = subst (StandsFor c.args.ready.operator) (sym (olds_are given)) c.requires.ready.stands;
     }
 
-pub applied-requires-clause-lawful : goal.applied-requires-clause-lawful
-applied-requires-clause-lawful g c =
+pub change_table-requires-clause-lawful : goal.change_table-requires-clause-lawful
+change_table-requires-clause-lawful g c =
     let given = handed c.requires.entered c.requires.node c.requires.operator c.requires.ready.op c.requires.shares c.in-Some.is c.deref.ensures.value c.in_ok-handed.ensures in
     let own = own_change given c.in-Ok.change c.in-Ok.ensures.sound c.in-Ok.ensures.change in
     change_lawful (tick c.args.context.now.run.now c.args.context.now.step c.args.node) own.from.is_tick _ (c.requires.ready.own ∙ sym own.from.old_is) c.in-Ok.change own.same
 
-pub applied-requires-clause-whole : goal.applied-requires-clause-whole
-applied-requires-clause-whole g c =
+pub change_table-requires-clause-whole : goal.change_table-requires-clause-whole
+change_table-requires-clause-whole g c =
     let given = handed c.requires.entered c.requires.node c.requires.operator c.requires.ready.op c.requires.shares c.in-Some.is c.deref.ensures.value c.in_ok-handed.ensures in
     let own = own_change given c.in-Ok.change c.in-Ok.ensures.sound c.in-Ok.ensures.change in
     change_fits (tick c.args.context.now.run.now c.args.context.now.step c.args.node) own.from.is_tick _ (c.requires.ready.own ∙ sym own.from.old_is) c.in-Ok.change own.same
@@ -46,7 +46,7 @@ pub with_table-requires-clause-table : goal.with_table-requires-clause-table
 with_table-requires-clause-table g c =
     let given = handed c.requires.entered c.requires.node c.requires.operator c.requires.ready.op c.requires.shares c.in-Some.is c.deref.ensures.value c.in_ok-handed.ensures in
     let own = own_change given c.in-Ok.change c.in-Ok.ensures.sound c.in-Ok.ensures.change in
-    c.in_ok-table-in-Ok.ensures (tick c.args.context.now.run.now c.args.context.now.step c.args.node) own.from.is_tick (c.requires.ready.own ∙ sym own.from.old_is) own.same
+    c.in_ok-change_table-in-Ok.ensures (tick c.args.context.now.run.now c.args.context.now.step c.args.node) own.from.is_tick (c.requires.ready.own ∙ sym own.from.old_is) own.same
 
 pub with_table-requires-clause-ready : goal.with_table-requires-clause-ready
 with_table-requires-clause-ready g c =
@@ -61,7 +61,7 @@ with_table-requires-clause-ready g c =
       op = c.in-Ok.ensures.op ∙ c.requires.ready.op;
       widths = c.in-Ok.ensures.widths ∙ c.requires.ready.widths;
       stands = subst (StandsFor c.in-Ok.operator) (news_are given) c.in-Ok.ensures.stands;
-      own = ap (λ (t : Ticking). t.new) (c.in_ok-table-in-Ok.ensures (tick c.args.context.now.run.now c.args.context.now.step c.args.node) own.from.is_tick (c.requires.ready.own ∙ sym own.from.old_is) own.same) ∙ own.from.new_is;
+      own = ap (λ (t : Ticking). t.new) (c.in_ok-change_table-in-Ok.ensures (tick c.args.context.now.run.now c.args.context.now.step c.args.node) own.from.is_tick (c.requires.ready.own ∙ sym own.from.old_is) own.same) ∙ own.from.new_is;
       stepped = subst (HasStepped run (step + 1) n) (sym c.in-Ok.ensures.steps) (stepped_once run step n (c.step.new.reads - c.args.reads.now) c.args.ready.operator.reads c.requires.ready.stepped (omega (arith, few)));
     }
 
@@ -71,8 +71,8 @@ without_step-requires g c =
     own_fault (handed c.requires.entered c.requires.node c.requires.operator c.requires.ready.op c.requires.shares c.in-Some.is c.deref.ensures.value c.in_ok-handed.ensures) kind
     (λ table there. subst (λ fault. IsCause fault (fault_of c.args.ready.operator.op table)) same (c.in-Err.ensures.cause table there))
 
-pub returns-in_err-table-in-Ok-clause-tried : goal.returns-in_err-table-in-Ok-clause-tried
-returns-in_err-table-in-Ok-clause-tried g c =
+pub returns-in_err-change_table-in-Ok-clause-tried : goal.returns-in_err-change_table-in-Ok-clause-tried
+returns-in_err-change_table-in-Ok-clause-tried g c =
     let given = handed c.requires.entered c.requires.node c.requires.operator c.requires.ready.op c.requires.shares c.in-Some.is c.deref.ensures.value c.in_ok-handed.ensures in
     tried_by given c.args.reads.now c.step.new.reads c.requires.ready.widths (c.in-Ok.ensures.change (tick c.args.context.now.run.now c.args.context.now.step) (own_ticks given)) c.in-Ok.ensures.reads
 
@@ -102,8 +102,8 @@ pub returns-in-Some-clause-none : goal.returns-in-Some-clause-none
 returns-in-Some-clause-none g c =
     λ none. absurd (defined_all c.args.shares (subst (λ found. AreHanded c.args.shares (option_map (λ (all : Vec (Arc Ticking Global) Global). all.items) found)) c.in-Some.is c.in_ok-handed.ensures).0 none)
 
-pub returns-in_err-table-in-Ok-clause-none : goal.returns-in_err-table-in-Ok-clause-none
-returns-in_err-table-in-Ok-clause-none g c =
+pub returns-in_err-change_table-in-Ok-clause-none : goal.returns-in_err-change_table-in-Ok-clause-none
+returns-in_err-change_table-in-Ok-clause-none g c =
     λ none. absurd (defined_all c.args.shares (subst (λ found. AreHanded c.args.shares (option_map (λ (all : Vec (Arc Ticking Global) Global). all.items) found)) c.in-Some.is c.in_ok-handed.ensures).0 none)
 
 pub returns-in-Ok-clause-none : goal.returns-in-Ok-clause-none

@@ -3,18 +3,13 @@ use Rattle.operators.specs.Operating.{Operating, StandsFor}
 use Rattle.std.specs.Arc.{arc_value}
 use Rattle.std.proofs.lemmas.Bool.{not-true}
 use Rattle.tick_model.specs.Evaluation.{inputs_of, is_source, table_at}
-use Rattle.tick_model.specs.Sources.{unchanged}
 use Rattle.tick_model.specs.States.{state}
-use Rattle.tick_table.specs.Exact.{IsExact, ticking}
 use Rattle.tick_table.specs.Ticking.{Ticking}
 use Rattle.update_graph.specs.Stands.{HasStepped}
 use Rattle.update_graph.specs.Tags.{node_at, op_at}
 use Rattle.update_graph.proofs.Counting.{stepped_once}
 use Rattle.update_graph.proofs.Staying.{has_table, own_after, rested_is, same_inputs}
 use Rattle.update_graph.proofs.work.stay.Goals as goal
-
-pub rest-requires : goal.rest-requires
-rest-requires c = subst (λ table. IsExact (arc_value {X = Ticking} table)) (sym c.idle.ensures.table) c.requires.exact
 
 pub holding-requires-clause-defined : goal.holding-requires-clause-defined
 holding-requires-clause-defined c =
@@ -26,14 +21,14 @@ pub holding-requires-clause-ready : goal.holding-requires-clause-ready
 holding-requires-clause-ready c =
     let run = c.args.context.now.run.now in
     let n = c.args.node in
-    let same = c.in_ok-ready.ensures.operator ∙ c.idle.ensures.operator in
+    let same = c.in_ok-ready.ensures.operator in
     let is = not-true (is_source (node_at run n)) c.requires.operator in
     record {
       op = ap (λ (operator : Operating). operator.op) same ∙ c.requires.ready.op;
       widths = ap (λ (operator : Operating). operator.widths) same ∙ c.requires.ready.widths;
       stands = subst (λ (operator : Operating). StandsFor operator (map (table_at (state run c.args.context.now.step)) (inputs_of (op_at run n)))) (sym same) (subst (StandsFor c.args.ready.value.operator) (same_inputs run c.args.context.now.step c.requires.entered n c.requires.node is c.requires.inputs c.requires.clear) c.requires.ready.stands);
       stepped = subst (λ (operator : Operating). HasStepped run (c.args.context.now.step + 1) n operator.reads) (sym same) (stepped_once run c.args.context.now.step n 0 c.args.ready.value.operator.reads c.requires.ready.stepped (omega arith));
-      own = ap (λ (table : Ticking). table.new) (c.in_ok-ready.ensures.table ∙ ap (λ table. ticking (unchanged (arc_value {X = Ticking} table).new)) c.idle.ensures.table) ∙ own_after run c.args.context.now.step c.requires.entered n c.requires.node is c.requires.inputs c.requires.clear (arc_value {X = Ticking} c.args.ready.value.table).new c.requires.ready.own;
+      own = ap (λ (table : Ticking). table.new) c.in_ok-ready.ensures.table ∙ own_after run c.args.context.now.step c.requires.entered n c.requires.node is c.requires.inputs c.requires.clear (arc_value {X = Ticking} c.args.ready.value.table).new c.requires.ready.own;
     }
 
 pub holding-requires-clause-table : goal.holding-requires-clause-table
@@ -41,4 +36,4 @@ holding-requires-clause-table c =
     let run = c.args.context.now.run.now in
     let n = c.args.node in
     let is = not-true (is_source (node_at run n)) c.requires.operator in
-    c.in_ok-ready.ensures.table ∙ ap (λ table. ticking (unchanged (arc_value {X = Ticking} table).new)) c.idle.ensures.table ∙ rested_is run c.args.context.now.step c.requires.entered n c.requires.node is c.requires.inputs c.requires.clear (arc_value {X = Ticking} c.args.ready.value.table).new c.requires.ready.own
+    c.in_ok-ready.ensures.table ∙ rested_is run c.args.context.now.step c.requires.entered n c.requires.node is c.requires.inputs c.requires.clear (arc_value {X = Ticking} c.args.ready.value.table).new c.requires.ready.own

@@ -49,7 +49,7 @@ loop-number-preserved c =
     record {
       of = c.take_share-share.ensures.of;
       along = along_past next (taken_more c.args.edges.now c.args.seat.now.view c.args.node (tag first.run (first.step + 1)) _ c.take_share-share.new.seat.view _ _ c.take_share-share.result number next.within next.passes next.holds
-          c.take_share-share.ensures.view (as_tag c.take_share-share.result first.run (first.step + 1) edge.from t.0 t.1 t.2) c.in_ok-push.ensures.ok);
+          c.take_share-share.ensures.view (as_tag c.take_share-share.result first.run (first.step + 1) edge.from t.0 t.1 t.2) c.in_ok-push.ensures);
     }
 
 pub returns-clause-taken : goal.returns-clause-taken

@@ -7,7 +7,7 @@ use Rattle.update_graph.specs.Graphs.{reads_at}
 use Rattle.update_graph.proofs.Batches.{entered_first, first_sources}
 use Rattle.update_graph.proofs.Counting.{all_within}
 use Rattle.update_graph.proofs.Following.{one_read}
-use Rattle.update_graph.proofs.Sweeping.{whole_swept}
+use Rattle.update_graph.proofs.Sweeping.{numbers_in_order, ran_once}
 use Rattle.update_graph.proofs.graph.Graph.start.Goals as goal
 
 pub new-requires : goal.new-requires
@@ -26,8 +26,14 @@ finished-requires-clause-base c = record {
   sources = c.in_ok-opened_sources.ensures;
 }
 
-pub finished-requires-clause-swept : goal.finished-requires-clause-swept
-finished-requires-clause-swept c = whole_swept c.args.run.now 0 c.in_ok-sweep.sweep c.requires c.in_ok-sweep.ensures
+pub finished-requires-clause-works : goal.finished-requires-clause-works
+finished-requires-clause-works c = c.in_ok-sweep.ensures.works
+
+pub finished-requires-clause-once : goal.finished-requires-clause-once
+finished-requires-clause-once c = ran_once c.args.run.now c.in_ok-sweep.sweep.ran.items c.in_ok-sweep.ensures.ran
+
+pub finished-requires-clause-order : goal.finished-requires-clause-order
+finished-requires-clause-order c = numbers_in_order c.args.run.now c.requires c.in_ok-sweep.sweep.ran.items c.in_ok-sweep.ensures.ran
 
 pub returns-clause-steps : goal.returns-clause-steps
 returns-clause-steps c node within is = one_read (reads_at c.in_ok-graph.graph.reads node) (c.in_ok-graph.ensures.reached.stepped node within is).each

@@ -15,7 +15,7 @@ stay-requires-clause-inputs g c =
     let run = c.args.context.now.run.now in
     let here : Tag → Type 0 = λ share. Stays share.run share.step share.node in
     every_unmapped here (tag run c.args.context.now.step) (inputs_of (op_at run c.args.node))
-    (subst (AllByRecursion here) (c.as_slice.ensures ∙ c.requires.shares) (c.shares_stay.ensures c.if-shares_stay.true))
+    (subst (AllByRecursion here) (c.requires.shares) (c.all_stay.ensures c.if-all_stay.true))
 
 pub advance_inside-requires-clause-ready : goal.advance_inside-requires-clause-ready
 advance_inside-requires-clause-ready g c =
@@ -23,8 +23,8 @@ advance_inside-requires-clause-ready g c =
     let step = c.args.context.now.step in
     subst (λ (ready : Ready). IsReady run (table_before run step) step c.args.node ready.operator ready.table) (sym c.into_inner-ready.ensures) c.into_ready-ready.ensures.ready
 
-pub returns-then-shares_stay-clause-follows : goal.returns-then-shares_stay-clause-follows
-returns-then-shares_stay-clause-follows g c =
+pub returns-then-all_stay-clause-follows : goal.returns-then-all_stay-clause-follows
+returns-then-all_stay-clause-follows g c =
     follows_ok c.args.context.now.run.now c.args.context.now.step c.args.node c.stay.result c.args.self c.into_ready-ready.result.value.operator.reads c.stay.ensures.work c.into_ready-ready.ensures.reads
     (IfOk-weaker c.stay.result _ _ (λ out once. λ defined. once) c.stay.ensures.once)
 

@@ -1,4 +1,4 @@
-use Rattle.update_graph.proofs.graph.Graph.next.Given as goal
+use Rattle.update_graph.proofs.graph.Graph.cycle.Given as goal
 
 abbrev pub ghosts-advance_all : goal.ghosts-advance_all
 ghosts-advance_all g a = record { name = a.blank.name; parts = a.blank.parts }

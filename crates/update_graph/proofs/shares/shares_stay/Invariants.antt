@@ -1,8 +1,0 @@
-use Rattle.std.proofs.Common.{take}
-use Rattle.std.specs.List.{AllByRecursion}
-use Rattle.update_graph.specs.Stands.{Stays}
-use Rattle.update_graph.specs.Tags.{Tag}
-use Rattle.update_graph.proofs.shares.shares_stay.Given as goal
-
-abbrev pub invariant-loop-share : goal.invariant-loop-share
-invariant-loop-share l = AllByRecursion (λ (share : Tag). Stays share.run share.step share.node) (take l.share-index l.shares)
