@@ -12,11 +12,12 @@ use Rattle.tick_model.specs.declared.plan.Op.TheVariants.{Keep, View}
 use Rattle.tick_model.specs.declared.plan.Plan.{Plan}
 use Rattle.tick_model.specs.declared.plan.Pred.{Pred, Compare, And', Or', Not'}
 use Rattle.tick_model.specs.declared.plan.Published.{Published}
-use Rattle.tick_model.specs.Evaluation.{inputs_of}
+use Rattle.tick_model.specs.Operators.{inputs_of, columns_fit}
 use Rattle.tick_model.specs.LawfulRuns.{has_ranks, has_test_ranks, has_op_ranks}
 use Rattle.tick_model.specs.Names.{is_name, are_distinct}
 use Rattle.tick_model.specs.Numbers.{HasNumbers, HasOpNumbers, HasPlanNumbers}
-use Rattle.tick_model.specs.Plans.{is_bound, is_test_bound, same_columns, kinds_of, test_fits, some_of, follow, kind_of, columns_fit, columns_at, node_lawful, key_bounds, rises, number_distinct, published_words, is_lawful}
+use Rattle.tick_model.specs.Plans.{columns_at, node_lawful, key_bounds, rises, number_distinct, published_words, is_lawful}
+use Rattle.tick_model.specs.Columns.{is_bound, is_test_bound, same_columns, kinds_of, test_fits, some_of, follow, kind_of}
 use Rattle.script_reader.specs.Plain.{plain, plain_test, plain_op, plain_node, plain_plan}
 use Rattle.script_reader.proofs.Plainly.{test_fits_plain, expr_kinds_plain, key_bounds_plain, names_plain, tables_plain}
 

@@ -18,7 +18,8 @@ use Rattle.tick_model.specs.declared.table.PlainRow.{PlainRow}
 use Rattle.tick_model.specs.declared.table.PlainTable.{PlainTable}
 use Rattle.tick_model.specs.declared.update.FeedRule.{FeedRule}
 use Rattle.tick_model.specs.Changes.{change_of}
-use Rattle.tick_model.specs.Evaluation.{Outcome, NoInput, is_source, source_number, has_table, outcome_at, table_at, or_fault, no_table, outcome_of, eval_node, eval}
+use Rattle.tick_model.specs.Evaluation.{Outcome, NoInput, is_source, source_number, has_table, outcome_at, table_at, or_fault, outcome_of, eval_node, eval}
+use Rattle.tick_model.specs.Tables.{no_table}
 use Rattle.tick_model.specs.Formulas.{value, truth, compares, lifted, lifted2}
 use Rattle.tick_model.specs.Sources.{blocks_of, unchanged, carry_on, tick_at, after_block, after_blocks, block_fault, record_of, blocks_fault, source_ticks, sources, batch_fault}
 use Rattle.tick_model.specs.Spoiled.{Cause, ByBatch, node_fault, publication_fault, spoiled_by, first_spoiled, step_before, good}

@@ -5,7 +5,7 @@
 #![tactic(auto)]
 
 ghost use Rattle.std.specs.Prelude.{◌≡◌};
-ghost use Rattle.tick_model.specs.Plans.{kind_of as kind_over, test_fits as test_fits_over};
+ghost use Rattle.tick_model.specs.Columns.{kind_of as kind_over, test_fits as test_fits_over};
 
 pub use tick_model::formula::{passes, value};
 use tick_model::kinds;

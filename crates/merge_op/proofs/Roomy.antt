@@ -6,8 +6,7 @@ use Rattle.key_lists.proofs.Every.{every_weaker, every-map}
 use Rattle.row_set.specs.Sets.{last_key}
 use Rattle.tick_model.specs.declared.table.PlainRow.{PlainRow}
 use Rattle.tick_model.specs.declared.table.PlainTable.{PlainTable}
-use Rattle.tick_model.specs.Merge.{region}
-use Rattle.tick_model.specs.Merge.{last_key as last_row_key}
+use Rattle.tick_model.specs.Merge.{region, last_key as last_row_key}
 use Rattle.tick_model.specs.Tables.{IsRow, IsTable, keys}
 
 last_of : (key : ℕ) (rows : List PlainRow) → fold (λ _ row. row.key) key rows ≡ unwrap_or (slice_get (key ∷ keys rows) (length (keys rows))) 0

@@ -11,7 +11,7 @@ use Rattle.tick_model.specs.declared.table.PlainRow.{PlainRow}
 use Rattle.tick_model.specs.declared.table.PlainTable.{PlainTable}
 use Rattle.tick_model.specs.Agg.{agg_table}
 use Rattle.tick_model.specs.AsOf.{asof_table}
-use Rattle.tick_model.specs.Evaluation.{inputs_of, result}
+use Rattle.tick_model.specs.Operators.{inputs_of, result}
 use Rattle.tick_model.specs.HeadTail.{head_table, tail_table}
 use Rattle.tick_model.specs.Join.{join_table}
 use Rattle.tick_model.specs.Merge.{merge_table, merged_rows, region, width_of}

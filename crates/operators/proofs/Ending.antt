@@ -4,7 +4,7 @@ use Rattle.tick_model.specs.declared.plan.Op.{Op}
 use Rattle.tick_model.specs.declared.plan.Op.TheVariants.{Head as OpHead, Tail as OpTail}
 use Rattle.tick_model.specs.declared.table.PlainTable.{PlainTable}
 use Rattle.tick_model.specs.Changes.{Change, change_of}
-use Rattle.tick_model.specs.Evaluation.{fault_of, inputs_of}
+use Rattle.tick_model.specs.Operators.{fault_of, inputs_of}
 use Rattle.tick_model.specs.Tables.{keys}
 use Rattle.tick_model.specs.Updates.{Tick}
 use Rattle.tick_laws.specs.Operated.{operated}

@@ -7,7 +7,7 @@ use Rattle.tick_model.specs.declared.plan.Op.TheVariants.{Join as Joined}
 use Rattle.tick_model.specs.declared.table.NodeFault.{NodeFault}
 use Rattle.tick_model.specs.declared.table.PlainTable.{PlainTable}
 use Rattle.tick_model.specs.Changes.{Change, change_of}
-use Rattle.tick_model.specs.Evaluation.{fault_of, inputs_of}
+use Rattle.tick_model.specs.Operators.{fault_of, inputs_of}
 use Rattle.tick_model.specs.Join.{join_fault}
 use Rattle.tick_model.specs.Updates.{Tick}
 use Rattle.tick_laws.specs.Operated.{operated}

@@ -10,7 +10,7 @@ use Rattle.tick_model.specs.declared.table.NodeFault.{NodeFault}
 use Rattle.tick_model.specs.declared.table.NodeFault.TheVariants.{TooManyRows as ManyRows}
 use Rattle.tick_model.specs.declared.table.PlainTable.{PlainTable}
 use Rattle.tick_model.specs.Changes.{Change, change_of}
-use Rattle.tick_model.specs.Evaluation.{fault_of, inputs_of}
+use Rattle.tick_model.specs.Operators.{fault_of, inputs_of}
 use Rattle.tick_model.specs.Merge.{merge_fault, merge_pairs, merge_table}
 use Rattle.tick_model.specs.Tables.{keys}
 use Rattle.tick_model.specs.Updates.{Tick}

@@ -14,9 +14,11 @@ use Rattle.tick_model.specs.declared.plan.Node.{Node}
 use Rattle.tick_model.specs.declared.plan.Op.{Op}
 use Rattle.tick_model.specs.declared.plan.Op.TheVariants.{Source, Keep, View, Join, Agg as AggOp, Merge, Sort, Head, Tail, AsOf}
 use Rattle.tick_model.specs.declared.plan.Plan.{Plan}
-use Rattle.tick_model.specs.Evaluation.{inputs_of, is_source}
+use Rattle.tick_model.specs.Evaluation.{is_source}
+use Rattle.tick_model.specs.Operators.{inputs_of, columns_fit}
 use Rattle.tick_model.specs.Formulas.{IsTestWithin, IsWithin}
-use Rattle.tick_model.specs.Plans.{agg_kind, columns_at, columns_fit, follow, has_kind, have_kinds, keep_names, is_bound, is_lawful, is_test_bound, kind_at, kind_of, kinds_of, same_columns, same_kind_at, some_of, test_fits}
+use Rattle.tick_model.specs.Plans.{columns_at, is_lawful}
+use Rattle.tick_model.specs.Columns.{agg_kind, follow, has_kind, have_kinds, keep_names, is_bound, is_test_bound, kind_at, kind_of, kinds_of, same_columns, same_kind_at, some_of, test_fits}
 use Rattle.tick_model.proofs.LawfulNodes.{IsLawfulNode, lawful_node}
 use Rattle.tick_model.proofs.Results.{IsOperator}
 use Rattle.tick_model.proofs.Widths.{all_within, follow_some, follow_width, have_some, kinds_width, same_width, test_within, within, long_some}

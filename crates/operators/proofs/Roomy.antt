@@ -10,9 +10,9 @@ use Rattle.tick_model.specs.declared.plan.Op.TheVariants.{Merge}
 use Rattle.tick_model.specs.declared.plan.Plan.{Plan}
 use Rattle.tick_model.specs.declared.table.PlainRow.{PlainRow}
 use Rattle.tick_model.specs.declared.table.PlainTable.{PlainTable}
-use Rattle.tick_model.specs.Evaluation.{inputs_of}
+use Rattle.tick_model.specs.Operators.{inputs_of, bound_of}
 use Rattle.tick_model.specs.Merge.{merged_rows, region, row_from}
-use Rattle.tick_model.specs.Plans.{bound_of, columns_at, is_lawful, key_bounds}
+use Rattle.tick_model.specs.Plans.{columns_at, is_lawful, key_bounds}
 use Rattle.tick_model.specs.Ready.{HaveRoom}
 use Rattle.tick_model.specs.Tables.{IsRow, keys}
 use Rattle.tick_model.proofs.Results.{AreResults, IsResult, merged_room}

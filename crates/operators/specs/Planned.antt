@@ -5,7 +5,7 @@ use Rattle.std.specs.Prelude.{ℕ, List, length, map, slice_index_or}
 use Rattle.tick_model.specs.declared.plan.Node.{Node}
 use Rattle.tick_model.specs.declared.plan.Op.{Op}
 use Rattle.tick_model.specs.declared.plan.Plan.{Plan}
-use Rattle.tick_model.specs.Evaluation.{inputs_of}
+use Rattle.tick_model.specs.Operators.{inputs_of}
 use Rattle.tick_model.specs.Plans.{columns_at}
 
 abbrev pub op_at : Plan → ℕ → Node → Op

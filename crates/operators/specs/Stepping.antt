@@ -10,7 +10,7 @@ use Rattle.std.specs.List.{AllByRecursion}
 use Rattle.tick_model.specs.declared.plan.Op.{Op}
 use Rattle.tick_model.specs.declared.table.PlainTable.{PlainTable}
 use Rattle.tick_model.specs.Changes.{Change, change_of}
-use Rattle.tick_model.specs.Evaluation.{fault_of}
+use Rattle.tick_model.specs.Operators.{fault_of}
 use Rattle.tick_model.specs.Merge.{merge_table}
 use Rattle.tick_model.specs.Tables.{keys}
 use Rattle.tick_model.specs.Updates.{Tick}

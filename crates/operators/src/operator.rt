@@ -8,7 +8,7 @@ ghost use Rattle.operators.specs.Making.{CanBeMade};
 ghost use Rattle.operators.specs.Operating.{StandsFor, idled, result_width};
 ghost use Rattle.tick_laws.specs.Operated.{operated};
 ghost use Rattle.tick_model.specs.Changes.{change_of};
-ghost use Rattle.tick_model.specs.Evaluation.{fault_of, inputs_of};
+ghost use Rattle.tick_model.specs.Operators.{fault_of, inputs_of};
 ghost use Rattle.tick_model.specs.Updates.{Tick};
 ghost use Rattle.tick_model.specs.declared.table.PlainTable.{PlainTable};
 ghost use Rattle.tick_table.specs.Exact.{IsExact, counted, tick_of};

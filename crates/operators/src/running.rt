@@ -4,7 +4,7 @@ ghost use Rattle.std.specs.Prelude.{◌≡◌, ◌+◌, ◌≤◌, length, IfErr
 ghost use Rattle.merge_op.specs.Merged.{tables};
 ghost use Rattle.operators.specs.Making.{CanBeMade};
 ghost use Rattle.operators.specs.Stepping.{IsBegun, IsReady, IsRefusal, IsStep, ReadsFew, room_for};
-ghost use Rattle.tick_model.specs.Evaluation.{inputs_of};
+ghost use Rattle.tick_model.specs.Operators.{inputs_of};
 
 use crate::fault::StepFault;
 use crate::{making, steps};

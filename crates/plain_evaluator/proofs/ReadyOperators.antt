@@ -20,9 +20,11 @@ use Rattle.tick_model.specs.Agg.{agg_table}
 use Rattle.tick_model.specs.Merge.{merge_table, merge_fault}
 use Rattle.tick_model.specs.Sort.{sort_table}
 use Rattle.tick_model.specs.HeadTail.{head_table, tail_table}
-use Rattle.tick_model.specs.Plans.{kinds_of, kind_of, kind_at, agg_kind, test_fits, is_bound, is_test_bound, same_columns, have_kinds, keep_names, follow, some_of, same_kind_at, has_kind, columns_fit, bound_of}
-use Rattle.tick_model.specs.Evaluation.{Outcome, Table, NoInput, has_table, outcome_at, table_at, table_of, inputs_of, result, fault_of, or_fault, applied, outcome_of, no_table}
-use Rattle.tick_model.specs.Ready.{table_in, IsWhole, IsReady, IsNodeReady}
+use Rattle.tick_model.specs.Columns.{kinds_of, kind_of, kind_at, agg_kind, test_fits, is_bound, is_test_bound, same_columns, have_kinds, keep_names, follow, some_of, same_kind_at, has_kind}
+use Rattle.tick_model.specs.Operators.{columns_fit, bound_of, inputs_of, result, fault_of, IsReady, IsNodeReady}
+use Rattle.tick_model.specs.Evaluation.{Outcome, Table, NoInput, has_table, outcome_at, table_at, table_of, or_fault, applied, outcome_of}
+use Rattle.tick_model.specs.Tables.{no_table}
+use Rattle.tick_model.specs.Ready.{table_in, IsWhole}
 use Rattle.tick_model.proofs.Widths.{kinds_width, follow_width, follow_some, test_within, all_within}
 use Rattle.tick_model.proofs.Results.{IsResult, AreResults, IsOperator, merged_room}
 

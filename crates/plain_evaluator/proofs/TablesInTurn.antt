@@ -16,10 +16,12 @@ use Rattle.plain_evaluator.specs.declared.operators.NoTable.{NoTable}
 use Rattle.plain_evaluator.specs.declared.operators.NoTable.TheVariants.{Memory as NoMemory, Fault as NoTableFault}
 use Rattle.tick_model.specs.declared.table.NodeFault.{NodeFault}
 use Rattle.tick_model.specs.declared.table.PlainTable.{PlainTable}
-use Rattle.tick_model.specs.Evaluation.{Outcome, Table, Fault, table_of, source_number, eval, eval_node, no_table, outcome_of, is_source, inputs_of, or_fault, fault_of, result}
+use Rattle.tick_model.specs.Evaluation.{Outcome, Table, Fault, table_of, source_number, eval, eval_node, outcome_of, is_source, or_fault}
+use Rattle.tick_model.specs.Tables.{no_table}
+use Rattle.tick_model.specs.Operators.{inputs_of, fault_of, result, bound_of, IsReady, IsNodeReady}
 use Rattle.tick_model.specs.Fits.{fit_sources}
-use Rattle.tick_model.specs.Plans.{is_lawful, columns_at, bound_of}
-use Rattle.tick_model.specs.Ready.{table_in, IsReady, IsNodeReady}
+use Rattle.tick_model.specs.Plans.{is_lawful, columns_at}
+use Rattle.tick_model.specs.Ready.{table_in}
 use Rattle.plain_evaluator.specs.Gives.{Gives}
 use Rattle.tick_model.specs.Spoiled.{node_fault, ByNode}
 use Rattle.plain_evaluator.specs.Stops.{IsCause, stop_at}

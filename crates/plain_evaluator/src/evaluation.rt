@@ -4,7 +4,8 @@ ghost use Rattle.std.specs.Prelude.{◌≡◌, map, true, IfOk, IfErr};
 ghost use Rattle.tick_model.specs.Evaluation.{Table, outcome_of, eval};
 ghost use Rattle.tick_model.specs.Fits.{fit_sources};
 ghost use Rattle.tick_model.specs.Plans.{is_lawful};
-ghost use Rattle.tick_model.specs.Ready.{IsNodeReady, table_in};
+ghost use Rattle.tick_model.specs.Ready.{table_in};
+ghost use Rattle.tick_model.specs.Operators.{IsNodeReady};
 ghost use Rattle.plain_evaluator.specs.Gives.{Gives};
 ghost use Rattle.plain_evaluator.specs.Stops.{IsCause, stop_at};
 

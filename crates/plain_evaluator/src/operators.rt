@@ -11,8 +11,9 @@ ghost use Rattle.tick_model.specs.Agg.{agg_table};
 ghost use Rattle.tick_model.specs.Merge.{merge_table, merge_fault as merge_fault_of};
 ghost use Rattle.tick_model.specs.Sort.{sort_table};
 ghost use Rattle.tick_model.specs.HeadTail.{head_table, tail_table};
-ghost use Rattle.tick_model.specs.Evaluation.{or_fault, fault_of, result as result_of};
-ghost use Rattle.tick_model.specs.Ready.{table_in, IsWhole, IsReady, AreMergeable};
+ghost use Rattle.tick_model.specs.Evaluation.{or_fault};
+ghost use Rattle.tick_model.specs.Operators.{fault_of, result as result_of, IsReady};
+ghost use Rattle.tick_model.specs.Ready.{table_in, IsWhole, AreMergeable};
 ghost use Rattle.plain_evaluator.specs.Gives.{Gives};
 
 use crate::groups::rows_of_groups;

@@ -21,7 +21,8 @@ use Rattle.tick_model.specs.declared.plan.Plan.{Plan}
 use Rattle.tick_model.specs.declared.plan.Published.{Published}
 use Rattle.tick_model.specs.declared.table.PlainRow.{PlainRow}
 use Rattle.tick_model.specs.declared.table.PlainTable.{PlainTable}
-use Rattle.tick_model.specs.Evaluation.{Outcome, no_table, table_at}
+use Rattle.tick_model.specs.Evaluation.{Outcome, table_at}
+use Rattle.tick_model.specs.Tables.{no_table}
 use Rattle.tick_model.specs.LawfulRuns.{IsLawfulRun}
 use Rattle.tick_model.specs.Plans.{columns_at as planned_columns, is_lawful, publication_lawful, published_words, table_words}
 use Rattle.tick_model.specs.Spoiled.{ByPublication, Cause, publication_fault}

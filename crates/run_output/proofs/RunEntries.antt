@@ -10,10 +10,10 @@ use Rattle.tick_model.specs.declared.feed.Run.{Run}
 use Rattle.tick_model.specs.declared.plan.ColumnSpec.{ColumnSpec}
 use Rattle.tick_model.specs.declared.plan.Node.{Node}
 use Rattle.tick_model.specs.declared.plan.Plan.{Plan}
-use Rattle.tick_model.specs.Evaluation.{inputs_of}
+use Rattle.tick_model.specs.Operators.{inputs_of, columns_fit}
 use Rattle.tick_model.specs.LawfulRuns.{IsLawfulRun}
 use Rattle.tick_model.specs.Names.{are_distinct}
-use Rattle.tick_model.specs.Plans.{columns_fit, is_lawful, node_lawful, publication_lawful, rises}
+use Rattle.tick_model.specs.Plans.{is_lawful, node_lawful, publication_lawful, rises}
 use Rattle.tick_laws.proofs.EvalNodes.{all_pass}
 use Rattle.update_text.specs.declared.shown.Shown.{Shown}
 use Rattle.run_output.specs.Entries.{AreShown, IsShown}

@@ -9,8 +9,9 @@ use Rattle.tick_model.specs.declared.plan.Node.{Node}
 use Rattle.tick_model.specs.declared.plan.Op.{Op}
 use Rattle.tick_model.specs.declared.plan.Op.TheVariants as ops
 use Rattle.tick_model.specs.declared.plan.Pred.{Pred, Compare, And', Or', Not'}
-use Rattle.tick_model.specs.Evaluation.{inputs_of}
-use Rattle.tick_model.specs.Plans.{long_alone, both_long, kind_of, kinds_meet, is_null_alone, test_fits, is_bound, is_test_bound, bound_of, with_bound, key_bounds}
+use Rattle.tick_model.specs.Operators.{inputs_of, bound_of}
+use Rattle.tick_model.specs.Plans.{with_bound, key_bounds}
+use Rattle.tick_model.specs.Columns.{long_alone, both_long, kind_of, kinds_meet, is_null_alone, test_fits, is_bound, is_test_bound}
 use Rattle.script_reader.specs.Binding.{bound_expr, bound_test, bound_op, bound_node}
 use Rattle.script_reader.specs.Checks.{names_of, tables_of}
 

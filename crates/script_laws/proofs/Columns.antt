@@ -9,9 +9,9 @@ use Rattle.tick_model.specs.declared.plan.Kind.{Kind}
 use Rattle.tick_model.specs.declared.plan.Kind.TheVariants.{Long, Text}
 use Rattle.tick_model.specs.declared.plan.Op.{Op}
 use Rattle.tick_model.specs.declared.plan.Op.TheVariants as ops
-use Rattle.tick_model.specs.Evaluation.{inputs_of}
+use Rattle.tick_model.specs.Operators.{inputs_of, columns_fit}
 use Rattle.tick_model.specs.Names.{is_name, same_name}
-use Rattle.tick_model.specs.Plans.{same_kind, kinds_of, kind_at, kind_of, has_kind, same_columns, have_kinds, has_name, keep_names, follow, same_kind_at, agg_kind, some_of, test_fits, is_test_bound, is_bound, columns_fit}
+use Rattle.tick_model.specs.Columns.{same_kind, kinds_of, kind_at, kind_of, has_kind, same_columns, have_kinds, has_name, keep_names, follow, same_kind_at, agg_kind, some_of, test_fits, is_test_bound, is_bound}
 use Rattle.script_lines.specs.Kept.{IsNamed}
 use Rattle.script_reader.specs.Checks.{named_columns, all_there, column_at, table_at, rows_of}
 

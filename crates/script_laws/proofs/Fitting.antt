@@ -14,9 +14,9 @@ use Rattle.tick_model.specs.declared.plan.Kind.TheVariants.{Long}
 use Rattle.tick_model.specs.declared.plan.OnPair.{OnPair}
 use Rattle.tick_model.specs.declared.plan.SortBy.{SortBy}
 use Rattle.tick_model.specs.declared.plan.Op.TheVariants as ops
-use Rattle.tick_model.specs.Evaluation.{inputs_of}
+use Rattle.tick_model.specs.Operators.{inputs_of, columns_fit}
 use Rattle.tick_model.specs.Names.{is_name}
-use Rattle.tick_model.specs.Plans.{kinds_of, kind_of, kind_at, has_kind, agg_kind, some_of, is_bound, is_test_bound, test_fits, same_columns, have_kinds, keep_names, follow, columns_fit}
+use Rattle.tick_model.specs.Columns.{kinds_of, kind_of, kind_at, has_kind, agg_kind, some_of, is_bound, is_test_bound, test_fits, same_columns, have_kinds, keep_names, follow}
 use Rattle.script_lines.specs.declared.fault.ScriptKind.{ScriptKind}
 use Rattle.script_lines.specs.declared.line.Computed.{Computed}
 use Rattle.script_lines.specs.declared.line.Declared.{Declared}

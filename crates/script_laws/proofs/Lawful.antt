@@ -10,9 +10,9 @@ use Rattle.key_lists.proofs.Every.{every_weaker, every-append, pass_all}
 use Rattle.tick_model.specs.declared.plan.ColumnSpec.{ColumnSpec}
 use Rattle.tick_model.specs.declared.plan.Node.{Node}
 use Rattle.tick_model.specs.declared.plan.Published.{Published}
-use Rattle.tick_model.specs.Evaluation.{inputs_of}
+use Rattle.tick_model.specs.Operators.{inputs_of, bound_of, columns_fit}
 use Rattle.tick_model.specs.Names.{is_name, are_distinct}
-use Rattle.tick_model.specs.Plans.{bound_of, with_bound, key_bounds, columns_at, columns_fit, node_lawful, published_words, publication_lawful, rises, number_distinct, is_lawful}
+use Rattle.tick_model.specs.Plans.{with_bound, key_bounds, columns_at, node_lawful, published_words, publication_lawful, rises, number_distinct, is_lawful}
 use Rattle.script_lines.specs.declared.fault.ScriptKind.TheVariants.{TakenName, NumberRange, TooWide}
 use Rattle.script_lines.specs.declared.line.Line.{Line}
 use Rattle.script_lines.specs.declared.line.Line.TheVariants as lines

@@ -5,7 +5,8 @@ use Rattle.std.proofs.lemmas.Bool.{leb-false, ltb-false}
 use Rattle.tick_model.specs.declared.plan.ColumnSpec.{ColumnSpec}
 use Rattle.tick_model.specs.declared.plan.Node.{Node}
 use Rattle.tick_model.specs.Names.{is_one_of, are_distinct}
-use Rattle.tick_model.specs.Plans.{bound_of, key_bounds}
+use Rattle.tick_model.specs.Plans.{key_bounds}
+use Rattle.tick_model.specs.Operators.{bound_of}
 use Rattle.script_lines.specs.declared.fault.ScriptKind.{ScriptKind}
 use Rattle.script_lines.specs.declared.fault.ScriptKind.TheVariants.{TakenName, TakenColumn, WrongKind, NumberRange, TooManyNodes, TooManyColumns, KeySpace}
 use Rattle.script_reader.specs.Checks.{Draft, broken, or_broken, names_of}

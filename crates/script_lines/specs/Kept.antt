@@ -5,7 +5,7 @@ use Rattle.std.specs.List.{AllByRecursion}
 use Rattle.std.specs.Int.{w64}
 use Rattle.tick_model.specs.Changes.{is_none}
 use Rattle.tick_model.specs.Names.{is_name}
-use Rattle.tick_model.specs.Plans.{some_of}
+use Rattle.tick_model.specs.Columns.{some_of}
 use Rattle.script_lines.specs.declared.line.Computed.{Computed}
 use Rattle.script_lines.specs.declared.line.Declared.{Declared}
 use Rattle.script_lines.specs.declared.line.Formula.{Formula, Column, Number, Text, Null, Neg', Add', Sub', Mul'}

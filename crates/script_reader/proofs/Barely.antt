@@ -4,7 +4,7 @@ use Rattle.tick_model.specs.declared.plan.ColumnSpec.{ColumnSpec}
 use Rattle.tick_model.specs.declared.plan.Expr.{Expr}
 use Rattle.tick_model.specs.declared.plan.Op.TheVariants as ops
 use Rattle.tick_model.specs.declared.plan.Pred.{Pred, Compare}
-use Rattle.tick_model.specs.Plans.{kinds_of, test_fits}
+use Rattle.tick_model.specs.Columns.{kinds_of, test_fits}
 use Rattle.script_lines.specs.declared.fault.ScriptKind.{ScriptKind}
 use Rattle.script_lines.specs.declared.line.Computed.{Computed}
 use Rattle.script_lines.specs.declared.line.Formula.{Formula, Column, Number as Digits, Text as Quoted, Null as Nothing, Neg' as Minus', Add' as Plus', Sub' as Less', Mul' as Times'}

@@ -5,7 +5,7 @@ use Rattle.tick_model.specs.declared.plan.Expr.{Expr}
 use Rattle.tick_model.specs.declared.plan.Kind.{Kind}
 use Rattle.tick_model.specs.declared.plan.Node.{Node}
 use Rattle.tick_model.specs.declared.plan.Op.TheVariants.{View}
-use Rattle.tick_model.specs.Plans.{kind_of, kinds_of}
+use Rattle.tick_model.specs.Columns.{kind_of, kinds_of}
 use Rattle.script_lines.specs.declared.line.Computed.{Computed}
 use Rattle.script_reader.specs.Checks.{node_named, names_of, tables_of, table_at, exprs_of, named_columns, all_there, draft_of, expr_kinds, viewed}
 use Rattle.script_reader.specs.Drafts.{before}

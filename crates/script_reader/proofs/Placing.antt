@@ -9,7 +9,8 @@ use Rattle.tick_model.specs.declared.plan.ColumnSpec.{ColumnSpec}
 use Rattle.tick_model.specs.declared.plan.Node.{Node}
 use Rattle.tick_model.specs.Names.{is_one_of, are_distinct}
 use Rattle.std.proofs.lemmas.List.Sums.{fold-append}
-use Rattle.tick_model.specs.Plans.{bound_of, with_bound, key_bounds}
+use Rattle.tick_model.specs.Plans.{with_bound, key_bounds}
+use Rattle.tick_model.specs.Operators.{bound_of}
 use Rattle.script_lines.specs.declared.fault.LineFault.{LineFault}
 use Rattle.script_lines.specs.declared.fault.LineFault.TheVariants as faults
 use Rattle.script_lines.specs.declared.fault.ScriptKind.{ScriptKind}

@@ -8,7 +8,9 @@ use Rattle.tick_model.specs.declared.plan.Node.{Node}
 use Rattle.tick_model.specs.declared.plan.Op.{Op}
 use Rattle.tick_model.specs.declared.plan.Op.TheVariants as ops
 use Rattle.tick_model.specs.declared.plan.Pred.{Pred, Compare, And', Or', Not'}
-use Rattle.tick_model.specs.Plans.{long_alone, both_long, kind_of, kinds_of, kinds_meet, is_null_alone, test_fits, bound_of, with_bound, key_bounds}
+use Rattle.tick_model.specs.Plans.{with_bound, key_bounds}
+use Rattle.tick_model.specs.Columns.{long_alone, both_long, kind_of, kinds_of, kinds_meet, is_null_alone, test_fits}
+use Rattle.tick_model.specs.Operators.{bound_of}
 use Rattle.script_reader.specs.Checks.{expr_kinds, names_of, tables_of}
 use Rattle.script_reader.specs.Plain.{plain, plain_test, plain_op, plain_node}
 

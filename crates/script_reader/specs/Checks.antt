@@ -21,7 +21,9 @@ use Rattle.tick_model.specs.declared.plan.Pred.{Pred, Compare}
 use Rattle.tick_model.specs.declared.plan.Published.{Published}
 use Rattle.tick_model.specs.declared.plan.SortBy.{SortBy}
 use Rattle.tick_model.specs.Names.{is_one_of, are_distinct}
-use Rattle.tick_model.specs.Plans.{kind_of, kinds_of, kind_at, test_fits, same_kind_at, has_kind, agg_kind, columns_fit, bound_of, key_bounds, published_words}
+use Rattle.tick_model.specs.Plans.{key_bounds, published_words}
+use Rattle.tick_model.specs.Columns.{kind_of, kinds_of, kind_at, test_fits, same_kind_at, has_kind, agg_kind}
+use Rattle.tick_model.specs.Operators.{columns_fit, bound_of}
 use Rattle.script_lines.specs.declared.fault.ScriptKind.{ScriptKind}
 use Rattle.script_lines.specs.declared.fault.ScriptKind.TheVariants.{UnknownName, TakenName, UnknownColumn, TakenColumn, WrongKind, NumberRange, TooManyNodes, TooManyColumns, KeySpace, TooWide}
 use Rattle.script_lines.specs.declared.line.Computed.{Computed}

@@ -1,7 +1,7 @@
 //! What a node would be: its operator over its inputs, and its columns.
 
 ghost use Rattle.std.specs.Prelude.{◌≡◌, ℕ, List, map, IfOk};
-ghost use Rattle.tick_model.specs.Plans.{kind_at as kind_in, kind_of as kind_over, kinds_of, agg_kind as agg_kind_over, has_kind};
+ghost use Rattle.tick_model.specs.Columns.{kind_at as kind_in, kind_of as kind_over, kinds_of, agg_kind as agg_kind_over, has_kind};
 ghost use Rattle.script_lines.specs.Answers.{Gives};
 ghost use Rattle.script_reader.specs.Checks.{pairs_fit as pairs_fit_over, joined_columns as joined_columns_of, gathered_columns as gathered_columns_of, kept as kept_of, viewed as viewed_of, joined as joined_of, joined_as_of as joined_as_of_over, grouped as grouped_of, merged as merged_of, sorted as sorted_of, headed as headed_of, tailed as tailed_of, drafted as drafted_of};
 ghost use Rattle.script_reader.specs.Drafts.{shown, before};

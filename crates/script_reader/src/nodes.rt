@@ -3,7 +3,8 @@
 ghost use Rattle.std.specs.Prelude.{◌≡◌, ◌++◌, ◌∷◌, [], ◌^◌, ◌<◌, map, sum, length, slice_index, IfOk};
 ghost use Rattle.std.specs.List.{All};
 ghost use Rattle.tick_model.specs.Names.{is_one_of};
-ghost use Rattle.tick_model.specs.Plans.{bound_of as bound_over, columns_at, key_bounds};
+ghost use Rattle.tick_model.specs.Plans.{columns_at, key_bounds};
+ghost use Rattle.tick_model.specs.Operators.{bound_of as bound_over};
 ghost use Rattle.script_lines.specs.Answers.{Gives};
 ghost use Rattle.script_reader.specs.Checks.{node_named, names_of, broken as broken_of, or_broken};
 ghost use Rattle.script_reader.specs.Drafts.{shown};

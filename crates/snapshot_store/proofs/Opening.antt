@@ -15,7 +15,7 @@ use Rattle.std.proofs.lemmas.List.{get_or-map}
 use Rattle.key_lists.proofs.Parts.{take_front}
 use Rattle.tick_table.specs.Ticking.{Ticking}
 use Rattle.tick_model.specs.declared.table.PlainTable.{PlainTable}
-use Rattle.tick_model.specs.Evaluation.{no_table}
+use Rattle.tick_model.specs.Tables.{no_table}
 use Rattle.tick_model.specs.LawfulRuns.{IsLawfulRun}
 use Rattle.tick_model.specs.Words.{words}
 use Rattle.snapshot_store.specs.Lines.{count, limit, size, total, spot, line_of, IsWhole}

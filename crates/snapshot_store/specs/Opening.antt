@@ -4,7 +4,7 @@
 use Rattle.std.specs.Prelude.{◌≡◌, ℕ, ◌+◌, ◌*◌, ◌<◌, ◌≤◌, List, length, slice_index, slice_index_or}
 use Rattle.tick_model.specs.declared.feed.Run.{Run}
 use Rattle.tick_model.specs.declared.table.PlainTable.{PlainTable}
-use Rattle.tick_model.specs.Evaluation.{no_table}
+use Rattle.tick_model.specs.Tables.{no_table}
 use Rattle.snapshot_store.specs.Lines.{count, limit, total, spot, line_of, published_table, IsWhole}
 use Rattle.snapshot_store.specs.Rule.{Stands, Holds}
 

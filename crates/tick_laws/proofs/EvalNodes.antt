@@ -13,7 +13,9 @@ use Rattle.tick_model.specs.declared.table.PlainTable.{PlainTable}
 use Rattle.tick_model.specs.AsOf.{asof_table}
 use Rattle.tick_model.specs.Join.{join_fault, join_table}
 use Rattle.tick_model.specs.Merge.{merge_fault, merge_table}
-use Rattle.tick_model.specs.Evaluation.{Outcome, Table, NoInput, has_table, no_table, table_of, table_at, outcome_at, inputs_of, result, fault_of, or_fault, applied, outcome_of, eval_node, is_source, source_number}
+use Rattle.tick_model.specs.Evaluation.{Outcome, Table, NoInput, has_table, table_of, table_at, outcome_at, or_fault, applied, outcome_of, eval_node, is_source, source_number}
+use Rattle.tick_model.specs.Tables.{no_table}
+use Rattle.tick_model.specs.Operators.{inputs_of, result, fault_of}
 use Rattle.key_lists.proofs.Every.{every_weaker, map_same}
 use Rattle.tick_laws.proofs.Grown.{made_at, length-grown}
 

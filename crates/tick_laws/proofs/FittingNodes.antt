@@ -4,9 +4,10 @@ use Rattle.std.specs.List.{AllByRecursion}
 use Rattle.tick_model.specs.declared.feed.Run.{Run}
 use Rattle.tick_model.specs.declared.plan.Node.{Node}
 use Rattle.tick_model.specs.declared.table.PlainTable.{PlainTable}
-use Rattle.tick_model.specs.Tables.{IsTable}
+use Rattle.tick_model.specs.Tables.{IsTable, no_table}
 use Rattle.tick_model.specs.Changes.{change_of}
-use Rattle.tick_model.specs.Evaluation.{has_table, no_table, outcome_at, table_at, inputs_of, result, fault_of, is_source, source_number}
+use Rattle.tick_model.specs.Evaluation.{has_table, outcome_at, table_at, is_source, source_number}
+use Rattle.tick_model.specs.Operators.{inputs_of, result, fault_of}
 use Rattle.tick_model.specs.LawfulRuns.{IsLawfulRun, has_op_ranks}
 use Rattle.tick_model.specs.Plans.{columns_at}
 use Rattle.tick_model.specs.Printable.{IsPrintable}

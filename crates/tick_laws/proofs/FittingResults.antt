@@ -21,10 +21,10 @@ use Rattle.tick_model.specs.Join.{agree, taken, chosen, matches}
 use Rattle.tick_model.specs.AsOf.{latest, not_later}
 use Rattle.tick_model.specs.Agg.{is_first, key_cells, aggregate, group_of, same_group}
 use Rattle.tick_model.specs.Sort.{in_order}
-use Rattle.tick_model.specs.Evaluation.{inputs_of, result}
+use Rattle.tick_model.specs.Operators.{inputs_of, result, columns_fit}
 use Rattle.tick_model.specs.LawfulRuns.{has_ranks, has_op_ranks}
 use Rattle.tick_model.specs.Names.{same_name}
-use Rattle.tick_model.specs.Plans.{same_kind, long_alone, both_long, kind_of, is_bound, kinds_of, has_kind, same_columns, have_kinds, keep_names, follow, kind_at, same_kind_at, agg_kind, some_of, columns_fit, is_test_bound, test_fits}
+use Rattle.tick_model.specs.Columns.{same_kind, long_alone, both_long, kind_of, is_bound, kinds_of, has_kind, same_columns, have_kinds, keep_names, follow, kind_at, same_kind_at, agg_kind, some_of, is_test_bound, test_fits}
 use Rattle.tick_model.specs.Printable.{names_text, fits_kind, fit_columns}
 use Rattle.key_lists.proofs.Every.{every, every_weaker, every_both, every-map, every-filter}
 use Rattle.key_lists.proofs.Parts.{every-take, every-drop}

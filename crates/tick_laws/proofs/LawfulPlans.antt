@@ -10,8 +10,8 @@ use Rattle.tick_model.specs.declared.plan.Node.{Node}
 use Rattle.tick_model.specs.declared.plan.Op.{Op}
 use Rattle.tick_model.specs.declared.plan.Op.TheVariants.{Source, Keep, View, Join, Agg, Merge, Sort, Head, Tail, AsOf}
 use Rattle.tick_model.specs.declared.plan.Plan.{Plan}
-use Rattle.tick_model.specs.Evaluation.{inputs_of}
-use Rattle.tick_model.specs.Plans.{is_lawful, node_lawful, columns_fit, columns_at, bound_of, key_bounds}
+use Rattle.tick_model.specs.Operators.{inputs_of, columns_fit, bound_of}
+use Rattle.tick_model.specs.Plans.{is_lawful, node_lawful, columns_at, key_bounds}
 use Rattle.key_lists.proofs.Every.{every_weaker}
 use Rattle.tick_laws.proofs.Grown.{made_at, length-grown}
 use Rattle.tick_laws.proofs.EvalNodes.{all_pass}

@@ -13,9 +13,9 @@ use Rattle.tick_model.specs.declared.table.PlainRow.{PlainRow}
 use Rattle.tick_model.specs.declared.table.PlainTable.{PlainTable}
 use Rattle.tick_model.specs.declared.update.FeedRule.TheVariants.{Update as ByUpdate, TooManyRows}
 use Rattle.key_lists.specs.Keys.{IsRising}
-use Rattle.tick_model.specs.Tables.{keys, IsRow, IsTable}
+use Rattle.tick_model.specs.Tables.{keys, IsRow, IsTable, no_table}
 use Rattle.tick_model.specs.Updates.{Tick}
-use Rattle.tick_model.specs.Evaluation.{no_table, is_source, source_number}
+use Rattle.tick_model.specs.Evaluation.{is_source, source_number}
 use Rattle.tick_model.specs.LawfulRuns.{IsSourceRow, IsOpening, AreOpenings, sources_of, is_source_number, IsLawfulBlock, IsLawfulRun}
 use Rattle.tick_model.specs.Plans.{columns_at}
 use Rattle.tick_model.specs.Printable.{fit_columns, fits_kind}

@@ -11,15 +11,16 @@ use Rattle.tick_model.specs.declared.plan.Plan.{Plan}
 use Rattle.tick_model.specs.declared.table.PlainRow.{PlainRow}
 use Rattle.tick_model.specs.declared.table.PlainTable.{PlainTable}
 use Rattle.tick_model.specs.declared.update.KeyPair.{KeyPair}
-use Rattle.tick_model.specs.Tables.{IsTable, cells_at, same_cells}
+use Rattle.tick_model.specs.Tables.{IsTable, cells_at, same_cells, no_table}
 use Rattle.tick_model.specs.Updates.{IsTick, Tick, both_in}
 use Rattle.tick_model.specs.Agg.{key_cells}
 use Rattle.tick_model.specs.Merge.{merged_pairs, pair_from, region}
 use Rattle.tick_model.specs.Sort.{place_pair, same_place, in_order}
-use Rattle.tick_model.specs.Evaluation.{table_at, table_of, no_table, inputs_of, is_source, source_number}
+use Rattle.tick_model.specs.Evaluation.{table_at, table_of, is_source, source_number}
+use Rattle.tick_model.specs.Operators.{inputs_of, kept_by}
 use Rattle.tick_model.specs.LawfulRuns.{IsLawfulRun}
 use Rattle.tick_model.specs.Sources.{opened, no_tick, tick_at, source_ticks, sources}
-use Rattle.tick_model.specs.States.{empty_at, kept_by, state, tick, tick_node}
+use Rattle.tick_model.specs.States.{empty_at, state, tick, tick_node}
 use Rattle.key_lists.proofs.Every.{every_weaker, every-map}
 use Rattle.tick_laws.specs.Reached.{IsReached, IsTickFrom}
 use Rattle.tick_laws.proofs.EvalNodes.{outcome_is, source_outcome}

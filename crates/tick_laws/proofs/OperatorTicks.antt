@@ -9,7 +9,7 @@ use Rattle.key_lists.specs.Keys.{is_among, IsRising}
 use Rattle.tick_model.specs.Tables.{keys, cells_at, same_cells, IsTable}
 use Rattle.tick_model.specs.Updates.{Tick, IsTick, both_in, old_keys, new_keys}
 use Rattle.tick_model.specs.Agg.{key_cells}
-use Rattle.tick_model.specs.Evaluation.{inputs_of, result}
+use Rattle.tick_model.specs.Operators.{inputs_of, result}
 use Rattle.tick_model.specs.Merge.{merged_rows, width_of, region}
 use Rattle.tick_laws.specs.Operated.{operated}
 use Rattle.key_lists.proofs.Every.{every_weaker, every-map, filter_all, map_map}

@@ -7,7 +7,8 @@ use Rattle.tick_model.specs.declared.plan.Node.{Node}
 use Rattle.tick_model.specs.declared.plan.Op.TheVariants.{Source}
 use Rattle.tick_model.specs.declared.table.PlainTable.{PlainTable}
 use Rattle.tick_model.specs.Updates.{Tick}
-use Rattle.tick_model.specs.Evaluation.{no_table, is_source, source_number}
+use Rattle.tick_model.specs.Evaluation.{is_source, source_number}
+use Rattle.tick_model.specs.Tables.{no_table}
 use Rattle.tick_model.specs.LawfulRuns.{sources_of}
 use Rattle.tick_model.specs.Sources.{new_table}
 

@@ -11,7 +11,8 @@ use Rattle.tick_model.specs.declared.plan.Plan.{Plan}
 use Rattle.tick_model.specs.declared.table.NodeFault.{NodeFault}
 use Rattle.tick_model.specs.declared.table.PlainTable.{PlainTable}
 use Rattle.tick_model.specs.Tables.{IsTable}
-use Rattle.tick_model.specs.Evaluation.{Outcome, Table, Fault, NoInput, eval, has_table, table_of, table_at, outcome_at, inputs_of, result, fault_of, or_fault, applied, source_number}
+use Rattle.tick_model.specs.Evaluation.{Outcome, Table, Fault, NoInput, eval, has_table, table_of, table_at, outcome_at, or_fault, applied, source_number}
+use Rattle.tick_model.specs.Operators.{inputs_of, result, fault_of}
 use Rattle.tick_model.specs.LawfulRuns.{IsLawfulRun}
 use Rattle.tick_model.specs.Plans.{columns_at, is_lawful, key_bounds}
 use Rattle.tick_model.specs.Sources.{sources}

@@ -19,7 +19,7 @@ use Rattle.tick_model.specs.Join.{agree, taken, chosen, matches}
 use Rattle.tick_model.specs.AsOf.{later, latest, not_later}
 use Rattle.tick_model.specs.Agg.{is_first, key_cells, aggregate, group_of, same_group, column_of, present, over, sum_of}
 use Rattle.tick_model.specs.Sort.{in_order}
-use Rattle.tick_model.specs.Evaluation.{inputs_of, result}
+use Rattle.tick_model.specs.Operators.{inputs_of, result}
 use Rattle.key_lists.proofs.Every.{every, every_weaker, every-map, every-filter, every-append}
 use Rattle.key_lists.proofs.Parts.{every-take, every-drop}
 use Rattle.tick_model.specs.Numbers.{HasNumbers, HasOpNumbers}

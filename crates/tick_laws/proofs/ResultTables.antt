@@ -16,7 +16,7 @@ use Rattle.tick_model.specs.AsOf.{latest, not_later}
 use Rattle.tick_model.specs.Agg.{is_first, key_cells, aggregate, group_of}
 use Rattle.tick_model.specs.Merge.{merged_rows, merge_table, region, row_from, width_of}
 use Rattle.tick_model.specs.Sort.{place, in_order, numbered}
-use Rattle.tick_model.specs.Evaluation.{inputs_of, result}
+use Rattle.tick_model.specs.Operators.{inputs_of, result}
 use Rattle.key_lists.proofs.Every.{every_weaker, every_both, every-map, every_unmapped, every-filter, every-append}
 use Rattle.key_lists.proofs.Rising.{rising-filter, rising_count}
 use Rattle.key_lists.proofs.Parts.{every-take, every-drop}

@@ -10,9 +10,9 @@ use Rattle.tick_model.specs.declared.plan.Plan.{Plan}
 use Rattle.tick_model.specs.declared.table.PlainTable.{PlainTable}
 use Rattle.key_lists.specs.Keys.{is_among, IsRising}
 use Rattle.tick_model.specs.declared.update.KeyPair.{KeyPair}
-use Rattle.tick_model.specs.Tables.{keys, IsTable}
+use Rattle.tick_model.specs.Tables.{keys, IsTable, no_table}
 use Rattle.tick_model.specs.Updates.{Tick, IsTick, pairs}
-use Rattle.tick_model.specs.Evaluation.{source_number, no_table}
+use Rattle.tick_model.specs.Evaluation.{source_number}
 use Rattle.tick_model.specs.Sources.{IsBlock, HasTables, block_width, block_fault, record_of, blocks_fault, batch_fault, blocks_of, carry_on, carried, update_of, unchanged, same_key, opened, no_tick, tick_at, after_block, after_blocks, source_ticks, sources, new_table}
 use Rattle.key_lists.proofs.Among.{each_among}
 use Rattle.tick_laws.proofs.Blocks.{block_tick}

@@ -24,7 +24,7 @@ use Rattle.tick_model.specs.Updates.{Tick, IsTick, Update, between, both_in, kep
 use Rattle.tick_model.specs.Changes.{is_empty, is_none}
 use Rattle.tick_model.specs.Agg.{agg_pairs, agg_row, agg_table, is_first, key_cells}
 use Rattle.tick_model.specs.AsOf.{asof_table}
-use Rattle.tick_model.specs.Evaluation.{inputs_of, result}
+use Rattle.tick_model.specs.Operators.{inputs_of, result}
 use Rattle.tick_model.specs.HeadTail.{head_table, tail_table}
 use Rattle.tick_model.specs.Join.{join_table}
 use Rattle.tick_model.specs.Sort.{in_order, numbered, place_of, place_pair, same_place, sort_pairs, sort_table}

@@ -2,7 +2,8 @@
 
 ghost use Rattle.std.specs.Prelude.{◌≡◌, ℕ, ◌<◌, List, length, slice_index_or};
 ghost use Rattle.tick_laws.specs.Reached.{table_before};
-ghost use Rattle.tick_model.specs.Evaluation.{eval, no_table, outcome_at, outcome_of, source_number, table_at};
+ghost use Rattle.tick_model.specs.Evaluation.{eval, outcome_at, outcome_of, source_number, table_at};
+ghost use Rattle.tick_model.specs.Tables.{no_table};
 ghost use Rattle.tick_model.specs.Sources.{source_ticks, tick_at};
 ghost use Rattle.tick_model.specs.States.{state, tick, tick_of, ticks, HasLesserInputs};
 ghost use Rattle.tick_model.specs.declared.feed.Run.{Run};

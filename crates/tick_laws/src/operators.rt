@@ -5,7 +5,7 @@ ghost use Rattle.tick_model.specs.Numbers.{HasOpNumbers};
 ghost use Rattle.tick_laws.specs.Operated.{EachInput, operated};
 ghost use Rattle.tick_laws.specs.Room.{HasRoom};
 ghost use Rattle.tick_model.specs.Changes.{is_empty};
-ghost use Rattle.tick_model.specs.Evaluation.{result as result_of};
+ghost use Rattle.tick_model.specs.Operators.{result as result_of};
 ghost use Rattle.tick_model.specs.Tables.{HasCells, IsTable};
 ghost use Rattle.tick_model.specs.Sources.{unchanged};
 ghost use Rattle.tick_model.specs.Updates.{Tick, IsTick, between};

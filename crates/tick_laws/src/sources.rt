@@ -2,7 +2,7 @@
 
 ghost use Rattle.std.specs.Prelude.{◌≡◌, ℕ, suc, slice_index_or};
 ghost use Rattle.tick_laws.specs.Reached.{KeepsRules};
-ghost use Rattle.tick_model.specs.Evaluation.{no_table};
+ghost use Rattle.tick_model.specs.Tables.{no_table};
 ghost use Rattle.tick_model.specs.Sources.{HasTables, source_ticks, sources, tick_at};
 ghost use Rattle.tick_model.specs.Updates.{IsTick};
 ghost use Rattle.tick_model.specs.declared.feed.Run.{Run};

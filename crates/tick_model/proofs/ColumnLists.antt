@@ -7,7 +7,7 @@ use Rattle.tick_model.specs.declared.plan.ColumnSpec.{ColumnSpec}
 use Rattle.tick_model.specs.declared.plan.Kind.{Kind}
 use Rattle.tick_model.specs.declared.plan.Kind.TheVariants.{Long}
 use Rattle.tick_model.specs.Names.{same_name}
-use Rattle.tick_model.specs.Plans.{same_kind, has_kind, same_columns, have_kinds, follow}
+use Rattle.tick_model.specs.Columns.{same_kind, has_kind, same_columns, have_kinds, follow}
 
 no_column : ColumnSpec
 no_column = record { name = []; kind = Long }

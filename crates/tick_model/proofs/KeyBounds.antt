@@ -1,20 +1,19 @@
 -- The key bounds of a plan's nodes, one node after the other.
-use Rattle.std.proofs.Common.{◌≡◌, refl, ap, sym, ◌∙◌, Bool, true, false, ◌&&◌, ℕ, zero, suc, ◌+◌, ◌<◌, ◌≤◌, arith, List, [], ◌∷◌, ◌++◌, length, sum, take, get_or, append_assoc, length-append, length-take}
+use Rattle.std.proofs.Common.{◌≡◌, refl, ap, sym, ◌∙◌, Bool, true, false, ◌&&◌, ℕ, zero, suc, ◌+◌, ◌<◌, ◌≤◌, arith, List, [], ◌∷◌, ◌++◌, length, take, get_or, append_assoc, length-append, length-take}
 use Rattle.std.specs.Prelude.{fold, nat_lt}
 use Rattle.std.specs.List.{All, AllByRecursion, list_all}
 use Rattle.std.proofs.lemmas.Bool.{le-ltb}
 use Rattle.std.proofs.lemmas.Bool.Decides.{Decides-by_and, Decides-ltb}
 use Rattle.std.proofs.lemmas.List.{append-nil, get_or_append_left}
 use Rattle.std.proofs.Math.Seq.{get_or-append_seam}
-use Rattle.key_lists.proofs.Every.{every_weaker, map_same}
+use Rattle.key_lists.proofs.Every.{every_weaker}
 use Rattle.key_lists.proofs.Booleans.{and_false}
 use Rattle.std.proofs.lemmas.List.Folds.{list_all-append}
 use Rattle.std.proofs.lemmas.List.Sums.{fold_more}
 use Rattle.tick_model.specs.declared.plan.Node.{Node}
-use Rattle.tick_model.specs.declared.plan.Op.{Op}
-use Rattle.tick_model.specs.declared.plan.Op.TheVariants.{Source, Keep, View, Join, Agg, Merge, Sort, Head, Tail, AsOf}
-use Rattle.tick_model.specs.Evaluation.{inputs_of}
-use Rattle.tick_model.specs.Plans.{bound_of, with_bound, key_bounds}
+use Rattle.tick_model.specs.Operators.{inputs_of, bound_of}
+use Rattle.tick_model.specs.Plans.{with_bound, key_bounds}
+use Rattle.tick_model.proofs.Results.{bound_same}
 
 -- later nodes put their bounds behind
 pub bounds_go_on : (nodes : List Node) (bounds : List ℕ) → (others : List ℕ) × (fold with_bound bounds nodes ≡ bounds ++ others)
@@ -62,19 +61,6 @@ length-key_bounds nodes = let none : 0 + length nodes ≡ length nodes = omega a
     from (node ∷ nodes) bounds =
         let bound = bound_of node.op (λ input. get_or bounds input 0) in
         from nodes (with_bound bounds node) ∙ ap (λ n. n + length nodes) (length-append bounds (bound ∷ [])) ∙ omega arith
-
--- an operator's bound is that of its inputs' bounds alone
-bound_same : (op : Op) (f g : ℕ → ℕ) → AllByRecursion (λ input. f input ≡ g input) (inputs_of op) → bound_of op f ≡ bound_of op g
-bound_same Source f g h = refl
-bound_same (Keep from test) f g h = h.0
-bound_same (View from exprs) f g h = h.0
-bound_same (Join left right on take choice) f g h = h.0
-bound_same (Agg from by aggs) f g h = h.0
-bound_same (Merge inputs) f g h = ap sum (map_same f g inputs h)
-bound_same (Sort from by) f g h = refl
-bound_same (Head from rows) f g h = h.0
-bound_same (Tail from rows) f g h = h.0
-bound_same (AsOf left right on at take) f g h = h.0
 
 -- a node's bound is that of its operator over its inputs' bounds
 pub bound_here : (nodes : List Node) (n : ℕ) (node : Node) → n < length nodes → node ≡ get_or nodes n node → AllByRecursion (λ input. input < n) (inputs_of node.op) → key_bound nodes n ≡ bound_of node.op (key_bound nodes)

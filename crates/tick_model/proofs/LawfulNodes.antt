@@ -7,9 +7,9 @@ use Rattle.tick_model.specs.declared.plan.ColumnSpec.{ColumnSpec}
 use Rattle.tick_model.specs.declared.plan.Node.{Node}
 use Rattle.tick_model.specs.declared.plan.Plan.{Plan}
 use Rattle.tick_model.specs.declared.plan.Published.{Published}
-use Rattle.tick_model.specs.Evaluation.{inputs_of}
+use Rattle.tick_model.specs.Operators.{inputs_of, columns_fit}
 use Rattle.tick_model.specs.Names.{is_name, are_distinct}
-use Rattle.tick_model.specs.Plans.{is_lawful, node_lawful, key_bounds, columns_at, columns_fit, rises, number_distinct, publication_lawful, published_words}
+use Rattle.tick_model.specs.Plans.{is_lawful, node_lawful, key_bounds, columns_at, rises, number_distinct, publication_lawful, published_words}
 use Rattle.tick_model.proofs.KeyBounds.{key_bound, bound_below}
 
 -- lesser inputs, columns that fit, at most 32, and a bound below 2 ^ 62

@@ -5,7 +5,7 @@ use Rattle.std.specs.List.{AllByRecursion, sum_by, list_all}
 use Rattle.std.proofs.lemmas.Bool.{and_parts, leb-true, ltb-false}
 use Rattle.std.proofs.lemmas.List.{length-map}
 use Rattle.std.proofs.lemmas.List.Sums.{length-filter, count_by-le-length, sum_by-cons}
-use Rattle.key_lists.proofs.Every.{every_weaker, every-map, every-filter, every-append, all_from}
+use Rattle.key_lists.proofs.Every.{every_weaker, every-map, every-filter, every-append, all_from, map_same}
 use Rattle.key_lists.proofs.Parts.{every-take, every-drop}
 use Rattle.tick_model.specs.declared.plan.Agg.{Agg}
 use Rattle.tick_model.specs.declared.plan.ColumnSpec.{ColumnSpec}
@@ -28,8 +28,8 @@ use Rattle.tick_model.specs.Agg.{key_cells, group_of, aggregate, agg_row, is_fir
 use Rattle.tick_model.specs.Merge.{last_key, region, row_from, merged_rows, merge_table, merge_fault}
 use Rattle.tick_model.specs.Sort.{in_order, sort_table}
 use Rattle.tick_model.specs.HeadTail.{head_table, tail_table}
-use Rattle.tick_model.specs.Plans.{kinds_of, kind_of, kind_at, agg_kind, test_fits, is_bound, is_test_bound, same_columns, have_kinds, keep_names, follow, some_of, same_kind_at, has_kind, columns_fit, bound_of}
-use Rattle.tick_model.specs.Evaluation.{inputs_of, result, fault_of}
+use Rattle.tick_model.specs.Columns.{kinds_of, kind_of, kind_at, agg_kind, test_fits, is_bound, is_test_bound, same_columns, have_kinds, keep_names, follow, some_of, same_kind_at, has_kind}
+use Rattle.tick_model.specs.Operators.{columns_fit, bound_of, inputs_of, result, fault_of}
 use Rattle.tick_model.specs.Ready.{HaveRoom}
 use Rattle.tick_model.proofs.TableRows.{every-ordered, length-ordered, length-numbered, numbered_whole, numbered_below, last_below, region_within}
 use Rattle.tick_model.proofs.Widths.{same_width, kinds_width, follow_width}
@@ -282,3 +282,16 @@ result_is (AsOf left right on at take) columns bound table cols o fit h none =
     let follows = (and_parts before (follow cols (columns left) kinds) fit).1 in
     let width : length (columns left) + length take ≡ length cols = ap (λ n. length (columns left) + n) (sym (length-map take (kind_at (columns right)))) ∙ sym (follow_width cols (columns left) kinds follows) in
     resized width (joined_result take (λ row. latest at.right (not_later on at (table right).rows row)) (table left) (length (columns left)) (bound left) h.0)
+
+-- an operator's bound is that of its inputs' bounds alone
+pub bound_same : (op : Op) (f g : ℕ → ℕ) → AllByRecursion (λ input. f input ≡ g input) (inputs_of op) → bound_of op f ≡ bound_of op g
+bound_same Source f g h = refl
+bound_same (Keep from test) f g h = h.0
+bound_same (View from exprs) f g h = h.0
+bound_same (Join left right on take choice) f g h = h.0
+bound_same (AggOp from by aggs) f g h = h.0
+bound_same (Merge inputs) f g h = ap sum (map_same f g inputs h)
+bound_same (Sort from by) f g h = refl
+bound_same (Head from rows) f g h = h.0
+bound_same (Tail from rows) f g h = h.0
+bound_same (AsOf left right on at take) f g h = h.0

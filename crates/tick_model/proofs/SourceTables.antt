@@ -8,9 +8,9 @@ use Rattle.std.proofs.lemmas.List.Sums.{sum_by-cons}
 use Rattle.tick_model.specs.declared.plan.Node.{Node}
 use Rattle.tick_model.specs.declared.table.PlainRow.{PlainRow}
 use Rattle.tick_model.specs.declared.table.PlainTable.{PlainTable}
-use Rattle.tick_model.specs.Tables.{keys}
+use Rattle.tick_model.specs.Tables.{keys, no_table}
 use Rattle.tick_model.specs.Plans.{rises}
-use Rattle.tick_model.specs.Evaluation.{is_source, source_number, no_table}
+use Rattle.tick_model.specs.Evaluation.{is_source, source_number}
 use Rattle.tick_model.specs.Fits.{is_source_row, is_source_table, are_source_tables}
 use Rattle.tick_model.specs.Ready.{table_in}
 use Rattle.tick_model.proofs.Results.{IsResult}

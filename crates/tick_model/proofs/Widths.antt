@@ -11,7 +11,7 @@ use Rattle.tick_model.specs.declared.plan.Kind.TheVariants.{Long, Text}
 use Rattle.tick_model.specs.declared.plan.Pred.{Pred, Compare, And', Or', Not'}
 use Rattle.tick_model.specs.Formulas.{IsWithin, IsTestWithin}
 use Rattle.tick_model.specs.Names.{same_name}
-use Rattle.tick_model.specs.Plans.{same_kind, has_kind, long_alone, both_long, kind_of, is_null_alone, kinds_meet, test_fits, is_bound, is_test_bound, same_columns, have_kinds, follow}
+use Rattle.tick_model.specs.Columns.{same_kind, has_kind, long_alone, both_long, kind_of, is_null_alone, kinds_meet, test_fits, is_bound, is_test_bound, same_columns, have_kinds, follow}
 
 -- the same columns are as many
 pub same_width : (xs ys : List ColumnSpec) → same_columns xs ys ≡ true → length xs ≡ length ys

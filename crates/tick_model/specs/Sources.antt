@@ -10,10 +10,10 @@ use Rattle.tick_model.specs.declared.plan.Plan.{Plan}
 use Rattle.tick_model.specs.declared.table.PlainTable.{PlainTable}
 use Rattle.key_lists.specs.Keys.{IsRising}
 use Rattle.tick_model.specs.declared.update.KeyPair.{KeyPair}
-use Rattle.tick_model.specs.Tables.{keys, IsRow, IsTable}
+use Rattle.tick_model.specs.Tables.{keys, IsRow, IsTable, no_table}
 use Rattle.tick_model.specs.Shifts.{holds, composed}
 use Rattle.tick_model.specs.Updates.{Tick, Update, carry, pairs}
-use Rattle.tick_model.specs.Evaluation.{source_number, no_table}
+use Rattle.tick_model.specs.Evaluation.{source_number}
 use Rattle.tick_model.specs.Rules.{update_fault}
 use Rattle.tick_model.specs.declared.update.FeedRule.{FeedRule}
 use Rattle.tick_model.specs.declared.update.FeedRule.TheVariants.{Update as ByUpdate, TooManyRows}

@@ -1,36 +1,20 @@
 -- Each node's table at a step, and its change since the step before.
-use Rattle.std.specs.Prelude.{ℕ, zero, suc, List, [], ◌∷◌, ◌++◌, map, fold, length, ◌≡◌, ◌<◌, true, slice_index_or}
+use Rattle.std.specs.Prelude.{ℕ, zero, suc, List, [], ◌∷◌, ◌++◌, fold, length, ◌≡◌, ◌<◌, true, slice_index_or}
 use Rattle.std.specs.List.{AllByRecursion}
 use Rattle.tick_model.specs.Tables.{IsTable}
 use Rattle.tick_model.specs.declared.feed.Run.{Run}
 use Rattle.tick_model.specs.declared.plan.Op.{Op}
-use Rattle.tick_model.specs.declared.plan.Op.TheVariants.{Source, Keep, View, Join, Agg, Merge, Sort, Head, Tail, AsOf}
+use Rattle.tick_model.specs.declared.plan.Op.TheVariants.{Source}
 use Rattle.tick_model.specs.declared.plan.Node.{Node}
 use Rattle.tick_model.specs.declared.plan.Plan.{Plan}
 use Rattle.tick_model.specs.declared.table.PlainTable.{PlainTable}
-use Rattle.tick_model.specs.declared.update.KeyPair.{KeyPair}
-use Rattle.tick_model.specs.Updates.{Tick, both_in}
-use Rattle.tick_model.specs.Agg.{agg_pairs}
-use Rattle.tick_model.specs.Merge.{merge_pairs}
-use Rattle.tick_model.specs.Sort.{sort_pairs}
-use Rattle.tick_model.specs.Evaluation.{Outcome, eval, source_number, table_at, has_table, outcome_at, inputs_of}
+use Rattle.tick_model.specs.Updates.{Tick}
+use Rattle.tick_model.specs.Evaluation.{Outcome, eval, source_number, table_at, has_table, outcome_at}
+use Rattle.tick_model.specs.Operators.{inputs_of, kept_by}
 use Rattle.tick_model.specs.Sources.{source_ticks, sources, tick_at}
 
 abbrev pub state : Run → ℕ → List Outcome
 state run step = eval run.plan (sources run step)
-
--- the pairs that an operator keeps, from the ticks of its inputs and its old and new table
-abbrev pub kept_by : Op → (ℕ → Tick) → PlainTable → PlainTable → List KeyPair
-kept_by Source tick old new = []
-kept_by (Keep input test) tick old new = both_in old new (tick input).kept
-kept_by (View input exprs) tick old new = (tick input).kept
-kept_by (Join left right on take choice) tick old new = (tick left).kept
-kept_by (Agg input by aggs) tick old new = agg_pairs by (tick input) old new
-kept_by (Merge inputs) tick old new = merge_pairs (map tick inputs)
-kept_by (Sort input by) tick old new = sort_pairs by (tick input)
-kept_by (Head input rows) tick old new = both_in old new (tick input).kept
-kept_by (Tail input rows) tick old new = both_in old new (tick input).kept
-kept_by (AsOf left right on at take) tick old new = (tick left).kept
 
 abbrev pub tick_of : Op → Tick → List Tick → PlainTable → PlainTable → Tick
 tick_of Source own done old new = own

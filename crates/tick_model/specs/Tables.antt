@@ -51,3 +51,7 @@ pub record IsTable (table : PlainTable) : Type 0 where
 -- each cell is a number of 64 bits
 abbrev pub HasCells : PlainTable → Type 0
 HasCells table = AllByRecursion (λ row. AllByRecursion (FitsSigned w64) row.cells) table.rows
+
+-- a table without rows or columns, where there is none
+abbrev pub no_table : PlainTable
+no_table = record { width = 0; rows = [] }

@@ -3,7 +3,9 @@
 ghost use Rattle.std.specs.Prelude.{◌≡◌, ◌++◌, ◌&&◌, map, is_some, slice_get};
 ghost use Rattle.std.specs.List.{list_all};
 ghost use Rattle.tick_model.specs.Names.{same_name};
-ghost use Rattle.tick_model.specs.Plans.{same_kind, has_kind as has_kind_of, is_bound as is_bound_in, same_columns as same_columns_of, have_kinds as have_kinds_of, follow as follow_of, kind_at as kind_in, same_kind_at as same_kind_in, some_of, agg_kind, has_name, keep_names as keep_names_of, columns_fit as columns_fit_of, columns_at as columns_in};
+ghost use Rattle.tick_model.specs.Plans.{columns_at as columns_in};
+ghost use Rattle.tick_model.specs.Columns.{same_kind, has_kind as has_kind_of, is_bound as is_bound_in, same_columns as same_columns_of, have_kinds as have_kinds_of, follow as follow_of, kind_at as kind_in, same_kind_at as same_kind_in, some_of, agg_kind, has_name, keep_names as keep_names_of};
+ghost use Rattle.tick_model.specs.Operators.{columns_fit as columns_fit_of};
 
 use crate::kinds::{
     is_bound, is_test_bound, kind_at, kind_of, kinds_meet, long_alone, same_kind, test_fits,
@@ -26,7 +28,7 @@ trait KindOver {
 }
 
 impl KindOver for Expr {
-    ghost use Rattle.tick_model.specs.Plans.{kind_of, kinds_of};
+    ghost use Rattle.tick_model.specs.Columns.{kind_of, kinds_of};
 
     ghost kind_by = { λ input expr. kind_of expr (kinds_of input) };
 
@@ -36,7 +38,7 @@ impl KindOver for Expr {
 }
 
 impl KindOver for u32 {
-    ghost use Rattle.tick_model.specs.Plans.{kind_at};
+    ghost use Rattle.tick_model.specs.Columns.{kind_at};
 
     ghost kind_by = { kind_at };
 
@@ -46,7 +48,7 @@ impl KindOver for u32 {
 }
 
 impl KindOver for Agg {
-    ghost use Rattle.tick_model.specs.Plans.{agg_kind};
+    ghost use Rattle.tick_model.specs.Columns.{agg_kind};
 
     ghost kind_by = { agg_kind };
 
@@ -76,7 +78,7 @@ fn is_same_column(column: &ColumnSpec, other: &ColumnSpec) -> bool
     column.name.as_str() == other.name.as_str() && same_kind(column.kind, other.kind)
 }
 
-fn same_columns(columns: &[ColumnSpec], others: &[ColumnSpec]) -> bool
+pub(crate) fn same_columns(columns: &[ColumnSpec], others: &[ColumnSpec]) -> bool
     ensures { result ≡ same_columns_of columns.now others.now }
 {
     for (i, column) in columns.iter().enumerate() {
@@ -109,7 +111,7 @@ fn have_kinds<T: KindOver>(columns: &[ColumnSpec], items: &[T], input: &[ColumnS
 }
 
 /// Whether the columns are those of an input, followed by one for each item, of its kind over another input.
-fn follow<T: KindOver>(
+pub(crate) fn follow<T: KindOver>(
     columns: &[ColumnSpec],
     input: &[ColumnSpec],
     items: &[T],
@@ -125,7 +127,12 @@ fn follow<T: KindOver>(
 }
 
 /// Whether the columns are one for each key column, and then one for each aggregate.
-fn are_of_groups(columns: &[ColumnSpec], by: &[u32], aggs: &[Agg], input: &[ColumnSpec]) -> bool
+pub(crate) fn are_of_groups(
+    columns: &[ColumnSpec],
+    by: &[u32],
+    aggs: &[Agg],
+    input: &[ColumnSpec],
+) -> bool
     ensures { result ≡ have_kinds_of columns.now (map (kind_in input.now) by.now ++ map (agg_kind input.now) aggs.now) }
 {
     if columns.len() < by.len() {
@@ -146,7 +153,7 @@ fn has_name_at(name: &Name, input: &[ColumnSpec], place: u32) -> bool
 }
 
 /// Whether the columns begin with the key columns of the input, by their names.
-fn keep_names(columns: &[ColumnSpec], input: &[ColumnSpec], by: &[u32]) -> bool
+pub(crate) fn keep_names(columns: &[ColumnSpec], input: &[ColumnSpec], by: &[u32]) -> bool
     ensures { result ≡ keep_names_of columns.now input.now by.now }
 {
     by.iter()
@@ -154,13 +161,13 @@ fn keep_names(columns: &[ColumnSpec], input: &[ColumnSpec], by: &[u32]) -> bool
         .all(|(place, column)| has_name_at(&column.name, input, *place))
 }
 
-fn has_members<T>(items: &[T]) -> bool
+pub(crate) fn has_members<T>(items: &[T]) -> bool
     ensures { result ≡ some_of items.now }
 {
     !items.is_empty()
 }
 
-fn are_bound(exprs: &[Expr]) -> bool
+pub(crate) fn are_bound(exprs: &[Expr]) -> bool
     ensures { result ≡ list_all is_bound_in exprs.now }
 {
     for expr in exprs {
@@ -177,7 +184,7 @@ fn is_pair_of_kind(left: &[ColumnSpec], right: &[ColumnSpec], pair: OnPair) -> b
     kinds_meet(kind_at(left, pair.left), kind_at(right, pair.right), false)
 }
 
-fn are_pairs_of_kind(left: &[ColumnSpec], right: &[ColumnSpec], on: &[OnPair]) -> bool
+pub(crate) fn are_pairs_of_kind(left: &[ColumnSpec], right: &[ColumnSpec], on: &[OnPair]) -> bool
     ensures { result ≡ list_all (same_kind_in left.now right.now) on.now }
 {
     for pair in on {
@@ -188,7 +195,7 @@ fn are_pairs_of_kind(left: &[ColumnSpec], right: &[ColumnSpec], on: &[OnPair]) -
     true
 }
 
-fn are_columns(input: &[ColumnSpec], by: &[SortBy]) -> bool
+pub(crate) fn are_columns(input: &[ColumnSpec], by: &[SortBy]) -> bool
     ensures { result ≡ list_all (λ sort. is_some (kind_in input.now sort.column)) by.now }
 {
     for sort in by {
@@ -209,7 +216,7 @@ pub fn columns_at(nodes: &[Node], node: u32) -> &[ColumnSpec]
     }
 }
 
-fn are_of_each(columns: &[ColumnSpec], nodes: &[Node], inputs: &[u32]) -> bool
+pub(crate) fn are_of_each(columns: &[ColumnSpec], nodes: &[Node], inputs: &[u32]) -> bool
     ensures { result ≡ list_all (λ from. same_columns_of columns.now (columns_in nodes.now from)) inputs.now }
 {
     for input in inputs {
@@ -220,89 +227,8 @@ fn are_of_each(columns: &[ColumnSpec], nodes: &[Node], inputs: &[u32]) -> bool
     true
 }
 
-fn is_long(input: &[ColumnSpec], column: u32) -> bool
+pub(crate) fn is_long(input: &[ColumnSpec], column: u32) -> bool
     ensures { result ≡ has_kind_of Kind.Long (kind_in input.now column) }
 {
     has_kind(Kind::Long, kind_at(input, column))
-}
-
-fn as_of_columns_fit(
-    columns: &[ColumnSpec],
-    left: &[ColumnSpec],
-    right: &[ColumnSpec],
-    on: &[OnPair],
-    at: OnPair,
-    taken: &[u32],
-) -> bool
-    ensures { result ≡ (some_of taken.now && list_all (same_kind_in left.now right.now) on.now && has_kind_of Kind.Long (kind_in left.now at.left) && has_kind_of Kind.Long (kind_in right.now at.right) && follow_of columns.now left.now (map (kind_in right.now) taken.now)) }
-{
-    has_members(taken)
-        && are_pairs_of_kind(left, right, on)
-        && is_long(left, at.left)
-        && is_long(right, at.right)
-        && follow(columns, left, taken, right)
-}
-
-/// Whether the columns of a node are those of its operator over the columns of its inputs.
-pub fn columns_fit(op: &Op, nodes: &[Node], columns: &[ColumnSpec]) -> bool
-    ensures { result ≡ columns_fit_of op.now (columns_in nodes.now) columns.now }
-{
-    match op {
-        Op::Source => true,
-        Op::Keep { input, test } => {
-            let input = columns_at(nodes, *input);
-            same_columns(columns, input) && test_fits(test, input) && is_test_bound(test)
-        }
-        Op::View { input, exprs } => {
-            let input = columns_at(nodes, *input);
-            let exprs = exprs.as_slice();
-            has_members(exprs) && are_bound(exprs) && follow(columns, input, exprs, input)
-        }
-        Op::Join {
-            left,
-            right,
-            on,
-            take,
-            choice: _,
-        } => {
-            let left = columns_at(nodes, *left);
-            let right = columns_at(nodes, *right);
-            let taken = take.as_slice();
-            has_members(on.as_slice())
-                && has_members(taken)
-                && are_pairs_of_kind(left, right, on.as_slice())
-                && follow(columns, left, taken, right)
-        }
-        Op::Agg { input, by, aggs } => {
-            let input = columns_at(nodes, *input);
-            has_members(aggs.as_slice())
-                && are_of_groups(columns, by.as_slice(), aggs.as_slice(), input)
-                && keep_names(columns, input, by.as_slice())
-        }
-        Op::Merge { inputs } => {
-            FEWEST_INPUTS <= inputs.len()
-                && inputs.len() <= MOST_INPUTS
-                && are_of_each(columns, nodes, inputs.as_slice())
-        }
-        Op::Sort { input, by } => {
-            let input = columns_at(nodes, *input);
-            has_members(by.as_slice())
-                && same_columns(columns, input)
-                && are_columns(input, by.as_slice())
-        }
-        Op::Head { input, rows } | Op::Tail { input, rows } => {
-            same_columns(columns, columns_at(nodes, *input)) && *rows <= MOST_ROWS
-        }
-        Op::AsOf {
-            left,
-            right,
-            on,
-            at,
-            take,
-        } => {
-            let left = columns_at(nodes, *left);
-            let right = columns_at(nodes, *right);
-            as_of_columns_fit(columns, left, right, on.as_slice(), *at, take.as_slice())
-        }
-    }
 }

@@ -1,7 +1,7 @@
 //! Kinds of columns and formulas.
 
 ghost use Rattle.std.specs.Prelude.{◌≡◌, map, slice_get};
-ghost use Rattle.tick_model.specs.Plans.{same_kind as same_kind_of, long_alone as long_alone_of, both_long as both_long_of, kind_of as kind_over, is_null_alone as is_null_alone_in, kinds_meet as kinds_meet_of, test_fits as test_fits_over, is_bound as is_bound_in, is_test_bound as is_test_bound_in};
+ghost use Rattle.tick_model.specs.Columns.{same_kind as same_kind_of, long_alone as long_alone_of, both_long as both_long_of, kind_of as kind_over, is_null_alone as is_null_alone_in, kinds_meet as kinds_meet_of, test_fits as test_fits_over, is_bound as is_bound_in, is_test_bound as is_test_bound_in};
 
 use crate::plan::{ColumnSpec, Expr, Kind, Pred};
 

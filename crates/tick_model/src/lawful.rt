@@ -2,16 +2,16 @@
 
 ghost use Rattle.std.specs.Prelude.{◌≡◌, ◌==◌, ◌&&◌, ◌^◌, map, length, not, nat_lt, nat_le};
 ghost use Rattle.std.specs.List.{list_all, enumerate_from};
-ghost use Rattle.tick_model.specs.Evaluation.{inputs_of};
+ghost use Rattle.tick_model.specs.Operators.{inputs_of, columns_fit as columns_fit_of};
 ghost use Rattle.tick_model.specs.Names.{is_name as is_name_of, are_distinct as are_distinct_names};
-ghost use Rattle.tick_model.specs.Plans.{columns_fit as columns_fit_of, columns_at as columns_in, key_bounds, node_lawful, publication_lawful, number_distinct, rises as rises_in, published_words as words_of, is_lawful};
+ghost use Rattle.tick_model.specs.Plans.{columns_at as columns_in, key_bounds, node_lawful, publication_lawful, number_distinct, rises as rises_in, published_words as words_of, is_lawful};
 
 use crate::bounds::have_key_space;
-use crate::columns::{columns_at, columns_fit};
+use crate::columns::columns_at;
 use crate::items::Items;
 use crate::limits::{MOST_COLUMNS, MOST_NODES, MOST_ROWS, MOST_WORDS};
 use crate::names::{Named, are_distinct, is_name};
-use crate::plan::{ColumnSpec, Node, Op, Plan, Published};
+use crate::plan::{ColumnSpec, Node, Plan, Published};
 use crate::published::published_words;
 
 fn have_names(columns: &[ColumnSpec]) -> bool
@@ -45,28 +45,11 @@ fn are_lesser(inputs: &[u32], number: usize) -> bool
     true
 }
 
-fn has_lesser_inputs(op: &Op, number: usize) -> bool
-    ensures { result ≡ list_all (λ input. nat_lt input number) (inputs_of op.now) }
-{
-    match op {
-        Op::Source => true,
-        Op::Keep { input, .. }
-        | Op::View { input, .. }
-        | Op::Agg { input, .. }
-        | Op::Sort { input, .. }
-        | Op::Head { input, .. }
-        | Op::Tail { input, .. } => (*input as usize) < number,
-        Op::Join { left, right, .. } | Op::AsOf { left, right, .. } => {
-            (*left as usize) < number && (*right as usize) < number
-        }
-        Op::Merge { inputs } => are_lesser(inputs.as_slice(), number),
-    }
-}
-
 fn has_lawful_op(nodes: &[Node], number: usize, node: &Node) -> bool
     ensures { result ≡ (list_all (λ input. nat_lt input number) (inputs_of node.now.op) && columns_fit_of node.now.op (columns_in nodes.now) node.now.columns) }
 {
-    has_lesser_inputs(&node.op, number) && columns_fit(&node.op, nodes, node.columns.as_slice())
+    are_lesser(node.op.inputs().as_slice(), number)
+        && node.op.columns_fit(nodes, node.columns.as_slice())
 }
 
 fn is_node_lawful(nodes: &[Node], number: usize, node: &Node) -> bool

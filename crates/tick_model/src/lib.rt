@@ -12,6 +12,7 @@ pub mod lawful;
 pub mod limits;
 pub mod name;
 pub mod names;
+pub mod operators;
 pub mod plan;
 pub mod published;
 pub mod sources;

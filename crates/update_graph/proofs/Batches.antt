@@ -14,10 +14,9 @@ use Rattle.tick_model.specs.declared.feed.Batch.{Batch}
 use Rattle.tick_model.specs.declared.feed.Run.{Run}
 use Rattle.tick_model.specs.declared.plan.Node.{Node}
 use Rattle.tick_model.specs.declared.table.PlainTable.{PlainTable}
-use Rattle.tick_model.specs.Evaluation.{no_table}
+use Rattle.tick_model.specs.Tables.{no_table, keys}
 use Rattle.tick_model.specs.LawfulRuns.{IsLawfulRun, sources_of}
 use Rattle.tick_model.specs.Sources.{after_blocks, batch_fault, blocks_fault, blocks_of, new_table, no_tick, opened, source_ticks, sources, tick_at, unchanged}
-use Rattle.tick_model.specs.Tables.{keys}
 use Rattle.tick_model.specs.Updates.{Tick}
 use Rattle.tick_table.specs.Exact.{ticking}
 use Rattle.tick_table.specs.Ticking.{Ticking}

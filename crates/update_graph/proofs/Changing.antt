@@ -10,10 +10,9 @@ use Rattle.std.proofs.lemmas.Slice.Zip.{get_or-zip, length-zip}
 use Rattle.merge_op.specs.Merged.{news, tables}
 use Rattle.tick_model.specs.declared.table.PlainTable.{PlainTable}
 use Rattle.tick_model.specs.Changes.{Change, change_of, told_keys}
-use Rattle.tick_model.specs.Evaluation.{no_table}
+use Rattle.tick_model.specs.Tables.{no_table, keys}
 use Rattle.tick_model.specs.Rules.{update_fault}
 use Rattle.tick_model.specs.Sources.{no_tick}
-use Rattle.tick_model.specs.Tables.{keys}
 use Rattle.tick_model.specs.Updates.{IsTick, Tick}
 use Rattle.tick_table.specs.Exact.{ticking}
 use Rattle.tick_table.specs.Ticking.{Ticking}

@@ -8,7 +8,8 @@ use Rattle.graph_words.specs.declared.graph.Plan.{Plan}
 use Rattle.graph_words.specs.Marks.{inputs}
 use Rattle.tick_model.specs.declared.feed.Run.{Run}
 use Rattle.tick_model.specs.declared.plan.Node.{Node}
-use Rattle.tick_model.specs.Evaluation.{inputs_of, is_source}
+use Rattle.tick_model.specs.Evaluation.{is_source}
+use Rattle.tick_model.specs.Operators.{inputs_of}
 use Rattle.update_graph.specs.Crews.{StepView}
 use Rattle.update_graph.specs.Edges.{edges_of, froms_to}
 use Rattle.update_graph.specs.Entered.{IsEntered}

@@ -6,11 +6,12 @@ use Rattle.tick_model.specs.declared.feed.Run.{Run}
 use Rattle.tick_model.specs.declared.plan.Node.{Node}
 use Rattle.tick_model.specs.declared.plan.Op.{Op}
 use Rattle.tick_model.specs.declared.table.PlainTable.{PlainTable}
-use Rattle.tick_model.specs.Evaluation.{applied, fault_of, has_table, inputs_of, is_source, no_table, outcome_at, outcome_of, result, source_number, table_at, table_of}
+use Rattle.tick_model.specs.Evaluation.{applied, has_table, is_source, outcome_at, outcome_of, source_number, table_at, table_of}
+use Rattle.tick_model.specs.Operators.{fault_of, inputs_of, result, kept_by}
+use Rattle.tick_model.specs.Tables.{no_table, IsTable}
 use Rattle.tick_model.specs.LawfulRuns.{IsLawfulRun}
 use Rattle.tick_model.specs.Sources.{no_tick, opened, source_ticks, sources, tick_at}
-use Rattle.tick_model.specs.States.{empty_at, kept_by, state, tick, tick_of, ticks}
-use Rattle.tick_model.specs.Tables.{IsTable}
+use Rattle.tick_model.specs.States.{empty_at, state, tick, tick_of, ticks}
 use Rattle.tick_model.specs.Updates.{IsTick, Tick}
 use Rattle.key_lists.proofs.Every.{every_weaker}
 use Rattle.tick_laws.specs.Operated.{operated}

@@ -12,7 +12,8 @@ use Rattle.tick_laws.specs.Operated.{EachInput}
 use Rattle.tick_laws.proofs.ReachedTables.{lesser_inputs}
 use Rattle.tick_model.specs.declared.feed.Run.{Run}
 use Rattle.tick_model.specs.declared.table.PlainTable.{PlainTable}
-use Rattle.tick_model.specs.Evaluation.{inputs_of, is_source, result}
+use Rattle.tick_model.specs.Evaluation.{is_source}
+use Rattle.tick_model.specs.Operators.{inputs_of, result}
 use Rattle.tick_model.specs.LawfulRuns.{IsLawfulRun}
 use Rattle.tick_model.specs.Plans.{columns_at, key_bounds}
 use Rattle.tick_model.specs.States.{empty_at}

@@ -17,9 +17,10 @@ use Rattle.tick_model.specs.declared.plan.ColumnSpec.{ColumnSpec}
 use Rattle.tick_model.specs.declared.plan.Node.{Node}
 use Rattle.tick_model.specs.declared.plan.Op.{Op}
 use Rattle.tick_model.specs.declared.plan.Op.TheVariants.{Source, Keep, View, Join, Agg, Merge, Sort, Head, Tail, AsOf}
-use Rattle.tick_model.specs.Evaluation.{inputs_of}
+use Rattle.tick_model.specs.Operators.{inputs_of, columns_fit}
 use Rattle.tick_model.specs.LawfulRuns.{IsLawfulRun}
-use Rattle.tick_model.specs.Plans.{columns_at, columns_fit, same_columns}
+use Rattle.tick_model.specs.Plans.{columns_at}
+use Rattle.tick_model.specs.Columns.{same_columns}
 use Rattle.update_graph.specs.Edges.{edges_from, edges_of, froms_to, input_edges}
 use Rattle.update_graph.specs.Tags.{is_operator, no_node, node_at, op_at}
 use Rattle.update_graph.proofs.PlanLimits.{few_nodes}

@@ -7,7 +7,8 @@ use Rattle.tick_model.specs.declared.feed.Run.{Run}
 use Rattle.tick_model.specs.declared.plan.Op.{Op}
 use Rattle.tick_model.specs.declared.table.PlainTable.{PlainTable}
 use Rattle.tick_model.specs.Changes.{Change, change_of, is_empty, told_keys}
-use Rattle.tick_model.specs.Evaluation.{fault_of, inputs_of, is_source, table_at}
+use Rattle.tick_model.specs.Evaluation.{is_source, table_at}
+use Rattle.tick_model.specs.Operators.{fault_of, inputs_of}
 use Rattle.tick_model.specs.Sources.{unchanged}
 use Rattle.tick_model.specs.States.{state, tick}
 use Rattle.tick_model.specs.Tables.{IsTable, cells_at}

@@ -15,7 +15,8 @@ use Rattle.tick_model.specs.declared.plan.Op.{Op}
 use Rattle.tick_model.specs.declared.table.NodeFault.{NodeFault}
 use Rattle.tick_model.specs.declared.table.PlainTable.{PlainTable}
 use Rattle.tick_model.specs.Changes.{Change, change_of}
-use Rattle.tick_model.specs.Evaluation.{Outcome, Fault, NoInput, applied, fault_of, has_table, inputs_of, is_source, or_fault, outcome_at, result, table_at}
+use Rattle.tick_model.specs.Evaluation.{Outcome, Fault, NoInput, applied, has_table, is_source, or_fault, outcome_at, table_at}
+use Rattle.tick_model.specs.Operators.{fault_of, inputs_of, result}
 use Rattle.tick_model.specs.Plans.{columns_at, key_bounds}
 use Rattle.tick_model.specs.States.{state, tick}
 use Rattle.tick_model.specs.Updates.{Tick}

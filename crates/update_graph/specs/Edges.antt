@@ -11,7 +11,7 @@ use Rattle.std.specs.Global.{Vec}
 use Rattle.graph_words.specs.declared.graph.Edge.{Edge}
 use Rattle.tick_model.specs.declared.plan.Node.{Node}
 use Rattle.tick_model.specs.declared.plan.Plan.{Plan}
-use Rattle.tick_model.specs.Evaluation.{inputs_of}
+use Rattle.tick_model.specs.Operators.{inputs_of}
 
 abbrev pub input_edges : ℕ → ℕ → List ℕ → List Edge
 input_edges node port [] = []

@@ -29,7 +29,8 @@ use Rattle.tick_laws.specs.Operated.{operated}
 use Rattle.tick_model.specs.declared.feed.Run.{Run}
 use Rattle.tick_model.specs.declared.table.PlainTable.{PlainTable}
 use Rattle.tick_model.specs.Changes.{change_of, is_empty}
-use Rattle.tick_model.specs.Evaluation.{Fault, NoInput, has_table, inputs_of, outcome_at, source_number, table_at}
+use Rattle.tick_model.specs.Evaluation.{Fault, NoInput, has_table, outcome_at, source_number, table_at}
+use Rattle.tick_model.specs.Operators.{inputs_of}
 use Rattle.tick_model.specs.States.{state, tick}
 use Rattle.tick_model.specs.Updates.{Update}
 use Rattle.tick_table.specs.Exact.{counted, ticking}

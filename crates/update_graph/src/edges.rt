@@ -4,7 +4,7 @@ ghost use Rattle.std.specs.Prelude.{◌≡◌, ◌∷◌, [], ◌+◌, ◌++◌,
 ghost use mathlib.Core.Option.{some};
 ghost use lib.ListN.{get_elem?};
 ghost use Rattle.graph_words.specs.declared.graph.Edge.{Edge};
-ghost use Rattle.tick_model.specs.Evaluation.{inputs_of as inputs_in};
+ghost use Rattle.tick_model.specs.Operators.{inputs_of as inputs_in};
 ghost use Rattle.tick_model.specs.LawfulRuns.{IsLawfulRun};
 ghost use Rattle.update_graph.specs.Edges.{comes_from, edges_of, goes_to, input_edges, numbers_at, numbers_of};
 

@@ -4,7 +4,7 @@ ghost use Rattle.std.specs.Prelude.{◌≡◌, ◌+◌, ◌<◌, ◌≤◌, IfOk
 ghost use Rattle.std.specs.List.{AllByRecursion};
 ghost use Rattle.merge_op.specs.Merged.{tables};
 ghost use Rattle.operators.specs.Planned.{input_widths};
-ghost use Rattle.tick_model.specs.Evaluation.{inputs_of as inputs_in};
+ghost use Rattle.tick_model.specs.Operators.{inputs_of as inputs_in};
 ghost use Rattle.tick_model.specs.LawfulRuns.{IsLawfulRun};
 ghost use Rattle.tick_model.specs.Plans.{columns_at};
 ghost use Rattle.tick_model.specs.States.{empty_at};

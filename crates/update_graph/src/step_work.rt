@@ -8,7 +8,7 @@ ghost use Rattle.graph_words.specs.declared.table.Mark.TheVariants.{Unmarked, Pu
 ghost use Rattle.graph_words.specs.Marks.{at};
 ghost use Rattle.graph_words.specs.Seats.{AtEdge, Has, IsSeatOf};
 ghost use Rattle.steal_workers.specs.Lists.{IsListed};
-ghost use Rattle.tick_model.specs.Evaluation.{inputs_of};
+ghost use Rattle.tick_model.specs.Operators.{inputs_of};
 ghost use Rattle.update_graph.specs.Edges.{edges_of};
 ghost use Rattle.update_graph.specs.Entered.{IsEntered};
 ghost use Rattle.update_graph.specs.Stands.{Follows};

@@ -9,7 +9,7 @@ ghost use Rattle.graph_words.specs.Marks.{at};
 ghost use Rattle.graph_words.specs.Rule.{IsGiven};
 ghost use Rattle.graph_words.specs.Seats.{Has, IsSeatOf};
 ghost use Rattle.steal_workers.specs.Holdings.{IsNew};
-ghost use Rattle.tick_model.specs.Evaluation.{inputs_of};
+ghost use Rattle.tick_model.specs.Operators.{inputs_of};
 ghost use Rattle.update_graph.specs.Edges.{froms_to};
 ghost use Rattle.update_graph.specs.Holdings.{IsForStep};
 ghost use Rattle.update_graph.specs.Steps.{IsBegun, IsTaking};

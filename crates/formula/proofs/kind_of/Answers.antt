@@ -1,6 +1,6 @@
 use Rattle.std.proofs.Common.{refl, ap, ◌∙◌}
 use Rattle.key_lists.proofs.Every.{every, map_own}
-use Rattle.tick_model.specs.Plans.{kind_of as kind_over}
+use Rattle.tick_model.specs.Columns.{kind_of as kind_over}
 use Rattle.formula.proofs.kind_of.Goals as goal
 
 pub returns : goal.returns

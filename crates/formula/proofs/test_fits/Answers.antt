@@ -1,6 +1,6 @@
 use Rattle.std.proofs.Common.{refl, ap, ◌∙◌}
 use Rattle.key_lists.proofs.Every.{every, map_own}
-use Rattle.tick_model.specs.Plans.{test_fits as test_fits_over}
+use Rattle.tick_model.specs.Columns.{test_fits as test_fits_over}
 use Rattle.formula.proofs.test_fits.Goals as goal
 
 pub returns : goal.returns

@@ -8,7 +8,7 @@ use Rattle.tick_model.specs.Tables.{IsTable, keys}
 use Rattle.tick_model.specs.Shifts.{composed}
 use Rattle.tick_model.specs.Updates.{Tick, IsTick, Update, between, pairs}
 use Rattle.tick_model.specs.Changes.{change_of, changed}
-use Rattle.tick_model.specs.Evaluation.{result}
+use Rattle.tick_model.specs.Operators.{result}
 use Rattle.tick_laws.specs.Room.{HasRoom}
 use Rattle.tick_laws.proofs.ComposedThrice.{composed-associative}
 use Rattle.tick_laws.proofs.ResultTables.{result_table}

@@ -1,5 +1,5 @@
 -- The text of runs: updates, quoted fields, snapshots and the summary.
-use Rattle.std.proofs.Common.{◌≡◌, refl, ℕ, List, [], ◌∷◌, ◌++◌, pos, ℤ}
+use Rattle.std.proofs.Common.{◌≡◌, refl, ℕ, List, [], ◌∷◌, ◌++◌, pos}
 use Rattle.std.specs.Prelude.{codes, length}
 use Rattle.std.specs.Fmt.{digits}
 use Rattle.tick_model.specs.declared.feed.Run.{Run}
@@ -12,8 +12,7 @@ use Rattle.tick_model.specs.declared.plan.Op.{Op}
 use Rattle.tick_model.specs.declared.plan.Op.TheVariants.{Source, Keep}
 use Rattle.tick_model.specs.declared.plan.Plan.{Plan}
 use Rattle.tick_model.specs.declared.plan.Pred.{Compare}
-use Rattle.tick_model.specs.Tables.{null}
-use Rattle.tick_model.specs.Texts.{record_text, updates_text, updates_records, snapshots_text, summary_text}
+use Rattle.tick_model.specs.Texts.{updates_text, updates_records, snapshots_text, summary_text}
 use Rattle.tick_model.proofs.Examples.Rows.{a, r, s, t, step_of, empty}
 
 -- a line of text: the codes and a line feed

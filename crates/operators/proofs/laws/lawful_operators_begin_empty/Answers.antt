@@ -1,5 +1,5 @@
 use Rattle.std.proofs.Common.{◌∙◌, ap, sym}
-use Rattle.tick_model.specs.Evaluation.{inputs_of}
+use Rattle.tick_model.specs.Operators.{inputs_of}
 use Rattle.tick_model.specs.States.{empty_at}
 use Rattle.tick_table.specs.Ticking.{no_rows}
 use Rattle.operators.specs.Planned.{input_widths, op_at}

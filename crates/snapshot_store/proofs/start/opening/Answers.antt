@@ -5,7 +5,7 @@ use Rattle.std.specs.declared.alloc.Global.{Global}
 use Rattle.std.specs.declared.sync.Arc.{Arc}
 use Rattle.std.proofs.lemmas.List.{length-map}
 use Rattle.tick_model.specs.declared.table.PlainTable.{PlainTable}
-use Rattle.tick_model.specs.Evaluation.{no_table}
+use Rattle.tick_model.specs.Tables.{no_table}
 use Rattle.tick_model.specs.Words.{words}
 use Rattle.tick_table.specs.Ticking.{Ticking}
 use Rattle.snapshot_store.specs.Lines.{count, size, total, total_in}

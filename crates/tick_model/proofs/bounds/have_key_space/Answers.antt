@@ -7,7 +7,7 @@ use Rattle.tick_model.proofs.bounds.have_key_space.Goals as goal
 
 pub returns-then-bound-from : goal.returns-then-bound-from
 returns-then-bound-from c =
-    sym (bound_fails (2 ^ 62) c.args.nodes.now c.loop-i.i c.index-nodes-i.result (take c.loop-i.i c.loop-i.bounds) c.bound_of-bound.result c.loop-i-test.true c.index-nodes-i.is c.loop-i.invariant.0 c.bound_of-bound.ensures (omega arith))
+    sym (bound_fails (2 ^ 62) c.args.nodes.now c.loop-i.i c.index-nodes-i.result (take c.loop-i.i c.loop-i.bounds) c.bound-bound.result c.loop-i-test.true c.index-nodes-i.is c.loop-i.invariant.0 c.bound-bound.ensures (omega arith))
 
 pub returns : goal.returns
 returns c =

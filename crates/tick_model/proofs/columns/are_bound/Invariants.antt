@@ -1,6 +1,6 @@
 use Rattle.std.proofs.Common.{◌≡◌, drop}
 use Rattle.std.specs.List.{list_all}
-use Rattle.tick_model.specs.Plans.{is_bound}
+use Rattle.tick_model.specs.Columns.{is_bound}
 use Rattle.tick_model.proofs.columns.are_bound.Given as goal
 
 abbrev pub invariant-loop-expr : goal.invariant-loop-expr

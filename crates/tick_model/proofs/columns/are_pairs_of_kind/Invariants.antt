@@ -1,6 +1,6 @@
 use Rattle.std.proofs.Common.{◌≡◌, drop}
 use Rattle.std.specs.List.{list_all}
-use Rattle.tick_model.specs.Plans.{same_kind_at}
+use Rattle.tick_model.specs.Columns.{same_kind_at}
 use Rattle.tick_model.proofs.columns.are_pairs_of_kind.Given as goal
 
 abbrev pub invariant-loop-pair : goal.invariant-loop-pair

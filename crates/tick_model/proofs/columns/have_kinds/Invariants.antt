@@ -1,5 +1,5 @@
 use Rattle.std.proofs.Common.{◌≡◌, ◌≤◌, length, map, drop}
-use Rattle.tick_model.specs.Plans.{have_kinds}
+use Rattle.tick_model.specs.Columns.{have_kinds}
 use Rattle.tick_model.proofs.columns.have_kinds.Given as goal
 
 abbrev pub invariant-loop-i : goal.invariant-loop-i

@@ -1,5 +1,5 @@
 use Rattle.std.proofs.Common.{◌≡◌, ◌≤◌, length, drop}
-use Rattle.tick_model.specs.Plans.{same_columns}
+use Rattle.tick_model.specs.Columns.{same_columns}
 use Rattle.tick_model.proofs.columns.same_columns.Given as goal
 
 abbrev pub invariant-loop-i : goal.invariant-loop-i

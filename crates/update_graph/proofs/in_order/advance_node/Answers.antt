@@ -3,7 +3,7 @@ use Rattle.std.specs.List.{AllByRecursion}
 use Rattle.std.proofs.lemmas.List.{get_or_default}
 use Rattle.tick_laws.specs.Reached.{table_before}
 use Rattle.tick_model.specs.declared.plan.Node.{Node}
-use Rattle.tick_model.specs.Evaluation.{inputs_of}
+use Rattle.tick_model.specs.Operators.{inputs_of}
 use Rattle.update_graph.specs.declared.work.Ready.{Ready}
 use Rattle.update_graph.specs.Stands.{IsReady}
 use Rattle.update_graph.specs.Tags.{no_node}

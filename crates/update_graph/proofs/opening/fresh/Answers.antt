@@ -7,7 +7,8 @@ use Rattle.operators.specs.Making.{CanBeMade}
 use Rattle.operators.specs.Operating.{Operating, StandsFor}
 use Rattle.operators.specs.Planned.{input_widths}
 use Rattle.tick_model.specs.declared.plan.Op.{Op}
-use Rattle.tick_model.specs.Evaluation.{inputs_of, is_source}
+use Rattle.tick_model.specs.Evaluation.{is_source}
+use Rattle.tick_model.specs.Operators.{inputs_of}
 use Rattle.tick_model.specs.Plans.{columns_at}
 use Rattle.tick_table.specs.Ticking.{Ticking, no_rows}
 use Rattle.update_graph.specs.Stands.{HasStepped}

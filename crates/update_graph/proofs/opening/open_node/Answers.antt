@@ -2,7 +2,7 @@ use Rattle.std.proofs.Common.{ap, sym, ◌∙◌, subst, ◌<◌, length, get_or
 use Rattle.std.specs.List.{AllByRecursion}
 use Rattle.std.proofs.lemmas.List.{get_or_default}
 use Rattle.tick_model.specs.declared.plan.Node.{Node}
-use Rattle.tick_model.specs.Evaluation.{inputs_of}
+use Rattle.tick_model.specs.Operators.{inputs_of}
 use Rattle.update_graph.specs.Tags.{no_node, op_at}
 use Rattle.update_graph.proofs.EnteredTicks.{lesser}
 use Rattle.update_graph.proofs.Sweeping.{length-tags}

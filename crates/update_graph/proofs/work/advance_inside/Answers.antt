@@ -4,7 +4,8 @@ use Rattle.operators.specs.Inputs.{IsCause}
 use Rattle.operators.specs.Operating.{StandsFor}
 use Rattle.std.specs.Prelude.{option_map}
 use Rattle.std.specs.declared.sync.Arc.{Arc}
-use Rattle.tick_model.specs.Evaluation.{fault_of, has_table, is_source}
+use Rattle.tick_model.specs.Evaluation.{has_table, is_source}
+use Rattle.tick_model.specs.Operators.{fault_of}
 use Rattle.tick_model.specs.States.{tick}
 use Rattle.tick_table.specs.Ticking.{Ticking}
 use Rattle.update_graph.specs.Stands.{AreHanded, HasStepped}

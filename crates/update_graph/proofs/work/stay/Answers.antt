@@ -2,7 +2,8 @@ use Rattle.std.proofs.Common.{ap, sym, ◌∙◌, subst, ◌+◌, arith, map}
 use Rattle.operators.specs.Operating.{Operating, StandsFor}
 use Rattle.std.specs.Arc.{arc_value}
 use Rattle.std.proofs.lemmas.Bool.{not-true}
-use Rattle.tick_model.specs.Evaluation.{inputs_of, is_source, table_at}
+use Rattle.tick_model.specs.Evaluation.{is_source, table_at}
+use Rattle.tick_model.specs.Operators.{inputs_of}
 use Rattle.tick_model.specs.States.{state}
 use Rattle.tick_table.specs.Ticking.{Ticking}
 use Rattle.update_graph.specs.Stands.{HasStepped}

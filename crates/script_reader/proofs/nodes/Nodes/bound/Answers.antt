@@ -1,6 +1,6 @@
 use Rattle.std.proofs.Common.{◌∙◌, ap}
 use Rattle.std.specs.Prelude.{slice_index}
-use Rattle.tick_model.specs.Plans.{bound_of}
+use Rattle.tick_model.specs.Operators.{bound_of}
 use Rattle.script_reader.proofs.nodes.Nodes.bound.Goals as goal
 
 pub returns : goal.returns

@@ -3,7 +3,8 @@ use Rattle.std.specs.Prelude.{slice_index}
 use Rattle.std.specs.List.{All}
 use Rattle.std.proofs.lemmas.List.Elements.{All-push}
 use Rattle.tick_model.specs.declared.plan.Node.{Node}
-use Rattle.tick_model.specs.Plans.{bound_of, key_bounds}
+use Rattle.tick_model.specs.Plans.{key_bounds}
+use Rattle.tick_model.specs.Operators.{bound_of}
 use Rattle.script_reader.specs.Checks.{names_of, with_text}
 use Rattle.script_reader.proofs.Placing.{room_for, named_more, bounded_more}
 use Rattle.script_reader.proofs.nodes.Nodes.with.Goals as goal

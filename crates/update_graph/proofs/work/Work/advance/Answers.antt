@@ -1,6 +1,7 @@
 use Rattle.std.proofs.Common.{ap, sym, ◌∙◌, subst, ◌+◌, ◌≤◌, map}
 use Rattle.std.proofs.lemmas.Bool.{not-true}
-use Rattle.tick_model.specs.Evaluation.{inputs_of, is_source}
+use Rattle.tick_model.specs.Evaluation.{is_source}
+use Rattle.tick_model.specs.Operators.{inputs_of}
 use Rattle.update_graph.specs.Stands.{all_defined, most_tried}
 use Rattle.update_graph.specs.Tags.{Kept, node_at, op_at, tag}
 use Rattle.update_graph.proofs.StepInputs.{tried_is}

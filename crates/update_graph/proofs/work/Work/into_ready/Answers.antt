@@ -1,7 +1,8 @@
 use Rattle.std.proofs.Common.{ap, sym, ◌∙◌, subst, true≢false, add-one, ◌≡◌, ◌+◌, None}
 use Rattle.std.proofs.lemmas.Bool.{not-true}
 use Rattle.tick_laws.specs.Reached.{table_before}
-use Rattle.tick_model.specs.Evaluation.{fault_of, has_table, is_source}
+use Rattle.tick_model.specs.Evaluation.{has_table, is_source}
+use Rattle.tick_model.specs.Operators.{fault_of}
 use Rattle.tick_model.specs.States.{tick}
 use Rattle.tick_table.specs.Exact.{IsExact}
 use Rattle.tick_table.proofs.ExactAgain.{exact_again}

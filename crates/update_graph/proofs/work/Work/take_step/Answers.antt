@@ -3,7 +3,7 @@ use Rattle.std.proofs.lemmas.Result.{IfOk-weaker}
 use Rattle.std.specs.List.{AllByRecursion}
 use Rattle.key_lists.proofs.Every.{every_unmapped}
 use Rattle.tick_laws.specs.Reached.{table_before}
-use Rattle.tick_model.specs.Evaluation.{inputs_of}
+use Rattle.tick_model.specs.Operators.{inputs_of}
 use Rattle.update_graph.specs.Stands.{IsReady, Stays}
 use Rattle.update_graph.specs.Tags.{Tag, op_at, tag}
 use Rattle.update_graph.specs.declared.work.Ready.{Ready}
