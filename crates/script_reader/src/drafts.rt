@@ -18,7 +18,6 @@ use script_lines::fault::LineFault;
 use script_lines::line::{Computed, Gathered, Making, Pair, Sorted, Test};
 use script_lines::token::Word;
 use std::alloc::{AllocError, Global};
-use tick_model::columns::columns_fit;
 use tick_model::items::Items;
 use tick_model::kinds::{kind_at, kind_of, kinds_meet, long_alone, same_kind, test_fits};
 use tick_model::plan::{Agg, Choice, ColumnSpec, Expr, Kind, OnPair, Op};
@@ -284,7 +283,7 @@ fn merged(alloc: Global, nodes: &Nodes, names: &[Word]) -> Result<Draft, LineFau
     let first = inputs.as_slice().first().copied().unwrap_or(0);
     let columns = nodes.columns(first);
     let op = Op::Merge { inputs };
-    let kinds_fit = columns_fit(&op, nodes.as_slice(), columns);
+    let kinds_fit = op.columns_fit(nodes.as_slice(), columns);
     Ok(Draft {
         op,
         columns: all_copied(alloc, columns)?,
