@@ -4,7 +4,7 @@ ghost use Rattle.std.specs.Prelude.{◌≡◌, ◌++◌, ◌∷◌, [], ◌^◌,
 ghost use Rattle.std.specs.List.{All};
 ghost use Rattle.tick_model.specs.Names.{is_one_of};
 ghost use Rattle.tick_model.specs.Plans.{columns_at, key_bounds};
-ghost use Rattle.tick_model.specs.Operators.{bound_of as bound_over};
+ghost use Rattle.tick_model.specs.Operators.{bound_of};
 ghost use Rattle.script_lines.specs.Answers.{Gives};
 ghost use Rattle.script_reader.specs.Checks.{node_named, names_of, broken as broken_of, or_broken};
 ghost use Rattle.script_reader.specs.Drafts.{shown};
@@ -17,7 +17,7 @@ use script_lines::fault::{LineFault, ScriptKind};
 use script_lines::token::Word;
 use std::alloc::{AllocError, Global};
 use tick_model::columns::columns_at;
-use tick_model::limits::{KEY_SPACE, MOST_COLUMNS, MOST_NODES, MOST_ROWS, SOURCE_KEYS};
+use tick_model::limits::{KEY_SPACE, MOST_COLUMNS, MOST_NODES};
 use tick_model::names::are_distinct;
 use tick_model::plan::{ColumnSpec, Node, Op};
 
@@ -31,42 +31,6 @@ pub(crate) struct Nodes {
     ghost named: { names ≡ names_of nodes.items },
     ghost bounded: { bounds.items ≡ key_bounds nodes.items },
     ghost roomy: { All (λ bound. bound < 2 ^ 62) bounds.items },
-}
-
-fn bound_at(bounds: &[u64], node: u32) -> u128
-    ensures { result ≡ slice_index bounds.now node }
-{
-    u128::from(bounds.get(node as usize).copied().unwrap_or(0))
-}
-
-/// The sum of the inputs' bounds, each counted as often as it is named.
-fn sum_of_bounds(bounds: &[u64], inputs: &[u32]) -> u128
-    requires { All (λ bound. bound < 2 ^ 62) bounds.now }
-    ensures { result ≡ sum (map (slice_index bounds.now) inputs.now) }
-{
-    let mut sum = 0u128;
-    for input in inputs {
-        sum += bound_at(bounds, *input);
-    }
-    sum
-}
-
-/// A number greater than each key of a node, from the bounds of the nodes before it.
-fn bound_of(op: &Op, bounds: &[u64]) -> u128
-    requires { All (λ bound. bound < 2 ^ 62) bounds.now }
-    ensures { result ≡ bound_over op.now (slice_index bounds.now) }
-{
-    match op {
-        Op::Source => u128::from(SOURCE_KEYS),
-        Op::Keep { input, .. }
-        | Op::View { input, .. }
-        | Op::Agg { input, .. }
-        | Op::Head { input, .. }
-        | Op::Tail { input, .. } => bound_at(bounds, *input),
-        Op::Join { left, .. } | Op::AsOf { left, .. } => bound_at(bounds, *left),
-        Op::Merge { inputs } => sum_of_bounds(bounds, inputs.as_slice()),
-        Op::Sort { .. } => u128::from(MOST_ROWS),
-    }
 }
 
 impl Nodes {
@@ -133,9 +97,9 @@ impl Nodes {
 
     /// The bound of a node behind these.
     fn bound(&self, op: &Op) -> u128
-        ensures { result ≡ bound_over op.now (slice_index (key_bounds self.now.nodes.items)) }
+        ensures { result ≡ bound_of op.now (slice_index (key_bounds self.now.nodes.items)) }
     {
-        bound_of(op, self.bounds.as_slice())
+        op.bound(self.bounds.as_slice())
     }
 
     /// The first rule that a node of this name would break.
@@ -174,7 +138,7 @@ impl Nodes {
             mut names,
             mut bounds,
         } = self;
-        let bound = bound_of(&op, bounds.as_slice()) as u64;
+        let bound = op.bound(bounds.as_slice()) as u64;
         bounds.push(bound)?;
         names.number(name.as_str())?;
         let name = owned(alloc, name.as_str())?;

@@ -4,7 +4,6 @@ ghost use Rattle.std.specs.Prelude.{◌≡◌, ◌∷◌, [], ◌+◌, ◌++◌,
 ghost use mathlib.Core.Option.{some};
 ghost use lib.ListN.{get_elem?};
 ghost use Rattle.graph_words.specs.declared.graph.Edge.{Edge};
-ghost use Rattle.tick_model.specs.Operators.{inputs_of as inputs_in};
 ghost use Rattle.tick_model.specs.LawfulRuns.{IsLawfulRun};
 ghost use Rattle.update_graph.specs.Edges.{comes_from, edges_of, goes_to, input_edges, numbers_at, numbers_of};
 
@@ -12,26 +11,6 @@ use graph_words::Edge;
 use std::alloc::{AllocError, Global};
 use std::marker::Model;
 use tick_model::feed::Run;
-use tick_model::plan::Op;
-
-/// The nodes that an operator reads.
-pub(crate) fn inputs_of(alloc: Global, op: &Op) -> Result<Vec<u32>, AllocError>
-    ensures { IfOk result (λ inputs. inputs.items ≡ inputs_in op.now) }
-{
-    match op {
-        Op::Source => Ok(Vec::new(alloc)),
-        Op::Keep { input, .. }
-        | Op::View { input, .. }
-        | Op::Agg { input, .. }
-        | Op::Sort { input, .. }
-        | Op::Head { input, .. }
-        | Op::Tail { input, .. } => [*input].to_vec(alloc),
-        Op::Join { left, right, .. } | Op::AsOf { left, right, .. } => {
-            [*left, *right].to_vec(alloc)
-        }
-        Op::Merge { inputs } => inputs.as_slice().to_vec(alloc),
-    }
-}
 
 /// Adds the edges from the inputs of a node.
 fn add_edges(edges: &mut Vec<Edge>, node: u32, inputs: &[u32]) -> Result<(), AllocError>
@@ -55,7 +34,7 @@ fn all_edges(alloc: Global, run: &Run) -> Result<Vec<Edge>, AllocError>
 {
     let mut edges = Vec::new(alloc);
     for (node, own) in run.plan.nodes.as_slice().iter().enumerate() {
-        let inputs = inputs_of(alloc, &own.op)?;
+        let inputs = own.op.inputs();
         add_edges(&mut edges, node as u32, inputs.as_slice())?;
     }
     Ok(edges)

@@ -15,7 +15,6 @@ ghost use Rattle.update_graph.specs.Sweeps.{IsSwept};
 ghost use Rattle.update_graph.specs.Tags.{is_operator, op_at};
 
 use crate::context::StepContext;
-use crate::edges::inputs_of;
 use crate::sweep::{Sweep, shares_for};
 use crate::work::{Ready, advance_inside};
 use new_counts::new_count;
@@ -47,9 +46,9 @@ fn widths_of(alloc: Global, run: &Run, op: &Op) -> Result<Vec<u32>, AllocError>
     requires inputs { AllByRecursion (λ input. input < length run.now.plan.nodes) (inputs_in op.now) }
     ensures { IfOk result (λ widths. widths.items ≡ input_widths run.now.plan op.now) }
 {
-    let inputs = inputs_of(alloc, op)?;
-    let mut widths = Vec::with_capacity(alloc, inputs.len())?;
+    let inputs = op.inputs();
     let inputs = inputs.as_slice();
+    let mut widths = Vec::with_capacity(alloc, inputs.len())?;
     for input in inputs {
         let width = width_of(run, *input);
         widths.push(width)?;

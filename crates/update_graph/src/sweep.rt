@@ -12,7 +12,6 @@ ghost use Rattle.update_graph.specs.Stands.{Stays};
 ghost use Rattle.update_graph.specs.Sweeps.{GrowsBy, IsSwept};
 ghost use Rattle.update_graph.specs.Tags.{is_operator, named, tag, tags};
 
-use crate::edges::inputs_of;
 use crate::shares::{Share, Shares};
 use crate::work::Work;
 use std::alloc::{AllocError, Global};
@@ -46,10 +45,9 @@ pub(crate) fn shares_for(
     ensures { IfOk result (λ handed. handed ≡ map (tag run.now step) (inputs_in op.now)) }
 {
     let _ = step;
-    let inputs = inputs_of(alloc, op)?;
     let mut handed = Shares::new(alloc);
-    let inputs = inputs.as_slice();
-    for input in inputs {
+    let inputs = op.inputs();
+    for input in inputs.as_slice() {
         let share = shares[*input as usize].copy(run)?;
         handed.push(share)?;
     }
@@ -73,19 +71,7 @@ pub(crate) fn inputs_stay(run: &Run, step: u64, op: &Op, shares: &[Share]) -> bo
     requires inputs { AllByRecursion (λ input. input < length shares.now) (inputs_in op.now) }
     ensures { result ≡ true → AllByRecursion (Stays run.now step) (inputs_in op.now) }
 {
-    match op {
-        Op::Source => false,
-        Op::Keep { input, .. }
-        | Op::View { input, .. }
-        | Op::Agg { input, .. }
-        | Op::Sort { input, .. }
-        | Op::Head { input, .. }
-        | Op::Tail { input, .. } => node_stays(run, step, *input, shares),
-        Op::Join { left, right, .. } | Op::AsOf { left, right, .. } => {
-            node_stays(run, step, *left, shares) && node_stays(run, step, *right, shares)
-        }
-        Op::Merge { inputs } => all_stay(run, step, inputs.as_slice(), shares),
-    }
+    all_stay(run, step, op.inputs().as_slice(), shares)
 }
 
 /// Whether none of these nodes changes in a step. Each of them has a table then.
