@@ -15,7 +15,7 @@ use Rattle.tick_model.specs.declared.plan.Op.{Op}
 use Rattle.tick_model.specs.declared.plan.Op.TheVariants.{Source, Keep, View, Join, Agg as AggOp, Merge, Sort, Head, Tail, AsOf}
 use Rattle.tick_model.specs.declared.plan.Plan.{Plan}
 use Rattle.tick_model.specs.Evaluation.{is_source}
-use Rattle.tick_model.specs.Operators.{inputs_of, columns_fit}
+use Rattle.tick_model.specs.Operators.{inputs_of, columns_fit, is_source_op}
 use Rattle.tick_model.specs.Formulas.{IsTestWithin, IsWithin}
 use Rattle.tick_model.specs.Plans.{columns_at, is_lawful}
 use Rattle.tick_model.specs.Columns.{agg_kind, follow, has_kind, have_kinds, keep_names, is_bound, is_test_bound, kind_at, kind_of, kinds_of, same_columns, same_kind_at, some_of, test_fits}
@@ -26,7 +26,7 @@ use Rattle.agg_by.specs.Aggregator.{IsColumn}
 use Rattle.operators.specs.Making.{CanBeMade}
 use Rattle.operators.specs.Operating.{result_width}
 use Rattle.operators.specs.Planned.{input_widths, op_at}
-use Rattle.tick_laws.proofs.EvalNodes.{all_pass, is_source_op}
+use Rattle.tick_laws.proofs.EvalNodes.{all_pass}
 use Rattle.tick_laws.proofs.LawfulPlans.{columns_at-node}
 
 kinds_count : (columns : List ColumnSpec) → length (kinds_of columns) ≡ length columns

@@ -143,25 +143,3 @@ few_rows (negsuc n) = refl
 pub first_within : (n : ℕ) (inputs : List ℕ) → AllByRecursion (λ input. input < n) inputs → 2 ≤ length inputs → slice_index inputs 0 < n
 first_within n [] within two = absurd (omega (arith, two))
 first_within n (input ∷ inputs) within two = within.0
-
--- the test sees the columns of inputs alone
-merged_same : (f g : ℕ → List ColumnSpec) (columns : List ColumnSpec) (inputs : List ℕ) → AllByRecursion (λ i. f i ≡ g i) inputs → list_all (λ from. same_columns columns (f from)) inputs ≡ list_all (λ from. same_columns columns (g from)) inputs
-merged_same f g columns [] same = refl
-merged_same f g columns (input ∷ inputs) same =
-    ap (λ table. same_columns columns table && list_all (λ from. same_columns columns (f from)) inputs) same.0 ∙ ap (λ rest. same_columns columns (g input) && rest) (merged_same f g columns inputs same.1)
-
-pub columns_fit_same : (op : Op) (f g : ℕ → List ColumnSpec) (columns : List ColumnSpec) → AllByRecursion (λ i. f i ≡ g i) (inputs_of op) → columns_fit op f columns ≡ columns_fit op g columns
-columns_fit_same ops.Source f g columns same = refl
-columns_fit_same (ops.Keep from test) f g columns same = ap (λ table. same_columns columns table && test_fits test (kinds_of table) && is_test_bound test) same.0
-columns_fit_same (ops.View from exprs) f g columns same = ap (λ table. some_of exprs && list_all is_bound exprs && follow columns table (map (λ expr. kind_of expr (kinds_of table)) exprs)) same.0
-columns_fit_same (ops.Join left right on taken choice) f g columns same =
-    ap (λ table. some_of on && some_of taken && list_all (same_kind_at table (f right)) on && follow columns table (map (kind_at (f right)) taken)) same.0
-    ∙ ap (λ table. some_of on && some_of taken && list_all (same_kind_at (g left) table) on && follow columns (g left) (map (kind_at table) taken)) same.1.0
-columns_fit_same (ops.Agg from by aggs) f g columns same = ap (λ table. some_of aggs && have_kinds columns (map (kind_at table) by ++ map (agg_kind table) aggs) && keep_names columns table by) same.0
-columns_fit_same (ops.Merge inputs) f g columns same = ap (λ rest. nat_le 2 (length inputs) && nat_le (length inputs) 16 && rest) (merged_same f g columns inputs same)
-columns_fit_same (ops.Sort from by) f g columns same = ap (λ table. some_of by && same_columns columns table && list_all (λ sort. is_some (kind_at table sort.column)) by) same.0
-columns_fit_same (ops.Head from rows) f g columns same = ap (λ table. same_columns columns table && nat_le rows 4194304) same.0
-columns_fit_same (ops.Tail from rows) f g columns same = ap (λ table. same_columns columns table && nat_le rows 4194304) same.0
-columns_fit_same (ops.AsOf left right on at taken) f g columns same =
-    ap (λ table. some_of taken && list_all (same_kind_at table (f right)) on && has_kind Long (kind_at table at.left) && has_kind Long (kind_at (f right) at.right) && follow columns table (map (kind_at (f right)) taken)) same.0
-    ∙ ap (λ table. some_of taken && list_all (same_kind_at (g left) table) on && has_kind Long (kind_at (g left) at.left) && has_kind Long (kind_at table at.right) && follow columns (g left) (map (kind_at table) taken)) same.1.0

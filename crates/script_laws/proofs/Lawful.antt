@@ -25,7 +25,8 @@ use Rattle.script_reader.specs.Scripts.{nothing, script_of}
 use Rattle.script_laws.proofs.Reading.{then, node_found, script_read}
 use Rattle.script_laws.proofs.Unbroken.{IsUnbroken, unbroken, where_unbroken}
 use Rattle.script_laws.proofs.Bound.{inputs_bound, key_bounds_bound, names_bound, tables_bound}
-use Rattle.script_laws.proofs.Columns.{IsTable, columns_fit_same, one_or_more}
+use Rattle.script_laws.proofs.Columns.{IsTable, one_or_more}
+use Rattle.tick_model.proofs.Results.{columns_fit_same}
 use Rattle.script_laws.proofs.Fitting.{IsFitting, draft_fits, source_fits}
 use Rattle.script_laws.proofs.Ordered.{are_distinct-push, number_distinct-push, rises-in_order, every-in_order}
 

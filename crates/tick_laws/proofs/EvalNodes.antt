@@ -15,7 +15,7 @@ use Rattle.tick_model.specs.Join.{join_fault, join_table}
 use Rattle.tick_model.specs.Merge.{merge_fault, merge_table}
 use Rattle.tick_model.specs.Evaluation.{Outcome, Table, NoInput, has_table, table_of, table_at, outcome_at, or_fault, applied, outcome_of, eval_node, is_source, source_number}
 use Rattle.tick_model.specs.Tables.{no_table}
-use Rattle.tick_model.specs.Operators.{inputs_of, result, fault_of}
+use Rattle.tick_model.specs.Operators.{is_source_op, inputs_of, result, fault_of}
 use Rattle.key_lists.proofs.Every.{every_weaker, map_same}
 use Rattle.tick_laws.proofs.Grown.{made_at, length-grown}
 
@@ -27,9 +27,6 @@ all_pass p (x ∷ xs) h = let parts = and_parts (p x) (list_all p xs) h in (part
 list_all_same : {X : Type 0} (p q : X → Bool) (xs : List X) → AllByRecursion (λ x. p x ≡ q x) xs → list_all p xs ≡ list_all q xs
 list_all_same p q [] h = refl
 list_all_same p q (x ∷ xs) h = ap₂ (λ a b. a && b) h.0 (list_all_same p q xs h.1)
-
-abbrev pub is_source_op : Op → Bool
-is_source_op op = elim op [ Source ↦ true | _ ↦ false ]
 
 -- a node is a source, or applies its operator
 pub outcome_cases : (op : Op) (own : PlainTable) (done : List Outcome)

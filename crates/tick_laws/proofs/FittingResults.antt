@@ -21,7 +21,7 @@ use Rattle.tick_model.specs.Join.{agree, taken, chosen, matches}
 use Rattle.tick_model.specs.AsOf.{latest, not_later}
 use Rattle.tick_model.specs.Agg.{is_first, key_cells, aggregate, group_of, same_group}
 use Rattle.tick_model.specs.Sort.{in_order}
-use Rattle.tick_model.specs.Operators.{inputs_of, result, columns_fit}
+use Rattle.tick_model.specs.Operators.{inputs_of, result, columns_fit, is_source_op}
 use Rattle.tick_model.specs.LawfulRuns.{has_ranks, has_op_ranks}
 use Rattle.tick_model.specs.Names.{same_name}
 use Rattle.tick_model.specs.Columns.{same_kind, long_alone, both_long, kind_of, is_bound, kinds_of, has_kind, same_columns, have_kinds, keep_names, follow, kind_at, same_kind_at, agg_kind, some_of, is_test_bound, test_fits}
@@ -30,7 +30,7 @@ use Rattle.key_lists.proofs.Every.{every, every_weaker, every_both, every-map, e
 use Rattle.key_lists.proofs.Parts.{every-take, every-drop}
 use Rattle.tick_laws.specs.Fitting.{FitsColumns, HasColumns}
 use Rattle.tick_model.specs.Numbers.{HasOpNumbers}
-use Rattle.tick_laws.proofs.EvalNodes.{all_pass, is_source_op}
+use Rattle.tick_laws.proofs.EvalNodes.{all_pass}
 use Rattle.tick_laws.proofs.Placed.{every-in_order}
 use Rattle.tick_laws.proofs.ResultCells.{result_cells, chosen_every, latest_every, picked_every}
 use Rattle.tick_laws.proofs.ResultTables.{cells-numbered, cells-merged}

@@ -16,13 +16,13 @@ use Rattle.tick_model.specs.Formulas.{truth}
 use Rattle.tick_model.specs.Agg.{is_first}
 use Rattle.tick_model.specs.Merge.{last_key, region, row_from, merged_rows, merge_fault, width_of}
 use Rattle.tick_model.specs.Sort.{in_order, numbered}
-use Rattle.tick_model.specs.Operators.{inputs_of, result, fault_of, columns_fit, bound_of}
+use Rattle.tick_model.specs.Operators.{inputs_of, result, fault_of, columns_fit, bound_of, is_source_op}
 use Rattle.tick_model.specs.Columns.{same_columns, follow, have_kinds, keep_names, kind_of, kinds_of, kind_at, agg_kind, is_bound, is_test_bound, test_fits, some_of, same_kind_at}
 use Rattle.tick_model.proofs.Widths.{same_width, kinds_width, follow_width}
 use Rattle.key_lists.proofs.Every.{every_weaker, every_both, every-map, every_unmapped, every-filter}
 use Rattle.key_lists.proofs.Parts.{every-take, every-drop}
 use Rattle.tick_laws.specs.Bounded.{IsNodeTable}
-use Rattle.tick_laws.proofs.EvalNodes.{all_pass, is_source_op}
+use Rattle.tick_laws.proofs.EvalNodes.{all_pass}
 use Rattle.tick_laws.proofs.LawfulPlans.{IsBound}
 use Rattle.tick_laws.proofs.Merged.{apart, apart_below, keys-merged_rows, whole_part, IsPart}
 use Rattle.tick_laws.proofs.OperatorTicks.{keys_mapped}

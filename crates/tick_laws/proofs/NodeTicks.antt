@@ -9,12 +9,12 @@ use Rattle.tick_model.specs.declared.table.PlainTable.{PlainTable}
 use Rattle.tick_model.specs.Tables.{IsTable, no_table}
 use Rattle.tick_model.specs.Updates.{Tick, IsTick}
 use Rattle.tick_model.specs.Evaluation.{Outcome, NoInput, has_table, table_of, table_at, applied, outcome_of, eval_node, source_number}
-use Rattle.tick_model.specs.Operators.{inputs_of, result, kept_by}
+use Rattle.tick_model.specs.Operators.{inputs_of, result, kept_by, is_source_op}
 use Rattle.tick_model.specs.Sources.{no_tick, tick_at}
 use Rattle.tick_model.specs.States.{tick_node}
 use Rattle.key_lists.proofs.Every.{every_weaker}
 use Rattle.tick_laws.specs.Reached.{IsTickFrom}
-use Rattle.tick_laws.proofs.EvalNodes.{applied_has, is_source_op, operator_outcome, outcome_is, result_same, source_outcome}
+use Rattle.tick_laws.proofs.EvalNodes.{applied_has, operator_outcome, outcome_is, result_same, source_outcome}
 use Rattle.tick_laws.proofs.OperatorTicks.{operator_keeps}
 use Rattle.tick_laws.proofs.TickNodes.{tick_cases, tick_from, tick_is}
 

@@ -8,13 +8,13 @@ use Rattle.tick_model.specs.declared.plan.Op.TheVariants.{Source}
 use Rattle.tick_model.specs.declared.plan.Plan.{Plan}
 use Rattle.tick_model.specs.declared.table.PlainTable.{PlainTable}
 use Rattle.tick_model.specs.Evaluation.{eval, has_table, outcome_at, table_at, is_source, source_number}
-use Rattle.tick_model.specs.Operators.{inputs_of, result, fault_of, columns_fit, bound_of}
+use Rattle.tick_model.specs.Operators.{inputs_of, result, fault_of, columns_fit, bound_of, is_source_op}
 use Rattle.tick_model.specs.Tables.{no_table}
 use Rattle.tick_model.specs.LawfulRuns.{sources_of}
 use Rattle.tick_model.specs.Plans.{is_lawful, columns_at, key_bounds}
 use Rattle.key_lists.proofs.Every.{every_weaker}
 use Rattle.tick_laws.specs.Bounded.{IsNodeTable, AreSourceTables}
-use Rattle.tick_laws.proofs.EvalNodes.{each_node_has, is_source_op}
+use Rattle.tick_laws.proofs.EvalNodes.{each_node_has}
 use Rattle.tick_laws.proofs.LawfulPlans.{IsBound, IsLawfulPlan, lawful_plan, columns_at-node, bound_is, bound_room, each_bound}
 use Rattle.tick_laws.proofs.NodeTables.{node_table}
 use Rattle.tick_laws.proofs.Paired.{no_node, Paired, paired_at, source_there}

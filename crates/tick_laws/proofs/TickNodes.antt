@@ -11,11 +11,10 @@ use Rattle.tick_model.specs.declared.update.KeyPair.{KeyPair}
 use Rattle.tick_model.specs.Updates.{Tick}
 use Rattle.tick_model.specs.Merge.{merge_pairs}
 use Rattle.tick_model.specs.Evaluation.{source_number}
-use Rattle.tick_model.specs.Operators.{inputs_of, kept_by}
+use Rattle.tick_model.specs.Operators.{inputs_of, kept_by, is_source_op}
 use Rattle.tick_model.specs.Sources.{no_tick, tick_at}
 use Rattle.tick_model.specs.States.{tick_of, tick_node}
 use Rattle.key_lists.proofs.Every.{every_weaker, map_same}
-use Rattle.tick_laws.proofs.EvalNodes.{is_source_op}
 use Rattle.tick_laws.proofs.Grown.{made_at, length-grown}
 
 abbrev pub tick_from : PlainTable → PlainTable → List KeyPair → Tick

@@ -1,5 +1,5 @@
 -- What a node's table keeps to, where the tables of its inputs do.
-use Rattle.std.proofs.Common.{◌≡◌, refl, ap, ap₂, sym, ◌∙◌, subst, Bool, true, false, cond, ◌&&◌, ℕ, suc, ◌+◌, ◌-◌, ◌*◌, ◌^◌, ◌<◌, ◌≤◌, arith, List, [], ◌∷◌, ◌++◌, length, map, take, filter, sum, Option, Some, None, length-append, length-drop, length-take}
+use Rattle.std.proofs.Common.{true≢false, ◌≡◌, refl, ap, ap₂, sym, ◌∙◌, subst, Bool, true, false, cond, ◌&&◌, ℕ, suc, ◌+◌, ◌-◌, ◌*◌, ◌^◌, ◌<◌, ◌≤◌, arith, List, [], ◌∷◌, ◌++◌, length, map, take, filter, sum, Option, Some, None, length-append, length-drop, length-take}
 use Rattle.std.specs.Prelude.{nat_lt, nat_le, is_some}
 use Rattle.std.specs.List.{AllByRecursion, sum_by, list_all}
 use Rattle.std.proofs.lemmas.Bool.{and_parts, leb-true, ltb-false}
@@ -29,7 +29,7 @@ use Rattle.tick_model.specs.Merge.{last_key, region, row_from, merged_rows, merg
 use Rattle.tick_model.specs.Sort.{in_order, sort_table}
 use Rattle.tick_model.specs.HeadTail.{head_table, tail_table}
 use Rattle.tick_model.specs.Columns.{kinds_of, kind_of, kind_at, agg_kind, test_fits, is_bound, is_test_bound, same_columns, have_kinds, keep_names, follow, some_of, same_kind_at, has_kind}
-use Rattle.tick_model.specs.Operators.{columns_fit, bound_of, inputs_of, result, fault_of}
+use Rattle.tick_model.specs.Operators.{columns_fit, bound_of, inputs_of, is_source_op, result, fault_of}
 use Rattle.tick_model.specs.Ready.{HaveRoom}
 use Rattle.tick_model.proofs.TableRows.{every-ordered, length-ordered, length-numbered, numbered_whole, numbered_below, last_below, region_within}
 use Rattle.tick_model.proofs.Widths.{same_width, kinds_width, follow_width}
@@ -231,8 +231,7 @@ merged_result wanted width bound table (input ∷ inputs) some h w none =
 
 -- an operator that is no source
 abbrev pub IsOperator : Op → Type 0
-IsOperator Source = ⊥
-IsOperator op = Unit {0}
+IsOperator op = is_source_op op ≡ false
 
 merged_widths : (columns : ℕ → List ColumnSpec) (cols : List ColumnSpec) (inputs : List ℕ) → list_all (λ from. same_columns cols (columns from)) inputs ≡ true → AllByRecursion (λ input. length (columns input) ≡ length cols) inputs
 merged_widths columns cols [] h = tt
@@ -243,7 +242,7 @@ merged_widths columns cols (input ∷ inputs) h =
 -- an operator's table, where its columns fit
 pub result_is : (op : Op) (columns : ℕ → List ColumnSpec) (bound : ℕ → ℕ) (table : ℕ → PlainTable) (cols : List ColumnSpec) → IsOperator op → columns_fit op columns cols ≡ true
     → AreResults (λ input. length (columns input)) bound table (inputs_of op) → fault_of op table ≡ None → IsResult (length cols) (bound_of op bound) (result op table)
-result_is Source columns bound table cols o fit h none = absurd o
+result_is Source columns bound table cols o fit h none = absurd (true≢false o)
 result_is (Keep from test) columns bound table cols o fit h none =
     let same = (and_parts (same_columns cols (columns from)) (test_fits test (kinds_of (columns from))) (and_parts (same_columns cols (columns from) && test_fits test (kinds_of (columns from))) (is_test_bound test) fit).0).0 in
     resized (sym (same_width cols (columns from) same)) (kept_result test (table from) (length (columns from)) (bound from) h.0)
@@ -295,3 +294,66 @@ bound_same (Sort from by) f g h = refl
 bound_same (Head from rows) f g h = h.0
 bound_same (Tail from rows) f g h = h.0
 bound_same (AsOf left right on at take) f g h = h.0
+
+-- whether columns fit is seen from those of the inputs alone
+merged_same : (f g : ℕ → List ColumnSpec) (columns : List ColumnSpec) (inputs : List ℕ) → AllByRecursion (λ i. f i ≡ g i) inputs → list_all (λ from. same_columns columns (f from)) inputs ≡ list_all (λ from. same_columns columns (g from)) inputs
+merged_same f g columns [] same = refl
+merged_same f g columns (input ∷ inputs) same =
+    ap (λ table. same_columns columns table && list_all (λ from. same_columns columns (f from)) inputs) same.0 ∙ ap (λ rest. same_columns columns (g input) && rest) (merged_same f g columns inputs same.1)
+
+pub columns_fit_same : (op : Op) (f g : ℕ → List ColumnSpec) (columns : List ColumnSpec) → AllByRecursion (λ i. f i ≡ g i) (inputs_of op) → columns_fit op f columns ≡ columns_fit op g columns
+columns_fit_same Source f g columns same = refl
+columns_fit_same (Keep from test) f g columns same = ap (λ table. same_columns columns table && test_fits test (kinds_of table) && is_test_bound test) same.0
+columns_fit_same (View from exprs) f g columns same = ap (λ table. some_of exprs && list_all is_bound exprs && follow columns table (map (λ expr. kind_of expr (kinds_of table)) exprs)) same.0
+columns_fit_same (Join left right on taken choice) f g columns same =
+    ap (λ table. some_of on && some_of taken && list_all (same_kind_at table (f right)) on && follow columns table (map (kind_at (f right)) taken)) same.0
+    ∙ ap (λ table. some_of on && some_of taken && list_all (same_kind_at (g left) table) on && follow columns (g left) (map (kind_at table) taken)) same.1.0
+columns_fit_same (AggOp from by aggs) f g columns same = ap (λ table. some_of aggs && have_kinds columns (map (kind_at table) by ++ map (agg_kind table) aggs) && keep_names columns table by) same.0
+columns_fit_same (Merge inputs) f g columns same = ap (λ rest. nat_le 2 (length inputs) && nat_le (length inputs) 16 && rest) (merged_same f g columns inputs same)
+columns_fit_same (Sort from by) f g columns same = ap (λ table. some_of by && same_columns columns table && list_all (λ sort. is_some (kind_at table sort.column)) by) same.0
+columns_fit_same (Head from rows) f g columns same = ap (λ table. same_columns columns table && nat_le rows 4194304) same.0
+columns_fit_same (Tail from rows) f g columns same = ap (λ table. same_columns columns table && nat_le rows 4194304) same.0
+columns_fit_same (AsOf left right on at taken) f g columns same =
+    ap (λ table. some_of taken && list_all (same_kind_at table (f right)) on && has_kind Long (kind_at table at.left) && has_kind Long (kind_at (f right) at.right) && follow columns table (map (kind_at (f right)) taken)) same.0
+    ∙ ap (λ table. some_of taken && list_all (same_kind_at (g left) table) on && has_kind Long (kind_at (g left) at.left) && has_kind Long (kind_at table at.right) && follow columns (g left) (map (kind_at table) taken)) same.1.0
+
+-- an operator has from 1 to 16 inputs
+pub record HasInputs (op : Op) : Type 0 where
+  pub many : 1 ≤ length (inputs_of op)
+  pub few : length (inputs_of op) ≤ 16
+
+pub has_inputs : (op : Op) (input : ℕ → List ColumnSpec) (columns : List ColumnSpec) → columns_fit op input columns ≡ true → IsOperator op → HasInputs op
+has_inputs Source input columns fit is = absurd (true≢false is)
+has_inputs (Keep from test) input columns fit is = record { many = omega arith; few = omega arith }
+has_inputs (View from exprs) input columns fit is = record { many = omega arith; few = omega arith }
+has_inputs (Join left right on taken choice) input columns fit is = record { many = omega arith; few = omega arith }
+has_inputs (AggOp from by aggs) input columns fit is = record { many = omega arith; few = omega arith }
+has_inputs (Merge []) input columns fit is = absurd (true≢false (sym (and_parts (nat_le 2 0 && nat_le 0 16) true fit).0))
+has_inputs (Merge (from ∷ others)) input columns fit is =
+    let alike = list_all (λ from. same_columns columns (input from)) (from ∷ others) in
+    let parts = and_parts (nat_le 2 (length (from ∷ others)) && nat_le (length (from ∷ others)) 16) alike fit in
+    let count = and_parts (nat_le 2 (length (from ∷ others))) (nat_le (length (from ∷ others)) 16) parts.0 in
+    record { many = omega arith; few = leb-true (length (from ∷ others)) 16 count.1 }
+has_inputs (Sort from by) input columns fit is = record { many = omega arith; few = omega arith }
+has_inputs (Head from rows) input columns fit is = record { many = omega arith; few = omega arith }
+has_inputs (Tail from rows) input columns fit is = record { many = omega arith; few = omega arith }
+has_inputs (AsOf left right on at taken) input columns fit is = record { many = omega arith; few = omega arith }
+
+-- a source is one, and reads no node
+source_is : (op : Op) → is_source_op op ≡ true → op ≡ Source
+source_is Source is = refl
+source_is (Keep from test) is = absurd (true≢false (sym is))
+source_is (View from exprs) is = absurd (true≢false (sym is))
+source_is (Join left right on taken choice) is = absurd (true≢false (sym is))
+source_is (AggOp from by aggs) is = absurd (true≢false (sym is))
+source_is (Merge others) is = absurd (true≢false (sym is))
+source_is (Sort from by) is = absurd (true≢false (sym is))
+source_is (Head from rows) is = absurd (true≢false (sym is))
+source_is (Tail from rows) is = absurd (true≢false (sym is))
+source_is (AsOf left right on at taken) is = absurd (true≢false (sym is))
+
+pub source_inputs : (op : Op) → is_source_op op ≡ true → inputs_of op ≡ []
+source_inputs op is = ap inputs_of (source_is op is)
+
+pub source_bound : (op : Op) (bound : ℕ → ℕ) → is_source_op op ≡ true → bound_of op bound ≡ 2 ^ 40
+source_bound op bound is = ap (λ op. bound_of op bound) (source_is op is)

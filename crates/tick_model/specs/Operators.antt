@@ -1,11 +1,12 @@
 -- What each operator is: all that is said of an operator by which it is.
+--     is_source_op op      it has its table from outside
 --     inputs_of op      the nodes that it reads
 --     result op table, fault_of op table      its table from those of the nodes, or why it has none although its inputs have theirs
 --     kept_by op tick old new      the pairs of keys of the rows that it keeps, from the ticks of the nodes and its own table before and after
 --     columns_fit op input columns      these are its columns, over those of the nodes
 --     bound_of op bound      a number greater than each of its keys, from those of the nodes
 --     IsReady op tables      it may be applied to the tables of the nodes before it: its inputs are there, its formulas are within their rows, and their keys have room
-use Rattle.std.specs.Prelude.{ℕ, ◌+◌, ◌^◌, ◌<◌, ◌&&◌, Bool, true, List, [], ◌∷◌, ◌++◌, map, length, Option, None, nat_le, sum, is_some}
+use Rattle.std.specs.Prelude.{ℕ, ◌+◌, ◌^◌, ◌<◌, ◌&&◌, Bool, true, false, List, [], ◌∷◌, ◌++◌, map, length, Option, None, nat_le, sum, is_some}
 use Rattle.std.specs.List.{All, list_all}
 use Rattle.tick_model.specs.declared.plan.ColumnSpec.{ColumnSpec}
 use Rattle.tick_model.specs.declared.plan.Kind.TheVariants.{Long}
@@ -27,6 +28,9 @@ use Rattle.tick_model.specs.Tables.{no_table}
 use Rattle.tick_model.specs.Updates.{Tick, both_in}
 use Rattle.tick_model.specs.View.{view_table}
 use Rattle.tick_model.specs.Where.{where_table}
+
+abbrev pub is_source_op : Op → Bool
+is_source_op op = elim op [ Source ↦ true | _ ↦ false ]
 
 abbrev pub inputs_of : Op → List ℕ
 inputs_of Source = []

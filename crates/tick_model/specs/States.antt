@@ -1,24 +1,22 @@
 -- Each node's table at a step, and its change since the step before.
-use Rattle.std.specs.Prelude.{ℕ, zero, suc, List, [], ◌∷◌, ◌++◌, fold, length, ◌≡◌, ◌<◌, true, slice_index_or}
+use Rattle.std.specs.Prelude.{if◌then◌else◌, ℕ, zero, suc, List, [], ◌∷◌, ◌++◌, fold, length, ◌≡◌, ◌<◌, true, slice_index_or}
 use Rattle.std.specs.List.{AllByRecursion}
 use Rattle.tick_model.specs.Tables.{IsTable}
 use Rattle.tick_model.specs.declared.feed.Run.{Run}
 use Rattle.tick_model.specs.declared.plan.Op.{Op}
-use Rattle.tick_model.specs.declared.plan.Op.TheVariants.{Source}
 use Rattle.tick_model.specs.declared.plan.Node.{Node}
 use Rattle.tick_model.specs.declared.plan.Plan.{Plan}
 use Rattle.tick_model.specs.declared.table.PlainTable.{PlainTable}
 use Rattle.tick_model.specs.Updates.{Tick}
 use Rattle.tick_model.specs.Evaluation.{Outcome, eval, source_number, table_at, has_table, outcome_at}
-use Rattle.tick_model.specs.Operators.{inputs_of, kept_by}
+use Rattle.tick_model.specs.Operators.{inputs_of, is_source_op, kept_by}
 use Rattle.tick_model.specs.Sources.{source_ticks, sources, tick_at}
 
 abbrev pub state : Run → ℕ → List Outcome
 state run step = eval run.plan (sources run step)
 
 abbrev pub tick_of : Op → Tick → List Tick → PlainTable → PlainTable → Tick
-tick_of Source own done old new = own
-tick_of op own done old new = record { old = old; new = new; kept = kept_by op (tick_at done) old new }
+tick_of op own done old new = if is_source_op op then own else record { old = old; new = new; kept = kept_by op (tick_at done) old new }
 
 -- the tick of a node, from those of the nodes before it
 abbrev pub tick_node : List Node → List Tick → (ℕ → PlainTable) → (ℕ → PlainTable) → List Tick → Node → List Tick

@@ -7,7 +7,7 @@ use Rattle.tick_model.specs.declared.plan.Node.{Node}
 use Rattle.tick_model.specs.declared.plan.Op.{Op}
 use Rattle.tick_model.specs.declared.table.PlainTable.{PlainTable}
 use Rattle.tick_model.specs.Evaluation.{applied, has_table, is_source, outcome_at, outcome_of, source_number, table_at, table_of}
-use Rattle.tick_model.specs.Operators.{fault_of, inputs_of, result, kept_by}
+use Rattle.tick_model.specs.Operators.{fault_of, inputs_of, result, kept_by, is_source_op}
 use Rattle.tick_model.specs.Tables.{no_table, IsTable}
 use Rattle.tick_model.specs.LawfulRuns.{IsLawfulRun}
 use Rattle.tick_model.specs.Sources.{no_tick, opened, source_ticks, sources, tick_at}
@@ -16,7 +16,7 @@ use Rattle.tick_model.specs.Updates.{IsTick, Tick}
 use Rattle.key_lists.proofs.Every.{every_weaker}
 use Rattle.tick_laws.specs.Operated.{operated}
 use Rattle.tick_laws.specs.Reached.{IsReached, IsTickFrom, table_before}
-use Rattle.tick_laws.proofs.EvalNodes.{applied_has, is_source_op, operator_outcome, outcome_is, result_same, source_outcome}
+use Rattle.tick_laws.proofs.EvalNodes.{applied_has, operator_outcome, outcome_is, result_same, source_outcome}
 use Rattle.tick_laws.proofs.LawfulSources.{lawful_tables, source_fits}
 use Rattle.tick_laws.proofs.OperatorTicks.{operator_keeps}
 use Rattle.tick_laws.proofs.ReachedTables.{bounded_at, lesser_inputs, reached_tables}

@@ -10,17 +10,14 @@ use Rattle.graph_words.specs.declared.graph.Edge.{Edge}
 use Rattle.graph_words.specs.Marks.{inputs, when}
 use Rattle.graph_words.proofs.Marks.{some_input}
 use Rattle.key_lists.proofs.Every.{every_weaker, every-append}
-use Rattle.tick_laws.proofs.EvalNodes.{is_source_op}
 use Rattle.tick_laws.proofs.LawfulPlans.{lawful_plan}
 use Rattle.tick_model.specs.declared.feed.Run.{Run}
 use Rattle.tick_model.specs.declared.plan.ColumnSpec.{ColumnSpec}
 use Rattle.tick_model.specs.declared.plan.Node.{Node}
-use Rattle.tick_model.specs.declared.plan.Op.{Op}
-use Rattle.tick_model.specs.declared.plan.Op.TheVariants.{Source, Keep, View, Join, Agg, Merge, Sort, Head, Tail, AsOf}
-use Rattle.tick_model.specs.Operators.{inputs_of, columns_fit}
+use Rattle.tick_model.specs.Operators.{inputs_of, is_source_op}
 use Rattle.tick_model.specs.LawfulRuns.{IsLawfulRun}
+use Rattle.tick_model.proofs.Results.{HasInputs, has_inputs, source_inputs as op_source_inputs}
 use Rattle.tick_model.specs.Plans.{columns_at}
-use Rattle.tick_model.specs.Columns.{same_columns}
 use Rattle.update_graph.specs.Edges.{edges_from, edges_of, froms_to, input_edges}
 use Rattle.update_graph.specs.Tags.{is_operator, no_node, node_at, op_at}
 use Rattle.update_graph.proofs.PlanLimits.{few_nodes}
@@ -168,40 +165,6 @@ inputs_are n (x ∷ xs) = go (x.to == n) (inputs_are n xs)
     go true r = omega arith
     go false r = omega arith
 
--- an operator has from 1 to 16 inputs
-pub record HasInputs (op : Op) : Type 0 where
-  pub many : 1 ≤ length (inputs_of op)
-  pub few : length (inputs_of op) ≤ 16
-
-has_inputs : (op : Op) (input : ℕ → List ColumnSpec) (columns : List ColumnSpec) → columns_fit op input columns ≡ true → is_source_op op ≡ false → HasInputs op
-has_inputs Source input columns fit is = absurd (true≢false is)
-has_inputs (Keep from test) input columns fit is = record { many = omega arith; few = omega arith }
-has_inputs (View from exprs) input columns fit is = record { many = omega arith; few = omega arith }
-has_inputs (Join left right on taken choice) input columns fit is = record { many = omega arith; few = omega arith }
-has_inputs (Agg from by aggs) input columns fit is = record { many = omega arith; few = omega arith }
-has_inputs (Merge []) input columns fit is = absurd (true≢false (sym (and_parts (nat_le 2 0 && nat_le 0 16) true fit).0))
-has_inputs (Merge (from ∷ others)) input columns fit is =
-    let alike = list_all (λ from. same_columns columns (input from)) (from ∷ others) in
-    let parts = and_parts (nat_le 2 (length (from ∷ others)) && nat_le (length (from ∷ others)) 16) alike fit in
-    let count = and_parts (nat_le 2 (length (from ∷ others))) (nat_le (length (from ∷ others)) 16) parts.0 in
-    record { many = omega arith; few = leb-true (length (from ∷ others)) 16 count.1 }
-has_inputs (Sort from by) input columns fit is = record { many = omega arith; few = omega arith }
-has_inputs (Head from rows) input columns fit is = record { many = omega arith; few = omega arith }
-has_inputs (Tail from rows) input columns fit is = record { many = omega arith; few = omega arith }
-has_inputs (AsOf left right on at taken) input columns fit is = record { many = omega arith; few = omega arith }
-
-source_few : (op : Op) → is_source_op op ≡ true → inputs_of op ≡ []
-source_few Source is = refl
-source_few (Keep from test) is = absurd (true≢false (sym is))
-source_few (View from exprs) is = absurd (true≢false (sym is))
-source_few (Join left right on taken choice) is = absurd (true≢false (sym is))
-source_few (Agg from by aggs) is = absurd (true≢false (sym is))
-source_few (Merge others) is = absurd (true≢false (sym is))
-source_few (Sort from by) is = absurd (true≢false (sym is))
-source_few (Head from rows) is = absurd (true≢false (sym is))
-source_few (Tail from rows) is = absurd (true≢false (sym is))
-source_few (AsOf left right on at taken) is = absurd (true≢false (sym is))
-
 module _ (run : Run) (h : IsLawfulRun run) where
   pub operator_inputs : (n : ℕ) → n < length run.plan.nodes → is_operator run n ≡ true → HasInputs (op_at run n)
   operator_inputs n within is = has_inputs (op_at run n) (columns_at run.plan.nodes) (node_at run n).columns ((lawful_plan run.plan no_node h.plan).nodes n within).columns (not-true (is_source_op (op_at run n)) is)
@@ -211,7 +174,7 @@ module _ (run : Run) (h : IsLawfulRun run) where
     where
       go : (b : Bool) → is_operator run n ≡ b → length (inputs_of (op_at run n)) ≤ 16
       go true is = (operator_inputs n within is).few
-      go false is = let none = ap length (source_few (op_at run n) (not-false (is_source_op (op_at run n)) is)) in omega arith
+      go false is = let none = ap length (op_source_inputs (op_at run n) (not-false (is_source_op (op_at run n)) is)) in omega arith
 
   pub few_edges : length (edges_of run.plan) < 2 ^ 32
   few_edges = let a = few_from 0 run.plan.nodes node_few in let b = few_nodes run h in omega arith
@@ -238,12 +201,12 @@ module _ (run : Run) (h : IsLawfulRun run) where
       go true is = is
       go false is =
           let count = inputs_count x.to (edge_ends e x there).1 in
-          let none = ap length (source_few (op_at run x.to) (not-false (is_source_op (op_at run x.to)) is)) in
+          let none = ap length (op_source_inputs (op_at run x.to) (not-false (is_source_op (op_at run x.to)) is)) in
           let some_one = some_input x.to e (edges_of run.plan) x there refl in
           absurd (omega arith)
 
   pub source_inputs : (n : ℕ) → n < length run.plan.nodes → is_operator run n ≡ false → inputs n (edges_of run.plan) ≡ 0
-  source_inputs n within is = inputs_count n within ∙ ap length (source_few (op_at run n) (not-false (is_source_op (op_at run n)) is))
+  source_inputs n within is = inputs_count n within ∙ ap length (op_source_inputs (op_at run n) (not-false (is_source_op (op_at run n)) is))
 
   pub no_inputs : (n : ℕ) → n < length run.plan.nodes → inputs n (edges_of run.plan) ≡ 0 → is_operator run n ≡ false
   no_inputs n within none = go (is_operator run n) refl
