@@ -7,7 +7,7 @@ use Rattle.std.proofs.lemmas.Bool.{and_parts, cases_lt}
 use Rattle.std.proofs.lemmas.List.{get_or-take}
 use Rattle.tick_model.specs.declared.plan.Node.{Node}
 use Rattle.tick_model.specs.declared.plan.Op.{Op}
-use Rattle.tick_model.specs.declared.plan.Op.TheVariants.{Source, Keep, View, Join, Agg, Merge, Sort, Head, Tail, AsOf}
+use Rattle.tick_model.specs.declared.plan.Op.TheVariants.{Source, Join, Merge, AsOf}
 use Rattle.tick_model.specs.declared.table.NodeFault.{NodeFault}
 use Rattle.tick_model.specs.declared.table.PlainTable.{PlainTable}
 use Rattle.tick_model.specs.AsOf.{asof_table}
@@ -32,15 +32,7 @@ list_all_same p q (x ∷ xs) h = ap₂ (λ a b. a && b) h.0 (list_all_same p q x
 pub outcome_cases : (op : Op) (own : PlainTable) (done : List Outcome)
     → ((is_source_op op ≡ true) × (outcome_of op own done ≡ Table own)) ⊎ ((is_source_op op ≡ false) × (outcome_of op own done ≡ applied op done))
 outcome_cases Source own done = inl (refl, refl)
-outcome_cases (Keep input test) own done = inr (refl, refl)
-outcome_cases (View input exprs) own done = inr (refl, refl)
-outcome_cases (Join left right on take choice) own done = inr (refl, refl)
-outcome_cases (Agg input by aggs) own done = inr (refl, refl)
-outcome_cases (Merge inputs) own done = inr (refl, refl)
-outcome_cases (Sort input by) own done = inr (refl, refl)
-outcome_cases (Head input rows) own done = inr (refl, refl)
-outcome_cases (Tail input rows) own done = inr (refl, refl)
-outcome_cases (AsOf left right on at take) own done = inr (refl, refl)
+outcome_cases op own done = inr (refl, refl)
 
 pub source_outcome : (op : Op) (own : PlainTable) (done : List Outcome) → is_source_op op ≡ true → outcome_of op own done ≡ Table own
 source_outcome op own done is =
@@ -59,27 +51,15 @@ operator_outcome op own done is =
 -- an operator reads the tables of its inputs alone
 pub result_same : (op : Op) (t u : ℕ → PlainTable) → AllByRecursion (λ n. t n ≡ u n) (inputs_of op) → result op t ≡ result op u
 result_same Source t u h = refl
-result_same (Keep input test) t u h = ap (λ x. result (Keep input test) (λ _. x)) h.0
-result_same (View input exprs) t u h = ap (λ x. result (View input exprs) (λ _. x)) h.0
 result_same (Join left right on taken choice) t u h = ap₂ (λ x y. join_table on taken choice x y) h.0 h.1.0
-result_same (Agg input by aggs) t u h = ap (λ x. result (Agg input by aggs) (λ _. x)) h.0
 result_same (Merge inputs) t u h = ap merge_table (map_same t u inputs h)
-result_same (Sort input by) t u h = ap (λ x. result (Sort input by) (λ _. x)) h.0
-result_same (Head input rows) t u h = ap (λ x. result (Head input rows) (λ _. x)) h.0
-result_same (Tail input rows) t u h = ap (λ x. result (Tail input rows) (λ _. x)) h.0
 result_same (AsOf left right on at taken) t u h = ap₂ (λ x y. asof_table on at taken x y) h.0 h.1.0
+result_same op t u h = ap (λ x. result op (λ _. x)) h.0
 
 pub fault_same : (op : Op) (t u : ℕ → PlainTable) → AllByRecursion (λ n. t n ≡ u n) (inputs_of op) → fault_of op t ≡ fault_of op u
-fault_same Source t u h = refl
-fault_same (Keep input test) t u h = refl
-fault_same (View input exprs) t u h = refl
 fault_same (Join left right on taken choice) t u h = ap₂ (λ x y. join_fault on choice x y) h.0 h.1.0
-fault_same (Agg input by aggs) t u h = refl
 fault_same (Merge inputs) t u h = ap merge_fault (map_same t u inputs h)
-fault_same (Sort input by) t u h = refl
-fault_same (Head input rows) t u h = refl
-fault_same (Tail input rows) t u h = refl
-fault_same (AsOf left right on at taken) t u h = refl
+fault_same op t u h = refl
 
 -- what an operator makes, from whether its inputs have tables, its fault and its table
 abbrev made : Bool → Option NodeFault → PlainTable → Outcome
@@ -96,15 +76,7 @@ applied_same op done others h =
 
 outcome_same : (op : Op) (own : PlainTable) (done others : List Outcome) → AllByRecursion (λ i. outcome_at done i ≡ outcome_at others i) (inputs_of op) → outcome_of op own done ≡ outcome_of op own others
 outcome_same Source own done others h = refl
-outcome_same (Keep input test) own done others h = applied_same (Keep input test) done others h
-outcome_same (View input exprs) own done others h = applied_same (View input exprs) done others h
-outcome_same (Join left right on taken choice) own done others h = applied_same (Join left right on taken choice) done others h
-outcome_same (Agg input by aggs) own done others h = applied_same (Agg input by aggs) done others h
-outcome_same (Merge inputs) own done others h = applied_same (Merge inputs) done others h
-outcome_same (Sort input by) own done others h = applied_same (Sort input by) done others h
-outcome_same (Head input rows) own done others h = applied_same (Head input rows) done others h
-outcome_same (Tail input rows) own done others h = applied_same (Tail input rows) done others h
-outcome_same (AsOf left right on at taken) own done others h = applied_same (AsOf left right on at taken) done others h
+outcome_same op own done others h = applied_same op done others h
 
 -- an operator that has a table has its inputs' tables and no fault
 pub record IsApplied (op : Op) (done : List Outcome) : Type 0 where

@@ -5,7 +5,7 @@ use Rattle.std.specs.List.{AllByRecursion}
 use Rattle.std.proofs.lemmas.List.{get_or-take}
 use Rattle.tick_model.specs.declared.plan.Node.{Node}
 use Rattle.tick_model.specs.declared.plan.Op.{Op}
-use Rattle.tick_model.specs.declared.plan.Op.TheVariants.{Source, Keep, View, Join, Agg, Merge, Sort, Head, Tail, AsOf}
+use Rattle.tick_model.specs.declared.plan.Op.TheVariants.{Source, Merge}
 use Rattle.tick_model.specs.declared.table.PlainTable.{PlainTable}
 use Rattle.tick_model.specs.declared.update.KeyPair.{KeyPair}
 use Rattle.tick_model.specs.Updates.{Tick}
@@ -24,28 +24,13 @@ tick_from old new kept = record { old = old; new = new; kept = kept }
 pub tick_cases : (op : Op) (own : Tick) (done : List Tick) (old new : PlainTable)
     → ((is_source_op op ≡ true) × (tick_of op own done old new ≡ own)) ⊎ ((is_source_op op ≡ false) × (tick_of op own done old new ≡ tick_from old new (kept_by op (tick_at done) old new)))
 tick_cases Source own done old new = inl (refl, refl)
-tick_cases (Keep input test) own done old new = inr (refl, refl)
-tick_cases (View input exprs) own done old new = inr (refl, refl)
-tick_cases (Join left right on taken choice) own done old new = inr (refl, refl)
-tick_cases (Agg input by aggs) own done old new = inr (refl, refl)
-tick_cases (Merge inputs) own done old new = inr (refl, refl)
-tick_cases (Sort input by) own done old new = inr (refl, refl)
-tick_cases (Head input rows) own done old new = inr (refl, refl)
-tick_cases (Tail input rows) own done old new = inr (refl, refl)
-tick_cases (AsOf left right on at taken) own done old new = inr (refl, refl)
+tick_cases op own done old new = inr (refl, refl)
 
 -- an operator reads the ticks of its inputs alone
 tick_same : (op : Op) (own : Tick) (done others : List Tick) (old new : PlainTable) → AllByRecursion (λ i. tick_at done i ≡ tick_at others i) (inputs_of op) → tick_of op own done old new ≡ tick_of op own others old new
 tick_same Source own done others old new h = refl
-tick_same (Keep input test) own done others old new h = ap (λ t. tick_from old new (kept_by (Keep input test) (λ _. t) old new)) h.0
-tick_same (View input exprs) own done others old new h = ap (λ t. tick_from old new (kept_by (View input exprs) (λ _. t) old new)) h.0
-tick_same (Join left right on taken choice) own done others old new h = ap (λ t. tick_from old new (kept_by (Join left right on taken choice) (λ _. t) old new)) h.0
-tick_same (Agg input by aggs) own done others old new h = ap (λ t. tick_from old new (kept_by (Agg input by aggs) (λ _. t) old new)) h.0
 tick_same (Merge inputs) own done others old new h = ap (λ ts. tick_from old new (merge_pairs ts)) (map_same (tick_at done) (tick_at others) inputs h)
-tick_same (Sort input by) own done others old new h = ap (λ t. tick_from old new (kept_by (Sort input by) (λ _. t) old new)) h.0
-tick_same (Head input rows) own done others old new h = ap (λ t. tick_from old new (kept_by (Head input rows) (λ _. t) old new)) h.0
-tick_same (Tail input rows) own done others old new h = ap (λ t. tick_from old new (kept_by (Tail input rows) (λ _. t) old new)) h.0
-tick_same (AsOf left right on at taken) own done others old new h = ap (λ t. tick_from old new (kept_by (AsOf left right on at taken) (λ _. t) old new)) h.0
+tick_same op own done others old new h = ap (λ t. tick_from old new (kept_by op (λ _. t) old new)) h.0
 
 module _ (nodes : List Node) (d : Node) (own : List Tick) (old new : ℕ → PlainTable) where
   abbrev T : List Tick
