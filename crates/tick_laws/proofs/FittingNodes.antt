@@ -56,7 +56,7 @@ module _ (run : Run) (h : IsLawfulRun run) (step : ℕ) where
       let op = (get_or nodes n no_node).op in
       record {
         bounded = bounded_operator run.plan h.plan n less is table (every_weaker (λ i. IsFitting i (table i)) (λ i. IsBounded run.plan h.plan i (table i)) (inputs_of op) (λ i f. f.bounded) inputs) fault;
-        fits = result_fits texts (columns_at nodes) (columns_at nodes n) table op is (fitting_columns run.plan h.plan n less)
+        fits = result_fits texts (columns_at nodes) (columns_at nodes n) table op (fitting_columns run.plan h.plan n less)
             (each_at (λ (node : Node). has_op_ranks texts node.op ≡ true) nodes n h.ranks less) (each_at (λ (node : Node). HasOpNumbers node.op) nodes n h.numbers less)
             (every_weaker (λ i. IsFitting i (table i)) (λ i. IsTable (table i)) (inputs_of op) (λ i f. f.bounded.is_table) inputs)
             (every_weaker (λ i. IsFitting i (table i)) (λ i. HasColumns (columns_at nodes i) texts (table i)) (inputs_of op) (λ i f. f.fits) inputs);

@@ -1,6 +1,6 @@
 -- The rows of each node of a lawful plan fit its columns, where those of its inputs fit theirs.
-use Rattle.std.proofs.Common.{◌≡◌, refl, ap, sym, ◌∙◌, ℕ, zero, suc, ◌-◌, true, false, true≢false, ◌&&◌, List, [], ◌∷◌, ◌++◌, map, length, filter, Option, Some, None, ℤ}
-use Rattle.std.specs.Prelude.{IfSome, int_le, nat_le, FitsSigned}
+use Rattle.std.proofs.Common.{◌≡◌, refl, ap, sym, ◌∙◌, ℕ, zero, suc, true, true≢false, ◌&&◌, List, [], ◌∷◌, ◌++◌, map, length, Option, Some, None, ℤ}
+use Rattle.std.specs.Prelude.{IfSome, nat_le, FitsSigned}
 use Rattle.std.specs.Int.{w64}
 use Rattle.std.specs.List.{AllByRecursion, list_all}
 use Rattle.std.proofs.lemmas.Bool.{and_parts, and_from, or_right}
@@ -16,24 +16,21 @@ use Rattle.tick_model.specs.declared.plan.Op.TheVariants.{Source, Keep, View, Jo
 use Rattle.tick_model.specs.declared.table.PlainRow.{PlainRow}
 use Rattle.tick_model.specs.declared.table.PlainTable.{PlainTable}
 use Rattle.tick_model.specs.Tables.{null, is_null, cell, IsTable}
-use Rattle.tick_model.specs.Formulas.{truth, value}
-use Rattle.tick_model.specs.Join.{agree, taken, chosen, matches}
-use Rattle.tick_model.specs.AsOf.{latest, not_later}
-use Rattle.tick_model.specs.Agg.{is_first, key_cells, aggregate, group_of, same_group}
-use Rattle.tick_model.specs.Sort.{in_order}
-use Rattle.tick_model.specs.Operators.{inputs_of, result, columns_fit, is_source_op}
+use Rattle.tick_model.specs.Formulas.{value}
+use Rattle.tick_model.specs.Join.{taken}
+use Rattle.tick_model.specs.Agg.{key_cells, aggregate}
+use Rattle.tick_model.specs.Operators.{inputs_of, result, columns_fit}
 use Rattle.tick_model.specs.LawfulRuns.{has_ranks, has_op_ranks}
 use Rattle.tick_model.specs.Names.{same_name}
-use Rattle.tick_model.specs.Columns.{same_kind, long_alone, both_long, kind_of, is_bound, kinds_of, has_kind, same_columns, have_kinds, keep_names, follow, kind_at, same_kind_at, agg_kind, some_of, is_test_bound, test_fits}
+use Rattle.tick_model.specs.Columns.{same_kind, long_alone, both_long, kind_of, is_bound, kinds_of, has_kind, same_columns, have_kinds, keep_names, follow, kind_at, agg_kind, some_of, is_test_bound, test_fits}
 use Rattle.tick_model.specs.Printable.{names_text, fits_kind, fit_columns}
-use Rattle.key_lists.proofs.Every.{every, every_weaker, every_both, every-map, every-filter}
-use Rattle.key_lists.proofs.Parts.{every-take, every-drop}
+use Rattle.key_lists.proofs.Every.{every, every_weaker, every_both}
 use Rattle.tick_laws.specs.Fitting.{FitsColumns, HasColumns}
 use Rattle.tick_model.specs.Numbers.{HasOpNumbers}
 use Rattle.tick_laws.proofs.EvalNodes.{all_pass}
-use Rattle.tick_laws.proofs.Placed.{every-in_order}
-use Rattle.tick_laws.proofs.ResultCells.{result_cells, chosen_every, latest_every, picked_every}
-use Rattle.tick_laws.proofs.ResultTables.{cells-numbered, cells-merged}
+use Rattle.tick_laws.proofs.Picked.{picked_every}
+use Rattle.tick_laws.proofs.ResultCells.{result_cells}
+use Rattle.tick_laws.proofs.ResultTables.{MakesRows, result_has}
 
 -- kinds that are the same
 same_kind_is : (a b : Kind) → same_kind a b ≡ true → a ≡ b
@@ -159,84 +156,52 @@ module _ (texts : ℕ) where
       text (First column) e = (picked_every (λ c. fits_kind texts Text c ≡ true) refl rows column (picked column e)).2
       text (Last column) e = (picked_every (λ c. fits_kind texts Text c ≡ true) refl rows column (picked column e)).3
 
-  abbrev HaveKinds : List ColumnSpec → List PlainRow → Type 0
-  HaveKinds columns rows = AllByRecursion (λ (row : PlainRow). Fits columns row.cells) rows
-
-  same_kinds : (columns others : List ColumnSpec) (rows : List PlainRow) → same_columns columns others ≡ true → HaveKinds others rows → HaveKinds columns rows
-  same_kinds columns others rows same h = every_weaker (λ (row : PlainRow). Fits others row.cells) (λ (row : PlainRow). Fits columns row.cells) rows (λ row f. same_fit columns others row.cells same f) h
-
   module _ (input : ℕ → List ColumnSpec) (columns : List ColumnSpec) (table : ℕ → PlainTable) where
-    abbrev IsInput : ℕ → Type 0
-    IsInput i = HaveKinds (input i) (table i).rows
+    abbrev Row : ℕ → PlainRow → Type 0
+    Row i row = Fits (input i) row.cells
 
-    result_kinds : (op : Op) → is_source_op op ≡ false → columns_fit op input columns ≡ true → has_op_ranks texts op ≡ true → AllByRecursion IsInput (inputs_of op) → HaveKinds columns (result op table).rows
-    result_kinds Source s f r h = tt
-    result_kinds (Keep from test) s f r h =
-        let fits = and_parts (same_columns columns (input from) && test_fits test (kinds_of (input from))) (is_test_bound test) f in
-        let same = and_parts (same_columns columns (input from)) (test_fits test (kinds_of (input from))) fits.0 in
-        every-filter (λ (row : PlainRow). Fits columns row.cells) (λ row. truth test row.cells) (table from).rows (same_kinds columns (input from) (table from).rows same.0 h.0)
-    result_kinds (View from exprs) s f r h =
+    -- what an operator makes of rows that fit its inputs' columns fits its own
+    made_kinds : (op : Op) → columns_fit op input columns ≡ true → has_op_ranks texts op ≡ true → MakesRows op Row (λ row. Fits columns row.cells)
+    made_kinds Source f r = tt
+    made_kinds (Keep from test) f r =
+        let same = and_parts (same_columns columns (input from)) (test_fits test (kinds_of (input from))) (and_parts (same_columns columns (input from) && test_fits test (kinds_of (input from))) (is_test_bound test) f).0 in
+        (λ row. same_fit columns (input from) row.cells same.0, tt)
+    made_kinds (View from exprs) f r = λ row fits.
         let kinds = map (λ expr. kind_of expr (kinds_of (input from))) exprs in
         let follows = and_parts (some_of exprs && list_all is_bound exprs) (follow columns (input from) kinds) f in
         let bound = all_pass is_bound exprs (and_parts (some_of exprs) (list_all is_bound exprs) follows.0).1 in
-        let ranks = all_pass (has_ranks texts) exprs r in
-        every-map (λ (row : PlainRow). Fits columns row.cells) _ (table from).rows
-        (every_weaker (λ (row : PlainRow). Fits (input from) row.cells) (λ (row : PlainRow). Fits columns (row.cells ++ map (λ expr. value expr row.cells) exprs)) (table from).rows
-        (λ row fits. follow_fit columns (input from) kinds row.cells (map (λ expr. value expr row.cells) exprs) follows.1 fits
+        follow_fit columns (input from) kinds row.cells (map (λ expr. value expr row.cells) exprs) follows.1 fits
         (kinds_mapped (λ expr. kind_of expr (kinds_of (input from))) (λ expr. value expr row.cells) exprs
-        (every_both (λ expr. has_ranks texts expr ≡ true) (λ expr. is_bound expr ≡ true) (λ expr. OfKind (kind_of expr (kinds_of (input from))) (value expr row.cells)) exprs (λ expr a b. value_kind expr (input from) row.cells fits a b) ranks bound)))
-        h.0)
-    result_kinds (Join left right on take choice) s f r h =
-        let kinds = map (kind_at (input right)) take in
-        let follows = and_parts (some_of on && some_of take && list_all (same_kind_at (input left) (input right)) on) (follow columns (input left) kinds) f in
-        every-map (λ (row : PlainRow). Fits columns row.cells) _ (table left).rows
-        (every_weaker (λ (row : PlainRow). Fits (input left) row.cells) (λ (row : PlainRow). Fits columns (row.cells ++ taken take (chosen choice (matches on (table right).rows row)))) (table left).rows
-        (λ row fits. follow_fit columns (input left) kinds row.cells (taken take (chosen choice (matches on (table right).rows row))) follows.1 fits
-        (taken_kinds (input right) take (chosen choice (matches on (table right).rows row))
-        (chosen_every (λ (row : PlainRow). Fits (input right) row.cells) choice (matches on (table right).rows row) (every-filter (λ (row : PlainRow). Fits (input right) row.cells) (agree on row) (table right).rows h.1.0))))
-        h.0)
-    result_kinds (AggOp from by aggs) s f r h =
+        (every_both (λ expr. has_ranks texts expr ≡ true) (λ expr. is_bound expr ≡ true) (λ expr. OfKind (kind_of expr (kinds_of (input from))) (value expr row.cells)) exprs (λ expr a b. value_kind expr (input from) row.cells fits a b)
+        (all_pass (has_ranks texts) exprs r) bound))
+    made_kinds (Join left right on take choice) f r = λ row found fits found_fits.
+        follow_fit columns (input left) (map (kind_at (input right)) take) row.cells (taken take found) (and_parts _ (follow columns (input left) (map (kind_at (input right)) take)) f).1 fits (taken_kinds (input right) take found found_fits)
+    made_kinds (AsOf left right on at take) f r = λ row found fits found_fits.
+        follow_fit columns (input left) (map (kind_at (input right)) take) row.cells (taken take found) (and_parts _ (follow columns (input left) (map (kind_at (input right)) take)) f).1 fits (taken_kinds (input right) take found found_fits)
+    made_kinds (AggOp from by aggs) f r = λ row group fits group_fits count.
         let kinds = map (kind_at (input from)) by ++ map (agg_kind (input from)) aggs in
         let have = and_parts (some_of aggs) (have_kinds columns kinds) (and_parts (some_of aggs && have_kinds columns kinds) (keep_names columns (input from) by) f).0 in
-        every-map (λ (row : PlainRow). Fits columns row.cells) _ (filter (is_first by (table from).rows) (table from).rows)
-        (every_weaker (λ (row : PlainRow). Fits (input from) row.cells) (λ (row : PlainRow). Fits columns (key_cells by row.cells ++ map (aggregate (group_of by (table from).rows row)) aggs)) (filter (is_first by (table from).rows) (table from).rows)
-        (λ row fits. have_fit columns kinds (key_cells by row.cells ++ map (aggregate (group_of by (table from).rows row)) aggs) have.1
-        (kinds-append (map (kind_at (input from)) by) (map (agg_kind (input from)) aggs) (key_cells by row.cells) (map (aggregate (group_of by (table from).rows row)) aggs)
+        have_fit columns kinds (key_cells by row.cells ++ map (aggregate group) aggs) have.1
+        (kinds-append (map (kind_at (input from)) by) (map (agg_kind (input from)) aggs) (key_cells by row.cells) (map (aggregate group) aggs)
         (kinds_mapped (kind_at (input from)) (cell row.cells) by (every (λ column. OfKind (kind_at (input from) column) (cell row.cells column)) by (cell_kind (input from) row.cells fits)))
-        (kinds_mapped (agg_kind (input from)) (aggregate (group_of by (table from).rows row)) aggs
-        (every (λ agg. OfKind (agg_kind (input from) agg) (aggregate (group_of by (table from).rows row) agg)) aggs
-        (aggregate_kind (input from) (group_of by (table from).rows row) (every-filter (λ (row : PlainRow). Fits (input from) row.cells) (same_group by row) (table from).rows h.0))))))
-        (every-filter (λ (row : PlainRow). Fits (input from) row.cells) (is_first by (table from).rows) (table from).rows h.0))
-    result_kinds (Merge inputs) s f r h =
-        let alike = all_pass (λ i. same_columns columns (input i)) inputs (and_parts (nat_le 2 (length inputs) && nat_le (length inputs) 16) (list_all (λ i. same_columns columns (input i)) inputs) f).1 in
-        cells-merged (Fits columns) 0 (map table inputs)
-        (every-map (λ (t : PlainTable). HaveKinds columns t.rows) table inputs
-        (every_both IsInput (λ i. same_columns columns (input i) ≡ true) (λ i. HaveKinds columns (table i).rows) inputs (λ i k same. same_kinds columns (input i) (table i).rows same k) h alike))
-    result_kinds (Sort from by) s f r h =
-        let fits = and_parts (some_of by && same_columns columns (input from)) _ f in
-        let same = and_parts (some_of by) (same_columns columns (input from)) fits.0 in
-        cells-numbered (Fits columns) 0 (in_order by (table from).rows) (every-in_order by (λ (row : PlainRow). Fits columns row.cells) (table from).rows (same_kinds columns (input from) (table from).rows same.1 h.0))
-    result_kinds (Head from count) s f r h =
-        let same = and_parts (same_columns columns (input from)) (nat_le count 4194304) f in
-        every-take (λ (row : PlainRow). Fits columns row.cells) count (table from).rows (same_kinds columns (input from) (table from).rows same.0 h.0)
-    result_kinds (Tail from count) s f r h =
-        let same = and_parts (same_columns columns (input from)) (nat_le count 4194304) f in
-        every-drop (λ (row : PlainRow). Fits columns row.cells) (length (table from).rows - count) (table from).rows (same_kinds columns (input from) (table from).rows same.0 h.0)
-    result_kinds (AsOf left right on at take) s f r h =
-        let kinds = map (kind_at (input right)) take in
-        let follows = and_parts _ (follow columns (input left) kinds) f in
-        every-map (λ (row : PlainRow). Fits columns row.cells) _ (table left).rows
-        (every_weaker (λ (row : PlainRow). Fits (input left) row.cells) (λ (row : PlainRow). Fits columns (row.cells ++ taken take (latest at.right (not_later on at (table right).rows row)))) (table left).rows
-        (λ row fits. follow_fit columns (input left) kinds row.cells (taken take (latest at.right (not_later on at (table right).rows row))) follows.1 fits
-        (taken_kinds (input right) take (latest at.right (not_later on at (table right).rows row))
-        (latest_every (λ (row : PlainRow). Fits (input right) row.cells) at.right (not_later on at (table right).rows row)
-        (every-filter (λ (row : PlainRow). Fits (input right) row.cells) (λ (other : PlainRow). agree on row other && int_le (cell other.cells at.right) (cell row.cells at.left)) (table right).rows h.1.0))))
-        h.0)
+        (kinds_mapped (agg_kind (input from)) (aggregate group) aggs (every (λ agg. OfKind (agg_kind (input from) agg) (aggregate group agg)) aggs (aggregate_kind (input from) group group_fits))))
+    made_kinds (Merge inputs) f r =
+        every_weaker (λ i. same_columns columns (input i) ≡ true) (λ i. (row : PlainRow) → Row i row → (key : ℕ) → Fits columns row.cells) inputs (λ i same row fits key. same_fit columns (input i) row.cells same fits)
+        (all_pass (λ i. same_columns columns (input i)) inputs (and_parts (nat_le 2 (length inputs) && nat_le (length inputs) 16) (list_all (λ i. same_columns columns (input i)) inputs) f).1)
+    made_kinds (Sort from by) f r = λ row fits key. same_fit columns (input from) row.cells (and_parts (some_of by) (same_columns columns (input from)) (and_parts (some_of by && same_columns columns (input from)) _ f).0).1 fits
+    made_kinds (Head from count) f r = (λ row. same_fit columns (input from) row.cells (and_parts (same_columns columns (input from)) (nat_le count 4194304) f).0, tt)
+    made_kinds (Tail from count) f r = (λ row. same_fit columns (input from) row.cells (and_parts (same_columns columns (input from)) (nat_le count 4194304) f).0, tt)
 
-    pub result_fits : (op : Op) → is_source_op op ≡ false → columns_fit op input columns ≡ true → has_op_ranks texts op ≡ true → HasOpNumbers op
+    abbrev Fitting : ℕ → PlainRow → Type 0
+    Fitting i row = FitsColumns (input i) texts row.cells
+
+    pub result_fits : (op : Op) → columns_fit op input columns ≡ true → has_op_ranks texts op ≡ true → HasOpNumbers op
         → AllByRecursion (λ i. IsTable (table i)) (inputs_of op) → AllByRecursion (λ i. HasColumns (input i) texts (table i)) (inputs_of op) → HasColumns columns texts (result op table)
-    result_fits op s f r n t h =
+    result_fits op f r n t h =
         every_both (λ (row : PlainRow). Fits columns row.cells) (λ (row : PlainRow). AllByRecursion (FitsSigned w64) row.cells) (λ (row : PlainRow). FitsColumns columns texts row.cells) (result op table).rows
         (λ row kinds numbers. record { kinds = kinds; numbers = numbers })
-        (result_kinds op s f r (every_weaker (λ i. HasColumns (input i) texts (table i)) IsInput (inputs_of op) (λ i k. every_weaker (λ (row : PlainRow). FitsColumns (input i) texts row.cells) (λ (row : PlainRow). Fits (input i) row.cells) (table i).rows (λ row fits. fits.kinds) k) h))
-        (result_cells op table t (every_weaker (λ i. HasColumns (input i) texts (table i)) (λ i. AllByRecursion (λ (row : PlainRow). AllByRecursion (FitsSigned w64) row.cells) (table i).rows) (inputs_of op) (λ i k. every_weaker (λ (row : PlainRow). FitsColumns (input i) texts row.cells) (λ (row : PlainRow). AllByRecursion (FitsSigned w64) row.cells) (table i).rows (λ row fits. fits.numbers) k) h) n)
+        (result_has op Row (λ row. Fits columns row.cells) table (made_kinds op f r) t (each Row (λ i row fits. fits.kinds)))
+        (result_cells op table t (each (λ i row. AllByRecursion (FitsSigned w64) row.cells) (λ i row fits. fits.numbers)) n)
+      where
+        each : (P : ℕ → PlainRow → Type 0) → ((i : ℕ) (row : PlainRow) → Fitting i row → P i row) → AllByRecursion (λ i. AllByRecursion (P i) (table i).rows) (inputs_of op)
+        each P f = every_weaker (λ i. AllByRecursion (Fitting i) (table i).rows) (λ i. AllByRecursion (P i) (table i).rows) (inputs_of op) (λ i. every_weaker (Fitting i) (P i) (table i).rows (f i)) h

@@ -20,6 +20,7 @@ pub mod NodeTicks
 pub mod OpeningTicks
 pub mod OperatorTicks
 pub mod Paired
+pub mod Picked
 pub mod Placed
 pub mod PlanTables
 pub mod PrintedChanges

@@ -1,30 +1,27 @@
 -- The first step of a lawful run: each node's change is a tick from an empty table, which keeps nothing.
-use Rattle.std.proofs.Common.{◌≡◌, refl, ap, sym, ◌∙◌, subst, ℕ, zero, suc, ◌+◌, ◌<◌, inl, inr, arith, true, List, [], ◌∷◌, ◌++◌, map, filter, length, get_or}
-use Rattle.std.specs.Prelude.{filter_map, fold}
-use Rattle.std.specs.List.{AllByRecursion, enumerate_from}
+use Rattle.std.proofs.Common.{◌≡◌, refl, ap, sym, ◌∙◌, subst, ℕ, zero, suc, ◌+◌, ◌<◌, inl, inr, arith, true, List, [], ◌∷◌, map, length, get_or}
+use Rattle.std.specs.Prelude.{fold}
+use Rattle.std.specs.List.{AllByRecursion}
 use Rattle.std.proofs.lemmas.Bool.{cases_lt}
 use Rattle.tick_model.specs.declared.feed.Run.{Run}
 use Rattle.tick_model.specs.declared.plan.Node.{Node}
 use Rattle.tick_model.specs.declared.plan.Op.{Op}
-use Rattle.tick_model.specs.declared.plan.Op.TheVariants.{Source, Keep, View, Join, Agg, Merge, Sort, Head, Tail, AsOf}
+use Rattle.tick_model.specs.declared.plan.Op.TheVariants.{Merge}
 use Rattle.tick_model.specs.declared.plan.Plan.{Plan}
-use Rattle.tick_model.specs.declared.table.PlainRow.{PlainRow}
 use Rattle.tick_model.specs.declared.table.PlainTable.{PlainTable}
 use Rattle.tick_model.specs.declared.update.KeyPair.{KeyPair}
-use Rattle.tick_model.specs.Tables.{IsTable, cells_at, same_cells, no_table}
-use Rattle.tick_model.specs.Updates.{IsTick, Tick, both_in}
-use Rattle.tick_model.specs.Agg.{key_cells}
-use Rattle.tick_model.specs.Merge.{merged_pairs, pair_from, region}
-use Rattle.tick_model.specs.Sort.{place_pair, same_place, in_order}
+use Rattle.tick_model.specs.Tables.{IsTable, no_table}
+use Rattle.tick_model.specs.Updates.{IsTick, Tick}
+use Rattle.tick_model.specs.Merge.{merged_pairs, region}
 use Rattle.tick_model.specs.Evaluation.{table_at, table_of, is_source, source_number}
 use Rattle.tick_model.specs.Operators.{inputs_of, kept_by}
 use Rattle.tick_model.specs.LawfulRuns.{IsLawfulRun}
 use Rattle.tick_model.specs.Sources.{opened, no_tick, tick_at, source_ticks, sources}
 use Rattle.tick_model.specs.States.{empty_at, state, tick, tick_node}
-use Rattle.key_lists.proofs.Every.{every_weaker, every-map}
+use Rattle.key_lists.proofs.Every.{every_weaker}
 use Rattle.tick_laws.specs.Reached.{IsReached, IsTickFrom}
 use Rattle.tick_laws.proofs.EvalNodes.{outcome_is, source_outcome}
-use Rattle.tick_laws.proofs.TickNodes.{tick_cases, tick_from, tick_is}
+use Rattle.tick_laws.proofs.TickNodes.{kept_same, tick_cases, tick_from, tick_is}
 use Rattle.tick_laws.proofs.LawfulPlans.{columns_at-node}
 use Rattle.tick_laws.proofs.LawfulSources.{lawful_tables, source_fits}
 use Rattle.tick_laws.proofs.Paired.{no_node}
@@ -37,35 +34,29 @@ width_empty plan [] n h = absurd (omega (arith, h))
 width_empty plan (node ∷ nodes) zero h = refl
 width_empty plan (node ∷ nodes) (suc n) h = width_empty plan nodes n (omega (arith, h))
 
--- a tick that begins with no rows, and so keeps none
-record IsOpening (tick : Tick) : Type 0 where
-  no_rows : tick.old.rows ≡ []
-  no_pairs : tick.kept ≡ []
+-- the same from no rows, of which none is kept
+abbrev from_nothing : Tick → Tick
+from_nothing tick = record { old = record { width = tick.old.width; rows = [] }; new = tick.new; kept = [] }
 
-no_merged : (old new : ℕ) (ticks : List Tick) → AllByRecursion IsOpening ticks → merged_pairs old new ticks ≡ []
-no_merged old new [] h = refl
-no_merged old new (t ∷ ticks) h =
-    ap (λ kept. map (pair_from old new) kept ++ merged_pairs (old + region t.old) (new + region t.new) ticks) h.0.no_pairs
-    ∙ no_merged (old + region t.old) (new + region t.new) ticks h.1
+abbrev IsOpening : Tick → Type 0
+IsOpening tick = tick ≡ from_nothing tick
 
 -- nothing is kept of nothing
+none_of_nothing : (op : Op) (tick : ℕ → Tick) (old new : PlainTable) → kept_by op (λ i. from_nothing (tick i)) old new ≡ []
+none_of_nothing (Merge inputs) tick old new = none 0 0 inputs
+  where
+    none : (old new : ℕ) (inputs : List ℕ) → merged_pairs old new (map (λ i. from_nothing (tick i)) inputs) ≡ []
+    none old new [] = refl
+    none old new (i ∷ inputs) = none (old + region (from_nothing (tick i)).old) (new + region (tick i).new) inputs
+none_of_nothing op tick old new = refl
+
 none_kept : (op : Op) (tick : ℕ → Tick) (old new : PlainTable) → AllByRecursion (λ i. IsOpening (tick i)) (inputs_of op) → kept_by op tick old new ≡ []
-none_kept Source tick old new h = refl
-none_kept (Keep input test) tick old new h = ap (both_in old new) h.0.no_pairs
-none_kept (View input exprs) tick old new h = h.0.no_pairs
-none_kept (Join left right on taken choice) tick old new h = h.0.no_pairs
-none_kept (Agg input by aggs) tick old new h = ap (λ kept. filter (λ (pair : KeyPair). same_cells (key_cells by (cells_at pair.old (tick input).old.rows)) (key_cells by (cells_at pair.new (tick input).new.rows))) (both_in old new kept)) h.0.no_pairs
-none_kept (Merge inputs) tick old new h = no_merged 0 0 (map tick inputs) (every-map IsOpening tick inputs h)
-none_kept (Sort input by) tick old new h =
-    ap (λ (rows : List PlainRow). filter_map (place_pair (in_order by (tick input).new.rows) (filter (same_place by (tick input)) (tick input).kept)) (enumerate_from 0 (in_order by rows))) h.0.no_rows
-none_kept (Head input rows) tick old new h = ap (both_in old new) h.0.no_pairs
-none_kept (Tail input rows) tick old new h = ap (both_in old new) h.0.no_pairs
-none_kept (AsOf left right on at taken) tick old new h = h.0.no_pairs
+none_kept op tick old new h = kept_same op tick (λ i. from_nothing (tick i)) old new h ∙ none_of_nothing op tick old new
 
 -- the ticks of the sources
 opened_opening : (opening : List PlainTable) (place : ℕ) → IsOpening (get_or (map opened opening) place no_tick)
-opened_opening [] place = record { no_rows = refl; no_pairs = refl }
-opened_opening (table ∷ opening) zero = record { no_rows = refl; no_pairs = refl }
+opened_opening [] place = refl
+opened_opening (table ∷ opening) zero = refl
 opened_opening (table ∷ opening) (suc place) = opened_opening opening place
 
 pub opened_width : (opening : List PlainTable) (place : ℕ) → (get_or (map opened opening) place no_tick).old.width ≡ (get_or (map opened opening) place no_tick).new.width
@@ -121,7 +112,7 @@ module _ (run : Run) (h : IsLawfulRun run) (r : IsReached run 0) where
       record {
         from = record {
           is_tick = source_tick run (lawful_tables run h) 0 r.batches place;
-          old_is = empty_is own.old (old_table n).width width opening.no_rows;
+          old_is = empty_is own.old (old_table n).width width (ap (λ (tick : Tick). tick.old.rows) opening);
           new_is = source_new own_ticks place ∙ ap table_of (sym (outcome_is nodes no_node (sources run 0) lesser n less ∙ source_outcome (get_or nodes n no_node).op (get_or (sources run 0) place no_table) (state run 0) is));
         };
         opening = opening;
@@ -139,7 +130,7 @@ module _ (run : Run) (h : IsLawfulRun run) (r : IsReached run 0) where
       in
       record {
         from = record { is_tick = from_empty (old_table n).width (new_at n) (kept_by op (tick_at T) (old_table n) (new_at n)) (tables.tables n) width none; old_is = refl; new_is = refl };
-        opening = record { no_rows = refl; no_pairs = none };
+        opening = ap (tick_from (old_table n) (new_at n)) none;
       }
 
   opened_before : (m n : ℕ) → n < m → n < length nodes → IsOpened n (get_or T n no_tick)

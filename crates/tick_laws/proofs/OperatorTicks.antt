@@ -1,13 +1,17 @@
 -- Each operator makes a tick of its inputs' ticks.
 use Rattle.std.proofs.Common.{◌≡◌, refl, ap, sym, ◌∙◌, subst, ℕ, ◌+◌, true, List, [], ◌∷◌, map, length}
+use Rattle.std.specs.Prelude.{slice_index}
 use Rattle.std.specs.List.{AllByRecursion}
 use Rattle.tick_model.specs.declared.plan.Op.{Op}
-use Rattle.tick_model.specs.declared.plan.Op.TheVariants.{Source, Keep, View, Join, Agg, Merge, Sort, Head, Tail, AsOf}
+use Rattle.tick_model.specs.declared.plan.Op.TheVariants.{Source, View, Join, Agg, Merge, Sort, AsOf}
 use Rattle.tick_model.specs.declared.table.PlainRow.{PlainRow}
 use Rattle.tick_model.specs.declared.table.PlainTable.{PlainTable}
 use Rattle.key_lists.specs.Keys.{is_among, IsRising}
 use Rattle.tick_model.specs.Tables.{keys, cells_at, same_cells, IsTable}
 use Rattle.tick_model.specs.Updates.{Tick, IsTick, both_in, old_keys, new_keys}
+use Rattle.tick_model.specs.View.{view_row}
+use Rattle.tick_model.specs.Join.{chosen, joined, matches}
+use Rattle.tick_model.specs.AsOf.{latest, not_later}
 use Rattle.tick_model.specs.Agg.{key_cells}
 use Rattle.tick_model.specs.Operators.{inputs_of, result}
 use Rattle.tick_model.specs.Merge.{merged_rows, width_of, region}
@@ -21,21 +25,23 @@ use Rattle.tick_laws.proofs.TickNodes.{tick_from}
 pub all_both_in : (input : Tick) (old new : PlainTable) → IsTick input → IsTable old → IsTable new → new.width ≡ old.width → IsTick (tick_from old new (both_in old new input.kept))
 all_both_in input old new h o n w = subst (λ kept. IsTick (tick_from old new kept)) (filter_all (both_in old new input.kept)) (some_both_in (λ _. true) input old new h o n w)
 
--- a table of the same keys keeps the same pairs
-same_keys : (input : Tick) (old new : PlainTable) → IsTick input → IsTable old → IsTable new → new.width ≡ old.width → keys old.rows ≡ keys input.old.rows → keys new.rows ≡ keys input.new.rows → IsTick (tick_from old new input.kept)
-same_keys input old new h o n w e f = record {
-  old_table = o;
-  new_table = n;
-  one_width = w;
-  of_old = subst (λ ks. AllByRecursion (λ key. is_among key ks ≡ true) (old_keys input.kept)) (sym e) h.of_old;
-  of_new = subst (λ ks. AllByRecursion (λ key. is_among key ks ≡ true) (new_keys input.kept)) (sym f) h.of_new;
-  rising_old = h.rising_old;
-  rising_new = h.rising_new;
-}
-
 pub keys_mapped : (f : PlainRow → PlainRow) (rows : List PlainRow) → ((row : PlainRow) → (f row).key ≡ row.key) → keys (map f rows) ≡ keys rows
 keys_mapped f [] h = refl
 keys_mapped f (row ∷ rows) h = ap (λ key. key ∷ keys (map f rows)) (h row) ∙ ap (λ rest. row.key ∷ rest) (keys_mapped f rows h)
+
+-- rows with other cells under the same keys keep the same pairs
+mapped_keeps : (added : ℕ) (f g : PlainRow → PlainRow) → ((row : PlainRow) → (f row).key ≡ row.key) → ((row : PlainRow) → (g row).key ≡ row.key) → (input : Tick) → IsTick input
+    → let old : PlainTable = record { width = input.old.width + added; rows = map f input.old.rows } in let new : PlainTable = record { width = input.new.width + added; rows = map g input.new.rows } in
+    IsTable old → IsTable new → IsTick (tick_from old new input.kept)
+mapped_keeps added f g e d input h o n = record {
+  old_table = o;
+  new_table = n;
+  one_width = ap (λ width. width + added) h.one_width;
+  of_old = subst (λ ks. AllByRecursion (λ key. is_among key ks ≡ true) (old_keys input.kept)) (sym (keys_mapped f input.old.rows e)) h.of_old;
+  of_new = subst (λ ks. AllByRecursion (λ key. is_among key ks ≡ true) (new_keys input.kept)) (sym (keys_mapped g input.new.rows d)) h.of_new;
+  rising_old = h.rising_old;
+  rising_new = h.rising_new;
+}
 
 merge_width : (tick : ℕ → Tick) (inputs : List ℕ) → AllByRecursion (λ n. IsTick (tick n)) inputs → width_of (map (λ n. (tick n).new) inputs) ≡ width_of (map (λ n. (tick n).old) inputs)
 merge_width tick [] h = refl
@@ -77,19 +83,15 @@ merge_keeps tick inputs h o n = record {
 -- an operator's kept pairs are a tick's, where its inputs' are and its results are tables
 pub operator_keeps : (op : Op) (tick : ℕ → Tick) → AllByRecursion (λ n. IsTick (tick n)) (inputs_of op) → IsTable (result op (λ n. (tick n).old)) → IsTable (result op (λ n. (tick n).new)) → IsTick (operated op tick)
 operator_keeps Source tick h o n = record { old_table = o; new_table = n; one_width = refl; of_old = tt; of_new = tt; rising_old = tt; rising_new = tt }
-operator_keeps (Keep input test) tick h o n = all_both_in (tick input) (result (Keep input test) (λ n. (tick n).old)) (result (Keep input test) (λ n. (tick n).new)) h.0 o n h.0.one_width
-operator_keeps (View input exprs) tick h o n =
-    same_keys (tick input) (result (View input exprs) (λ n. (tick n).old)) (result (View input exprs) (λ n. (tick n).new)) h.0 o n (ap (λ w. w + length exprs) h.0.one_width)
-    (keys_mapped _ (tick input).old.rows (λ row. refl)) (keys_mapped _ (tick input).new.rows (λ row. refl))
-operator_keeps (Join left right on taken choice) tick h o n =
-    same_keys (tick left) (result (Join left right on taken choice) (λ n. (tick n).old)) (result (Join left right on taken choice) (λ n. (tick n).new)) h.0 o n (ap (λ w. w + length taken) h.0.one_width)
-    (keys_mapped _ (tick left).old.rows (λ row. refl)) (keys_mapped _ (tick left).new.rows (λ row. refl))
+operator_keeps (View input exprs) tick h o n = mapped_keeps (length exprs) (view_row exprs) (view_row exprs) (λ row. refl) (λ row. refl) (tick input) h.0 o n
+operator_keeps (Join left right on take choice) tick h o n =
+    let found : PlainTable → PlainRow → PlainRow = λ right. joined take (λ row. chosen choice (matches on right.rows row)) in
+    mapped_keeps (length take) (found (tick right).old) (found (tick right).new) (λ row. refl) (λ row. refl) (tick left) h.0 o n
+operator_keeps (AsOf left right on at take) tick h o n =
+    let found : PlainTable → PlainRow → PlainRow = λ right. joined take (λ row. latest at.right (not_later on at right.rows row)) in
+    mapped_keeps (length take) (found (tick right).old) (found (tick right).new) (λ row. refl) (λ row. refl) (tick left) h.0 o n
 operator_keeps (Agg input by aggs) tick h o n =
     some_both_in (λ pair. same_cells (key_cells by (cells_at pair.old (tick input).old.rows)) (key_cells by (cells_at pair.new (tick input).new.rows))) (tick input) (result (Agg input by aggs) (λ n. (tick n).old)) (result (Agg input by aggs) (λ n. (tick n).new)) h.0 o n refl
 operator_keeps (Merge inputs) tick h o n = merge_keeps tick inputs h o n
 operator_keeps (Sort input by) tick h o n = sort_keeps by (tick input) h.0 o n
-operator_keeps (Head input count) tick h o n = all_both_in (tick input) (result (Head input count) (λ n. (tick n).old)) (result (Head input count) (λ n. (tick n).new)) h.0 o n h.0.one_width
-operator_keeps (Tail input count) tick h o n = all_both_in (tick input) (result (Tail input count) (λ n. (tick n).old)) (result (Tail input count) (λ n. (tick n).new)) h.0 o n h.0.one_width
-operator_keeps (AsOf left right on at taken) tick h o n =
-    same_keys (tick left) (result (AsOf left right on at taken) (λ n. (tick n).old)) (result (AsOf left right on at taken) (λ n. (tick n).new)) h.0 o n (ap (λ w. w + length taken) h.0.one_width)
-    (keys_mapped _ (tick left).old.rows (λ row. refl)) (keys_mapped _ (tick left).new.rows (λ row. refl))
+operator_keeps op tick h o n = all_both_in (tick (slice_index (inputs_of op) 0)) (result op (λ n. (tick n).old)) (result op (λ n. (tick n).new)) h.0 o n h.0.one_width

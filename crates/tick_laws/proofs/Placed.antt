@@ -15,6 +15,7 @@ use Rattle.tick_model.specs.Sort.{column_cmp, sort_cmp, place, in_order, numbere
 use Rattle.tick_model.proofs.Among.{rest_above, each_found}
 use Rattle.key_lists.proofs.Every.{every_weaker, every_both, every-map, every_unmapped, every-filter}
 use Rattle.tick_model.proofs.SortOrders.{comes_before, comes_before_weak}
+use Rattle.tick_model.proofs.TableRows.{every-ordered, every-place}
 
 -- a row stands before another: its cells come first, or they tie and its key is less
 abbrev pub Stands : List SortBy → PlainRow → PlainRow → Type 0
@@ -28,22 +29,16 @@ module _ (by : List SortBy) where
   o : IsStrictWeakOrder (comes_before by)
   o = comes_before_weak by
 
-  every-place : (P : PlainRow → Type 0) (x : PlainRow) (xs : List PlainRow) → P x → AllByRecursion P xs → AllByRecursion P (place (comes_before by) x xs)
-  every-place P x [] p h = (p, tt)
-  every-place P x (y ∷ ys) p h =
-      elim (comes_before by y x) as (λ b. AllByRecursion P (cond b (y ∷ place (comes_before by) x ys) (x ∷ y ∷ ys))) [ true ↦ (h.0, every-place P x ys p h.1) | false ↦ (p, h) ]
-
   place_placed : (x : PlainRow) (xs : List PlainRow) → AllByRecursion (λ row. x.key < row.key) xs → IsPlaced by xs → IsPlaced by (place (comes_before by) x xs)
   place_placed x [] above h = (tt, tt)
   place_placed x (y ∷ ys) above h =
       (elim (comes_before by y x) as (λ b. comes_before by y x ≡ b → IsPlaced by (cond b (y ∷ place (comes_before by) x ys) (x ∷ y ∷ ys))) [
-        | true ↦ λ less. (every-place (Stands by y) x ys (o.one_way y x less, λ e. absurd (true≢false (sym less ∙ e))) h.0, place_placed x ys above.1 h.1)
+        | true ↦ λ less. (every-place (Stands by y) (comes_before by) x ys (o.one_way y x less, λ e. absurd (true≢false (sym less ∙ e))) h.0, place_placed x ys above.1 h.1)
         | false ↦ λ more. (((more, λ e. above.0), every_both (Stands by y) (λ row. x.key < row.key) (Stands by x) ys (λ z s k. (o.chain z y x s.0 more, λ e. k)) h.0 above.1), h)
       ]) refl
 
   pub every-in_order : (P : PlainRow → Type 0) (rows : List PlainRow) → AllByRecursion P rows → AllByRecursion P (in_order by rows)
-  every-in_order P [] h = tt
-  every-in_order P (row ∷ rows) h = every-place P row (in_order by rows) h.0 (every-in_order P rows h.1)
+  every-in_order P rows h = every-ordered P (comes_before by) rows h
 
   pub in_order_placed : (rows : List PlainRow) → IsRising (keys rows) → IsPlaced by (in_order by rows)
   in_order_placed [] r = tt

@@ -1,6 +1,6 @@
 -- Where no input of an operator changes its table stays, too, and the update is empty.
 use Rattle.std.proofs.Common.{◌≡◌, refl, ap, ap₂, sym, ◌∙◌, subst, ℕ, ◌+◌, ◌==◌, ◌<◌, Bool, true, false, cond, not, ◌&&◌, ◌||◌, List, [], ◌∷◌, ◌++◌, map, length, true≢false, ℤ, pos, ◌+ℤ◌, arith}
-use Rattle.std.specs.Prelude.{Option, Some, None, filter, filter_map, find, option_map}
+use Rattle.std.specs.Prelude.{Option, Some, None, filter, filter_map, find, option_map, slice_index}
 use Rattle.std.specs.List.{AllByRecursion, cons_option, enumerate_from, list_all}
 use Rattle.std.specs.Cmp.{signed_Decides}
 use Rattle.std.specs.Ordering.{int_eq}
@@ -8,10 +8,9 @@ use Rattle.std.specs.Cmp.Rules.{signed_items}
 use Rattle.std.proofs.lemmas.Bool.{and_parts, eq-eqb, eqb-true, ne_eqb}
 use Rattle.std.proofs.lemmas.Int.{ints}
 use Rattle.std.proofs.lemmas.List.{append_assoc, map-append, length_push}
-use Rattle.tick_model.specs.declared.plan.Agg.{Agg as Aggregate}
 use Rattle.tick_model.specs.declared.plan.SortBy.{SortBy}
 use Rattle.tick_model.specs.declared.plan.Op.{Op}
-use Rattle.tick_model.specs.declared.plan.Op.TheVariants.{Source, Keep, View, Join, Agg, Merge, Sort, Head, Tail, AsOf}
+use Rattle.tick_model.specs.declared.plan.Op.TheVariants.{Source, View, Join, Agg, Merge, Sort, AsOf}
 use Rattle.tick_model.specs.declared.table.PlainRow.{PlainRow}
 use Rattle.tick_model.specs.declared.table.PlainTable.{PlainTable}
 use Rattle.tick_model.specs.declared.update.KeyPair.{KeyPair}
@@ -22,24 +21,23 @@ use Rattle.tick_model.specs.Shifts.{as_key, moved}
 use Rattle.tick_model.specs.Sources.{same_key, unchanged}
 use Rattle.tick_model.specs.Updates.{Tick, IsTick, Update, between, both_in, kept_pair, pairs}
 use Rattle.tick_model.specs.Changes.{is_empty, is_none}
-use Rattle.tick_model.specs.Agg.{agg_pairs, agg_row, agg_table, is_first, key_cells}
-use Rattle.tick_model.specs.AsOf.{asof_table}
-use Rattle.tick_model.specs.Operators.{inputs_of, result}
-use Rattle.tick_model.specs.HeadTail.{head_table, tail_table}
-use Rattle.tick_model.specs.Join.{join_table}
+use Rattle.tick_model.specs.Agg.{agg_row, agg_table, is_first, key_cells}
+use Rattle.tick_model.specs.AsOf.{latest, not_later}
+use Rattle.tick_model.specs.Operators.{inputs_of, result, kept_by}
+use Rattle.tick_model.specs.Join.{chosen, joined, matches}
 use Rattle.tick_model.specs.Sort.{in_order, numbered, place_of, place_pair, same_place, sort_pairs, sort_table}
-use Rattle.tick_model.specs.View.{view_table}
-use Rattle.tick_model.specs.Where.{where_table}
-use Rattle.tick_model.specs.Merge.{merge_table, merged_pairs, merged_rows, pair_from, region, row_from}
+use Rattle.tick_model.specs.View.{view_row}
+use Rattle.tick_model.specs.Merge.{merged_pairs, merged_rows, pair_from, region, row_from}
 use Rattle.key_lists.proofs.Among.{each_among}
-use Rattle.key_lists.proofs.Every.{every, every_unmapped, every-append, every-filter, every-map, filter-map, filter_all, filter_same, map_map}
+use Rattle.key_lists.proofs.Every.{every, every_unmapped, every_weaker, every-append, every-filter, every-map, filter-map, filter_all, filter_same}
 use Rattle.key_lists.proofs.Rising.{as_filter}
-use Rattle.key_lists.proofs.Parts.{every-take, every-drop}
 use Rattle.tick_laws.proofs.Carried.{pairs-between}
 use Rattle.tick_laws.proofs.EmptyUpdates.{none_is, unchanged_by_empty}
 use Rattle.tick_laws.proofs.OperatorTicks.{keys_mapped}
 use Rattle.tick_laws.proofs.Placed.{IsPlaced, Stands, every-in_order, in_order_placed}
-use Rattle.tick_laws.proofs.ResultTables.{result_table}
+use Rattle.tick_laws.proofs.EvalNodes.{result_same}
+use Rattle.tick_laws.proofs.ResultTables.{result_has, result_table}
+use Rattle.tick_laws.proofs.TickNodes.{kept_same, tick_from}
 use Rattle.tick_laws.specs.Operated.{operated}
 
 abbrev pub IsStill : Tick → Type 0
@@ -88,27 +86,17 @@ own_keys rows = every_unmapped (λ key. is_among key (keys rows) ≡ true) (λ (
 as_keys : (rows some : List PlainRow) → AllByRecursion (λ (row : PlainRow). is_among row.key (keys rows) ≡ true) some → AllByRecursion (λ key. is_among key (keys rows) ≡ true) (keys some)
 as_keys rows some h = every-map (λ key. is_among key (keys rows) ≡ true) (λ (row : PlainRow). row.key) some h
 
--- a tick of a table that stays with the pairs of all its keys
-abbrev with_kept : PlainTable → List KeyPair → Tick
-with_kept table kept = record { old = table; new = table; kept = kept }
-
 -- the pairs of a merge
-merged_same : (offset : ℕ) (ticks : List Tick) → AllByRecursion IsStill ticks → merged_pairs offset offset ticks ≡ map same_key (keys (merged_rows offset (map (λ (t : Tick). t.old) ticks)))
-merged_same offset [] h = refl
-merged_same offset (t ∷ ts) h =
-    ap (λ (tick : Tick). map (pair_from offset offset) tick.kept ++ merged_pairs (offset + region tick.old) (offset + region tick.new) ts) h.0
-    ∙ ap₂ (λ (xs ys : List KeyPair). xs ++ ys) (own t.old.rows) (merged_same (offset + region t.old) ts h.1)
-    ∙ sym (map-append same_key (keys (map (row_from offset) t.old.rows)) (keys (merged_rows (offset + region t.old) (map (λ (t : Tick). t.old) ts))))
-    ∙ ap (map same_key) (sym (map-append (λ (row : PlainRow). row.key) (map (row_from offset) t.old.rows) (merged_rows (offset + region t.old) (map (λ (t : Tick). t.old) ts))))
+merged_same : (offset : ℕ) (table : ℕ → PlainTable) (inputs : List ℕ) → merged_pairs offset offset (map (λ n. unchanged (table n)) inputs) ≡ map same_key (keys (merged_rows offset (map table inputs)))
+merged_same offset table [] = refl
+merged_same offset table (n ∷ ns) =
+    ap₂ (λ (xs ys : List KeyPair). xs ++ ys) (own (table n).rows) (merged_same (offset + region (table n)) table ns)
+    ∙ sym (map-append same_key (keys (map (row_from offset) (table n).rows)) (keys (merged_rows (offset + region (table n)) (map table ns))))
+    ∙ ap (map same_key) (sym (map-append (λ (row : PlainRow). row.key) (map (row_from offset) (table n).rows) (merged_rows (offset + region (table n)) (map table ns))))
   where
     own : (rows : List PlainRow) → map (pair_from offset offset) (map same_key (keys rows)) ≡ map same_key (keys (map (row_from offset) rows))
     own [] = refl
     own (row ∷ rows) = ap (λ rest. same_key (row.key + offset) ∷ rest) (own rows)
-
--- the result of an operator over tables that stay, where its keys are some of an input's
-some_rows : (table input : PlainTable) → IsTable table → IsTable input → AllByRecursion (λ (row : PlainRow). is_among row.key (keys input.rows) ≡ true) table.rows
-    → with_kept table (both_in table table (map same_key (keys input.rows))) ≡ unchanged table
-some_rows table input t i h = ap (with_kept table) (both_same table (keys input.rows) t.rising i.rising (as_keys input.rows table.rows h))
 
 -- every pair of equal keys has the same cells before and now
 kept_cells : (by : List ℕ) (rows : List PlainRow) (ks : List ℕ) → filter (λ (pair : KeyPair). same_cells (key_cells by (cells_at pair.old rows)) (key_cells by (cells_at pair.new rows))) (map same_key ks) ≡ map same_key ks
@@ -116,37 +104,6 @@ kept_cells by rows ks =
     filter-map (λ (pair : KeyPair). same_cells (key_cells by (cells_at pair.old rows)) (key_cells by (cells_at pair.new rows))) same_key ks
     ∙ ap (map same_key) (filter_same (λ key. same_cells (key_cells by (cells_at key rows)) (key_cells by (cells_at key rows))) (λ _. true) ks
     (every (λ key. same_cells (key_cells by (cells_at key rows)) (key_cells by (cells_at key rows)) ≡ true) ks (λ key. (signed_items (key_cells by (cells_at key rows)) (key_cells by (cells_at key rows))).1 refl)) ∙ filter_all ks)
-
--- the tick of tables that are made of those of an input
-abbrev tick_by : (PlainTable → PlainTable) → (Tick → List KeyPair) → Tick → Tick
-tick_by make kept tick = record { old = make tick.old; new = make tick.new; kept = kept tick }
-
-abbrev both_by : (PlainTable → PlainTable) → Tick → List KeyPair
-both_by make tick = both_in (make tick.old) (make tick.new) tick.kept
-
--- rows with other cells under the same keys
-same_keys : (make : PlainTable → PlainTable) (input : PlainTable) → keys (make input).rows ≡ keys input.rows → with_kept (make input) (map same_key (keys input.rows)) ≡ unchanged (make input)
-same_keys make input e = ap (λ ks. with_kept (make input) (map same_key ks)) (sym e)
-
-agg_stays : (by : List ℕ) (aggs : List Aggregate) (input : PlainTable) → IsTable input → IsTable (agg_table by aggs input) → with_kept (agg_table by aggs input) (agg_pairs by (unchanged input) (agg_table by aggs input) (agg_table by aggs input)) ≡ unchanged (agg_table by aggs input)
-agg_stays by aggs input i o =
-    let table = agg_table by aggs input in
-    let firsts = filter (is_first by input.rows) input.rows in
-    let within : AllByRecursion (λ key. is_among key (keys input.rows) ≡ true) (keys table.rows) =
-    subst (AllByRecursion (λ key. is_among key (keys input.rows) ≡ true)) (sym (keys_mapped (agg_row by aggs input.rows) firsts (λ row. refl)))
-    (as_keys input.rows firsts (every-filter (λ (row : PlainRow). is_among row.key (keys input.rows) ≡ true) (is_first by input.rows) input.rows (own_keys input.rows))) in
-    ap (λ pairs. with_kept table (filter (λ (pair : KeyPair). same_cells (key_cells by (cells_at pair.old input.rows)) (key_cells by (cells_at pair.new input.rows))) pairs)) (both_same table (keys input.rows) o.rising i.rising within)
-    ∙ ap (with_kept table) (kept_cells by input.rows (keys table.rows))
-
-merge_stays : (tick : ℕ → Tick) (inputs : List ℕ) → AllByRecursion (λ n. IsStill (tick n)) inputs → operated (Merge inputs) tick ≡ unchanged (merge_table (map (λ n. (tick n).old) inputs))
-merge_stays tick inputs h =
-    ap₂ (λ (new : PlainTable) (kept : List KeyPair). let same : Tick = record { old = merge_table (map (λ n. (tick n).old) inputs); new = new; kept = kept } in same)
-    (ap merge_table (news inputs h))
-    (merged_same 0 (map tick inputs) (every-map IsStill tick inputs h) ∙ ap (λ tables. map same_key (keys (merged_rows 0 tables))) (map_map (λ (t : Tick). t.old) tick inputs))
-  where
-    news : (those : List ℕ) → AllByRecursion (λ n. IsStill (tick n)) those → map (λ n. (tick n).new) those ≡ map (λ n. (tick n).old) those
-    news [] h = refl
-    news (n ∷ those) h = ap₂ (λ (t : PlainTable) (ts : List PlainTable). t ∷ ts) (ap (λ (t : Tick). t.new) h.0) (news those h.1)
 
 -- the place of the row of a key behind rows of other keys
 place_after : (key : ℕ) (done : List PlainRow) (row : PlainRow) (rows : List PlainRow) → AllByRecursion (λ (other : PlainRow). (other.key == key) ≡ false) done → row.key ≡ key → place_of key (done ++ row ∷ rows) ≡ length done
@@ -210,27 +167,37 @@ module _ (by : List SortBy) (input : PlainTable) (h : IsTable input) where
       ∙ places 0 [] sorted refl refl (every-in_order by (λ (row : PlainRow). is_among row.key (keys input.rows) ≡ true) input.rows (own_keys input.rows))
       (every-in_order by Found input.rows (each_found input.rows h.rising)) (in_order_placed by input.rows h.rising) (every (λ (row : PlainRow). AllByRecursion (IsOther row) []) sorted (λ row. tt))
 
+-- rows with other cells under the same keys
+mapped_stays : (f : PlainRow → PlainRow) (rows : List PlainRow) → ((row : PlainRow) → (f row).key ≡ row.key) → map same_key (keys rows) ≡ map same_key (keys (map f rows))
+mapped_stays f rows same = ap (map same_key) (sym (keys_mapped f rows same))
+
+-- the pairs of an operator over tables that stay are those of all its rows
+pairs_stay : (op : Op) (table : ℕ → PlainTable) → AllByRecursion (λ n. IsTable (table n)) (inputs_of op) → kept_by op (λ n. unchanged (table n)) (result op table) (result op table) ≡ map same_key (keys (result op table).rows)
+pairs_stay Source table t = refl
+pairs_stay (View input exprs) table t = mapped_stays (view_row exprs) (table input).rows (λ row. refl)
+pairs_stay (Join left right on take choice) table t = mapped_stays (joined take (λ row. chosen choice (matches on (table right).rows row))) (table left).rows (λ row. refl)
+pairs_stay (AsOf left right on at take) table t = mapped_stays (joined take (λ row. latest at.right (not_later on at (table right).rows row))) (table left).rows (λ row. refl)
+pairs_stay (Agg input by aggs) table t =
+    let rows = (table input).rows in
+    let made = agg_table by aggs (table input) in
+    let firsts = filter (is_first by rows) rows in
+    ap (filter (λ (pair : KeyPair). same_cells (key_cells by (cells_at pair.old rows)) (key_cells by (cells_at pair.new rows))))
+    (both_same made (keys rows) (result_table (Agg input by aggs) table t tt).rising t.0.rising
+    (subst (AllByRecursion (λ key. is_among key (keys rows) ≡ true)) (sym (keys_mapped (agg_row by aggs rows) firsts (λ row. refl)))
+    (as_keys rows firsts (every-filter (λ (row : PlainRow). is_among row.key (keys rows) ≡ true) (is_first by rows) rows (own_keys rows)))))
+    ∙ kept_cells by rows (keys made.rows)
+pairs_stay (Merge inputs) table t = merged_same 0 table inputs
+pairs_stay (Sort input by) table t = sort_stays by (table input) t.0
+pairs_stay op table t =
+    let input = slice_index (inputs_of op) 0 in
+    let IsOwn : ℕ → PlainRow → Type 0 = λ i row. is_among row.key (keys (table i).rows) ≡ true in
+    both_same (result op table) (keys (table input).rows) (result_table op table t tt).rising t.0.rising
+    (as_keys (table input).rows (result op table).rows (result_has op IsOwn (IsOwn input) table (λ row own. own, tt) t (own_keys (table input).rows, tt)))
+
 -- an operator none of whose inputs changes keeps its table, and every row in its place
 pub operator_stays : (op : Op) (tick : ℕ → Tick) → AllByRecursion (λ n. IsStill (tick n)) (inputs_of op) → AllByRecursion (λ n. IsTable (tick n).old) (inputs_of op) → operated op tick ≡ unchanged (result op (λ n. (tick n).old))
-operator_stays Source tick h t = refl
-operator_stays (Keep input test) tick h t =
-    ap (tick_by (where_table test) (both_by (where_table test))) h.0
-    ∙ some_rows (where_table test (tick input).old) (tick input).old (result_table (Keep input test) (λ n. (tick n).old) t tt) t.0 (every-filter (λ (row : PlainRow). is_among row.key (keys (tick input).old.rows) ≡ true) _ (tick input).old.rows (own_keys (tick input).old.rows))
-operator_stays (View input exprs) tick h t =
-    ap (tick_by (view_table exprs) (λ (tick : Tick). tick.kept)) h.0 ∙ same_keys (view_table exprs) (tick input).old (keys_mapped _ (tick input).old.rows (λ row. refl))
-operator_stays (Join left right on taken choice) tick h t =
-    ap₂ (λ (l r : Tick). let joined : Tick = record { old = join_table on taken choice l.old r.old; new = join_table on taken choice l.new r.new; kept = l.kept } in joined) h.0 h.1.0
-    ∙ same_keys (λ table. join_table on taken choice table (tick right).old) (tick left).old (keys_mapped _ (tick left).old.rows (λ row. refl))
-operator_stays (Agg input by aggs) tick h t =
-    ap (λ (t : Tick). tick_by (agg_table by aggs) (λ (tick : Tick). agg_pairs by tick (agg_table by aggs tick.old) (agg_table by aggs tick.new)) t) h.0 ∙ agg_stays by aggs (tick input).old t.0 (result_table (Agg input by aggs) (λ n. (tick n).old) t tt)
-operator_stays (Merge inputs) tick h t = merge_stays tick inputs h
-operator_stays (Sort input by) tick h t = ap (tick_by (sort_table by) (sort_pairs by)) h.0 ∙ ap (with_kept (sort_table by (tick input).old)) (sort_stays by (tick input).old t.0)
-operator_stays (Head input count) tick h t =
-    ap (tick_by (head_table count) (both_by (head_table count))) h.0
-    ∙ some_rows (head_table count (tick input).old) (tick input).old (result_table (Head input count) (λ n. (tick n).old) t tt) t.0 (every-take (λ (row : PlainRow). is_among row.key (keys (tick input).old.rows) ≡ true) count (tick input).old.rows (own_keys (tick input).old.rows))
-operator_stays (Tail input count) tick h t =
-    ap (tick_by (tail_table count) (both_by (tail_table count))) h.0
-    ∙ some_rows (tail_table count (tick input).old) (tick input).old (result_table (Tail input count) (λ n. (tick n).old) t tt) t.0 (every-drop (λ (row : PlainRow). is_among row.key (keys (tick input).old.rows) ≡ true) _ (tick input).old.rows (own_keys (tick input).old.rows))
-operator_stays (AsOf left right on at taken) tick h t =
-    ap₂ (λ (l r : Tick). let joined : Tick = record { old = asof_table on at taken l.old r.old; new = asof_table on at taken l.new r.new; kept = l.kept } in joined) h.0 h.1.0
-    ∙ same_keys (λ table. asof_table on at taken table (tick right).old) (tick left).old (keys_mapped _ (tick left).old.rows (λ row. refl))
+operator_stays op tick h t =
+    let old = result op (λ n. (tick n).old) in
+    let same = result_same op (λ n. (tick n).new) (λ n. (tick n).old) (every_weaker (λ n. IsStill (tick n)) (λ n. (tick n).new ≡ (tick n).old) (inputs_of op) (λ n still. ap (λ (t : Tick). t.new) still) h) in
+    ap (λ new. tick_from old new (kept_by op tick old new)) same
+    ∙ ap (tick_from old old) (kept_same op tick (λ n. unchanged (tick n).old) old old h ∙ pairs_stay op (λ n. (tick n).old) t)

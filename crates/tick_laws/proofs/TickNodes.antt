@@ -27,10 +27,14 @@ tick_cases Source own done old new = inl (refl, refl)
 tick_cases op own done old new = inr (refl, refl)
 
 -- an operator reads the ticks of its inputs alone
+pub kept_same : (op : Op) (tick other : ℕ → Tick) (old new : PlainTable) → AllByRecursion (λ i. tick i ≡ other i) (inputs_of op) → kept_by op tick old new ≡ kept_by op other old new
+kept_same Source tick other old new h = refl
+kept_same (Merge inputs) tick other old new h = ap merge_pairs (map_same tick other inputs h)
+kept_same op tick other old new h = ap (λ t. kept_by op (λ _. t) old new) h.0
+
 tick_same : (op : Op) (own : Tick) (done others : List Tick) (old new : PlainTable) → AllByRecursion (λ i. tick_at done i ≡ tick_at others i) (inputs_of op) → tick_of op own done old new ≡ tick_of op own others old new
 tick_same Source own done others old new h = refl
-tick_same (Merge inputs) own done others old new h = ap (λ ts. tick_from old new (merge_pairs ts)) (map_same (tick_at done) (tick_at others) inputs h)
-tick_same op own done others old new h = ap (λ t. tick_from old new (kept_by op (λ _. t) old new)) h.0
+tick_same op own done others old new h = ap (tick_from old new) (kept_same op (tick_at done) (tick_at others) old new h)
 
 module _ (nodes : List Node) (d : Node) (own : List Tick) (old new : ℕ → PlainTable) where
   abbrev T : List Tick
