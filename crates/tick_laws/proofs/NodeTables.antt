@@ -6,7 +6,7 @@ use Rattle.std.proofs.lemmas.Bool.{and_parts}
 use Rattle.std.proofs.lemmas.List.Sums.{sum_by-cons}
 use Rattle.tick_model.specs.declared.plan.ColumnSpec.{ColumnSpec}
 use Rattle.tick_model.specs.declared.plan.Op.{Op}
-use Rattle.tick_model.specs.declared.plan.Op.TheVariants.{Source, Merge}
+use Rattle.tick_model.specs.declared.plan.Op.TheVariants.{Merge}
 use Rattle.tick_model.specs.declared.table.PlainRow.{PlainRow}
 use Rattle.tick_model.specs.declared.table.PlainTable.{PlainTable}
 use Rattle.tick_model.specs.Tables.{IsRow, IsTable}
@@ -14,7 +14,7 @@ use Rattle.tick_model.specs.Merge.{region, width_of}
 use Rattle.tick_model.specs.Operators.{inputs_of, result, fault_of, columns_fit, bound_of, is_source_op}
 use Rattle.tick_model.specs.Columns.{same_columns}
 use Rattle.tick_model.specs.Ready.{HaveRoom}
-use Rattle.tick_model.proofs.Results.{AreResults, IsOperator, IsResult, merged_room, result_is}
+use Rattle.tick_model.proofs.Results.{AreResults, IsResult, merged_room, result_is}
 use Rattle.tick_model.proofs.Widths.{same_width}
 use Rattle.key_lists.proofs.Every.{every_weaker, every_both, every-map, every_unmapped}
 use Rattle.tick_laws.specs.Bounded.{IsNodeTable}
@@ -41,10 +41,6 @@ regions_within : (offset : ℕ) (tables : List PlainTable) → offset ≤ 2 ^ 62
 regions_within offset [] small room = omega (arith, small)
 regions_within offset (table ∷ tables) small room = let rest = regions_within (offset + region table) tables room.0.next room.1 in omega (arith, rest, sum_by-cons region table tables)
 
-operator : (op : Op) → is_source_op op ≡ false → IsOperator op
-operator Source s = absurd (true≢false s)
-operator op s = tt
-
 module _ (input : ℕ → List ColumnSpec) (columns : List ColumnSpec) (bound : ℕ → ℕ) (table : ℕ → PlainTable) where
   -- the tables that a merge reads can be merged
   roomy : (op : Op) → columns_fit op input columns ≡ true → bound_of op bound < 2 ^ 62 → AreResults (λ i. length (input i)) bound table (inputs_of op) → HasRoom op table
@@ -68,7 +64,7 @@ module _ (input : ℕ → List ColumnSpec) (columns : List ColumnSpec) (bound : 
       → IsNodeTable (length columns) (bound_of op bound) (result op table)
   node_table op s f room bounds h fault =
       let results = every_both (λ i. IsBound (bound i)) IsInput (λ i. IsResult (length (input i)) (bound i) (table i)) (inputs_of op) (λ i. node_result (length (input i)) (bound i) (table i)) bounds h in
-      let is = result_is op input bound table columns (operator op s) f results fault in
+      let is = result_is op input bound table columns s f results fault in
       record {
         is_table = result_table op table (every_weaker IsInput (λ i. IsTable (table i)) (inputs_of op) (λ i k. k.is_table) h) (roomy op f room results);
         width_is = is.width_is;

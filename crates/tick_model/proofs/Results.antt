@@ -285,15 +285,9 @@ result_is (AsOf left right on at take) columns bound table cols o fit h none =
 -- an operator's bound is that of its inputs' bounds alone
 pub bound_same : (op : Op) (f g : ℕ → ℕ) → AllByRecursion (λ input. f input ≡ g input) (inputs_of op) → bound_of op f ≡ bound_of op g
 bound_same Source f g h = refl
-bound_same (Keep from test) f g h = h.0
-bound_same (View from exprs) f g h = h.0
-bound_same (Join left right on take choice) f g h = h.0
-bound_same (AggOp from by aggs) f g h = h.0
 bound_same (Merge inputs) f g h = ap sum (map_same f g inputs h)
 bound_same (Sort from by) f g h = refl
-bound_same (Head from rows) f g h = h.0
-bound_same (Tail from rows) f g h = h.0
-bound_same (AsOf left right on at take) f g h = h.0
+bound_same op f g h = h.0
 
 -- whether columns fit is seen from those of the inputs alone
 merged_same : (f g : ℕ → List ColumnSpec) (columns : List ColumnSpec) (inputs : List ℕ) → AllByRecursion (λ i. f i ≡ g i) inputs → list_all (λ from. same_columns columns (f from)) inputs ≡ list_all (λ from. same_columns columns (g from)) inputs
@@ -303,19 +297,14 @@ merged_same f g columns (input ∷ inputs) same =
 
 pub columns_fit_same : (op : Op) (f g : ℕ → List ColumnSpec) (columns : List ColumnSpec) → AllByRecursion (λ i. f i ≡ g i) (inputs_of op) → columns_fit op f columns ≡ columns_fit op g columns
 columns_fit_same Source f g columns same = refl
-columns_fit_same (Keep from test) f g columns same = ap (λ table. same_columns columns table && test_fits test (kinds_of table) && is_test_bound test) same.0
-columns_fit_same (View from exprs) f g columns same = ap (λ table. some_of exprs && list_all is_bound exprs && follow columns table (map (λ expr. kind_of expr (kinds_of table)) exprs)) same.0
 columns_fit_same (Join left right on taken choice) f g columns same =
     ap (λ table. some_of on && some_of taken && list_all (same_kind_at table (f right)) on && follow columns table (map (kind_at (f right)) taken)) same.0
     ∙ ap (λ table. some_of on && some_of taken && list_all (same_kind_at (g left) table) on && follow columns (g left) (map (kind_at table) taken)) same.1.0
-columns_fit_same (AggOp from by aggs) f g columns same = ap (λ table. some_of aggs && have_kinds columns (map (kind_at table) by ++ map (agg_kind table) aggs) && keep_names columns table by) same.0
 columns_fit_same (Merge inputs) f g columns same = ap (λ rest. nat_le 2 (length inputs) && nat_le (length inputs) 16 && rest) (merged_same f g columns inputs same)
-columns_fit_same (Sort from by) f g columns same = ap (λ table. some_of by && same_columns columns table && list_all (λ sort. is_some (kind_at table sort.column)) by) same.0
-columns_fit_same (Head from rows) f g columns same = ap (λ table. same_columns columns table && nat_le rows 4194304) same.0
-columns_fit_same (Tail from rows) f g columns same = ap (λ table. same_columns columns table && nat_le rows 4194304) same.0
 columns_fit_same (AsOf left right on at taken) f g columns same =
     ap (λ table. some_of taken && list_all (same_kind_at table (f right)) on && has_kind Long (kind_at table at.left) && has_kind Long (kind_at (f right) at.right) && follow columns table (map (kind_at (f right)) taken)) same.0
     ∙ ap (λ table. some_of taken && list_all (same_kind_at (g left) table) on && has_kind Long (kind_at (g left) at.left) && has_kind Long (kind_at table at.right) && follow columns (g left) (map (kind_at table) taken)) same.1.0
+columns_fit_same op f g columns same = ap (λ table. columns_fit op (λ _. table) columns) same.0
 
 -- an operator has from 1 to 16 inputs
 pub record HasInputs (op : Op) : Type 0 where
@@ -324,33 +313,18 @@ pub record HasInputs (op : Op) : Type 0 where
 
 pub has_inputs : (op : Op) (input : ℕ → List ColumnSpec) (columns : List ColumnSpec) → columns_fit op input columns ≡ true → IsOperator op → HasInputs op
 has_inputs Source input columns fit is = absurd (true≢false is)
-has_inputs (Keep from test) input columns fit is = record { many = omega arith; few = omega arith }
-has_inputs (View from exprs) input columns fit is = record { many = omega arith; few = omega arith }
-has_inputs (Join left right on taken choice) input columns fit is = record { many = omega arith; few = omega arith }
-has_inputs (AggOp from by aggs) input columns fit is = record { many = omega arith; few = omega arith }
 has_inputs (Merge []) input columns fit is = absurd (true≢false (sym (and_parts (nat_le 2 0 && nat_le 0 16) true fit).0))
 has_inputs (Merge (from ∷ others)) input columns fit is =
     let alike = list_all (λ from. same_columns columns (input from)) (from ∷ others) in
     let parts = and_parts (nat_le 2 (length (from ∷ others)) && nat_le (length (from ∷ others)) 16) alike fit in
     let count = and_parts (nat_le 2 (length (from ∷ others))) (nat_le (length (from ∷ others)) 16) parts.0 in
     record { many = omega arith; few = leb-true (length (from ∷ others)) 16 count.1 }
-has_inputs (Sort from by) input columns fit is = record { many = omega arith; few = omega arith }
-has_inputs (Head from rows) input columns fit is = record { many = omega arith; few = omega arith }
-has_inputs (Tail from rows) input columns fit is = record { many = omega arith; few = omega arith }
-has_inputs (AsOf left right on at taken) input columns fit is = record { many = omega arith; few = omega arith }
+has_inputs op input columns fit is = record { many = omega arith; few = omega arith }
 
 -- a source is one, and reads no node
 source_is : (op : Op) → is_source_op op ≡ true → op ≡ Source
 source_is Source is = refl
-source_is (Keep from test) is = absurd (true≢false (sym is))
-source_is (View from exprs) is = absurd (true≢false (sym is))
-source_is (Join left right on taken choice) is = absurd (true≢false (sym is))
-source_is (AggOp from by aggs) is = absurd (true≢false (sym is))
-source_is (Merge others) is = absurd (true≢false (sym is))
-source_is (Sort from by) is = absurd (true≢false (sym is))
-source_is (Head from rows) is = absurd (true≢false (sym is))
-source_is (Tail from rows) is = absurd (true≢false (sym is))
-source_is (AsOf left right on at taken) is = absurd (true≢false (sym is))
+source_is op is = absurd (true≢false (sym is))
 
 pub source_inputs : (op : Op) → is_source_op op ≡ true → inputs_of op ≡ []
 source_inputs op is = ap inputs_of (source_is op is)
