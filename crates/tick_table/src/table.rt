@@ -1,6 +1,6 @@
 //! The table itself: what it is made of, what it answers and how a change is applied.
 
-ghost use Rattle.std.specs.Prelude.{◌++◌, ◌≡◌, ◌+◌, ◌*◌, ◌^◌, ◌<◌, ◌≤◌, IsTrue, None, false, flat_map, length, map, slice_index, IfOk, OnErr, OnOk};
+ghost use Rattle.std.specs.Prelude.{◌++◌, ◌≡◌, ◌+◌, ◌*◌, ◌^◌, ◌<◌, ◌≤◌, ◌⊎◌, IsTrue, None, false, flat_map, length, map, slice_index, IfOk, OnErr, OnOk};
 ghost use Rattle.key_lists.specs.Keys.{is_among};
 ghost use Rattle.table_update.specs.Kept.{old_modified};
 ghost use Rattle.tick_model.specs.Changes.{change_of, changed, told_keys};
@@ -298,7 +298,7 @@ impl TickTable {
         })
     }
 
-    /// Applies a change where the table lies, as `apply` does. After a refusal the table has no rows.
+    /// Applies a change where the table lies, as `apply` does. After a refusal the table is as it was, or has no rows.
     pub fn bring_on(&mut self, change: Change) -> Result<(), AllocError>
         requires lawful { update_fault (2 ^ 62) (keys self.old.new.rows) change.update ≡ None }
         requires whole { length change.cells ≡ length (told_keys change.update) * self.old.new.width }
@@ -306,6 +306,7 @@ impl TickTable {
         ensures new { OnOk result (self.new.new ≡ changed self.old.new change) }
         ensures update { OnOk result (self.new.update ≡ change.update) }
         ensures exact { OnOk result ((tick : Tick) → IsTick tick → self.old.new ≡ tick.old → change ≡ change_of tick → self.new ≡ ticking tick) }
+        ensures refused { OnErr result ((self.new ≡ self.old) ⊎ (self.new ≡ fresh self.old.new.width)) }
     {
         let empty = TickTable::new(self.placed.allocator(), self.width())?;
         let table = mem::replace(self, empty);
