@@ -1,5 +1,5 @@
 -- A lawful operator may be applied to its inputs' tables, and what comes of it is its outcome.
-use Rattle.std.proofs.Common.{◌≡◌, refl, ap, ap₂, sym, ◌∙◌, subst, Bool, true, false, ◌&&◌, ℕ, ◌+◌, ◌^◌, ◌<◌, ◌≤◌, arith, List, [], ◌∷◌, ◌++◌, length, map, sum, length-append}
+use Rattle.std.proofs.Common.{true≢false, if◌then◌else◌, ◌≡◌, refl, ap, ap₂, sym, ◌∙◌, subst, Bool, true, false, ◌&&◌, ℕ, ◌+◌, ◌^◌, ◌<◌, ◌≤◌, arith, List, [], ◌∷◌, ◌++◌, length, map, sum, length-append, Option}
 use Rattle.std.specs.Prelude.{nat_le}
 use Rattle.std.specs.List.{All, AllByRecursion, list_all}
 use Rattle.std.proofs.lemmas.Bool.{and_parts, leb-true}
@@ -7,20 +7,15 @@ use Rattle.std.proofs.lemmas.List.{length-map, get_or-map}
 use Rattle.std.proofs.lemmas.List.Elements.{recursion_from_All}
 use Rattle.key_lists.proofs.Every.{every_weaker, all_from, map_same}
 use Rattle.tick_model.specs.declared.plan.ColumnSpec.{ColumnSpec}
-use Rattle.tick_model.specs.declared.plan.Kind.TheVariants.{Long}
+use Rattle.tick_model.specs.declared.plan.Kind.{Kind}
 use Rattle.tick_model.specs.declared.plan.Op.{Op}
-use Rattle.tick_model.specs.declared.plan.Op.TheVariants.{Source, Keep, View, Join, Agg as AggOp, Merge, Sort, Head, Tail, AsOf}
+use Rattle.tick_model.specs.declared.plan.Op.TheVariants.{Source, Keep, View, Join, Agg as AggOp, Merge, AsOf}
 use Rattle.tick_model.specs.declared.table.PlainTable.{PlainTable}
 use Rattle.tick_model.specs.Formulas.{IsWithin, IsTestWithin}
-use Rattle.tick_model.specs.Where.{where_table}
-use Rattle.tick_model.specs.View.{view_table}
 use Rattle.tick_model.specs.Join.{join_table, join_fault}
 use Rattle.tick_model.specs.AsOf.{asof_table}
-use Rattle.tick_model.specs.Agg.{agg_table}
 use Rattle.tick_model.specs.Merge.{merge_table, merge_fault}
-use Rattle.tick_model.specs.Sort.{sort_table}
-use Rattle.tick_model.specs.HeadTail.{head_table, tail_table}
-use Rattle.tick_model.specs.Columns.{kinds_of, kind_of, kind_at, agg_kind, test_fits, is_bound, is_test_bound, same_columns, have_kinds, keep_names, follow, some_of, same_kind_at, has_kind}
+use Rattle.tick_model.specs.Columns.{kinds_of, kind_of, kind_at, agg_kind, test_fits, is_bound, is_test_bound, same_columns, have_kinds, keep_names, follow, some_of}
 use Rattle.tick_model.specs.Operators.{columns_fit, bound_of, inputs_of, result, fault_of, IsReady, IsNodeReady}
 use Rattle.tick_model.specs.Evaluation.{Outcome, Table, NoInput, has_table, outcome_at, table_at, table_of, or_fault, applied, outcome_of}
 use Rattle.tick_model.specs.Tables.{no_table}
@@ -35,9 +30,16 @@ whole_of width bound table h =
 kinds_count : (columns : List ColumnSpec) → length (kinds_of columns) ≡ length columns
 kinds_count columns = length-map columns (λ (column : ColumnSpec). column.kind)
 
+-- an input's columns and others after them are few where the node's columns are
+more_narrow : {X : Type 0} (cols own : List ColumnSpec) (kind : X → Option Kind) (xs : List X) (width : ℕ) → follow cols own (map kind xs) ≡ true → length cols ≤ 32 → width ≡ length own → width + length xs < 2 ^ 32
+more_narrow cols own kind xs width follows narrow own_width =
+    let count : length (map kind xs) ≡ length xs = length-map xs kind in
+    let all : length cols ≡ length own + length (map kind xs) = follow_width cols own (map kind xs) follows in
+    omega (arith, count, all, own_width, narrow)
+
 pub ready_is : (op : Op) (columns : ℕ → List ColumnSpec) (bound : ℕ → ℕ) (tables : List PlainTable) (cols : List ColumnSpec) → IsOperator op → columns_fit op columns cols ≡ true → length cols ≤ 32
     → AllByRecursion (λ input. input < length tables) (inputs_of op) → AreResults (λ input. length (columns input)) bound (table_in tables) (inputs_of op) → bound_of op bound < 2 ^ 62 → IsReady op tables
-ready_is Source columns bound tables cols o fit narrow known h room = absurd o
+ready_is Source columns bound tables cols o fit narrow known h room = absurd (true≢false o)
 ready_is (Keep from test) columns bound tables cols o fit narrow known h room =
     let parts = and_parts (same_columns cols (columns from) && test_fits test (kinds_of (columns from))) (is_test_bound test) fit in
     let fits = (and_parts (same_columns cols (columns from)) (test_fits test (kinds_of (columns from))) parts.0).1 in (
@@ -49,21 +51,18 @@ ready_is (View from exprs) columns bound tables cols o fit narrow known h room =
     let kinds = map (λ expr. kind_of expr (kinds_of (columns from))) exprs in
     let parts = and_parts (some_of exprs && list_all is_bound exprs) (follow cols (columns from) kinds) fit in
     let bounds = (and_parts (some_of exprs) (list_all is_bound exprs) parts.0).1 in
-    let count : length kinds ≡ length exprs = length-map exprs (λ expr. kind_of expr (kinds_of (columns from))) in
-    let width : length cols ≡ length (columns from) + length kinds = follow_width cols (columns from) kinds parts.1 in
     let own : (table_in tables from).width ≡ length (columns from) = h.0.width_is in (
       known.0,
       whole_of (length (columns from)) (bound from) (table_in tables from) h.0,
       subst (λ width. All (IsWithin width) exprs) (kinds_count (columns from) ∙ sym own) (all_from (IsWithin (length (kinds_of (columns from)))) exprs (all_within exprs (kinds_of (columns from)) (follow_some cols (columns from) kinds parts.1) bounds)),
-      omega (arith, count, width, own, narrow),
+      more_narrow cols (columns from) (λ expr. kind_of expr (kinds_of (columns from))) exprs (table_in tables from).width parts.1 narrow own,
     )
 ready_is (Join left right on take choice) columns bound tables cols o fit narrow known h room =
-    let kinds = map (kind_at (columns right)) take in
-    let follows = (and_parts (some_of on && some_of take && list_all (same_kind_at (columns left) (columns right)) on) (follow cols (columns left) kinds) fit).1 in
-    let count : length kinds ≡ length take = length-map take (kind_at (columns right)) in
-    let width : length cols ≡ length (columns left) + length kinds = follow_width cols (columns left) kinds follows in
-    let own : (table_in tables left).width ≡ length (columns left) = h.0.width_is in
-    (known.0, known.1.0, omega (arith, count, width, own, narrow))
+    let follows = (and_parts _ (follow cols (columns left) (map (kind_at (columns right)) take)) fit).1 in
+    (known.0, known.1.0, more_narrow cols (columns left) (kind_at (columns right)) take (table_in tables left).width follows narrow h.0.width_is)
+ready_is (AsOf left right on at take) columns bound tables cols o fit narrow known h room =
+    let follows = (and_parts _ (follow cols (columns left) (map (kind_at (columns right)) take)) fit).1 in
+    (known.0, known.1.0, more_narrow cols (columns left) (kind_at (columns right)) take (table_in tables left).width follows narrow h.0.width_is)
 ready_is (AggOp from by aggs) columns bound tables cols o fit narrow known h room =
     let keys = map (kind_at (columns from)) by in
     let values = map (agg_kind (columns from)) aggs in
@@ -87,30 +86,18 @@ ready_is (Merge inputs) columns bound tables cols o fit narrow known h room =
           (every_weaker (λ input. IsResult (width input) (bound input) (table_in tables input)) (λ input. length (table_in tables input).rows ≤ 4194304) inputs (λ input r. r.few) h);
       room = merged_room (sum (map bound inputs)) width bound (table_in tables) inputs 0 small h (omega arith);
     }
-ready_is (Sort from by) columns bound tables cols o fit narrow known h room = known.0
-ready_is (Head from rows) columns bound tables cols o fit narrow known h room = known.0
-ready_is (Tail from rows) columns bound tables cols o fit narrow known h room = known.0
-ready_is (AsOf left right on at take) columns bound tables cols o fit narrow known h room =
-    let kinds = map (kind_at (columns right)) take in
-    let before = some_of take && list_all (same_kind_at (columns left) (columns right)) on && has_kind Long (kind_at (columns left) at.left) && has_kind Long (kind_at (columns right) at.right) in
-    let follows = (and_parts before (follow cols (columns left) kinds) fit).1 in
-    let count : length kinds ≡ length take = length-map take (kind_at (columns right)) in
-    let width : length cols ≡ length (columns left) + length kinds = follow_width cols (columns left) kinds follows in
-    let own : (table_in tables left).width ≡ length (columns left) = h.0.width_is in
-    (known.0, known.1.0, omega (arith, count, width, own, narrow))
+ready_is op columns bound tables cols o fit narrow known h room = known.0
 
 -- the inputs of an operator that may be applied are there
 known_of : (op : Op) (tables : List PlainTable) → IsReady op tables → AllByRecursion (λ input. input < length tables) (inputs_of op)
 known_of Source tables r = tt
+known_of (Join left right on take choice) tables r = (r.0, (r.1, tt))
+known_of (AsOf left right on at take) tables r = (r.0, (r.1, tt))
+known_of (Merge inputs) tables r = recursion_from_All (λ input. input < length tables) inputs r.known
 known_of (Keep from test) tables r = (r.0, tt)
 known_of (View from exprs) tables r = (r.0, tt)
-known_of (Join left right on take choice) tables r = (r.0, (r.1, tt))
 known_of (AggOp from by aggs) tables r = (r.0, tt)
-known_of (Merge inputs) tables r = recursion_from_All (λ input. input < length tables) inputs r.known
-known_of (Sort from by) tables r = (r, tt)
-known_of (Head from rows) tables r = (r, tt)
-known_of (Tail from rows) tables r = (r, tt)
-known_of (AsOf left right on at take) tables r = (r.0, (r.1, tt))
+known_of op tables r = (r, tt)
 
 -- the outcome of a node that has its table
 outcome_in : (tables : List PlainTable) (node : ℕ) → node < length tables → outcome_at (map Table tables) node ≡ Table (table_in tables node)
@@ -124,15 +111,10 @@ all_have tables (input ∷ inputs) h =
 -- an operator sees its inputs' tables alone
 same_inputs : (op : Op) (f g : ℕ → PlainTable) → AllByRecursion (λ input. f input ≡ g input) (inputs_of op) → or_fault (fault_of op f) (result op f) ≡ or_fault (fault_of op g) (result op g)
 same_inputs Source f g h = refl
-same_inputs (Keep from test) f g h = ap (λ t. Table (where_table test t)) h.0
-same_inputs (View from exprs) f g h = ap (λ t. Table (view_table exprs t)) h.0
 same_inputs (Join left right on take choice) f g h = ap₂ (λ a b. or_fault (join_fault on choice a b) (join_table on take choice a b)) h.0 h.1.0
-same_inputs (AggOp from by aggs) f g h = ap (λ t. Table (agg_table by aggs t)) h.0
 same_inputs (Merge inputs) f g h = ap (λ ts. or_fault (merge_fault ts) (merge_table ts)) (map_same f g inputs h)
-same_inputs (Sort from by) f g h = ap (λ t. Table (sort_table by t)) h.0
-same_inputs (Head from rows) f g h = ap (λ t. Table (head_table rows t)) h.0
-same_inputs (Tail from rows) f g h = ap (λ t. Table (tail_table rows t)) h.0
 same_inputs (AsOf left right on at take) f g h = ap₂ (λ a b. Table (asof_table on at take a b)) h.0 h.1.0
+same_inputs op f g h = ap (λ t. or_fault (fault_of op (λ _. t)) (result op (λ _. t))) h.0
 
 applied_is : (op : Op) (tables : List PlainTable) → AllByRecursion (λ input. input < length tables) (inputs_of op) → applied op (map Table tables) ≡ or_fault (fault_of op (table_in tables)) (result op (table_in tables))
 applied_is op tables known =
@@ -142,28 +124,11 @@ applied_is op tables known =
     ∙ same_inputs op (table_at done) (table_in tables) (every_weaker (λ input. input < length tables) (λ input. table_at done input ≡ table_in tables input) (inputs_of op) (λ input h. ap table_of (outcome_in tables input h)) known)
 
 outcome_applied : (op : Op) (own : PlainTable) (done : List Outcome) → IsOperator op → applied op done ≡ outcome_of op own done
-outcome_applied Source own done o = absurd o
-outcome_applied (Keep from test) own done o = refl
-outcome_applied (View from exprs) own done o = refl
-outcome_applied (Join left right on take choice) own done o = refl
-outcome_applied (AggOp from by aggs) own done o = refl
-outcome_applied (Merge inputs) own done o = refl
-outcome_applied (Sort from by) own done o = refl
-outcome_applied (Head from rows) own done o = refl
-outcome_applied (Tail from rows) own done o = refl
-outcome_applied (AsOf left right on at take) own done o = refl
+outcome_applied op own done o = ap (λ b. if b then Table own else applied op done) (sym o)
 
 operator_of : (op : Op) (tables : List PlainTable) → IsReady op tables → IsOperator op
-operator_of Source tables r = r
-operator_of (Keep from test) tables r = tt
-operator_of (View from exprs) tables r = tt
-operator_of (Join left right on take choice) tables r = tt
-operator_of (AggOp from by aggs) tables r = tt
-operator_of (Merge inputs) tables r = tt
-operator_of (Sort from by) tables r = tt
-operator_of (Head from rows) tables r = tt
-operator_of (Tail from rows) tables r = tt
-operator_of (AsOf left right on at take) tables r = tt
+operator_of Source tables r = absurd r
+operator_of op tables r = refl
 
 pub ready_outcome : (op : Op) (own : PlainTable) (tables : List PlainTable) → IsReady op tables → or_fault (fault_of op (table_in tables)) (result op (table_in tables)) ≡ outcome_of op own (map Table tables)
 ready_outcome op own tables r = sym (applied_is op tables (known_of op tables r)) ∙ outcome_applied op own (map Table tables) (operator_of op tables r)
@@ -174,12 +139,4 @@ operator_outcome op own tables o known = sym (outcome_applied op own (map Table 
 -- a node that is no source is ready where its operator is
 pub operator_ready : (op : Op) (sources : List PlainTable) (place : ℕ) (tables : List PlainTable) → (op ≡ Source → ⊥) → IsNodeReady op sources place tables → IsReady op tables
 operator_ready Source sources place tables n r = absurd (n refl)
-operator_ready (Keep from test) sources place tables n r = r
-operator_ready (View from exprs) sources place tables n r = r
-operator_ready (Join left right on take choice) sources place tables n r = r
-operator_ready (AggOp from by aggs) sources place tables n r = r
-operator_ready (Merge inputs) sources place tables n r = r
-operator_ready (Sort from by) sources place tables n r = r
-operator_ready (Head from rows) sources place tables n r = r
-operator_ready (Tail from rows) sources place tables n r = r
-operator_ready (AsOf left right on at take) sources place tables n r = r
+operator_ready op sources place tables n r = r

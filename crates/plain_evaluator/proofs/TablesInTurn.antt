@@ -1,5 +1,5 @@
 -- How far an evaluation has come, and what its next step adds.
-use Rattle.std.proofs.Common.{◌≡◌, refl, ap, ap₂, cond, length-append, Bool, true≢false, sym, ◌∙◌, subst, ℕ, zero, suc, ◌+◌, ◌^◌, ◌<◌, arith, true, false, inl, inr, List, [], ◌∷◌, ◌++◌, map, take, length, get_or, Option, Some, None, Err, append_assoc}
+use Rattle.std.proofs.Common.{◌≡◌, refl, ap, ap₂, cond, length-append, true≢false, sym, ◌∙◌, subst, ℕ, zero, suc, ◌+◌, ◌^◌, ◌<◌, arith, true, inl, inr, List, [], ◌∷◌, ◌++◌, map, take, length, get_or, Option, Some, None, Err, append_assoc}
 use Rattle.std.specs.Prelude.{fold}
 use Rattle.std.specs.List.{AllByRecursion}
 use Rattle.std.proofs.lemmas.List.{length-map, map-append, get_or-map, get_or_append_left, append-nil}
@@ -10,7 +10,7 @@ use Rattle.key_lists.proofs.Every.{every_weaker}
 use Rattle.tick_model.specs.declared.plan.ColumnSpec.{ColumnSpec}
 use Rattle.tick_model.specs.declared.plan.Node.{Node}
 use Rattle.tick_model.specs.declared.plan.Op.{Op}
-use Rattle.tick_model.specs.declared.plan.Op.TheVariants.{Source, Keep, View, Join, Agg, Merge, Sort, Head, Tail, AsOf}
+use Rattle.tick_model.specs.declared.plan.Op.TheVariants.{Source}
 use Rattle.tick_model.specs.declared.plan.Plan.{Plan}
 use Rattle.plain_evaluator.specs.declared.operators.NoTable.{NoTable}
 use Rattle.plain_evaluator.specs.declared.operators.NoTable.TheVariants.{Memory as NoMemory, Fault as NoTableFault}
@@ -18,7 +18,7 @@ use Rattle.tick_model.specs.declared.table.NodeFault.{NodeFault}
 use Rattle.tick_model.specs.declared.table.PlainTable.{PlainTable}
 use Rattle.tick_model.specs.Evaluation.{Outcome, Table, Fault, table_of, source_number, eval, eval_node, outcome_of, is_source, or_fault}
 use Rattle.tick_model.specs.Tables.{no_table}
-use Rattle.tick_model.specs.Operators.{inputs_of, fault_of, result, bound_of, IsReady, IsNodeReady}
+use Rattle.tick_model.specs.Operators.{inputs_of, is_source_op, fault_of, result, bound_of, IsReady, IsNodeReady}
 use Rattle.tick_model.specs.Fits.{fit_sources}
 use Rattle.tick_model.specs.Plans.{is_lawful, columns_at}
 use Rattle.tick_model.specs.Ready.{table_in}
@@ -66,44 +66,17 @@ input_results nodes sources tables count next inputs h =
     every_weaker (λ input. input < count) (λ input. IsResult (length (columns_at nodes input)) (key_bound nodes input) (table_in tables input)) inputs (λ input before. h.results input before)
 
 -- a node is a source or has an operator
-abbrev source_op : Op → Bool
-source_op op = elim op [ Source ↦ true | _ ↦ false ]
-
-by_kind : {P : Type 0} (op : Op) → (source_op op ≡ true → P) → (IsOperator op → P) → P
+by_kind : {P : Type 0} (op : Op) → (is_source_op op ≡ true → P) → (IsOperator op → P) → P
 by_kind Source s o = s refl
-by_kind (Keep input test) s o = o tt
-by_kind (View input exprs) s o = o tt
-by_kind (Join left right on take choice) s o = o tt
-by_kind (Agg input by aggs) s o = o tt
-by_kind (Merge inputs) s o = o tt
-by_kind (Sort input by) s o = o tt
-by_kind (Head input rows) s o = o tt
-by_kind (Tail input rows) s o = o tt
-by_kind (AsOf left right on at take) s o = o tt
+by_kind op s o = o refl
 
-source_is : (op : Op) → source_op op ≡ true → op ≡ Source
+source_is : (op : Op) → is_source_op op ≡ true → op ≡ Source
 source_is Source e = refl
-source_is (Keep input test) e = absurd (true≢false (sym e))
-source_is (View input exprs) e = absurd (true≢false (sym e))
-source_is (Join left right on take choice) e = absurd (true≢false (sym e))
-source_is (Agg input by aggs) e = absurd (true≢false (sym e))
-source_is (Merge inputs) e = absurd (true≢false (sym e))
-source_is (Sort input by) e = absurd (true≢false (sym e))
-source_is (Head input rows) e = absurd (true≢false (sym e))
-source_is (Tail input rows) e = absurd (true≢false (sym e))
-source_is (AsOf left right on at take) e = absurd (true≢false (sym e))
+source_is op e = absurd (true≢false (sym e))
 
-node_ready : (op : Op) (sources : List PlainTable) (place : ℕ) (tables : List PlainTable) → (source_op op ≡ true → place < length sources) → (IsOperator op → IsReady op tables) → IsNodeReady op sources place tables
+node_ready : (op : Op) (sources : List PlainTable) (place : ℕ) (tables : List PlainTable) → (is_source_op op ≡ true → place < length sources) → (IsOperator op → IsReady op tables) → IsNodeReady op sources place tables
 node_ready Source sources place tables s o = s refl
-node_ready (Keep input test) sources place tables s o = o tt
-node_ready (View input exprs) sources place tables s o = o tt
-node_ready (Join left right on take choice) sources place tables s o = o tt
-node_ready (Agg input by aggs) sources place tables s o = o tt
-node_ready (Merge inputs) sources place tables s o = o tt
-node_ready (Sort input by) sources place tables s o = o tt
-node_ready (Head input rows) sources place tables s o = o tt
-node_ready (Tail input rows) sources place tables s o = o tt
-node_ready (AsOf left right on at take) sources place tables s o = o tt
+node_ready op sources place tables s o = o refl
 
 -- the next node may be brought up
 ready_next : (nodes : List Node) (sources tables : List PlainTable) (count next : ℕ) (node : Node) → IsNext nodes sources count node → IsEvaluated nodes sources tables count next → IsNodeReady node.op sources next tables
@@ -124,7 +97,7 @@ result_next nodes sources tables count next node table known h e =
     subst (λ (columns : List ColumnSpec). IsResult (length columns) (key_bound nodes count) table) (sym known.columns)
     (subst (λ bound. IsResult (length node.columns) bound table) (sym known.bound) (by_kind node.op of_source of_operator))
   where
-    of_source : source_op node.op ≡ true → IsResult (length node.columns) (bound_of node.op (key_bound nodes)) table
+    of_source : is_source_op node.op ≡ true → IsResult (length node.columns) (bound_of node.op (key_bound nodes)) table
     of_source is =
         let source = source_is node.op is in
         let own : table_in sources (source_number nodes count) ≡ table = ap (table_in sources) (sym h.next_is) ∙ ap table_of (sym (ap (λ op. outcome_of op (table_in sources next) (map Table tables)) source) ∙ e) in

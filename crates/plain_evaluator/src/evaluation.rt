@@ -9,7 +9,8 @@ ghost use Rattle.tick_model.specs.Operators.{IsNodeReady};
 ghost use Rattle.plain_evaluator.specs.Gives.{Gives};
 ghost use Rattle.plain_evaluator.specs.Stops.{IsCause, stop_at};
 
-use crate::operators::{NoTable, operated, table_copied};
+use crate::operators::{NoTable, operated};
+use crate::rows::table_copied;
 use std::alloc::{AllocError, AllocFailed, Global};
 use tick_model::items::Items;
 use tick_model::plan::{Op, Plan};

@@ -1,11 +1,11 @@
 //! Groups of rows with equal key cells, and what aggregates say of them.
 
-ghost use Rattle.std.specs.Prelude.{◌≡◌, filter, map, IfOk};
+ghost use Rattle.std.specs.Prelude.{◌≡◌, ◌+◌, ◌^◌, ◌<◌, length, IfOk};
 ghost use Rattle.std.specs.Int.{int_min, int_max};
 ghost use Rattle.std.specs.Option.{option_copied, option_map_or};
 ghost use Rattle.tick_model.specs.Tables.{null, cell as cell_in};
 ghost use Rattle.tick_model.specs.Extremes.{with_present};
-ghost use Rattle.tick_model.specs.Agg.{same_group as same_group_by, is_first as is_first_by, group_of as group_by, present, column_of, over, aggregate as aggregate_of, agg_row as agg_row_of};
+ghost use Rattle.tick_model.specs.Agg.{same_group as same_group_by, is_first as is_first_by, group_of as group_by, present, column_of, over, aggregate as aggregate_of, agg_row as agg_row_of, agg_table};
 
 use crate::rows::copied;
 use crate::sums::column_sum;
@@ -14,7 +14,7 @@ use tick_model::cells::cell;
 use tick_model::formula::{NULL, is_null};
 use tick_model::items::Items;
 use tick_model::plan::Agg;
-use tick_model::table::PlainRow;
+use tick_model::table::{PlainRow, PlainTable};
 
 fn same_group(by: &[u32], row: &PlainRow, other: &PlainRow) -> bool
     ensures { result ≡ same_group_by by.now row.now other.now }
@@ -146,19 +146,24 @@ fn agg_row(
 }
 
 /// A row for each group, under the key of its first row.
-pub fn rows_of_groups(
+pub fn grouped(
     alloc: Global,
     by: &[u32],
     aggs: &[Agg],
-    rows: &[PlainRow],
-) -> Result<Items<PlainRow>, AllocError>
-    ensures { IfOk result (λ groups. groups ≡ map (agg_row_of by.now aggs.now rows.now) (filter (is_first_by by.now rows.now) rows.now)) }
+    input: &PlainTable,
+) -> Result<PlainTable, AllocError>
+    requires { length by.now + length aggs.now < 2 ^ 32 }
+    ensures { IfOk result (λ table. table ≡ agg_table by.now aggs.now input.now) }
 {
-    let mut groups = Items::new(alloc);
-    for row in rows {
-        if is_first(by, rows, row) {
-            groups.push(agg_row(alloc, by, aggs, rows, row)?)?;
+    let all = input.rows.as_slice();
+    let mut rows = Items::new(alloc);
+    for row in all {
+        if is_first(by, all, row) {
+            rows.push(agg_row(alloc, by, aggs, all, row)?)?;
         }
     }
-    Ok(groups)
+    Ok(PlainTable {
+        width: (by.len() + aggs.len()) as u32,
+        rows,
+    })
 }

@@ -1,11 +1,14 @@
 //! Joins: each left row with cells of the right row that it matches.
 
-ghost use Rattle.std.specs.Prelude.{◌≡◌, ◌&&◌, ◌∷◌, [], map, filter_map, slice_get, MatchOption, IfOk, int_le};
+ghost use Rattle.std.specs.Prelude.{◌≡◌, ◌&&◌, ◌∷◌, ◌+◌, ◌^◌, ◌<◌, [], filter_map, length, slice_get, MatchOption, IfOk, int_le};
 ghost use Rattle.std.specs.Option.{option_copied, option_map_or};
 ghost use Rattle.tick_model.specs.Tables.{null, cell as cell_of};
-ghost use Rattle.tick_model.specs.Join.{agree as agree_on, matches as matches_of, chosen as chosen_of, joined as joined_row, duplicate as duplicate_of, join_fault as join_fault_of};
-ghost use Rattle.tick_model.specs.AsOf.{not_later, later as later_of, latest as latest_of};
+ghost use Rattle.tick_model.specs.Join.{agree as agree_on, matches as matches_of, chosen as chosen_of, joined as joined_with, duplicate as duplicate_of, join_fault as join_fault_of, join_table};
+ghost use Rattle.tick_model.specs.AsOf.{asof_table, not_later, later as later_of, latest as latest_of};
+ghost use Rattle.tick_model.specs.Evaluation.{or_fault};
+ghost use Rattle.plain_evaluator.specs.Gives.{Gives};
 
+use crate::operators::NoTable;
 use std::alloc::{AllocError, Global};
 use tick_model::cells::cell;
 use tick_model::formula::NULL;
@@ -100,13 +103,13 @@ fn taken_cell(right: Option<&PlainRow>, column: u32) -> i64
 }
 
 /// A left row, followed by the taken cells of a right row, or by nulls.
-fn joined(
+fn joined_row(
     alloc: Global,
     take: &[u32],
     left: &PlainRow,
     right: Option<&PlainRow>,
 ) -> Result<PlainRow, AllocError>
-    ensures { IfOk result (λ row. row ≡ joined_row take.now (λ _. option_copied right.entry) left.now) }
+    ensures { IfOk result (λ row. row ≡ joined_with take.now (λ _. option_copied right.entry) left.now) }
 {
     let mut cells = left.cells.as_slice().to_vec(alloc)?;
     for column in take {
@@ -131,7 +134,7 @@ fn first_duplicate(on: &[OnPair], left: &[PlainRow], right: &[PlainRow]) -> Opti
 }
 
 /// That a left row has two matches, where the choice is that there be one.
-pub fn join_fault(
+fn join_fault(
     on: &[OnPair],
     choice: Choice,
     left: &PlainTable,
@@ -146,21 +149,29 @@ pub fn join_fault(
 }
 
 /// Each left row with the cells of the right row that a choice takes.
-pub fn joined_rows(
+pub fn joined(
     alloc: Global,
     on: &[OnPair],
     take: &[u32],
     choice: Choice,
-    left: &[PlainRow],
-    right: &[PlainRow],
-) -> Result<Items<PlainRow>, AllocError>
-    ensures { IfOk result (λ rows. rows ≡ map (joined_row take.now (λ row. chosen_of choice (matches_of on.now right.now row))) left.now) }
+    left: &PlainTable,
+    right: &PlainTable,
+) -> Result<PlainTable, NoTable>
+    requires { left.now.width + length take.now < 2 ^ 32 }
+    ensures { Gives result (or_fault (join_fault_of on.now choice left.now right.now) (join_table on.now take.now choice left.now right.now)) }
 {
-    let mut rows = Items::new(alloc);
-    for row in left {
-        rows.push(joined(alloc, take, row, chosen(on, choice, right, row))?)?;
+    if let Some(fault) = join_fault(on, choice, left, right) {
+        return Err(NoTable::Fault(fault));
     }
-    Ok(rows)
+    let mut rows = Items::new(alloc);
+    for row in left.rows.as_slice() {
+        let found = chosen(on, choice, right.rows.as_slice(), row);
+        rows.push(joined_row(alloc, take, row, found)?)?;
+    }
+    Ok(PlainTable {
+        width: left.width + take.len() as u32,
+        rows,
+    })
 }
 
 fn is_not_later(on: &[OnPair], at: OnPair, left: &PlainRow, right: &PlainRow) -> bool
@@ -199,19 +210,24 @@ fn latest<'a>(
 }
 
 /// Each left row with the cells of the latest right row that is not later.
-pub fn rows_as_of(
+pub fn joined_as_of(
     alloc: Global,
     on: &[OnPair],
     at: OnPair,
     take: &[u32],
-    left: &[PlainRow],
-    right: &[PlainRow],
-) -> Result<Items<PlainRow>, AllocError>
-    ensures { IfOk result (λ rows. rows ≡ map (joined_row take.now (λ row. latest_of at.right (not_later on.now at right.now row))) left.now) }
+    left: &PlainTable,
+    right: &PlainTable,
+) -> Result<PlainTable, AllocError>
+    requires { left.now.width + length take.now < 2 ^ 32 }
+    ensures { IfOk result (λ table. table ≡ asof_table on.now at take.now left.now right.now) }
 {
     let mut rows = Items::new(alloc);
-    for row in left {
-        rows.push(joined(alloc, take, row, latest(on, at, right, row))?)?;
+    for row in left.rows.as_slice() {
+        let found = latest(on, at, right.rows.as_slice(), row);
+        rows.push(joined_row(alloc, take, row, found)?)?;
     }
-    Ok(rows)
+    Ok(PlainTable {
+        width: left.width + take.len() as u32,
+        rows,
+    })
 }

@@ -9,8 +9,10 @@ mod joins;
 mod merges;
 mod operators;
 mod rows;
+mod selections;
 mod sort;
 mod sums;
+mod views;
 
 pub use evaluation::{EvalStop, Evaluated, evaluate};
 pub use rows::rows_copied;

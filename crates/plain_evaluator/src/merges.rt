@@ -2,9 +2,12 @@
 
 ghost use Rattle.std.specs.Prelude.{◌≡◌, ◌++◌, ◌+◌, ◌^◌, ◌<◌, ◌≤◌, map, length, IfOk, OnOk};
 ghost use Rattle.std.specs.List.{All};
-ghost use Rattle.tick_model.specs.Merge.{last_key as last_key_of, region as region_of, row_from as row_at_offset, merged_rows as merged_rows_of, merge_fault as merge_fault_of};
-ghost use Rattle.tick_model.specs.Ready.{table_in, HaveRoom};
+ghost use Rattle.tick_model.specs.Merge.{last_key as last_key_of, region as region_of, row_from as row_at_offset, merged_rows as merged_rows_of, merge_fault as merge_fault_of, merge_table};
+ghost use Rattle.tick_model.specs.Evaluation.{or_fault};
+ghost use Rattle.tick_model.specs.Ready.{table_in, AreMergeable, HaveRoom};
+ghost use Rattle.plain_evaluator.specs.Gives.{Gives};
 
+use crate::operators::NoTable;
 use std::alloc::{AllocError, Global};
 use tick_model::items::Items;
 use tick_model::limits::MOST_ROWS;
@@ -57,7 +60,7 @@ fn push_rows(
 }
 
 /// The rows of the inputs, in order of the inputs.
-pub fn merged_rows(
+fn merged_rows(
     alloc: Global,
     tables: &[PlainTable],
     inputs: &[u32],
@@ -77,7 +80,7 @@ pub fn merged_rows(
 }
 
 /// That the inputs have too many rows together.
-pub fn merge_fault(tables: &[PlainTable], inputs: &[u32]) -> Option<NodeFault>
+fn merge_fault(tables: &[PlainTable], inputs: &[u32]) -> Option<NodeFault>
     requires known { All (λ input. input < length tables.now) inputs.now }
     requires few { All (λ input. length (table_in tables.now input).rows ≤ 4194304) inputs.now }
     requires narrow { length inputs.now ≤ 16 }
@@ -92,4 +95,19 @@ pub fn merge_fault(tables: &[PlainTable], inputs: &[u32]) -> Option<NodeFault>
     } else {
         None
     }
+}
+
+/// The rows of the inputs, each in a region of its own.
+pub fn merged(alloc: Global, tables: &[PlainTable], inputs: &[u32]) -> Result<PlainTable, NoTable>
+    requires { AreMergeable tables.now inputs.now }
+    ensures { Gives result (or_fault (merge_fault_of (map (table_in tables.now) inputs.now)) (merge_table (map (table_in tables.now) inputs.now))) }
+{
+    if let Some(fault) = merge_fault(tables, inputs) {
+        return Err(NoTable::Fault(fault));
+    }
+    let rows = merged_rows(alloc, tables, inputs)?;
+    Ok(PlainTable {
+        width: tables[inputs[0] as usize].width,
+        rows,
+    })
 }

@@ -1,7 +1,7 @@
 //! Rows in stable order.
 
 ghost use Rattle.std.specs.Prelude.{◌≡◌, IfOk, OnOk, OnErr};
-ghost use Rattle.tick_model.specs.Sort.{column_cmp, sort_cmp, in_order, numbered as numbered_from};
+ghost use Rattle.tick_model.specs.Sort.{column_cmp, sort_cmp, in_order, numbered as numbered_from, sort_table};
 
 use crate::rows::rows_copied;
 use std::alloc::{AllocError, Global};
@@ -9,7 +9,7 @@ use std::cmp::Ordering;
 use tick_model::cells::cell;
 use tick_model::items::Items;
 use tick_model::plan::SortBy;
-use tick_model::table::PlainRow;
+use tick_model::table::{PlainRow, PlainTable};
 
 fn compare_column(sort: &SortBy, a: i64, b: i64) -> Ordering
     ensures { result ≡ column_cmp sort.now a b }
@@ -55,15 +55,14 @@ fn numbered(rows: &mut [PlainRow])
 }
 
 /// The rows in stable order by the sort columns, under the keys 0, 1, 2 and so on.
-pub fn sorted_rows(
-    alloc: Global,
-    by: &[SortBy],
-    rows: &[PlainRow],
-) -> Result<Items<PlainRow>, AllocError>
-    ensures { IfOk result (λ sorted. sorted ≡ numbered_from 0 (in_order by.now rows.now)) }
+pub fn sorted(alloc: Global, by: &[SortBy], input: &PlainTable) -> Result<PlainTable, AllocError>
+    ensures { IfOk result (λ table. table ≡ sort_table by.now input.now) }
 {
-    let mut sorted = rows_copied(alloc, rows)?;
-    sort_rows(by, &mut sorted)?;
-    numbered(sorted.as_mut_slice());
-    Ok(Items::of(sorted))
+    let mut rows = rows_copied(alloc, input.rows.as_slice())?;
+    sort_rows(by, &mut rows)?;
+    numbered(rows.as_mut_slice());
+    Ok(PlainTable {
+        width: input.width,
+        rows: Items::of(rows),
+    })
 }

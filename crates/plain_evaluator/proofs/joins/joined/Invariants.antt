@@ -1,8 +1,6 @@
-use Rattle.std.proofs.Common.{◌≡◌, ◌++◌, map, take}
-use Rattle.std.specs.Option.{option_copied, option_map_or}
-use Rattle.tick_model.specs.Tables.{null, cell}
-use Rattle.tick_model.specs.declared.table.PlainRow.{PlainRow}
+use Rattle.std.proofs.Common.{◌≡◌, map, take}
+use Rattle.tick_model.specs.Join.{matches, chosen, joined}
 use Rattle.plain_evaluator.proofs.joins.joined.Given as goal
 
-abbrev pub invariant-loop-column : goal.invariant-loop-column
-invariant-loop-column l = l.cells.items ≡ l.left.cells ++ map (λ column. option_map_or (λ (row : PlainRow). cell row.cells column) (option_copied l.right) null) (take l.column-index l.take)
+abbrev pub invariant-loop-row : goal.invariant-loop-row
+invariant-loop-row l = l.rows ≡ map (joined l.take (λ row. chosen l.choice (matches l.on l.right.rows row))) (take l.row-index l.left.rows)

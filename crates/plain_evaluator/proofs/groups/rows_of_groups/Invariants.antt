@@ -1,6 +1,0 @@
-use Rattle.std.proofs.Common.{◌≡◌, map, filter, take}
-use Rattle.tick_model.specs.Agg.{agg_row, is_first}
-use Rattle.plain_evaluator.proofs.groups.rows_of_groups.Given as goal
-
-abbrev pub invariant-loop-row : goal.invariant-loop-row
-invariant-loop-row l = l.groups ≡ map (agg_row l.by l.aggs l.rows) (filter (is_first l.by l.rows) (take l.row-index l.rows))
