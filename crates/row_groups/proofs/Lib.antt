@@ -3,6 +3,7 @@ pub mod Placed
 pub mod Ends
 pub mod Order
 pub mod Ranks
+pub mod Leading
 pub mod Listed
 pub mod Keys
 pub mod Groupings

@@ -4,13 +4,8 @@ use Rattle.std.specs.Option.{option_map_or}
 use Rattle.std.specs.Prelude.{slice_get}
 use Rattle.std.specs.List.{AllByRecursion}
 use Rattle.std.proofs.lemmas.List.{drop_all}
-use Rattle.std.specs.Map.{KeepsOthers, lookup}
-use Rattle.std.specs.HashMap.{UpdatesBy}
-use Rattle.std.specs.Ordering.{int_eq}
-use Rattle.std.specs.Cmp.Lexicographic.{pointwise}
 use Rattle.std.specs.Cmp.Rules.{signed_items}
-use Rattle.std.specs.Global.{Vec}
-use Rattle.std.proofs.lemmas.Bool.{cases_eq, false_from_ne_true}
+use Rattle.std.proofs.lemmas.Bool.{cases_eq}
 use Rattle.std.proofs.lemmas.Option.{none-some, same_Some}
 use Rattle.slab.specs.Slab.{get, with_value}
 use Rattle.slab.proofs.SlabLemmas.{Updates-with_value}
@@ -21,30 +16,9 @@ use Rattle.row_groups.specs.declared.lists.Lists.{Lists}
 use Rattle.row_groups.specs.declared.place.Slot.{Slot}
 use Rattle.row_groups.specs.Slots.{is_before, IsParted, slots_with, slots_without}
 use Rattle.row_groups.proofs.Ends.{passed_all, put_last}
-use Rattle.row_groups.specs.Rows.{AreNumbered, Becomes, ByNumber, Numbers, cells_with, number_under, slots_numbered, slots_under}
+use Rattle.row_groups.specs.Rows.{AreNumbered, Becomes, ByNumber, Leads, cells_with, number_under, slots_numbered, slots_under}
+use Rattle.row_groups.proofs.Leading.{numbered_as, renumbered}
 use Rattle.row_groups.proofs.Parts.{unlike}
-
-abbrev pub same_key : Vec ℤ → Vec ℤ → Bool
-same_key x y = pointwise int_eq x.items y.items
-
-abbrev pub has_cells : List ℤ → Vec ℤ → Bool
-has_cells cells key = same_cells cells key.items
-
-key_test : (cells : List ℤ) (x y : Vec ℤ) → has_cells cells x ≡ true → has_cells cells y ≡ same_key x y
-key_test cells x y h = ap (λ cs. same_cells cs y.items) ((signed_items cells x.items).0 h)
-
-apart_keys : (cells other : List ℤ) → same_cells cells other ≡ false → (key : Vec ℤ) → has_cells cells key ≡ true → has_cells other key ≡ false
-apart_keys cells other e key h =
-    false_from_ne_true (has_cells other key) (λ own. unlike (same_cells cells other) ((signed_items cells other).1 ((signed_items cells key.items).0 h ∙ sym ((signed_items other key.items).0 own))) e)
-
--- the number under other cells stays where that under some cells changes
-pub renumbered : (cells other : List ℤ) (old new : Numbers) (w : Option ℕ) → UpdatesBy same_key (has_cells cells) old new w → same_cells cells other ≡ false → number_under other new ≡ number_under other old
-unfolding KeepsOthers
-renumbered cells other old new w updates e = updates.3 (has_cells other) (key_test other) (apart_keys cells other e)
-
-pub numbered_as : (cells : List ℤ) (old new : Numbers) (w : Option ℕ) → UpdatesBy same_key (has_cells cells) old new w → number_under cells new ≡ w
-unfolding KeepsOthers
-numbered_as cells old new w updates = updates.1
 
 -- the group with a number changes, which has these cells or is new
 pub record IsChange (cells : List ℤ) (number : ℕ) (old new : Lists) : Type 0 where
@@ -135,7 +109,7 @@ there_is_group cells number lists numbered under = has (get lists.groups number)
 pub record Begins (cells : List ℤ) (number : ℕ) (group : KeyedRows) (old new : Lists) : Type 0 where
   pub sound : AreNumbered old
   pub absent : number_under cells old.numbers ≡ None
-  pub updates : UpdatesBy same_key (has_cells cells) old.numbers new.numbers (Some number)
+  pub leads : Leads cells (Some number) old.numbers new.numbers
   pub vacant : get old.groups number ≡ None
   pub put : get new.groups number ≡ Some group
   pub others : (n : ℕ) → n ≢ number → get new.groups n ≡ get old.groups n
@@ -149,7 +123,7 @@ module _ (cells : List ℤ) (number : ℕ) (group : KeyedRows) (old new : Lists)
     sound = begins.sound;
     mine = λ other e. absurd (none-some other (sym (ap (λ (g : Option KeyedRows). option_map (λ k. k.cells.items) g) begins.vacant) ∙ e));
     before = λ other e. absurd (none-some other (sym begins.absent ∙ e));
-    numbers = λ other differ. renumbered cells other old.numbers new.numbers (Some number) begins.updates differ;
+    numbers = λ other differ. renumbered cells other old.numbers new.numbers (Some number) begins.leads differ;
     groups = begins.others;
   }
 
@@ -159,11 +133,11 @@ module _ (cells : List ℤ) (number : ℕ) (group : KeyedRows) (old new : Lists)
   pub begins_rows : Becomes cells group.rows old new
   begins_rows =
       becomes cells number group.rows old new begins_change
-      (under_number cells number new (numbered_as cells old.numbers new.numbers (Some number) begins.updates) ∙ with_rows number new.groups group begins.put)
+      (under_number cells number new (numbered_as cells old.numbers new.numbers (Some number) begins.leads) ∙ with_rows number new.groups group begins.put)
 
   pub begins_numbered : AreNumbered new
   begins_numbered =
-      let under = numbered_as cells old.numbers new.numbers (Some number) begins.updates in
+      let under = numbered_as cells old.numbers new.numbers (Some number) begins.leads in
       numbered cells number old new begins_change
       (λ other e. (sym (same_Some number other (sym under ∙ e)), begins_cells))
       (λ other e. (sym (same_Some cells other (sym begins_cells ∙ e)), under))
@@ -227,7 +201,7 @@ changed number group rows old new sound was numbers groups =
 pub record GivesUp (number : ℕ) (group : KeyedRows) (old new : Lists) : Type 0 where
   pub sound : AreNumbered old
   pub was : get old.groups number ≡ Some group
-  pub updates : UpdatesBy same_key (has_cells group.cells.items) old.numbers new.numbers None
+  pub leads : Leads group.cells.items None old.numbers new.numbers
   pub gone : get new.groups number ≡ None
   pub others : (n : ℕ) → n ≢ number → get new.groups n ≡ get old.groups n
   pub crowded : new.crowded ≡ old.crowded
@@ -241,12 +215,12 @@ module _ (number : ℕ) (group : KeyedRows) (old new : Lists) (gives : GivesUp n
     sound = gives.sound;
     mine = λ other e. sym (same_Some group.cells.items other (sym gives_own ∙ e));
     before = λ other e. sym (same_Some number other (sym (gives.sound.cells group.cells.items number gives_own) ∙ e));
-    numbers = λ other differ. renumbered group.cells.items other old.numbers new.numbers None gives.updates differ;
+    numbers = λ other differ. renumbered group.cells.items other old.numbers new.numbers None gives.leads differ;
     groups = gives.others;
   }
 
   gives_none : number_under group.cells.items new.numbers ≡ None
-  gives_none = numbered_as group.cells.items old.numbers new.numbers None gives.updates
+  gives_none = numbered_as group.cells.items old.numbers new.numbers None gives.leads
 
   pub gives_rows : (cells : List ℤ) → cells_with number old.groups ≡ Some cells → Becomes cells [] old new
   gives_rows cells e =
@@ -259,9 +233,6 @@ module _ (number : ℕ) (group : KeyedRows) (old new : Lists) (gives : GivesUp n
       (λ other e. absurd (none-some other (sym gives_none ∙ e)))
       (λ other e. absurd (none-some other (sym (ap (λ (g : Option KeyedRows). option_map (λ k. k.cells.items) g) gives.gone) ∙ e)))
       (stays_short group.cells.items [] old new gives.sound (gives_rows group.cells.items gives_own) (λ calm. (sym gives.crowded ∙ calm, omega arith)))
-
-pub same_numbers : (old new : Numbers) (other : List ℤ) → new.entries ≡ old.entries → number_under other new ≡ number_under other old
-same_numbers old new other e = ap (lookup (has_cells other)) e
 
 pub with_same_cells : (cells : List ℤ) (number : ℕ) (group : KeyedRows) (lists : Lists) → AreNumbered lists → number_under cells lists.numbers ≡ Some number → get lists.groups number ≡ Some group → group.cells.items ≡ cells
 with_same_cells cells number group lists numbered under is = same_Some group.cells.items cells (sym (with_group number lists.groups group is) ∙ numbered.numbers cells number under)

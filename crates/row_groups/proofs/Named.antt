@@ -1,11 +1,8 @@
 -- The numbers of the groups, as they are shown.
-use Rattle.std.proofs.Common.{◌≡◌, ◌≢◌, refl, ap, sym, ◌∙◌, subst, ℕ, zero, suc, List, [], ◌∷◌, length, map, get_or, Option, Some, None, IfSome, IsSome, option_map, ℤ, if◌then◌else◌}
-use Rattle.std.specs.Cmp.Rules.{signed_items}
-use Rattle.std.specs.Global.{Vec}
-use Rattle.std.specs.Map.{lookup}
+use Rattle.std.proofs.Common.{◌≡◌, ◌≢◌, refl, ap, sym, ◌∙◌, subst, ℕ, zero, suc, ◌+◌, List, [], ◌∷◌, length, map, get_or, Option, Some, None, IfSome, IsSome, option_map, arith, ℤ}
 use Rattle.std.proofs.lemmas.Option.{none-some, same_Some}
-use Rattle.slab.specs.Slab.{get}
-use Rattle.tick_model.specs.Tables.{same_cells}
+use Rattle.slab.specs.Slab.{entries_from, get, slab_len}
+use Rattle.slab.proofs.SlabLemmas.{length-entries}
 use Rattle.row_groups.specs.declared.index.Index.{Index}
 use Rattle.row_groups.specs.declared.lists.KeyedRows.{KeyedRows}
 use Rattle.row_groups.specs.Members.{IsNumberOf, IsPart, group_of, name_at}
@@ -24,6 +21,28 @@ names_at (slot ∷ slots) (suc n) = names_at slots n
 
 pub name_is : (n : ℕ) (groups : ByNumber) → name_at n (names_of groups) ≡ cells_with n groups
 name_is n groups = names_at groups.slots n
+
+-- no group has a number exactly where no group is there
+none_there : (key : ℕ) (slots : List (Option KeyedRows)) → length (entries_from key slots) ≡ 0 → (n : ℕ) → get_or slots n None ≡ None
+none_there key [] none n = refl
+none_there key (None ∷ slots) none zero = refl
+none_there key (None ∷ slots) none (suc n) = none_there (key + 1) slots none n
+none_there key (Some group ∷ slots) none n = absurd (omega (arith, none))
+
+none_counted : (key : ℕ) (slots : List (Option KeyedRows)) → ((n : ℕ) → get_or slots n None ≡ None) → length (entries_from key slots) ≡ 0
+none_counted key [] none = refl
+none_counted key (None ∷ slots) none = none_counted (key + 1) slots (λ n. none (suc n))
+none_counted key (Some group ∷ slots) none = absurd (none-some group (sym (none 0)))
+
+pub none_listed : (groups : ByNumber) → slab_len groups ≡ 0 → (n : ℕ) → name_at n (names_of groups) ≡ None
+none_listed groups none n = name_is n groups ∙ ap (option_map (λ (group : KeyedRows). group.cells.items)) (none_there 0 groups.slots (length-entries groups ∙ none) n)
+
+pub all_listed : (groups : ByNumber) → ((n : ℕ) → name_at n (names_of groups) ≡ None) → slab_len groups ≡ 0
+all_listed groups none = sym (length-entries groups) ∙ none_counted 0 groups.slots (λ n. by_slot (get groups n) (sym (name_is n groups) ∙ none n))
+  where
+    by_slot : (group : Option KeyedRows) → option_map (λ (g : KeyedRows). g.cells.items) group ≡ None → group ≡ None
+    by_slot None e = refl
+    by_slot (Some group) e = absurd (none-some group.cells.items (sym e))
 
 module _ (index : Index) (is : IsIndex index) where
   -- cells without a number are those of no member
@@ -46,29 +65,6 @@ module _ (index : Index) (is : IsIndex index) where
 
   pub empty_under : (cells : List ℤ) → number_under cells index.lists.numbers ≡ None → group_of cells (numbered_of index).members ≡ []
   empty_under cells none = none_named cells (unnamed cells none)
-
-  -- no group has a number exactly where no cells lead to one
-  pub none_listed : length index.lists.numbers.entries ≡ 0 → (n : ℕ) → name_at n (names_of index.lists.groups) ≡ None
-  none_listed none n = by_name (name_at n (names_of index.lists.groups)) refl
-    where
-      nothing : (cells : List ℤ) (entries : List (Vec ℤ × ℕ)) → length entries ≡ 0 → lookup (λ key. same_cells cells key.items) entries ≡ None
-      nothing cells [] e = refl
-      nothing cells (entry ∷ entries) e = cc
-
-      by_name : (name : Option (List ℤ)) → name_at n (names_of index.lists.groups) ≡ name → name ≡ None
-      by_name None e = refl
-      by_name (Some cells) e = absurd (unnamed cells (nothing cells index.lists.numbers.entries none) n e)
-
-  pub all_listed : ((n : ℕ) → name_at n (names_of index.lists.groups) ≡ None) → length index.lists.numbers.entries ≡ 0
-  all_listed none = by_entries index.lists.numbers.entries refl
-    where
-      by_entries : (entries : List (Vec ℤ × ℕ)) → index.lists.numbers.entries ≡ entries → length entries ≡ 0
-      by_entries [] e = refl
-      by_entries (entry ∷ entries) e =
-          let cells = entry.0.items in
-          let test = λ (key : Vec ℤ). same_cells cells key.items in
-          let found : number_under cells index.lists.numbers ≡ Some entry.1 = ap (lookup test) e ∙ ap (λ b. if b then Some entry.1 else lookup test entries) ((signed_items cells cells).1 refl) in
-          absurd (none-some cells (sym (none entry.1) ∙ name_is entry.1 index.lists.groups ∙ is.numbered.numbers cells entry.1 found))
 
   pub empty_named : ((n : ℕ) → name_at n (names_of index.lists.groups) ≡ None) → (cells : List ℤ) → group_of cells (numbered_of index).members ≡ []
   empty_named none cells = none_named cells (λ n e. none-some cells (sym (none n) ∙ e))

@@ -2,20 +2,19 @@
 --     kept_in table handle      what is kept under a handle
 --     cells_with number groups, slots_numbered number groups      the key cells of the group with a number, and its list
 --     number_under cells numbers      the number of the group with these key cells
+--     place_in cells by_cell, number_below above      the place of some cells in the list of numbers, and the number for which a number stands there
 --     rows_of table groups entries      the rows, each with what is kept of it
 --     group_rows cells rows      the rows of a group in order
 --     slots_under cells lists      the list that is kept of a group
-use Rattle.std.specs.Prelude.{ℕ, ◌<◌, ◌≤◌, ◌≡◌, false, int_lt, List, [], ◌∷◌, Option, Some, IsSome, filter, length, map, option_map, slice_index_or, unwrap_or, ℤ, pos, if◌then◌else◌}
+use Rattle.std.specs.Prelude.{ℕ, ◌-◌, ◌<◌, ◌≤◌, ◌≡◌, ◌==◌, false, int_lt, nat_lt, List, [], ◌∷◌, Option, None, Some, IsSome, filter, length, map, option_map, slice_index_or, unwrap_or, ℤ, pos, if◌then◌else◌}
 use Rattle.std.specs.Option.{option_map_or}
-use Rattle.std.specs.HashMap.{HashMap, get_by}
-use Rattle.std.specs.declared.hash.FoldHasher.{FoldHasher}
-use Rattle.std.specs.declared.hash.BuildHasherDefault.{BuildHasherDefault}
-use Rattle.std.specs.Global.{Vec}
+use Rattle.std.specs.HashMap.{get_by}
 use Rattle.slab.specs.Slab.{Slab, get}
 use Rattle.tick_model.specs.Tables.{same_cells}
 use Rattle.row_handles.specs.Entries.{Entry}
 use Rattle.row_groups.specs.declared.lists.KeyedRows.{KeyedRows}
 use Rattle.row_groups.specs.declared.lists.Lists.{Lists}
+use Rattle.row_groups.specs.declared.numbers.Numbers.{Numbers}
 use Rattle.row_groups.specs.declared.place.Slot.{Slot}
 use Rattle.row_groups.specs.declared.table.Kept.{Kept}
 use Rattle.row_groups.specs.declared.table.Table.{Table}
@@ -23,10 +22,6 @@ use Rattle.row_groups.specs.Members.{Member, member_of}
 
 abbrev pub ByNumber : Type 0
 ByNumber = Slab KeyedRows
-
--- the numbers of the groups by their cells
-abbrev pub Numbers : Type 0
-Numbers = HashMap (Vec ℤ) ℕ (BuildHasherDefault FoldHasher)
 
 abbrev pub kept_in : Table → ℕ → Kept
 kept_in table handle = slice_index_or table.rows.items handle (record { number = 0; at = pos 0 })
@@ -40,8 +35,23 @@ cells_with number groups = option_map (λ group. group.cells.items) (get groups 
 abbrev pub slots_numbered : ℕ → ByNumber → List Slot
 slots_numbered number groups = option_map_or (λ group. group.rows) (get groups number) []
 
+abbrev pub single_cell : List ℤ → Option ℕ
+single_cell (pos n ∷ []) = Some n
+single_cell _ = None
+
+-- a cell that is alone and below the length of the list is a place in it
+abbrev pub place_in : List ℤ → List ℕ → Option ℕ
+place_in cells by_cell = option_map_or (λ n. if nat_lt n (length by_cell) then Some n else None) (single_cell cells) None
+
+abbrev pub number_below : ℕ → Option ℕ
+number_below above = if above == 0 then None else Some (above - 1)
+
 abbrev pub number_under : List ℤ → Numbers → Option ℕ
-number_under cells numbers = get_by (λ key. same_cells cells key.items) numbers
+number_under cells numbers = option_map_or (λ place. number_below (slice_index_or numbers.by_cell.items place 0)) (place_in cells numbers.by_cell.items) (get_by (λ key. same_cells cells key.items) numbers.by_cells)
+
+-- only these cells lead to another number, or to none
+abbrev pub Leads : List ℤ → Option ℕ → Numbers → Numbers → Type 0
+Leads cells number old new = (other : List ℤ) → number_under other new ≡ (if same_cells cells other then number else number_under other old)
 
 -- the key cells of the group of a row
 abbrev pub cells_in : Table → ByNumber → ℕ → List ℤ

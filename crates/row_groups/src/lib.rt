@@ -9,6 +9,7 @@ mod index;
 mod leaving;
 mod lists;
 mod numbered;
+mod numbers;
 mod place;
 mod sequence;
 mod table;

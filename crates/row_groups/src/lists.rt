@@ -2,11 +2,11 @@
 ghost use Rattle.std.specs.Prelude.{◌≡◌, ◌≢◌, ◌∷◌, ℕ, List, ℤ, [], None, Some, IfOk, IsSome, OnErr};
 ghost use Rattle.row_groups.specs.Slots.{AreKnown, is_before, IsParted, slots_with, slots_without};
 
+use crate::numbers::Numbers;
 use crate::place::{Place, Slot};
 use crate::sequence::Sequence;
 use slab::Slab;
 use std::alloc::{AllocError, Global};
-use std::collections::HashMap;
 
 /// The rows of a group, and the key cells that they have.
 #[derive(Drop)]
@@ -19,8 +19,7 @@ pub(crate) struct KeyedRows {
 #[derive(Drop)]
 pub(crate) struct Lists {
     alloc: Global,
-    /// The number of each group, by its key cells.
-    pub(crate) numbers: HashMap<Vec<i64>, usize>,
+    pub(crate) numbers: Numbers,
     pub(crate) groups: Slab<KeyedRows>,
     /// Whether a row has come to a group that was there.
     pub(crate) crowded: bool,
@@ -34,13 +33,13 @@ impl Lists {
 
     /// No groups.
     pub(crate) fn new(alloc: Global) -> Lists
-        ensures numbers { result.numbers.entries ≡ [] }
+        ensures numbers { (cells : List ℤ) → number_under cells result.numbers ≡ None }
         ensures groups { result.groups.slots ≡ [] }
         ensures sound { AreNumbered result }
     {
         Lists {
             alloc,
-            numbers: HashMap::new(alloc),
+            numbers: Numbers::new(alloc),
             groups: Slab::new(alloc),
             crowded: false,
             none: Sequence::new(alloc),
@@ -53,7 +52,7 @@ impl Lists {
         ensures { result.now ≡ slots_under cells.now self.now }
     {
         match self.numbers.get(cells) {
-            Some(number) => &self.groups[*number].rows,
+            Some(number) => &self.groups[number].rows,
             None => &self.none,
         }
     }
@@ -78,10 +77,9 @@ impl Lists {
     {
         let mut rows = Sequence::new(self.alloc);
         rows.push(slot)?;
-        let key = Vec::from_slice(self.alloc, cells)?;
         let kept = Vec::from_slice(self.alloc, cells)?;
         self.groups.reserve(1)?;
-        self.numbers.insert(key, self.groups.vacant_key())?;
+        self.numbers.insert(cells, self.groups.vacant_key())?;
         Ok(self.groups.insert_reserved(KeyedRows { cells: kept, rows }))
     }
 
@@ -92,7 +90,7 @@ impl Lists {
     {
         match self.groups.get(near) {
             Some(group) if group.cells.as_slice() == cells => Some(near),
-            _ => self.numbers.get(cells).copied(),
+            _ => self.numbers.get(cells),
         }
     }
 

@@ -112,7 +112,7 @@ impl NumberedGroups {
         ensures unnamed { result ≡ None → (number : ℕ) → name_at number self.now.names ≢ Some cells.now }
         ensures empty { result ≡ None → group_of cells.now self.now.members ≡ [] }
     {
-        self.index.lists.numbers.get(cells).copied()
+        self.index.lists.numbers.get(cells)
     }
 
     /// The rows of the group with a number, or None where no group has it.
@@ -176,7 +176,7 @@ impl NumberedGroups {
         ensures unnamed { IsTrue result ↔ ((number : ℕ) → name_at number self.now.names ≡ None) }
         ensures empty { IsTrue result → (cells : List ℤ) → group_of cells self.now.members ≡ [] }
     {
-        self.index.lists.numbers.is_empty()
+        self.index.lists.groups.is_empty()
     }
 
     /// The numbers of the groups of the rows under these keys, in their order. It takes no hash.

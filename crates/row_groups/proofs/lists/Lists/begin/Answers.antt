@@ -1,20 +1,16 @@
 use Rattle.std.proofs.Common.{◌∷◌, [], ◌++◌, ap, sym, ◌∙◌, subst, refl, length, arith, List, ◌≤◌, Some}
 use Rattle.std.specs.Option.{option_map_or}
-use Rattle.std.specs.HashMap.{UpdatesBy}
 use Rattle.slab.specs.Slab.{get}
 use Rattle.row_handles.proofs.Inserting.{on_err}
 use Rattle.row_groups.specs.declared.lists.KeyedRows.{KeyedRows}
 use Rattle.row_groups.specs.declared.lists.Lists.{Lists}
 use Rattle.row_groups.specs.declared.place.Slot.{Slot}
-use Rattle.row_groups.specs.Rows.{Becomes, ByNumber, number_under, slots_numbered}
-use Rattle.row_groups.proofs.Listed.{Begins, begins_numbered, begins_rows, has_cells, same_key, same_numbers, unbegun}
+use Rattle.row_groups.specs.Rows.{Becomes, ByNumber, Leads, number_under, slots_numbered}
+use Rattle.row_groups.proofs.Listed.{Begins, begins_numbered, begins_rows, unbegun}
 use Rattle.row_groups.proofs.lists.Lists.begin.Goals as goal
 
 pub returns-in_err-push-clause-err : goal.returns-in_err-push-clause-err
 returns-in_err-push-clause-err c = on_err c.from_residual.result _ (unbegun c.args.cells.now c.args.self.now c.args.self.now c.requires.absent (λ other. refl))
-
-pub returns-in_err-key-clause-err : goal.returns-in_err-key-clause-err
-returns-in_err-key-clause-err c = on_err c.from_residual-in_err-key.result _ (unbegun c.args.cells.now c.args.self.now c.args.self.now c.requires.absent (λ other. refl))
 
 pub returns-in_err-kept-clause-err : goal.returns-in_err-kept-clause-err
 returns-in_err-kept-clause-err c = on_err c.from_residual-in_err-kept.result _ (unbegun c.args.cells.now c.args.self.now c.args.self.now c.requires.absent (λ other. refl))
@@ -32,7 +28,7 @@ returns-in_err-insert-clause-err c =
     on_err c.from_residual-in_err-insert.result _
     (unbegun c.args.cells.now old (record old { numbers = c.insert.new.self; groups = c.reserve.new.self }) c.requires.absent
     (λ other.
-    ap (λ n. option_map_or (λ m. slots_numbered m c.reserve.new.self) n []) (same_numbers old.numbers c.insert.new.self other c.in_err-insert.ensures.err)
+    ap (λ n. option_map_or (λ m. slots_numbered m c.reserve.new.self) n []) (c.in_err-insert.ensures.err other)
     ∙ ap (λ (groups : ByNumber). option_map_or (λ n. slots_numbered n groups) (number_under other old.numbers) []) c.reserve.ensures.rest_kept))
 
 abbrev group : goal.After-self-2-1 → KeyedRows
@@ -41,18 +37,18 @@ group c = record { cells = c.in_ok-kept.kept; rows = c.push.new.self }
 abbrev new : goal.After-self-2-1 → Lists
 new c = record c.args.self.now { numbers = c.insert.new.self; groups = c.insert_reserved.new.self }
 
-begins : (c : goal.After-self-2-1) → Begins c.in_ok-key.key.items c.insert_reserved.result (group c) c.args.self.now (new c)
+begins : (c : goal.After-self-2-1) → Begins c.args.cells.now c.insert_reserved.result (group c) c.args.self.now (new c)
 begins c =
     let old = c.args.self.now in
     let kept = c.reserve.ensures.rest_kept in
     record {
       sound = c.requires.sound;
-      absent = ap (λ cells. number_under cells old.numbers) c.in_ok-key.ensures.items ∙ c.requires.absent;
-      updates = subst (λ n. UpdatesBy same_key (has_cells c.in_ok-key.key.items) old.numbers c.insert.new.self (Some n)) (c.vacant_key.ensures.value ∙ sym c.insert_reserved.ensures.key) c.in_ok-insert.ensures.updates;
+      absent = c.requires.absent;
+      leads = subst (λ n. Leads c.args.cells.now (Some n) old.numbers c.insert.new.self) (c.vacant_key.ensures.value ∙ sym c.insert_reserved.ensures.key) c.in_ok-insert.ensures.ok;
       vacant = sym (ap (λ (groups : ByNumber). get groups c.insert_reserved.result) kept) ∙ c.insert_reserved.ensures.was_vacant;
       put = c.insert_reserved.ensures.updates.changed;
       others = λ n ne. c.insert_reserved.ensures.updates.others n ne ∙ ap (λ (groups : ByNumber). get groups n) kept;
-      same = c.in_ok-kept.ensures.items ∙ sym c.in_ok-key.ensures.items;
+      same = c.in_ok-kept.ensures.items;
       crowded = refl;
       only = subst (λ (rows : List Slot). length rows ≤ 1) (sym (c.in_ok-push.ensures.ok ∙ ap (λ rows. rows ++ c.args.slot ∷ []) c.new-rows.ensures)) (omega arith);
     }
@@ -60,11 +56,10 @@ begins c =
 pub returns-clause-ok : goal.returns-clause-ok
 returns-clause-ok c =
     let old = c.args.self.now in
-    subst (λ cells. Becomes cells (c.args.slot ∷ []) old (new c)) c.in_ok-key.ensures.items
-    (subst (λ rows. Becomes c.in_ok-key.key.items rows old (new c)) (c.in_ok-push.ensures.ok ∙ ap (λ rows. rows ++ c.args.slot ∷ []) c.new-rows.ensures)
-    (begins_rows c.in_ok-key.key.items c.insert_reserved.result (group c) old (new c) (begins c)))
+    subst (λ rows. Becomes c.args.cells.now rows old (new c)) (c.in_ok-push.ensures.ok ∙ ap (λ rows. rows ++ c.args.slot ∷ []) c.new-rows.ensures)
+    (begins_rows c.args.cells.now c.insert_reserved.result (group c) old (new c) (begins c))
 
 pub returns-clause-sound : goal.returns-clause-sound
 returns-clause-sound c =
-    let is = begins_numbered c.in_ok-key.key.items c.insert_reserved.result (group c) c.args.self.now (new c) (begins c) in
+    let is = begins_numbered c.args.cells.now c.insert_reserved.result (group c) c.args.self.now (new c) (begins c) in
     record { numbers = is.numbers; cells = is.cells; alone = is.alone }

@@ -1,13 +1,13 @@
-use Rattle.std.proofs.Common.{refl, sym, ◌∙◌, subst, None}
-use Rattle.std.specs.HashMap.{UpdatesBy}
-use Rattle.row_groups.proofs.Listed.{GivesUp, gives_numbered, gives_rows, has_cells, same_key}
+use Rattle.std.proofs.Common.{None, refl, sym, ◌∙◌, subst}
+use Rattle.row_groups.specs.Rows.{Leads}
+use Rattle.row_groups.proofs.Listed.{GivesUp, gives_numbered, gives_rows}
 use Rattle.row_groups.proofs.lists.Lists.give_up.Goals as goal
 
 gives : (c : goal.After-drop-group-in-Some) → GivesUp c.args.number c.in-Some.group c.args.self.now (record c.args.self.now { numbers = c.remove.new.self; groups = c.try_remove.new.self })
 gives c = record {
   sound = c.requires;
   was = sym c.try_remove.ensures.value ∙ c.in-Some.is;
-  updates = subst (λ cells. UpdatesBy same_key (has_cells cells) c.args.self.now.numbers c.remove.new.self None) c.as_slice.ensures.value c.remove.ensures.updates;
+  leads = subst (λ cells. Leads cells None c.args.self.now.numbers c.remove.new.self) c.as_slice.ensures.value c.remove.ensures;
   gone = c.try_remove.ensures.updates.changed;
   others = c.try_remove.ensures.updates.others;
   crowded = refl;
