@@ -1,6 +1,7 @@
 -- A row that leaves its group.
 use Rattle.std.proofs.Common.{◌≡◌, ◌≢◌, refl, ap, ap₂, sym, ◌∙◌, subst, arith, false, ℕ, suc, ◌+◌, ◌<◌, List, [], ◌∷◌, ◌++◌, get_or, length, length-append, Option, Some, None, IsSome, option_map, unwrap_or, ℤ}
 use Rattle.std.specs.List.{AllZip}
+use Rattle.std.proofs.lemmas.List.{get_or_at}
 use Rattle.std.proofs.lemmas.List.Elements.{AllZip-get_or, length_all_zip}
 use Rattle.std.proofs.lemmas.Option.{same_Some}
 use Rattle.key_lists.specs.Keys.{is_among}
@@ -18,10 +19,6 @@ use Rattle.row_groups.proofs.Indexed.{AreGone, group_there, kept_of, some_cells,
 use Rattle.row_groups.proofs.Named.{name_is}
 
 -- two lists that are walked together: the item at the place of the next one
-at_end : (xs others : List ℕ) (x : ℕ) → get_or (xs ++ x ∷ others) (length xs) 0 ≡ x
-at_end [] others x = refl
-at_end (y ∷ xs) others x = at_end xs others x
-
 module _ (R : ℕ → ℕ → Type 0) (keys yielded others numbers : List ℕ) (key place : ℕ) (next : keys ≡ yielded ++ key ∷ others) (count : place ≡ length yielded) (all : AllZip R keys numbers) where
   abbrev below : place < length keys
   below = let long : length keys ≡ length yielded + suc (length others) = ap length next ∙ length-append yielded (key ∷ others) in omega (arith, long, count)
@@ -30,7 +27,7 @@ module _ (R : ℕ → ℕ → Type 0) (keys yielded others numbers : List ℕ) (
   zipped_within = subst (λ n. place < n) (length_all_zip R keys numbers all) below
 
   pub zipped_next : R key (get_or numbers place 0)
-  zipped_next = subst (λ k. R k (get_or numbers place 0)) (ap₂ (λ ks n. get_or ks n 0) next count ∙ at_end yielded others key) (AllZip-get_or R keys numbers place 0 0 all below)
+  zipped_next = subst (λ k. R k (get_or numbers place 0)) (ap₂ (λ ks n. get_or ks n 0) next count ∙ get_or_at yielded key others 0 (length yielded) refl) (AllZip-get_or R keys numbers place 0 0 all below)
 
 -- a row is to leave of which it is known what is kept
 pub record Departs (gone : List ℕ) (key : ℕ) (kept : Kept) (old index : Index) : Type 0 where

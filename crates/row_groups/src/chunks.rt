@@ -69,7 +69,7 @@ fn inside(guess: usize, low: usize, high: usize) -> usize
 }
 
 /// How many rows of a chunk stand before a place. It is looked for near the likely place, and farther from it by growing steps.
-pub(crate) fn rows_before(rows: &[Slot], place: &Place<'_>) -> usize
+fn rows_before(rows: &[Slot], place: &Place<'_>) -> usize
     requires known { AreKnown place.now.handles.now rows.now }
     requires parted { IsParted (is_before place.now.handles.now place.now.at place.now.key) rows.now }
     ensures within { result ≤ length rows.now }
@@ -96,7 +96,7 @@ pub(crate) fn rows_before(rows: &[Slot], place: &Place<'_>) -> usize
 }
 
 /// How many chunks begin before a place.
-pub(crate) fn begun_before(chunks: &[Vec<Slot>], place: &Place<'_>) -> usize
+fn begun_before(chunks: &[Vec<Slot>], place: &Place<'_>) -> usize
     requires known { AreKnown place.now.handles.now (joined chunks.now) }
     requires parted { IsParted (is_before place.now.handles.now place.now.at place.now.key) (joined chunks.now) }
     requires filled { AreFilled chunks.now }

@@ -3,9 +3,7 @@ ghost use Rattle.std.specs.Prelude.{◌≡◌, ◌+◌, ◌-◌, ◌<◌, ◌≤
 ghost use Rattle.std.specs.List.{AllByRecursion};
 ghost use Rattle.row_groups.specs.Slots.{AreKnown, is_before, IsParted, slots_with, slots_without};
 
-use crate::chunks::{
-    begun_before, count_rows, insert_at, push_row, remove_at, rows_before, spot_before, spot_of,
-};
+use crate::chunks::{count_rows, insert_at, push_row, remove_at, spot_before, spot_of};
 use crate::place::{Place, Slot};
 use std::alloc::{AllocError, Global};
 use std::marker::Model;
@@ -86,12 +84,11 @@ impl Sequence {
         ensures before { AllByRecursion (λ slot. is_before place.now.handles.now place.now.at place.now.key slot ≡ true) (take result self.now) }
         ensures others { AllByRecursion (λ slot. is_before place.now.handles.now place.now.at place.now.key slot ≡ false) (drop result self.now) }
     {
-        let next = begun_before(&self.chunks, place);
-        if next == 0 {
+        if self.len == 0 {
             return 0;
         }
-        let index = next - 1;
-        count_rows(&self.chunks[..index]) + rows_before(&self.chunks[index], place)
+        let spot = spot_before(&self.chunks, place);
+        count_rows(&self.chunks[..spot.chunk]) + spot.place
     }
 
     /// How many rows stand before a place. Where that is all of them or none, a look at the last row or the first shows it.
