@@ -15,8 +15,8 @@ const FEW: usize = 256;
 #[derive(Drop)]
 pub(crate) struct Numbers {
     alloc: Global,
-    /// By a cell that is alone and small the number of its group and one, and 0 where there is no group. It has few more places
-    /// than there are groups.
+    /// By a cell that is alone and small the number of its group and one, and 0 where there is no group. Beside `FEW` it has at
+    /// most twice as many places as there were groups at once.
     pub(crate) by_cell: Vec<u32>,
     /// The numbers of the groups whose cells have no place in the list.
     pub(crate) by_cells: HashMap<Vec<i64>, usize>,
