@@ -251,21 +251,6 @@ shorter entries at key (slot ∷ slots) = by_test (is_before entries at key slot
     by_test true less = omega (arith, less)
     by_test false less = omega arith
 
--- lists that stay
-pub same_numbered : (old new : Lists) → AreNumbered old → new.crowded ≡ old.crowded → ((cells : List ℤ) → number_under cells new.numbers ≡ number_under cells old.numbers) → ((number : ℕ) → get new.groups number ≡ get old.groups number) → AreNumbered new
-same_numbered old new sound crowded numbers groups = record {
-  numbers = λ cells n e. cells_stay n ∙ sound.numbers cells n (sym (numbers cells) ∙ e);
-  cells = λ cells n e. numbers cells ∙ sound.cells cells n (sym (cells_stay n) ∙ e);
-  alone = λ calm cells. subst (λ (rows : List Slot). length rows ≤ 1) (sym (ap (λ o. option_map_or (λ n. slots_numbered n new.groups) o []) (numbers cells) ∙ rows_stay (number_under cells old.numbers))) (sound.alone (sym crowded ∙ calm) cells);
-}
-  where
-    cells_stay : (n : ℕ) → cells_with n new.groups ≡ cells_with n old.groups
-    cells_stay n = ap (λ (g : Option KeyedRows). option_map (λ k. k.cells.items) g) (groups n)
-
-    rows_stay : (o : Option ℕ) → option_map_or (λ n. slots_numbered n new.groups) o [] ≡ option_map_or (λ n. slots_numbered n old.groups) o []
-    rows_stay None = refl
-    rows_stay (Some n) = ap (λ (g : Option KeyedRows). option_map_or (λ k. k.rows) g []) (groups n)
-
 -- a group that does not begin
 pub unbegun : (cells : List ℤ) (old new : Lists) → number_under cells old.numbers ≡ None → ((other : List ℤ) → slots_under other new ≡ slots_under other old) → Becomes cells [] old new
 unbegun cells old new absent same other = by_test (same_cells cells other) refl
