@@ -9,3 +9,4 @@ pub mod Steps
 pub mod Touched
 pub mod Rows
 pub mod Aggregator
+pub mod Made

@@ -12,6 +12,7 @@
 mod agg_op;
 mod by_number;
 mod firsts;
+mod in_plan;
 mod kept;
 mod moment;
 mod moving;

@@ -11,6 +11,7 @@ mod crossing;
 mod edges;
 mod end;
 mod end_op;
+mod in_plan;
 mod places;
 
 pub use end::{AtEnd, AtFirst, AtLast, End};

@@ -19,3 +19,4 @@ pub mod Stepping
 pub mod Taking
 pub mod Told
 pub mod Walks
+pub mod Planned

@@ -6,3 +6,4 @@ pub mod Matched
 pub mod Matcher
 pub mod Notes
 pub mod Taken
+pub mod Made

@@ -31,6 +31,7 @@
 
 mod as_of_op;
 mod duplicates;
+mod in_plan;
 mod join_op;
 mod keyed;
 mod latest;

@@ -9,7 +9,8 @@ use Rattle.tick_model.specs.Tables.{cells_at, keys}
 use Rattle.tick_model.specs.Updates.{IsTick}
 use Rattle.tick_table.specs.Exact.{IsExact}
 use Rattle.tick_table.specs.Ticking.{Ticking}
-use Rattle.merge_op.specs.Merged.{merged, news, olds}
+use Rattle.table_operator.specs.Inputs.{news, olds}
+use Rattle.merge_op.specs.Merged.{merged}
 use Rattle.merge_op.specs.Regions.{in_regions, room_before, room_now}
 use Rattle.merge_op.proofs.Apart.{among_first, among_others}
 use Rattle.merge_op.proofs.Looked.{cells_behind, cells_first}

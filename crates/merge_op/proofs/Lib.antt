@@ -12,3 +12,4 @@ pub mod Roomy
 pub mod Sharing
 pub mod Starting
 pub mod Ticked
+pub mod Planned

@@ -13,7 +13,7 @@ use Rattle.tick_model.specs.Tables.{cells_at, keys, row_at, same_cells}
 use Rattle.tick_model.specs.Updates.{differs}
 use Rattle.tick_table.specs.Exact.{IsExact, tick_of}
 use Rattle.tick_table.specs.Ticking.{Ticking}
-use Rattle.merge_op.specs.Merged.{news, olds}
+use Rattle.table_operator.specs.Inputs.{news, olds}
 use Rattle.merge_op.specs.Regions.{in_regions, room_before, room_now}
 use Rattle.merge_op.proofs.Apart.{AreBelow, all_plus, among_first, among_others, regions_above, same_plus}
 use Rattle.merge_op.proofs.Paired.{modified_now, rest_past}

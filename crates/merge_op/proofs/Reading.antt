@@ -15,7 +15,8 @@ use Rattle.tick_model.specs.Tables.{keys}
 use Rattle.tick_model.specs.Updates.{Update, new_keys, old_keys}
 use Rattle.tick_table.specs.Exact.{counted}
 use Rattle.tick_table.specs.Ticking.{Ticking}
-use Rattle.merge_op.specs.Merged.{counted_in, merged}
+use Rattle.table_operator.specs.Inputs.{counted_in}
+use Rattle.merge_op.specs.Merged.{merged}
 
 -- the parts of a change name rows that are there
 module _ (old new : PlainTable) (parts : Parts) (kept : List KeyPair) (h : AreParts old new parts kept) where

@@ -8,7 +8,7 @@ use Rattle.std.specs.Prelude.{Err, Ok, OnErr, OnOk, Result}
 use Rattle.std.proofs.lemmas.List.{drop_more}
 use Rattle.std.proofs.Math.ListN.{drop_of_length-le}
 use Rattle.tick_table.specs.Ticking.{Ticking}
-use Rattle.merge_op.specs.Merged.{tables}
+use Rattle.table_operator.specs.Inputs.{tables}
 
 -- what holds of all tables holds of the one at a place
 pub of_table : (P : Ticking → Type 0) (shared : List (Arc Ticking Global)) (i : ℕ) (item : Arc Ticking Global) → AllByRecursion P (tables shared) → i < length shared → P (arc_value {X = Ticking} (get_or shared i item))

@@ -15,7 +15,8 @@ use Rattle.tick_laws.proofs.Merged.{IsPart, apart, apart_among, apart_rising, be
 use Rattle.tick_laws.proofs.ResultTables.{rows_of}
 use Rattle.tick_table.specs.Exact.{IsExact, tick_of}
 use Rattle.tick_table.specs.Ticking.{Ticking}
-use Rattle.merge_op.specs.Merged.{merged, news, olds}
+use Rattle.table_operator.specs.Inputs.{news, olds}
+use Rattle.merge_op.specs.Merged.{merged}
 use Rattle.merge_op.specs.Regions.{in_regions, room_before, room_now}
 use Rattle.merge_op.proofs.Apart.{AreBelow, regions_same, regions_without}
 

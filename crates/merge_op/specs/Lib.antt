@@ -1,3 +1,4 @@
 pub mod Merged
 pub mod Regions
 pub mod Steps
+pub mod Made

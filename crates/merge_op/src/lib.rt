@@ -7,6 +7,7 @@
 #![tactic(auto)]
 
 mod fault;
+mod in_plan;
 mod merging;
 mod rows;
 mod shifts;

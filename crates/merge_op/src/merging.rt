@@ -2,7 +2,8 @@
 
 ghost use Rattle.std.specs.Prelude.{◌≡◌, ◌+◌, ◌*◌, ◌^◌, ◌<◌, ◌≤◌, [], length, IfErr, IfOk, OnErr};
 ghost use Rattle.std.specs.List.{AllByRecursion};
-ghost use Rattle.merge_op.specs.Merged.{counted_in, merged, rows_in, tables};
+ghost use Rattle.table_operator.specs.Inputs.{counted_in, tables};
+ghost use Rattle.merge_op.specs.Merged.{merged, rows_in};
 ghost use Rattle.tick_model.specs.Changes.{change_of};
 ghost use Rattle.tick_model.specs.Tables.{keys};
 ghost use Rattle.tick_table.specs.Exact.{IsExact, counted};

@@ -16,7 +16,8 @@ pub(crate) struct MergedRows<'a> {
 impl<L: Ledger> Rows<L> for MergedRows<'_> {
     ghost use Rattle.std.specs.Prelude.{◌≡◌, ◌+◌, ◌≤◌, ◌++◌, OnOk};
     ghost use Rattle.std.specs.List.{AllByRecursion};
-    ghost use Rattle.merge_op.specs.Merged.{merged, tables};
+    ghost use Rattle.table_operator.specs.Inputs.{tables};
+    ghost use Rattle.merge_op.specs.Merged.{merged};
     ghost use Rattle.tick_model.specs.Updates.{IsTick};
     ghost use Rattle.tick_table.specs.Exact.{IsExact};
 

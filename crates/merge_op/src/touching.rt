@@ -2,7 +2,8 @@
 
 ghost use Rattle.std.specs.Prelude.{◌≡◌, ℕ, ◌+◌, ◌-◌, ◌^◌, ◌<◌, ◌≤◌, ◌++◌, [], pos, ◌+ℤ◌, ◌-ℤ◌, length, map, sum_by, IfOk, OnOk};
 ghost use Rattle.std.specs.List.{AllByRecursion};
-ghost use Rattle.merge_op.specs.Merged.{merged, tables};
+ghost use Rattle.table_operator.specs.Inputs.{tables};
+ghost use Rattle.merge_op.specs.Merged.{merged};
 ghost use Rattle.merge_op.specs.Regions.{IsStart, room_before, starts_of};
 ghost use Rattle.merge_op.specs.Steps.{IsStep};
 ghost use Rattle.row_changes.specs.Parts.{AreParts};

@@ -19,7 +19,7 @@ use Rattle.tick_model.proofs.Results.{AreResults, IsResult, merged_room}
 use Rattle.tick_laws.specs.Bounded.{IsNodeTable}
 use Rattle.tick_laws.specs.Operated.{EachInput}
 use Rattle.tick_laws.proofs.LawfulPlans.{IsLawfulPlan, bound_is, bound_room, each_bound, lawful_plan}
-use Rattle.operators.specs.Inputs.{HasKeys}
+use Rattle.table_operator.specs.Made.{HasKeys}
 use Rattle.operators.specs.Planned.{op_at}
 
 roomy_rows : (offset : ℕ) (tables : List PlainTable) → HaveRoom offset tables → AllByRecursion (λ (row : PlainRow). row.key < 2 ^ 62) (merged_rows offset tables)

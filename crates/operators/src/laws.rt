@@ -2,10 +2,9 @@
 //! nothing: its contract is the law.
 
 ghost use Rattle.std.specs.Prelude.{◌≡◌, ℕ, ◌<◌, List, false, length, map, slice_index, slice_index_or, true};
-ghost use Rattle.operators.specs.Inputs.{HasKeys};
-ghost use Rattle.operators.specs.Making.{CanBeMade};
-ghost use Rattle.operators.specs.Operating.{result_width};
+ghost use Rattle.operators.specs.Operating.{CanBeMade};
 ghost use Rattle.operators.specs.Planned.{input_widths, op_at};
+ghost use Rattle.table_operator.specs.Made.{HasKeys, result_width};
 ghost use Rattle.tick_laws.specs.Bounded.{IsNodeTable};
 ghost use Rattle.tick_laws.specs.Operated.{EachInput};
 ghost use Rattle.tick_model.specs.Evaluation.{is_source};

@@ -5,14 +5,10 @@
 //! of plans alone: the operator's table is the result of its inputs' tables, along the rows that it keeps.
 #![tactic(auto)]
 
-mod copies;
 mod counts;
-mod fault;
 pub mod laws;
-mod making;
 mod operator;
 mod running;
-mod steps;
 
-pub use fault::StepFault;
 pub use operator::Operator;
+pub use table_operator::StepFault;

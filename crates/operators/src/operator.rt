@@ -2,10 +2,10 @@
 
 ghost use Rattle.std.specs.Prelude.{◌≡◌, ℕ, ◌+◌, ◌-◌, ◌*◌, ◌≤◌, ◌++◌, ◌∷◌, [], None, length, map, sum, IfErr, IfOk, OnErr, OnOk};
 ghost use Rattle.std.specs.List.{AllByRecursion};
-ghost use Rattle.merge_op.specs.Merged.{counted_in, news, olds, tables};
-ghost use Rattle.operators.specs.Inputs.{AreTables, AreTicks, HasKeys, IsCause};
-ghost use Rattle.operators.specs.Making.{CanBeMade};
-ghost use Rattle.operators.specs.Operating.{StandsFor, idled, result_width};
+ghost use Rattle.table_operator.specs.Inputs.{counted_in, news, olds, tables};
+ghost use Rattle.table_operator.specs.Made.{HasKeys, IsCause, result_width};
+ghost use Rattle.operators.specs.Inputs.{AreTables, AreTicks};
+ghost use Rattle.operators.specs.Operating.{CanBeMade, StandsFor, idled};
 ghost use Rattle.tick_laws.specs.Operated.{operated};
 ghost use Rattle.tick_model.specs.Changes.{change_of};
 ghost use Rattle.tick_model.specs.Operators.{fault_of, inputs_of};
@@ -15,13 +15,13 @@ ghost use Rattle.tick_table.specs.Exact.{IsExact, counted, tick_of};
 ghost use Rattle.tick_table.specs.Ticking.{no_rows};
 
 use crate::counts::{Counted, Idle, StepCount};
-use crate::fault::StepFault;
 use crate::running::Running;
 use boxcar::tag::Tag;
 use std::alloc::{AllocError, Global};
 use std::marker::Model;
 use std::snapshot::Snapshot;
 use std::sync::ledger::Ledger;
+use table_operator::{StepFault, TableOperator};
 use tick_model::plan::Op;
 use tick_table::{Change, Shared, Steps};
 
@@ -47,7 +47,8 @@ impl Drop for Operator {
 
 impl Model for Operator {
     ghost use Rattle.std.specs.Coded.{codes};
-    ghost use Rattle.operators.specs.Operating.{IsMadeOf, Operating, widths_of};
+    ghost use Rattle.operators.specs.Operating.{Operating, made_of};
+    ghost use Rattle.table_operator.specs.Made.{IsMadeOf};
     ghost use Rattle.operators.specs.contracts.running.Running as running_type;
     ghost use Rattle.tick_model.specs.contracts.plan.Op as op_type;
 
@@ -55,9 +56,9 @@ impl Model for Operator {
 
     ghost coded = { Prim.hlevel (codes, op_type.the_row.coded, running_type.the_row.coded) };
 
-    ghost view = { λ operator. record { op = operator.op.value; widths = widths_of operator.running; kept = operator.running; reads = operator.reads.numbers } };
+    ghost view = { λ operator. record { op = operator.op.value; widths = (made_of operator.running).widths; kept = operator.running; reads = operator.reads.numbers } };
 
-    ghost invariant = { λ operator. IsMadeOf operator.op.value operator.running };
+    ghost invariant = { λ operator. IsMadeOf operator.op.value (made_of operator.running) };
 }
 
 impl Operator {
@@ -70,7 +71,7 @@ impl Operator {
         ensures stands { IfOk result (λ operator. StandsFor operator (map no_rows widths.now)) }
         ensures steps { IfOk result (λ operator. operator.reads ≡ []) }
     {
-        let running = Running::new(alloc, op, widths)?;
+        let running = Running::of(alloc, op, widths)?;
         Ok(Operator {
             op: Snapshot::of(op),
             running,
@@ -110,7 +111,7 @@ impl Operator {
             reads: before,
         } = self;
         let start = Snapshot::of(reads);
-        let (running, change) = running.step(alloc, inputs, reads)?;
+        let (running, change) = running.advance(alloc, inputs, reads)?;
         let end = Snapshot::of(reads);
         let reads = Tag::of::<StepCount<L>, Counted>(&StepCount { before, start, end });
         Ok((Operator { op, running, reads }, change))

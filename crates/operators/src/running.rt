@@ -1,13 +1,5 @@
 //! The operators by what they do.
 
-ghost use Rattle.std.specs.Prelude.{◌≡◌, ◌+◌, ◌≤◌, length, IfErr, IfOk, OnErr};
-ghost use Rattle.merge_op.specs.Merged.{tables};
-ghost use Rattle.operators.specs.Making.{CanBeMade};
-ghost use Rattle.operators.specs.Stepping.{IsBegun, IsReady, IsRefusal, IsStep, ReadsFew, room_for};
-ghost use Rattle.tick_model.specs.Operators.{inputs_of};
-
-use crate::fault::StepFault;
-use crate::{making, steps};
 use agg_by::AggOp;
 use head_tail::{HeadOp, TailOp};
 use lookup_join::{AsOfOp, JoinOp};
@@ -16,6 +8,7 @@ use row_ops::{ViewOp, WhereOp};
 use sort_op::SortOp;
 use std::alloc::{AllocError, Global};
 use std::sync::ledger::Ledger;
+use table_operator::{StepFault, TableOperator};
 use tick_model::plan::Op;
 use tick_table::{Change, Shared, Steps};
 
@@ -48,55 +41,73 @@ impl Drop for Running {
     }
 }
 
-impl Running {
-    /// The operator that is made of the plan's, for inputs of these widths.
-    pub(crate) fn new(alloc: Global, op: &Op, widths: &[u32]) -> Result<Running, AllocError>
-        requires count { length widths.now ≡ length (inputs_of op.now) }
-        requires made { CanBeMade op.now widths.now }
-        ensures { IfOk result (λ running. IsBegun op.now widths.now running) }
-    {
+impl TableOperator for Running {
+    ghost use Rattle.operators.specs.Operating.{CanBeMade, KeepsOf, made_of};
+
+    ghost made = { made_of };
+
+    ghost stands = { KeepsOf };
+
+    ghost can_be = { CanBeMade };
+
+    fn of(alloc: Global, op: &Op, widths: &[u32]) -> Result<Running, AllocError> {
         match op {
             Op::Source => unreachable!(),
-            Op::Keep { test, .. } => making::filter(alloc, test, widths),
-            Op::View { exprs, .. } => making::view(alloc, exprs, widths),
-            Op::Join {
-                on,
-                take,
-                choice,
-                ..
-            } => making::join(alloc, on, take, *choice, widths),
-            Op::Agg { by, aggs, .. } => making::aggregation(alloc, by, aggs, widths),
-            Op::Merge { inputs } => making::merge(alloc, inputs, widths),
-            Op::Sort { by, .. } => making::sort(alloc, by, widths),
-            Op::Head { rows, .. } => making::head(alloc, *rows, widths),
-            Op::Tail { rows, .. } => making::tail(alloc, *rows, widths),
-            Op::AsOf { on, at, take, .. } => making::as_of_join(alloc, on, *at, take, widths),
+            Op::Keep { .. } => Ok(Running::Where(WhereOp::of(alloc, op, widths)?)),
+            Op::View { .. } => Ok(Running::View(ViewOp::of(alloc, op, widths)?)),
+            Op::Join { .. } => Ok(Running::Join(JoinOp::of(alloc, op, widths)?)),
+            Op::Agg { .. } => Ok(Running::Agg(AggOp::of(alloc, op, widths)?)),
+            Op::Merge { .. } => Ok(Running::Merge(MergeOp::of(alloc, op, widths)?)),
+            Op::Sort { .. } => Ok(Running::Sort(SortOp::of(alloc, op, widths)?)),
+            Op::Head { .. } => Ok(Running::Head(HeadOp::of(alloc, op, widths)?)),
+            Op::Tail { .. } => Ok(Running::Tail(TailOp::of(alloc, op, widths)?)),
+            Op::AsOf { .. } => Ok(Running::AsOf(AsOfOp::of(alloc, op, widths)?)),
         }
     }
 
-    /// The operator after a step, and its change.
-    pub(crate) fn step<L: Ledger>(
+    fn advance<L: Ledger>(
         self,
         alloc: Global,
         inputs: &[Shared],
         reads: &mut Steps<L>,
-    ) -> Result<(Running, Change), StepFault>
-        requires { IsReady self (tables inputs.now) }
-        ensures step { IfOk result (λ out. IsStep (tables inputs.now) self out.0 out.1) }
-        ensures cause { IfErr result (λ fault. IsRefusal (tables inputs.now) self fault) }
-        ensures reads { IfOk result (λ out. reads.new ≤ reads.old + room_for (tables inputs.now) self out.1) }
-        ensures refused { OnErr result (ReadsFew (tables inputs.now) self reads.old reads.new) }
-    {
+    ) -> Result<(Running, Change), StepFault> {
         match self {
-            Running::Where(filter) => steps::filter(alloc, filter, inputs, reads),
-            Running::View(view) => steps::view(alloc, view, inputs, reads),
-            Running::Join(join) => steps::join(alloc, join, inputs, reads),
-            Running::Agg(agg) => steps::aggregation(alloc, agg, inputs, reads),
-            Running::Merge(merge) => steps::merge(alloc, merge, inputs, reads),
-            Running::Sort(sort) => steps::sort(alloc, sort, inputs, reads),
-            Running::Head(head) => steps::head(alloc, head, inputs, reads),
-            Running::Tail(tail) => steps::tail(alloc, tail, inputs, reads),
-            Running::AsOf(join) => steps::as_of_join(alloc, join, inputs, reads),
+            Running::Where(filter) => {
+                let (filter, change) = filter.advance(alloc, inputs, reads)?;
+                Ok((Running::Where(filter), change))
+            }
+            Running::View(view) => {
+                let (view, change) = view.advance(alloc, inputs, reads)?;
+                Ok((Running::View(view), change))
+            }
+            Running::Join(join) => {
+                let (join, change) = join.advance(alloc, inputs, reads)?;
+                Ok((Running::Join(join), change))
+            }
+            Running::Agg(agg) => {
+                let (agg, change) = agg.advance(alloc, inputs, reads)?;
+                Ok((Running::Agg(agg), change))
+            }
+            Running::Merge(merge) => {
+                let (merge, change) = merge.advance(alloc, inputs, reads)?;
+                Ok((Running::Merge(merge), change))
+            }
+            Running::Sort(sort) => {
+                let (sort, change) = sort.advance(alloc, inputs, reads)?;
+                Ok((Running::Sort(sort), change))
+            }
+            Running::Head(head) => {
+                let (head, change) = head.advance(alloc, inputs, reads)?;
+                Ok((Running::Head(head), change))
+            }
+            Running::Tail(tail) => {
+                let (tail, change) = tail.advance(alloc, inputs, reads)?;
+                Ok((Running::Tail(tail), change))
+            }
+            Running::AsOf(join) => {
+                let (join, change) = join.advance(alloc, inputs, reads)?;
+                Ok((Running::AsOf(join), change))
+            }
         }
     }
 }

@@ -1,2 +1,4 @@
+pub mod Copies
 pub mod Filter
+pub mod Made
 pub mod Viewer

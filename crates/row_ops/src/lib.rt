@@ -5,7 +5,9 @@
 //! and the modified rows. It reads the added and the modified rows of the input alone.
 #![tactic(auto)]
 
+mod copies;
 mod crossing;
+mod in_plan;
 mod testing;
 mod view_op;
 mod where_op;

@@ -7,3 +7,4 @@ pub mod Reading
 pub mod Sorted
 pub mod Sorter
 pub mod Steps
+pub mod Made

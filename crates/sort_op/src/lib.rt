@@ -11,6 +11,7 @@
 mod arrivals;
 mod batch;
 mod entry;
+mod in_plan;
 mod modified;
 mod operator;
 mod order;

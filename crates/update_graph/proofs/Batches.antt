@@ -5,7 +5,7 @@ use Rattle.std.proofs.Math.ListN.{get_or-map as get_or_map}
 use Rattle.std.proofs.lemmas.Bool.{cases_lt}
 use Rattle.std.proofs.lemmas.List.{get_or-map, length-map, map-id}
 use Rattle.key_lists.proofs.Every.{map_map}
-use Rattle.merge_op.specs.Merged.{news, tables}
+use Rattle.table_operator.specs.Inputs.{news, tables}
 use Rattle.tick_laws.specs.Bounded.{AreSourceTables}
 use Rattle.tick_laws.specs.Reached.{IsReached}
 use Rattle.tick_laws.proofs.LawfulSources.{sources_bounded}

@@ -7,7 +7,7 @@ use Rattle.std.specs.declared.sync.Arc.{Arc}
 use Rattle.std.proofs.lemmas.List.{get_or-map, length-map, map-append, map_more, take_all}
 use Rattle.key_lists.proofs.Every.{all_from}
 use Rattle.std.proofs.lemmas.Slice.Zip.{get_or-zip, length-zip}
-use Rattle.merge_op.specs.Merged.{news, tables}
+use Rattle.table_operator.specs.Inputs.{news, tables}
 use Rattle.tick_model.specs.declared.table.PlainTable.{PlainTable}
 use Rattle.tick_model.specs.Changes.{Change, change_of, told_keys}
 use Rattle.tick_model.specs.Tables.{no_table, keys}

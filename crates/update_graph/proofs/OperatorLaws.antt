@@ -1,11 +1,11 @@
 -- What lawful plans say of their operators.
 use Rattle.std.proofs.Common.{◌≡◌, ap, sym, ◌∙◌, ℕ, ◌<◌, map, length, false}
 use Rattle.std.specs.Prelude.{slice_index}
-use Rattle.operators.specs.Inputs.{HasKeys}
-use Rattle.operators.specs.Making.{CanBeMade}
+use Rattle.table_operator.specs.Made.{HasKeys}
+use Rattle.operators.specs.Operating.{CanBeMade}
 use Rattle.operators.specs.Planned.{input_widths}
-use Rattle.operators.proofs.Beginning.{empty_inputs, empty_node, empty_result}
-use Rattle.operators.proofs.Planning.{planned_node}
+use Rattle.operators.proofs.Each.{empty_result}
+use Rattle.operators.proofs.Planning.{empty_inputs, empty_node, planned_node}
 use Rattle.operators.proofs.Roomy.{roomy_node}
 use Rattle.tick_laws.specs.Bounded.{IsNodeTable}
 use Rattle.tick_laws.specs.Operated.{EachInput}

@@ -6,9 +6,9 @@ use Rattle.std.specs.declared.sync.Arc.{Arc}
 use Rattle.std.proofs.lemmas.Bool.{not-true}
 use Rattle.std.proofs.lemmas.List.Folds.{list_all-map}
 use Rattle.key_lists.proofs.Every.{every-map, every_unmapped, every_weaker, map_map, map_same, pass_all}
-use Rattle.merge_op.specs.Merged.{counted_in, news, olds, tables}
-use Rattle.operators.specs.Inputs.{AreTables, AreTicks, HasKeys}
-use Rattle.operators.specs.Operating.{result_width}
+use Rattle.table_operator.specs.Inputs.{counted_in, news, olds, tables}
+use Rattle.table_operator.specs.Made.{HasKeys, result_width}
+use Rattle.operators.specs.Inputs.{AreTables, AreTicks}
 use Rattle.operators.specs.Planned.{input_widths}
 use Rattle.tick_model.specs.declared.feed.Run.{Run}
 use Rattle.tick_model.specs.declared.plan.Op.{Op}

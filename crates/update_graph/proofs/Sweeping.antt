@@ -9,7 +9,7 @@ use Rattle.std.proofs.Math.Seq.{drop-cons}
 use Rattle.std.proofs.lemmas.Bool.{cases_lt}
 use Rattle.std.proofs.lemmas.List.{drop_all, get_or-map, get_or_past, length-map, map_push}
 use Rattle.std.proofs.lemmas.List.FromFn.{get_or-map-range_with_len, length-map-range_with_len, map-range_with_len_more}
-use Rattle.merge_op.specs.Merged.{tables}
+use Rattle.table_operator.specs.Inputs.{tables}
 use Rattle.tick_laws.specs.Bounded.{AreSourceTables}
 use Rattle.tick_laws.specs.Reached.{IsReached}
 use Rattle.tick_laws.proofs.EvalNodes.{length_outcomes}

@@ -19,7 +19,7 @@ use Rattle.std.specs.List.{sum_by}
 use Rattle.std.specs.declared.alloc.Global.{Global}
 use Rattle.std.specs.declared.sync.Arc.{Arc}
 use Rattle.graph_words.specs.declared.graph.Edge.{Edge}
-use Rattle.merge_op.specs.Merged.{tables}
+use Rattle.table_operator.specs.Inputs.{tables}
 use Rattle.tick_laws.specs.Reached.{IsReached}
 use Rattle.tick_model.specs.declared.feed.Run.{Run}
 use Rattle.tick_model.specs.declared.plan.Node.{Node}

@@ -22,8 +22,9 @@ use Rattle.std.specs.declared.alloc.Global.{Global}
 use Rattle.std.specs.declared.sync.Arc.{Arc}
 use mathlib.Core.Option.{some}
 use lib.ListN.{get_elem?}
-use Rattle.merge_op.specs.Merged.{counted_in, tables}
-use Rattle.operators.specs.Operating.{Operating, StandsFor, result_width}
+use Rattle.table_operator.specs.Inputs.{counted_in, tables}
+use Rattle.table_operator.specs.Made.{result_width}
+use Rattle.operators.specs.Operating.{Operating, StandsFor}
 use Rattle.operators.specs.Planned.{input_widths}
 use Rattle.tick_laws.specs.Operated.{operated}
 use Rattle.tick_model.specs.declared.feed.Run.{Run}

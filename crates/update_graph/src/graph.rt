@@ -2,7 +2,7 @@
 
 ghost use Rattle.std.specs.Prelude.{◌≡◌, ◌+◌, ◌-◌, ◌<◌, ◌≤◌, None, Some, [], ℕ, IfErr, IfOk, OnOk, length, map, option_map, true};
 ghost use Rattle.std.specs.Arc.{arc_value};
-ghost use Rattle.merge_op.specs.Merged.{tables};
+ghost use Rattle.table_operator.specs.Inputs.{tables};
 ghost use Rattle.tick_laws.specs.Reached.{IsReached};
 ghost use Rattle.tick_model.specs.Changes.{change_of};
 ghost use Rattle.tick_model.specs.LawfulRuns.{IsLawfulRun};

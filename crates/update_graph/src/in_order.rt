@@ -1,7 +1,7 @@
 //! A step of all nodes by one thread, in order of their numbers. So each is worked after its inputs, and no claim is made.
 
 ghost use Rattle.std.specs.Prelude.{◌≡◌, ◌+◌, ◌-◌, ◌<◌, ◌≤◌, IfOk, OnOk, length, map};
-ghost use Rattle.merge_op.specs.Merged.{tables};
+ghost use Rattle.table_operator.specs.Inputs.{tables};
 ghost use Rattle.update_graph.specs.Entered.{IsEntered};
 ghost use Rattle.update_graph.specs.Graphs.{sources_shown};
 ghost use Rattle.update_graph.specs.Stands.{Follows, ForEach};

@@ -2,7 +2,7 @@
 
 ghost use Rattle.std.specs.Prelude.{◌≡◌, ◌*◌, ◌^◌, ◌≤◌, IfOk, None, OnOk, length, map};
 ghost use Rattle.std.specs.Arc.{arc_value};
-ghost use Rattle.merge_op.specs.Merged.{news, tables};
+ghost use Rattle.table_operator.specs.Inputs.{news, tables};
 ghost use Rattle.source_changes.specs.Openings.{IsOpenedTable};
 ghost use Rattle.tick_model.specs.Changes.{change_of, told_keys};
 ghost use Rattle.tick_model.specs.LawfulRuns.{IsLawfulRun};

@@ -2,7 +2,7 @@
 
 ghost use Rattle.std.specs.Prelude.{◌≡◌, ◌+◌, ◌<◌, ◌≤◌, ◌++◌, ◌∷◌, IfOk, OnOk, [], false, length, map, true};
 ghost use Rattle.std.specs.List.{AllByRecursion};
-ghost use Rattle.merge_op.specs.Merged.{tables};
+ghost use Rattle.table_operator.specs.Inputs.{tables};
 ghost use Rattle.tick_model.specs.Evaluation.{source_number};
 ghost use Rattle.tick_model.specs.Operators.{inputs_of as inputs_in};
 ghost use Rattle.tick_model.specs.LawfulRuns.{IsLawfulRun};

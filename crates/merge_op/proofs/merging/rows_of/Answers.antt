@@ -3,7 +3,8 @@ use Rattle.std.proofs.lemmas.List.{length-map}
 use Rattle.std.proofs.lemmas.List.Sums.{sum_by-cons}
 use Rattle.tick_model.specs.declared.table.PlainRow.{PlainRow}
 use Rattle.tick_table.specs.Ticking.{Ticking}
-use Rattle.merge_op.specs.Merged.{rows_in, tables}
+use Rattle.table_operator.specs.Inputs.{tables}
+use Rattle.merge_op.specs.Merged.{rows_in}
 use Rattle.merge_op.proofs.Sharing.{no_tables, table_at, tables_from}
 use Rattle.merge_op.proofs.merging.rows_of.Goals as goal
 

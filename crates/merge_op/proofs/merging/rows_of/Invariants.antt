@@ -1,5 +1,6 @@
 use Rattle.std.proofs.Common.{◌≡◌, ◌+◌, ◌*◌, ◌≤◌, drop}
-use Rattle.merge_op.specs.Merged.{rows_in, tables}
+use Rattle.table_operator.specs.Inputs.{tables}
+use Rattle.merge_op.specs.Merged.{rows_in}
 use Rattle.merge_op.proofs.merging.rows_of.Given as goal
 
 abbrev pub invariant-loop-input : goal.invariant-loop-input

@@ -7,7 +7,8 @@ use Rattle.tick_model.specs.Updates.{between}
 use Rattle.tick_table.specs.Exact.{IsExact}
 use Rattle.tick_table.specs.Ticking.{Ticking}
 use Rattle.merge_op.specs.declared.starts.Start.{Start}
-use Rattle.merge_op.specs.Merged.{merged, tables}
+use Rattle.table_operator.specs.Inputs.{tables}
+use Rattle.merge_op.specs.Merged.{merged}
 use Rattle.merge_op.specs.Regions.{IsStart, in_regions, room_before, room_now, start_at, starts_of}
 use Rattle.merge_op.proofs.Gathering.{gathered, lawful}
 use Rattle.merge_op.proofs.Going.{IsGathered, added_of, all_agree, all_now_below, gathered_next, gathered_none, gathered_whole, length-regions, small_plus}

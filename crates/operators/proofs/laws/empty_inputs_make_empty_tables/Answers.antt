@@ -1,4 +1,4 @@
-use Rattle.operators.proofs.Beginning.{empty_result}
+use Rattle.operators.proofs.Each.{empty_result}
 use Rattle.operators.proofs.laws.empty_inputs_make_empty_tables.Goals as goal
 
 pub returns : goal.returns

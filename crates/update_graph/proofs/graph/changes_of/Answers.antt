@@ -1,6 +1,6 @@
 use Rattle.std.proofs.Common.{ap, sym, ◌∙◌, subst, ◌<◌, length, get_or}
 use Rattle.std.specs.List.{AllByRecursion}
-use Rattle.merge_op.specs.Merged.{tables}
+use Rattle.table_operator.specs.Inputs.{tables}
 use Rattle.source_changes.specs.Faults.{IsFault}
 use Rattle.tick_laws.specs.Bounded.{AreSourceTables}
 use Rattle.tick_laws.proofs.LawfulSources.{sources_bounded}

@@ -3,8 +3,7 @@ use Rattle.std.specs.List.{AllByRecursion}
 use Rattle.std.proofs.lemmas.List.{length-map}
 use Rattle.std.proofs.lemmas.Bool.{not-true}
 use Rattle.key_lists.proofs.Every.{every_weaker}
-use Rattle.operators.specs.Making.{CanBeMade}
-use Rattle.operators.specs.Operating.{Operating, StandsFor}
+use Rattle.operators.specs.Operating.{CanBeMade, Operating, StandsFor}
 use Rattle.operators.specs.Planned.{input_widths}
 use Rattle.tick_model.specs.declared.plan.Op.{Op}
 use Rattle.tick_model.specs.Evaluation.{is_source}

@@ -1,5 +1,5 @@
 use Rattle.std.proofs.Common.{◌≡◌, length, map, take}
-use Rattle.merge_op.specs.Merged.{tables}
+use Rattle.table_operator.specs.Inputs.{tables}
 use Rattle.tick_model.specs.Sources.{source_ticks}
 use Rattle.tick_table.specs.Exact.{ticking}
 use Rattle.update_graph.proofs.sources.changed_sources.Given as goal

@@ -1,6 +1,6 @@
 use Rattle.std.proofs.Common.{◌≡◌, map, take}
 use Rattle.std.specs.Borrow.{Bor}
-use Rattle.merge_op.specs.Merged.{tables}
+use Rattle.table_operator.specs.Inputs.{tables}
 use Rattle.tick_table.specs.Ticking.{Ticking}
 use Rattle.update_graph.proofs.sources.referred.Given as goal
 

@@ -1,6 +1,6 @@
 use Rattle.std.proofs.Common.{refl, ap, sym, ◌∙◌, subst, ◌+◌, ◌-◌, ◌≤◌, arith, true≢false, None, Vec, Global}
 use Rattle.std.proofs.lemmas.Bool.{not-true}
-use Rattle.operators.specs.Inputs.{IsCause}
+use Rattle.table_operator.specs.Made.{IsCause}
 use Rattle.operators.specs.Operating.{StandsFor}
 use Rattle.std.specs.Prelude.{option_map}
 use Rattle.std.specs.declared.sync.Arc.{Arc}

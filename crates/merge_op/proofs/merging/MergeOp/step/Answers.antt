@@ -13,7 +13,8 @@ use Rattle.tick_model.specs.Updates.{Update, between}
 use Rattle.tick_table.proofs.Between.{between_lawful, keys_after_between}
 use Rattle.tick_table.specs.Exact.{counted}
 use Rattle.tick_table.specs.Ticking.{Ticking}
-use Rattle.merge_op.specs.Merged.{Merger, counted_in, merged, tables}
+use Rattle.table_operator.specs.Inputs.{counted_in, tables}
+use Rattle.merge_op.specs.Merged.{Merger, merged}
 use Rattle.merge_op.proofs.Reading.{added_there, before_there, merged_width, now_there, reads_few}
 use Rattle.merge_op.proofs.Starting.{starts_are}
 use Rattle.merge_op.proofs.Ticked.{merged_is_tick}

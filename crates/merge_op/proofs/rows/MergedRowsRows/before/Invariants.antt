@@ -1,5 +1,5 @@
 use Rattle.std.proofs.Common.{◌≡◌, drop}
-use Rattle.merge_op.specs.Merged.{tables}
+use Rattle.table_operator.specs.Inputs.{tables}
 use Rattle.merge_op.proofs.Found.{IsAheadBefore}
 use Rattle.merge_op.proofs.rows.MergedRowsRows.before.Given as goal
 

@@ -4,7 +4,7 @@ use Rattle.key_lists.specs.Keys.{is_among}
 use Rattle.tick_model.specs.Tables.{cells_at, keys}
 use Rattle.tick_table.specs.Exact.{IsExact}
 use Rattle.tick_table.specs.Ticking.{Ticking}
-use Rattle.merge_op.specs.Merged.{tables}
+use Rattle.table_operator.specs.Inputs.{tables}
 use Rattle.merge_op.specs.Regions.{room_now}
 use Rattle.merge_op.proofs.Found.{IsAheadNow, ahead_now, first_now, none_now, others_now}
 use Rattle.merge_op.proofs.Roomy.{room_is, room_small}

@@ -1,5 +1,5 @@
 use Rattle.std.proofs.Common.{◌≡◌, ap, sym, subst, ◌∙◌, ◌+◌, ◌-◌, ◌<◌, arith, length}
-use Rattle.merge_op.specs.Merged.{news, tables}
+use Rattle.table_operator.specs.Inputs.{news, tables}
 use Rattle.tick_laws.specs.Reached.{IsReached}
 use Rattle.tick_model.specs.LawfulRuns.{IsLawfulRun}
 use Rattle.update_graph.specs.Graphs.{GraphView, IsBase}

@@ -1,7 +1,7 @@
 use Rattle.std.proofs.Common.{◌≡◌, true, map, take}
 use Rattle.std.specs.List.{AllByRecursion, flat_map}
 use Rattle.std.specs.Option.{option_to_list}
-use Rattle.merge_op.specs.Merged.{tables}
+use Rattle.table_operator.specs.Inputs.{tables}
 use Rattle.update_graph.specs.Stands.{is_defined, shown}
 use Rattle.update_graph.specs.Tags.{Tag}
 use Rattle.update_graph.proofs.shares.Shares.tables.Given as goal

@@ -1,0 +1,31 @@
+use Rattle.std.proofs.Common.{◌≡◌, ◌+◌, ◌*◌, ◌≤◌, subst, sym, List, [], ◌∷◌, length}
+use Rattle.tick_model.specs.Changes.{Change, change_of}
+use Rattle.tick_table.specs.Exact.{counted}
+use Rattle.tick_table.specs.Ticking.{Ticking}
+use Rattle.table_operator.specs.Inputs.{news, olds, tables}
+use Rattle.table_operator.specs.Made.{own_tick}
+use Rattle.table_operator.proofs.Rooms.{count_is, one_room}
+use Rattle.agg_by.specs.Made.{StandsForFirst, agg_made}
+use Rattle.agg_by.proofs.in_plan.AggOpTableOperator.advance.Goals as goal
+
+pub one_input-requires : goal.one_input-requires
+one_input-requires g c = count_is (tables c.args.inputs.now) (c.args.self.width ∷ []) c.requires.widths
+
+pub step-requires-clause-stands : goal.step-requires-clause-stands
+step-requires-clause-stands g c = subst (λ (inputs : List Ticking). StandsForFirst c.args.self (olds inputs)) c.one_input.ensures c.requires.stands
+
+pub returns-clause-stands : goal.returns-clause-stands
+returns-clause-stands g c = subst (λ (inputs : List Ticking). StandsForFirst c.in_ok-step.field-0.0 (news inputs)) (sym c.one_input.ensures) c.in_ok-step.ensures.stands
+
+pub returns-clause-change : goal.returns-clause-change
+returns-clause-change g c = subst (λ (inputs : List Ticking). c.in_ok-step.field-0.1 ≡ change_of (own_tick (agg_made c.args.self) inputs)) (sym c.one_input.ensures) c.in_ok-step.ensures.change
+
+pub returns-clause-reads : goal.returns-clause-reads
+returns-clause-reads g c =
+    let input = c.one_input.result.now in
+    subst (λ room. c.step.new.reads ≤ c.args.reads.now + room) (sym (one_room (agg_made c.args.self) (tables c.args.inputs.now) input c.one_input.ensures c.requires.widths))
+    (subst (λ (change : Change). c.step.new.reads ≤ c.args.reads.now + 4 * (input.new.width + (length c.args.self.by + length c.args.self.aggs)) * (counted input.update + counted change.update)) c.in_ok-step.ensures.change c.in_ok-step.ensures.reads)
+
+pub returns-in_err-step-clause-reads : goal.returns-in_err-step-clause-reads
+returns-in_err-step-clause-reads g c =
+    subst (λ room. c.step.new.reads ≤ c.args.reads.now + room) (sym (one_room (agg_made c.args.self) (tables c.args.inputs.now) c.one_input.result.now c.one_input.ensures c.requires.widths)) c.in_err-step.ensures.refused

@@ -1,0 +1,20 @@
+-- An aggregation as an operator of a plan.
+--     agg_made agg      what it is made of
+--     StandsForFirst agg tables      it stands for the rows of its input
+--     CanAggregate op widths      it can be made of this operator of a plan, for inputs of these widths
+use Rattle.std.specs.Prelude.{ℕ, List, [], ◌∷◌, slice_index}
+use Rattle.tick_model.specs.declared.plan.Op.{Op}
+use Rattle.tick_model.specs.declared.plan.Op.TheVariants.{Agg}
+use Rattle.tick_model.specs.declared.table.PlainTable.{PlainTable}
+use Rattle.tick_model.specs.Ready.{table_in}
+use Rattle.table_operator.specs.Made.{Made}
+use Rattle.agg_by.specs.Aggregator.{Aggregator, IsAggregator, StandsFor}
+
+abbrev pub agg_made : Aggregator → Made
+agg_made agg = record { op = Agg 0 agg.by agg.aggs; widths = agg.width ∷ [] }
+
+abbrev pub StandsForFirst : Aggregator → List PlainTable → Type 0
+StandsForFirst agg tables = StandsFor agg (table_in tables 0)
+
+abbrev pub CanAggregate : Op → List ℕ → Type 0
+CanAggregate op widths = elim op [ Agg input by aggs ↦ IsAggregator by aggs (slice_index widths 0) | _ ↦ ⊥ ]
