@@ -10,11 +10,9 @@ use Rattle.tick_model.specs.declared.plan.Agg.TheVariants.{Count, Sum, Min, Max,
 use Rattle.tick_model.specs.declared.plan.ColumnSpec.{ColumnSpec}
 use Rattle.tick_model.specs.declared.plan.Expr.{Cell}
 use Rattle.tick_model.specs.declared.plan.Kind.TheVariants.{Long}
-use Rattle.tick_model.specs.declared.plan.Node.{Node}
 use Rattle.tick_model.specs.declared.plan.Op.{Op}
 use Rattle.tick_model.specs.declared.plan.Op.TheVariants.{Source, Keep, View, Join, Agg as AggOp, Merge, Sort, Head, Tail, AsOf}
-use Rattle.tick_model.specs.Evaluation.{is_source}
-use Rattle.tick_model.specs.Operators.{inputs_of, result, columns_fit, is_source_op}
+use Rattle.tick_model.specs.Operators.{inputs_of, result, columns_fit}
 use Rattle.tick_model.specs.Formulas.{IsTestWithin, IsWithin}
 use Rattle.tick_model.specs.Columns.{agg_kind, follow, has_kind, have_kinds, keep_names, is_bound, is_test_bound, kind_at, kind_of, kinds_of, same_columns, same_kind_at, some_of, test_fits}
 use Rattle.tick_model.proofs.Results.{IsOperator}
@@ -81,7 +79,7 @@ module _ (input : ℕ → List ColumnSpec) (columns : List ColumnSpec) (narrow :
       (omega (arith, count, wide, narrow), columns_there (input right) taken (follow_some columns (input left) kinds follows), omega (arith, count, wide))
 
   pub planned : (op : Op) → IsOperator op → columns_fit op input columns ≡ true → IsPlanned op (map width (inputs_of op)) columns
-  planned Source o fit = absurd o
+  planned Source o fit = absurd (true≢false o)
   planned (Keep from test) o fit =
       let parts = and_parts (same_columns columns (input from) && test_fits test (kinds_of (input from))) (is_test_bound test) fit in
       let fits = and_parts (same_columns columns (input from)) (test_fits test (kinds_of (input from))) parts.0 in
@@ -150,22 +148,6 @@ module _ (input : ℕ → List ColumnSpec) (columns : List ColumnSpec) (narrow :
       let follows = (and_parts before (follow columns (input left) (map (kind_at (input right)) taken)) fit).1 in
       let there = taken_there (AsOf left right on at taken) left right taken follows in
       record { made = (there.0, there.1); width = there.2 }
-
--- a node of a lawful plan
-pub operator_at : (node : Node) → is_source node ≡ false → IsOperator node.op
-operator_at node = go node.op
-  where
-    go : (op : Op) → is_source_op op ≡ false → IsOperator op
-    go Source e = absurd (true≢false e)
-    go (Keep from test) e = tt
-    go (View from exprs) e = tt
-    go (Join left right on taken choice) e = tt
-    go (AggOp from by aggs) e = tt
-    go (Merge inputs) e = tt
-    go (Sort from by) e = tt
-    go (Head from rows) e = tt
-    go (Tail from rows) e = tt
-    go (AsOf left right on at taken) e = tt
 
 -- the first of tables without rows
 first_empty : (table : PlainTable) (rest : List PlainTable) (widths : List ℕ) → table ∷ rest ≡ map no_rows widths → table ≡ no_rows (slice_index widths 0)

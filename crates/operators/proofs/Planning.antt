@@ -12,7 +12,7 @@ use Rattle.operators.specs.Planned.{input_widths, op_at}
 use Rattle.tick_laws.proofs.LawfulPlans.{columns_at-node}
 use Rattle.tick_model.specs.States.{empty_at}
 use Rattle.tick_table.specs.Ticking.{no_rows}
-use Rattle.operators.proofs.Each.{IsPlanned, operator_at, planned}
+use Rattle.operators.proofs.Each.{IsPlanned, planned}
 
 pub lawful_at : (plan : Plan) (n : ℕ) (d : Node) → is_lawful plan ≡ true → n < length plan.nodes → IsLawfulNode plan.nodes n (get_or plan.nodes n d)
 lawful_at plan n d lawful less = lawful_node plan n (get_or plan.nodes n d) lawful less (get_or_default plan.nodes n d (get_or plan.nodes n d) less)
@@ -22,7 +22,7 @@ pub planned_node : (plan : Plan) (n : ℕ) (d : Node) → is_lawful plan ≡ tru
 planned_node plan n d lawful less is =
     let node = get_or plan.nodes n d in
     let own = lawful_at plan n d lawful less in
-    subst (IsPlanned node.op (input_widths plan node.op)) (sym (columns_at-node plan.nodes d n less)) (planned (columns_at plan.nodes) node.columns own.narrow node.op (operator_at node is) own.fits)
+    subst (IsPlanned node.op (input_widths plan node.op)) (sym (columns_at-node plan.nodes d n less)) (planned (columns_at plan.nodes) node.columns own.narrow node.op is own.fits)
 
 -- the empty table of a node
 empty_of : (plan : Plan) (nodes : List Node) (n : ℕ) → n < length nodes → empty_at (record plan { nodes = nodes }) n ≡ no_rows (length (columns_at nodes n))

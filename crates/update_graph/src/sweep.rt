@@ -47,7 +47,8 @@ pub(crate) fn shares_for(
     let _ = step;
     let mut handed = Shares::new(alloc);
     let inputs = op.inputs();
-    for input in inputs.as_slice() {
+    let inputs = inputs.as_slice();
+    for input in inputs {
         let share = shares[*input as usize].copy(run)?;
         handed.push(share)?;
     }

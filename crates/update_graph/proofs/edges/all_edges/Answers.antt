@@ -13,7 +13,7 @@ add_edges-requires c =
     let k = c.loop-node.node in
     let less = subst (λ l. k < length l) c.as_slice-own-items.ensures c.loop-node-test.true in
     let own = c.own-item.is ∙ ap (λ l. get_or l k c.own-item.result) c.as_slice-own-items.ensures ∙ get_or_default run.plan.nodes k c.own-item.result no_node less in
-    let handed = ap length (c.as_slice.ensures.value ∙ c.in_ok-inputs.ensures) ∙ ap (λ (x : Node). length (inputs_of x.op)) own in
+    let handed = ap length (c.as_slice.ensures ∙ c.inputs-inputs.ensures) ∙ ap (λ (x : Node). length (inputs_of x.op)) own in
     let few = node_few run c.requires k less in
     omega arith
 
@@ -24,5 +24,5 @@ loop-node-preserved c =
     let less = subst (λ l. k < length l) c.as_slice-own-items.ensures c.loop-node-test.true in
     let own = c.own-item.is ∙ ap (λ l. get_or l k c.own-item.result) c.as_slice-own-items.ensures in
     c.in_ok-add_edges.ensures
-    ∙ ap₂ (λ a b. a ++ input_edges k 0 b) c.loop-node.invariant (c.as_slice.ensures.value ∙ c.in_ok-inputs.ensures ∙ ap (λ (x : Node). inputs_of x.op) own)
+    ∙ ap₂ (λ a b. a ++ input_edges k 0 b) c.loop-node.invariant (c.as_slice.ensures ∙ c.inputs-inputs.ensures ∙ ap (λ (x : Node). inputs_of x.op) own)
     ∙ sym (more_from k c.own-item.result nodes less)
