@@ -21,13 +21,14 @@ use Rattle.script_lines.specs.declared.fault.ScriptKind.{ScriptKind}
 use Rattle.script_lines.specs.declared.line.Computed.{Computed}
 use Rattle.script_lines.specs.declared.line.Declared.{Declared}
 use Rattle.script_lines.specs.declared.line.Gathered.{Gathered}
-use Rattle.script_lines.specs.declared.line.Making.{Making}
-use Rattle.script_lines.specs.declared.line.Making.TheVariants.{Keep, View, Join, AsOf, Agg, Merge, Sort, Head, Tail}
+use Rattle.script_lines.specs.declared.making.Making.{Making}
+use Rattle.script_lines.specs.declared.making.Making.TheVariants.{Keep, View, Join, AsOf, Agg, Merge, Sort, Head, Tail}
 use Rattle.script_lines.specs.declared.line.Pair.{Pair}
 use Rattle.script_lines.specs.declared.line.Sorted.{Sorted}
 use Rattle.script_lines.specs.declared.line.Test.{Test}
 use Rattle.script_lines.specs.Answers.{◌>>=◌}
-use Rattle.script_lines.specs.Kept.{IsNamed, DeclaredKeeps, ComputedKeeps, PairKeeps, GatheredKeeps, MembersKeep, MakingKeeps}
+use Rattle.script_lines.specs.Kept.{IsNamed, DeclaredKeeps, ComputedKeeps, PairKeeps, GatheredKeeps, MembersKeep}
+use Rattle.script_lines.specs.Making.{MakingKeeps}
 use Rattle.script_reader.specs.Binding.{bound_expr, bound_test, bound_op}
 use Rattle.script_reader.specs.Checks.{Before, Draft, node_named, column_named, table_at, each, expr_of, pair_of, taken_of, gathered_of, sort_of, pred_of, exprs_of, kept, viewed, joined, joined_as_of, grouped, merged, sorted, headed, tailed, drafted, source_column, source_draft, named_columns, all_there, expr_kinds, viewed_columns, joined_columns, pairs_fit, gathered_columns, column_at, rows_of}
 use Rattle.script_laws.proofs.Reading.{then, whatever, each_read, each_long, node_found, column_found}

@@ -16,7 +16,8 @@ use Rattle.tick_model.specs.Plans.{with_bound, key_bounds, columns_at, node_lawf
 use Rattle.script_lines.specs.declared.fault.ScriptKind.TheVariants.{TakenName, NumberRange, TooWide}
 use Rattle.script_lines.specs.declared.line.Line.{Line}
 use Rattle.script_lines.specs.declared.line.Line.TheVariants as lines
-use Rattle.script_lines.specs.Kept.{IsNamed, KeepsRules}
+use Rattle.script_lines.specs.Grammar.{KeepsRules}
+use Rattle.script_lines.specs.Kept.{IsNamed}
 use Rattle.script_reader.specs.declared.script.Script.{Script}
 use Rattle.script_reader.specs.declared.script.SourceFile.{SourceFile}
 use Rattle.script_reader.specs.Binding.{bound, ranks_of, bound_op, bound_node}

@@ -11,9 +11,9 @@ use Rattle.script_lines.specs.declared.fault.ScriptKind.{ScriptKind}
 use Rattle.script_lines.specs.declared.fault.ScriptKind.TheVariants.{TooLong, UnknownName, UnknownColumn}
 use Rattle.script_lines.specs.declared.line.Line.{Line}
 use Rattle.script_lines.specs.Answers.{◌>>=◌}
-use Rattle.script_lines.specs.Kept.{KeepsRules}
+use Rattle.script_lines.specs.Grammar.{KeepsRules}
 use Rattle.script_lines.specs.Lines.{line_of, lines_of}
-use Rattle.script_lines.proofs.KeptLemmas.{line_keeps_rules}
+use Rattle.script_lines.proofs.LinesKept.{line_keeps_rules}
 use Rattle.tick_model.specs.declared.plan.ColumnSpec.{ColumnSpec}
 use Rattle.script_reader.specs.declared.script.Script.{Script}
 use Rattle.script_reader.specs.Checks.{said, each, or_refused, node_named, column_named}

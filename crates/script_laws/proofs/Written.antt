@@ -13,10 +13,11 @@ use Rattle.script_lines.specs.declared.fault.ScriptKind.{ScriptKind}
 use Rattle.script_lines.specs.declared.fault.ScriptKind.TheVariants.{TakenName, NumberRange, TooWide}
 use Rattle.script_lines.specs.declared.line.Line.{Line}
 use Rattle.script_lines.specs.declared.line.Line.TheVariants as lines
-use Rattle.script_lines.specs.declared.line.Making.{Making}
-use Rattle.script_lines.specs.declared.line.Making.TheVariants.{Keep, View, Join, AsOf, Agg, Merge, Sort, Head, Tail}
+use Rattle.script_lines.specs.declared.making.Making.{Making}
+use Rattle.script_lines.specs.declared.making.Making.TheVariants.{Keep, View, Join, AsOf, Agg, Merge, Sort, Head, Tail}
 use Rattle.script_lines.specs.Answers.{◌>>=◌}
-use Rattle.script_lines.specs.Kept.{KeepsRules, MakingKeeps}
+use Rattle.script_lines.specs.Grammar.{KeepsRules}
+use Rattle.script_lines.specs.Making.{MakingKeeps}
 use Rattle.script_reader.specs.declared.script.Script.{Script}
 use Rattle.script_reader.specs.declared.script.SourceFile.{SourceFile}
 use Rattle.script_reader.specs.Checks.{Before, Draft, before_of, node_named, names_of, table_at, each, pair_of, taken_of, column_named, gathered_of, sort_of, pred_of, exprs_of, kept, viewed, joined, joined_as_of, grouped, merged, sorted, headed, tailed, drafted, source_draft, broken, placed, printed, published, is_among, is_no_limit, rows_of, publication_of, with_node, with_printed, with_published, said}

@@ -1,6 +1,8 @@
-pub mod KeptLemmas
 pub mod LexemeLemmas
 pub mod LineLemmas
+pub mod LinesKept
 pub mod ListLemmas
+pub mod MakingsKept
+pub mod PartsKept
 pub mod TestLemmas
 pub mod TokenLemmas

@@ -8,7 +8,7 @@ use Rattle.script_lines.specs.declared.lists.Separator.{Separator}
 use Rattle.script_lines.specs.declared.token.Token.{Token}
 use Rattle.script_lines.specs.Answers.{◌>>=◌, Misses}
 use Rattle.script_lines.specs.Formulas.{Reading}
-use Rattle.script_lines.specs.Grammar.{next_at, more_at}
+use Rattle.script_lines.specs.Members.{next_at, more_at}
 
 pub misses_bind : {X Y : Type 0} (miss : Misread) (r : Result X ScriptKind) (f : X → Result Y ScriptKind) → Misses miss r → Misses miss (r >>= f)
 misses_bind misses.Memory r f h = tt

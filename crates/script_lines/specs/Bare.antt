@@ -8,8 +8,8 @@ use Rattle.script_lines.specs.declared.line.Computed.{Computed}
 use Rattle.script_lines.specs.declared.line.Formula.{Formula, Column, Number as Digits, Text, Null as Nothing, Neg' as Minus', Add' as Plus', Sub' as Less', Mul' as Times'}
 use Rattle.script_lines.specs.declared.line.Line.{Line}
 use Rattle.script_lines.specs.declared.line.Line.TheVariants.{Node as NodeLine}
-use Rattle.script_lines.specs.declared.line.Making.{Making}
-use Rattle.script_lines.specs.declared.line.Making.TheVariants.{Keep as KeepBy, View as ViewBy}
+use Rattle.script_lines.specs.declared.making.Making.{Making}
+use Rattle.script_lines.specs.declared.making.Making.TheVariants.{Keep as KeepBy, View as ViewBy}
 use Rattle.script_lines.specs.declared.line.Test.{Test, Compare as Compares, And' as Both', Or' as Either', Not' as Never'}
 
 -- where nothing lies

@@ -14,11 +14,6 @@ use Rattle.script_lines.specs.declared.line.Formula.{Formula, Column, Number, Te
 use Rattle.script_lines.specs.declared.line.Test.{Test, Compare}
 use Rattle.script_lines.specs.declared.token.Token.{Token}
 use Rattle.script_lines.specs.declared.token.Token.TheVariants as tokens
-use Rattle.script_lines.specs.declared.words.Keyword.{Keyword}
-use Rattle.script_lines.specs.declared.words.Keyword.TheVariants as words
-use Rattle.script_lines.specs.declared.words.Symbol.{Symbol}
-use Rattle.script_lines.specs.declared.words.Symbol.TheVariants as symbols
-use Rattle.script_lines.specs.Words.{spelling, writing}
 use Rattle.script_lines.specs.Answers.{◌>>=◌, when_some}
 use Rattle.script_lines.specs.Bare.{neg_of, add_of, sub_of, mul_of, and_of, or_of, not_of}
 
@@ -26,28 +21,28 @@ use Rattle.script_lines.specs.Bare.{neg_of, add_of, sub_of, mul_of, and_of, or_o
 abbrev pub Reading : Type 0 → Type 0
 Reading X = Result (X × List Token) ScriptKind
 
-unfoldable pub after_word : Keyword → List Token → Option (List Token)
+unfoldable pub after_word : List ℕ → List Token → Option (List Token)
 after_word word [] = None
-after_word word (tokens.Word other ∷ rest) = if bytes_eq other (spelling word) then Some rest else None
+after_word word (tokens.Word other ∷ rest) = if bytes_eq other word then Some rest else None
 after_word word (tokens.Number n ∷ rest) = None
 after_word word (tokens.Text text ∷ rest) = None
 after_word word (tokens.Mark mark ∷ rest) = None
 
-unfoldable pub after_mark : Symbol → List Token → Option (List Token)
+unfoldable pub after_mark : List ℕ → List Token → Option (List Token)
 after_mark mark [] = None
 after_mark mark (tokens.Word word ∷ rest) = None
 after_mark mark (tokens.Number n ∷ rest) = None
 after_mark mark (tokens.Text text ∷ rest) = None
-after_mark mark (tokens.Mark other ∷ rest) = if bytes_eq other (writing mark) then Some rest else None
+after_mark mark (tokens.Mark other ∷ rest) = if bytes_eq other mark then Some rest else None
 
 abbrev pub or_bad : {X : Type 0} → Option X → Result X ScriptKind
 or_bad None = Err BadLine
 or_bad (Some x) = Ok x
 
-unfoldable pub word_expected : Keyword → List Token → Result (List Token) ScriptKind
+unfoldable pub word_expected : List ℕ → List Token → Result (List Token) ScriptKind
 word_expected word ts = or_bad (after_word word ts)
 
-unfoldable pub mark_expected : Symbol → List Token → Result (List Token) ScriptKind
+unfoldable pub mark_expected : List ℕ → List Token → Result (List Token) ScriptKind
 mark_expected mark ts = or_bad (after_mark mark ts)
 
 unfoldable pub name_at : List Token → Reading (List ℕ)
@@ -65,7 +60,7 @@ text_of (byte ∷ bytes) = Text (byte ∷ bytes)
 -- a number, a text, null or a column
 unfoldable pub atom_at : List Token → Reading Formula
 atom_at [] = Err BadLine
-atom_at (tokens.Word word ∷ rest) = if bytes_eq word (spelling words.Null) then Ok (Null, rest) else (if is_name word then Ok (Column word, rest) else Err BadLine)
+atom_at (tokens.Word word ∷ rest) = if bytes_eq word (codes "null") then Ok (Null, rest) else (if is_name word then Ok (Column word, rest) else Err BadLine)
 atom_at (tokens.Number n ∷ rest) = Ok (Number n, rest)
 atom_at (tokens.Text text ∷ rest) = Ok (text_of text, rest)
 atom_at (tokens.Mark mark ∷ rest) = Err BadLine
@@ -74,7 +69,7 @@ atom_at (tokens.Mark mark ∷ rest) = Err BadLine
 unfoldable pub product_at : (List Token → Reading Formula) → ℕ → Formula → List Token → Reading Formula
 product_at factor zero left ts = Err BadLine
 product_at factor (suc most) left ts =
-    when_some (after_mark symbols.Times ts) (λ rest. factor rest >>= (λ right. product_at factor most (mul_of left right.0) right.1)) (Ok (left, ts))
+    when_some (after_mark (codes "*") ts) (λ rest. factor rest >>= (λ right. product_at factor most (mul_of left right.0) right.1)) (Ok (left, ts))
 
 unfoldable pub term_at : (List Token → Reading Formula) → List Token → Reading Formula
 term_at factor ts = factor ts >>= (λ first. product_at factor 512 first.0 first.1)
@@ -83,8 +78,8 @@ term_at factor ts = factor ts >>= (λ first. product_at factor 512 first.0 first
 unfoldable pub sum_at : (List Token → Reading Formula) → ℕ → Formula → List Token → Reading Formula
 sum_at factor zero left ts = Err BadLine
 sum_at factor (suc most) left ts =
-    when_some (after_mark symbols.Plus ts) (λ rest. term_at factor rest >>= (λ right. sum_at factor most (add_of left right.0) right.1))
-    (when_some (after_mark symbols.Minus ts) (λ rest. term_at factor rest >>= (λ right. sum_at factor most (sub_of left right.0) right.1))
+    when_some (after_mark (codes "+") ts) (λ rest. term_at factor rest >>= (λ right. sum_at factor most (add_of left right.0) right.1))
+    (when_some (after_mark (codes "-") ts) (λ rest. term_at factor rest >>= (λ right. sum_at factor most (sub_of left right.0) right.1))
     (Ok (left, ts)))
 
 unfoldable pub sum_over : (List Token → Reading Formula) → List Token → Reading Formula
@@ -94,8 +89,8 @@ sum_over factor ts = term_at factor ts >>= (λ first. sum_at factor 512 first.0 
 unfoldable pub factor_at : ℕ → List Token → Reading Formula
 factor_at zero ts = Err BadLine
 factor_at (suc depth) ts =
-    when_some (after_mark symbols.Minus ts) (λ rest. factor_at depth rest >>= (λ inner. Ok (neg_of inner.0, inner.1)))
-    (when_some (after_mark symbols.OpenRound ts) (λ rest. sum_over (factor_at depth) rest >>= (λ inner. mark_expected symbols.CloseRound inner.1 >>= (λ after. Ok (inner.0, after))))
+    when_some (after_mark (codes "-") ts) (λ rest. factor_at depth rest >>= (λ inner. Ok (neg_of inner.0, inner.1)))
+    (when_some (after_mark (codes "(") ts) (λ rest. sum_over (factor_at depth) rest >>= (λ inner. mark_expected (codes ")") inner.1 >>= (λ after. Ok (inner.0, after))))
     (atom_at ts))
 
 unfoldable pub expr_at : List Token → Reading Formula
@@ -129,7 +124,7 @@ compare_at ts = do
 unfoldable pub both_at : (List Token → Reading Test) → ℕ → Test → List Token → Reading Test
 both_at fact zero left ts = Err BadLine
 both_at fact (suc most) left ts =
-    when_some (after_word words.And ts) (λ rest. fact rest >>= (λ right. both_at fact most (and_of left right.0) right.1)) (Ok (left, ts))
+    when_some (after_word (codes "and") ts) (λ rest. fact rest >>= (λ right. both_at fact most (and_of left right.0) right.1)) (Ok (left, ts))
 
 unfoldable pub all_at : (List Token → Reading Test) → List Token → Reading Test
 all_at fact ts = fact ts >>= (λ first. both_at fact 512 first.0 first.1)
@@ -138,7 +133,7 @@ all_at fact ts = fact ts >>= (λ first. both_at fact 512 first.0 first.1)
 unfoldable pub either_at : (List Token → Reading Test) → ℕ → Test → List Token → Reading Test
 either_at fact zero left ts = Err BadLine
 either_at fact (suc most) left ts =
-    when_some (after_word words.Or ts) (λ rest. all_at fact rest >>= (λ right. either_at fact most (or_of left right.0) right.1)) (Ok (left, ts))
+    when_some (after_word (codes "or") ts) (λ rest. all_at fact rest >>= (λ right. either_at fact most (or_of left right.0) right.1)) (Ok (left, ts))
 
 unfoldable pub any_over : (List Token → Reading Test) → List Token → Reading Test
 any_over fact ts = all_at fact ts >>= (λ first. either_at fact 512 first.0 first.1)
@@ -147,8 +142,8 @@ any_over fact ts = all_at fact ts >>= (λ first. either_at fact 512 first.0 firs
 unfoldable pub fact_at : ℕ → List Token → Reading Test
 fact_at zero ts = Err BadLine
 fact_at (suc depth) ts =
-    when_some (after_word words.Not ts) (λ rest. fact_at depth rest >>= (λ inner. Ok (not_of inner.0, inner.1)))
-    (when_some (after_mark symbols.OpenSquare ts) (λ rest. any_over (fact_at depth) rest >>= (λ inner. mark_expected symbols.CloseSquare inner.1 >>= (λ after. Ok (inner.0, after))))
+    when_some (after_word (codes "not") ts) (λ rest. fact_at depth rest >>= (λ inner. Ok (not_of inner.0, inner.1)))
+    (when_some (after_mark (codes "[") ts) (λ rest. any_over (fact_at depth) rest >>= (λ inner. mark_expected (codes "]") inner.1 >>= (λ after. Ok (inner.0, after))))
     (compare_at ts))
 
 unfoldable pub test_at : List Token → Reading Test

@@ -1,6 +1,7 @@
--- The rules that each line keeps by itself.
---     KeepsRules line      what are to be names are names, numbers are of 64 bits, texts in formulas are not empty, and lists have members
-use Rattle.std.specs.Prelude.{◌≡◌, ℕ, ◌≤◌, true, false, List, length, FitsSigned}
+-- The rules that the parts of a line keep by themselves.
+--     FormulaKeeps formula, TestKeeps test      names are names, numbers are of 64 bits, and texts are not empty
+--     MembersKeep Keeps members      one member or more, and each keeps its rules
+use Rattle.std.specs.Prelude.{◌≡◌, ℕ, true, false, List, FitsSigned}
 use Rattle.std.specs.List.{AllByRecursion}
 use Rattle.std.specs.Int.{w64}
 use Rattle.tick_model.specs.Changes.{is_none}
@@ -10,10 +11,6 @@ use Rattle.script_lines.specs.declared.line.Computed.{Computed}
 use Rattle.script_lines.specs.declared.line.Declared.{Declared}
 use Rattle.script_lines.specs.declared.line.Formula.{Formula, Column, Number, Text, Null, Neg', Add', Sub', Mul'}
 use Rattle.script_lines.specs.declared.line.Gathered.{Gathered}
-use Rattle.script_lines.specs.declared.line.Line.{Line}
-use Rattle.script_lines.specs.declared.line.Line.TheVariants.{Skipped, Source, Node, Print, Publish}
-use Rattle.script_lines.specs.declared.line.Making.{Making}
-use Rattle.script_lines.specs.declared.line.Making.TheVariants.{Keep, View, Join, AsOf, Agg, Merge, Sort, Head, Tail}
 use Rattle.script_lines.specs.declared.line.Pair.{Pair}
 use Rattle.script_lines.specs.declared.line.Test.{Test, Compare, And', Or', Not'}
 
@@ -48,24 +45,5 @@ PairKeeps pair = IsNamed pair.first × IsNamed pair.second
 abbrev pub GatheredKeeps : Gathered → Type 0
 GatheredKeeps gathered = IsNamed gathered.name
 
--- one member or more, and each keeps its rules
 abbrev pub MembersKeep : {X : Type 0} → (X → Type 0) → List X → Type 0
 MembersKeep Keeps members = (some_of members ≡ true) × AllByRecursion Keeps members
-
-abbrev pub MakingKeeps : Making → Type 0
-MakingKeeps (Keep input test) = TestKeeps test
-MakingKeeps (View input columns) = MembersKeep ComputedKeeps columns
-MakingKeeps (Join left right on take choice) = MembersKeep PairKeeps on × MembersKeep PairKeeps take
-MakingKeeps (AsOf left right on at take) = AllByRecursion PairKeeps on × PairKeeps at × MembersKeep PairKeeps take
-MakingKeeps (Agg input by columns) = AllByRecursion IsNamed by × MembersKeep GatheredKeeps columns
-MakingKeeps (Merge inputs) = (2 ≤ length inputs) × (length inputs ≤ 16)
-MakingKeeps (Sort input by) = some_of by ≡ true
-MakingKeeps (Head rows input) = Unit {0}
-MakingKeeps (Tail rows input) = Unit {0}
-
-abbrev pub KeepsRules : Line → Type 0
-KeepsRules Skipped = Unit {0}
-KeepsRules (Source name columns file) = IsNamed name × MembersKeep DeclaredKeeps columns
-KeepsRules (Node name making) = IsNamed name × MakingKeeps making
-KeepsRules (Print name) = IsNamed name
-KeepsRules (Publish name rows) = IsNamed name

@@ -4,5 +4,6 @@ pub mod Formulas
 pub mod Grammar
 pub mod Kept
 pub mod Lines
+pub mod Making
+pub mod Members
 pub mod Tokens
-pub mod Words

@@ -9,7 +9,6 @@ use crate::fault::Misread;
 use crate::line::Formula;
 use crate::parts::{BAD_LINE, MOST_TOKENS, Reading, after_mark, mark_expected};
 use crate::token::{Token, Word};
-use crate::words::{Keyword, Symbol};
 use std::alloc::Global;
 use tick_model::names::is_name;
 
@@ -32,7 +31,7 @@ fn atom<'a, 't>(tokens: &'t [Token<'a>]) -> Reading<'a, 't, Formula<'a>>
     };
     match first {
         Token::Word(word) => {
-            if word.as_str() == Keyword::Null.spelling() {
+            if word.as_str() == "null" {
                 Ok((Formula::Null, rest))
             } else if is_name(word.as_str()) {
                 Ok((Formula::Column(word.again()), rest))
@@ -90,7 +89,7 @@ fn product<'a, 't>(
     if most == 0 {
         return Err(BAD_LINE);
     }
-    if let Some(rest) = after_mark(Symbol::Times, tokens) {
+    if let Some(rest) = after_mark("*", tokens) {
         let (right, rest) = factor(alloc, depth, rest)?;
         let both = product_of(alloc, left, right)?;
         return product(alloc, depth, most - 1, both, rest);
@@ -127,12 +126,12 @@ fn sum<'a, 't>(
     if most == 0 {
         return Err(BAD_LINE);
     }
-    if let Some(rest) = after_mark(Symbol::Plus, tokens) {
+    if let Some(rest) = after_mark("+", tokens) {
         let (right, rest) = term(alloc, depth, rest)?;
         let both = sum_of(alloc, left, right)?;
         return sum(alloc, depth, most - 1, both, rest);
     }
-    if let Some(rest) = after_mark(Symbol::Minus, tokens) {
+    if let Some(rest) = after_mark("-", tokens) {
         let (right, rest) = term(alloc, depth, rest)?;
         let both = difference_of(alloc, left, right)?;
         return sum(alloc, depth, most - 1, both, rest);
@@ -167,13 +166,13 @@ fn factor<'a, 't>(
     if depth == 0 {
         return Err(BAD_LINE);
     }
-    if let Some(rest) = after_mark(Symbol::Minus, tokens) {
+    if let Some(rest) = after_mark("-", tokens) {
         let (inner, rest) = factor(alloc, depth - 1, rest)?;
         return Ok((Formula::Neg(Box::new(alloc, inner)?), rest));
     }
-    if let Some(rest) = after_mark(Symbol::OpenRound, tokens) {
+    if let Some(rest) = after_mark("(", tokens) {
         let (inner, rest) = whole_sum(alloc, depth - 1, rest)?;
-        let rest = mark_expected(Symbol::CloseRound, rest)?;
+        let rest = mark_expected(")", rest)?;
         return Ok((inner, rest));
     }
     atom(tokens)

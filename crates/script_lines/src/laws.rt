@@ -1,7 +1,7 @@
 //! Laws of lines: what a line says keeps the rules that need no other line.
 
 ghost use Rattle.std.specs.Prelude.{◌≡◌, ℕ, List, Ok};
-ghost use Rattle.script_lines.specs.Kept.{KeepsRules};
+ghost use Rattle.script_lines.specs.Grammar.{KeepsRules};
 ghost use Rattle.script_lines.specs.Lines.{line_of};
 ghost use Rattle.script_lines.specs.declared.line.Line.{Line};
 

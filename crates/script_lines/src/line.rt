@@ -1,8 +1,9 @@
 //! What a line says by itself, in names and texts.
 
+use crate::making::Making;
 use crate::token::Word;
 use tick_model::items::Items;
-use tick_model::plan::{Choice, Comparison, Kind};
+use tick_model::plan::{Comparison, Kind};
 
 /// A formula over named columns.
 #[derive(Drop)]
@@ -70,53 +71,6 @@ pub struct Gathered<'a> {
 pub struct Sorted<'a> {
     pub name: Word<'a>,
     pub descending: bool,
-}
-
-/// How a node is made.
-#[derive(Drop)]
-pub enum Making<'a> {
-    Keep {
-        input: Word<'a>,
-        test: Test<'a>,
-    },
-    View {
-        input: Word<'a>,
-        columns: Items<Computed<'a>>,
-    },
-    Join {
-        left: Word<'a>,
-        right: Word<'a>,
-        on: Items<Pair<'a>>,
-        take: Items<Pair<'a>>,
-        choice: Choice,
-    },
-    AsOf {
-        left: Word<'a>,
-        right: Word<'a>,
-        on: Items<Pair<'a>>,
-        at: Pair<'a>,
-        take: Items<Pair<'a>>,
-    },
-    Agg {
-        input: Word<'a>,
-        by: Items<Word<'a>>,
-        columns: Items<Gathered<'a>>,
-    },
-    Merge {
-        inputs: Items<Word<'a>>,
-    },
-    Sort {
-        input: Word<'a>,
-        by: Items<Sorted<'a>>,
-    },
-    Head {
-        rows: i64,
-        input: Word<'a>,
-    },
-    Tail {
-        rows: i64,
-        input: Word<'a>,
-    },
 }
 
 /// What a line says.

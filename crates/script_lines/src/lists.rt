@@ -3,12 +3,11 @@
 ghost use Rattle.std.specs.Prelude.{◌≡◌, map};
 ghost use Rattle.std.specs.Option.{option_copied};
 ghost use Rattle.script_lines.specs.Answers.{Reads};
-ghost use Rattle.script_lines.specs.Grammar.{ends_bare as ends_bare_at, next_at, more_at, list_at};
+ghost use Rattle.script_lines.specs.Members.{ends_bare as ends_bare_at, next_at, more_at, list_at, option_at};
 
 use crate::fault::Misread;
-use crate::parts::{BAD_LINE, MOST_TOKENS, Reading, after_mark};
+use crate::parts::{BAD_LINE, MOST_TOKENS, Reading, after_mark, after_word};
 use crate::token::Token;
-use crate::words::{Keyword, Symbol};
 use std::alloc::Global;
 use tick_model::items::Items;
 
@@ -46,18 +45,18 @@ fn ends_bare(tokens: &[Token]) -> bool
         return true;
     };
     match first {
-        Token::Word(word) => word.as_str() == Keyword::From.spelling(),
+        Token::Word(word) => word.as_str() == "from",
         Token::Number(_) | Token::Text(_) | Token::Mark(_) => false,
     }
 }
 
 /// Where the next member begins, if there is one.
-#[tactic(auto, unfolding(crate::specs::Grammar::next_at))]
+#[tactic(auto, unfolding(crate::specs::Members::next_at))]
 fn next_member<'a, 't>(separator: Separator, tokens: &'t [Token<'a>]) -> Option<&'t [Token<'a>]>
     ensures { option_copied result ≡ next_at separator tokens.now }
 {
     match separator {
-        Separator::Comma => after_mark(Symbol::Comma, tokens),
+        Separator::Comma => after_mark(",", tokens),
         Separator::Nothing => {
             if ends_bare(tokens) {
                 None
@@ -90,4 +89,19 @@ pub(crate) fn list<'a, 't, M: Member<'a>>(
         }
     }
     Err(BAD_LINE)
+}
+
+/// A word and then a list, or nothing.
+#[tactic(auto, unfolding(crate::specs::Members::option_at))]
+pub(crate) fn optional_list<'a, 't, M: Member<'a>>(
+    alloc: Global,
+    word: &str,
+    tokens: &'t [Token<'a>],
+) -> Result<(Items<M>, &'t [Token<'a>]), Misread>
+    ensures { Reads (λ x. (map M.shown x.0, x.1.now)) result (option_at M.member_at word.now tokens.now) }
+{
+    match after_word(word, tokens) {
+        Some(rest) => list(alloc, Separator::Comma, rest),
+        None => Ok((Items::new(alloc), tokens)),
+    }
 }

@@ -3,7 +3,7 @@
 ghost use Rattle.std.specs.Prelude.{◌≡◌};
 ghost use Rattle.script_lines.specs.Answers.{Reads};
 ghost use Rattle.script_lines.specs.Formulas.{name_at};
-ghost use Rattle.script_lines.specs.Grammar.{kind_at, declared_at, computed_at, pair_at, over_at, function_at, gathered_at, sorted_at};
+ghost use Rattle.script_lines.specs.Members.{kind_at, declared_at, computed_at, pair_at, over_at, function_at, gathered_at, sorted_at, digits_at};
 ghost use Rattle.script_lines.specs.Bare.{bare_column};
 
 use crate::formulas::expression;
@@ -11,52 +11,51 @@ use crate::line::{Computed, Declared, Function, Gathered, Pair, Sorted};
 use crate::lists::Member;
 use crate::parts::{BAD_LINE, Reading, after_mark, after_word, mark_expected, name};
 use crate::token::{Token, Word};
-use crate::words::{Keyword, Symbol};
 use std::alloc::Global;
 use tick_model::plan::Kind;
 
-#[tactic(auto, unfolding(crate::specs::Grammar::kind_at))]
+#[tactic(auto, unfolding(crate::specs::Members::kind_at))]
 fn kind<'a, 't>(tokens: &'t [Token<'a>]) -> Reading<'a, 't, Kind>
     ensures { Reads (λ x. (x.0, x.1.now)) result (kind_at tokens.now) }
 {
-    if let Some(rest) = after_word(Keyword::Long, tokens) {
+    if let Some(rest) = after_word("long", tokens) {
         return Ok((Kind::Long, rest));
     }
-    if let Some(rest) = after_word(Keyword::Text, tokens) {
+    if let Some(rest) = after_word("text", tokens) {
         return Ok((Kind::Text, rest));
     }
     Err(BAD_LINE)
 }
 
 /// COL : KIND.
-#[tactic(auto, unfolding(crate::specs::Grammar::declared_at))]
+#[tactic(auto, unfolding(crate::specs::Members::declared_at))]
 fn declared<'a, 't>(tokens: &'t [Token<'a>]) -> Reading<'a, 't, Declared<'a>>
     ensures { Reads (λ x. (x.0, x.1.now)) result (declared_at tokens.now) }
 {
     let (name, rest) = name(tokens)?;
-    let rest = mark_expected(Symbol::Colon, rest)?;
+    let rest = mark_expected(":", rest)?;
     let (kind, rest) = kind(rest)?;
     Ok((Declared { name, kind }, rest))
 }
 
 /// COL = EXPR.
-#[tactic(auto, unfolding(crate::specs::Grammar::computed_at))]
+#[tactic(auto, unfolding(crate::specs::Members::computed_at))]
 fn computed<'a, 't>(alloc: Global, tokens: &'t [Token<'a>]) -> Reading<'a, 't, Computed<'a>>
     ensures { Reads (λ x. (bare_column x.0, x.1.now)) result (computed_at tokens.now) }
 {
     let (name, rest) = name(tokens)?;
-    let rest = mark_expected(Symbol::Equal, rest)?;
+    let rest = mark_expected("=", rest)?;
     let (formula, rest) = expression(alloc, rest)?;
     Ok((Computed { name, formula }, rest))
 }
 
 /// COL [= COL]: one alone stands for both.
-#[tactic(auto, unfolding(crate::specs::Grammar::pair_at))]
+#[tactic(auto, unfolding(crate::specs::Members::pair_at))]
 pub(crate) fn pair<'a, 't>(tokens: &'t [Token<'a>]) -> Reading<'a, 't, Pair<'a>>
     ensures { Reads (λ x. (x.0, x.1.now)) result (pair_at tokens.now) }
 {
     let (first, rest) = name(tokens)?;
-    match after_mark(Symbol::Equal, rest) {
+    match after_mark("=", rest) {
         Some(rest) => {
             let (second, rest) = name(rest)?;
             Ok((Pair { first, second }, rest))
@@ -68,30 +67,30 @@ pub(crate) fn pair<'a, 't>(tokens: &'t [Token<'a>]) -> Reading<'a, 't, Pair<'a>>
     }
 }
 
-#[tactic(auto, unfolding(crate::specs::Grammar::function_at, crate::specs::Grammar::over_at))]
+#[tactic(auto, unfolding(crate::specs::Members::function_at, crate::specs::Members::over_at))]
 fn function<'a, 't>(tokens: &'t [Token<'a>]) -> Reading<'a, 't, Function<'a>>
     ensures { Reads (λ x. (x.0, x.1.now)) result (function_at tokens.now) }
 {
-    if let Some(rest) = after_word(Keyword::Count, tokens) {
+    if let Some(rest) = after_word("count", tokens) {
         return Ok((Function::Count, rest));
     }
-    if let Some(rest) = after_word(Keyword::Sum, tokens) {
+    if let Some(rest) = after_word("sum", tokens) {
         let (column, rest) = name(rest)?;
         return Ok((Function::Sum(column), rest));
     }
-    if let Some(rest) = after_word(Keyword::Min, tokens) {
+    if let Some(rest) = after_word("min", tokens) {
         let (column, rest) = name(rest)?;
         return Ok((Function::Min(column), rest));
     }
-    if let Some(rest) = after_word(Keyword::Max, tokens) {
+    if let Some(rest) = after_word("max", tokens) {
         let (column, rest) = name(rest)?;
         return Ok((Function::Max(column), rest));
     }
-    if let Some(rest) = after_word(Keyword::First, tokens) {
+    if let Some(rest) = after_word("first", tokens) {
         let (column, rest) = name(rest)?;
         return Ok((Function::First(column), rest));
     }
-    if let Some(rest) = after_word(Keyword::Last, tokens) {
+    if let Some(rest) = after_word("last", tokens) {
         let (column, rest) = name(rest)?;
         return Ok((Function::Last(column), rest));
     }
@@ -99,22 +98,22 @@ fn function<'a, 't>(tokens: &'t [Token<'a>]) -> Reading<'a, 't, Function<'a>>
 }
 
 /// COL = FUNC.
-#[tactic(auto, unfolding(crate::specs::Grammar::gathered_at))]
+#[tactic(auto, unfolding(crate::specs::Members::gathered_at))]
 fn gathered<'a, 't>(tokens: &'t [Token<'a>]) -> Reading<'a, 't, Gathered<'a>>
     ensures { Reads (λ x. (x.0, x.1.now)) result (gathered_at tokens.now) }
 {
     let (name, rest) = name(tokens)?;
-    let rest = mark_expected(Symbol::Equal, rest)?;
+    let rest = mark_expected("=", rest)?;
     let (function, rest) = function(rest)?;
     Ok((Gathered { name, function }, rest))
 }
 
 /// [-] COL.
-#[tactic(auto, unfolding(crate::specs::Grammar::sorted_at))]
+#[tactic(auto, unfolding(crate::specs::Members::sorted_at))]
 fn sorted<'a, 't>(tokens: &'t [Token<'a>]) -> Reading<'a, 't, Sorted<'a>>
     ensures { Reads (λ x. (x.0, x.1.now)) result (sorted_at tokens.now) }
 {
-    match after_mark(Symbol::Minus, tokens) {
+    match after_mark("-", tokens) {
         Some(rest) => {
             let (name, rest) = name(rest)?;
             Ok((
@@ -138,6 +137,20 @@ fn sorted<'a, 't>(tokens: &'t [Token<'a>]) -> Reading<'a, 't, Sorted<'a>>
     }
 }
 
+/// A number.
+#[tactic(auto, unfolding(crate::specs::Members::digits_at))]
+pub(crate) fn digits<'a, 't>(tokens: &'t [Token<'a>]) -> Reading<'a, 't, i64>
+    ensures { Reads (λ x. (x.0, x.1.now)) result (digits_at tokens.now) }
+{
+    let Some((first, rest)) = tokens.split_first() else {
+        return Err(BAD_LINE);
+    };
+    match first {
+        Token::Number(number) => Ok((*number, rest)),
+        Token::Word(_) | Token::Text(_) | Token::Mark(_) => Err(BAD_LINE),
+    }
+}
+
 impl<'a> Member<'a> for Word<'a> {
     ghost use Rattle.script_lines.specs.Formulas.{name_at};
 
@@ -151,7 +164,7 @@ impl<'a> Member<'a> for Word<'a> {
 }
 
 impl<'a> Member<'a> for Declared<'a> {
-    ghost use Rattle.script_lines.specs.Grammar.{declared_at};
+    ghost use Rattle.script_lines.specs.Members.{declared_at};
 
     ghost shown = { λ column. column };
 
@@ -163,7 +176,7 @@ impl<'a> Member<'a> for Declared<'a> {
 }
 
 impl<'a> Member<'a> for Computed<'a> {
-    ghost use Rattle.script_lines.specs.Grammar.{computed_at};
+    ghost use Rattle.script_lines.specs.Members.{computed_at};
     ghost use Rattle.script_lines.specs.Bare.{bare_column};
 
     ghost shown = { bare_column };
@@ -176,7 +189,7 @@ impl<'a> Member<'a> for Computed<'a> {
 }
 
 impl<'a> Member<'a> for Pair<'a> {
-    ghost use Rattle.script_lines.specs.Grammar.{pair_at};
+    ghost use Rattle.script_lines.specs.Members.{pair_at};
 
     ghost shown = { λ pair. pair };
 
@@ -188,7 +201,7 @@ impl<'a> Member<'a> for Pair<'a> {
 }
 
 impl<'a> Member<'a> for Gathered<'a> {
-    ghost use Rattle.script_lines.specs.Grammar.{gathered_at};
+    ghost use Rattle.script_lines.specs.Members.{gathered_at};
 
     ghost shown = { λ column. column };
 
@@ -200,7 +213,7 @@ impl<'a> Member<'a> for Gathered<'a> {
 }
 
 impl<'a> Member<'a> for Sorted<'a> {
-    ghost use Rattle.script_lines.specs.Grammar.{sorted_at};
+    ghost use Rattle.script_lines.specs.Members.{sorted_at};
 
     ghost shown = { λ column. column };
 

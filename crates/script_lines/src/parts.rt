@@ -7,7 +7,6 @@ ghost use Rattle.script_lines.specs.Formulas.{after_word as after_word_of, after
 
 use crate::fault::Misread;
 use crate::token::{Token, Word};
-use crate::words::{Keyword, Symbol};
 use tick_model::names::is_name;
 
 /// The most tokens of a line. No line has more parts of one kind, nor parts that stand deeper in one another.
@@ -21,13 +20,13 @@ pub(crate) type Reading<'a, 't, X> = Result<(X, &'t [Token<'a>]), Misread>;
 
 /// The tokens after a word, where they begin with it.
 #[tactic(auto, unfolding(crate::specs::Formulas::after_word))]
-pub(crate) fn after_word<'a, 't>(word: Keyword, tokens: &'t [Token<'a>]) -> Option<&'t [Token<'a>]>
-    ensures { option_copied result ≡ after_word_of word tokens.now }
+pub(crate) fn after_word<'a, 't>(word: &str, tokens: &'t [Token<'a>]) -> Option<&'t [Token<'a>]>
+    ensures { option_copied result ≡ after_word_of word.now tokens.now }
 {
     let (first, rest) = tokens.split_first()?;
     match first {
         Token::Word(other) => {
-            if other.as_str() == word.spelling() {
+            if other.as_str() == word {
                 Some(rest)
             } else {
                 None
@@ -39,13 +38,13 @@ pub(crate) fn after_word<'a, 't>(word: Keyword, tokens: &'t [Token<'a>]) -> Opti
 
 /// The tokens after a mark, where they begin with it.
 #[tactic(auto, unfolding(crate::specs::Formulas::after_mark))]
-pub(crate) fn after_mark<'a, 't>(mark: Symbol, tokens: &'t [Token<'a>]) -> Option<&'t [Token<'a>]>
-    ensures { option_copied result ≡ after_mark_of mark tokens.now }
+pub(crate) fn after_mark<'a, 't>(mark: &str, tokens: &'t [Token<'a>]) -> Option<&'t [Token<'a>]>
+    ensures { option_copied result ≡ after_mark_of mark.now tokens.now }
 {
     let (first, rest) = tokens.split_first()?;
     match first {
         Token::Mark(other) => {
-            if other.as_str() == mark.writing() {
+            if other.as_str() == mark {
                 Some(rest)
             } else {
                 None
@@ -58,10 +57,10 @@ pub(crate) fn after_mark<'a, 't>(mark: Symbol, tokens: &'t [Token<'a>]) -> Optio
 /// The tokens after a word that has to stand there.
 #[tactic(auto, unfolding(crate::specs::Formulas::word_expected))]
 pub(crate) fn word_expected<'a, 't>(
-    word: Keyword,
+    word: &str,
     tokens: &'t [Token<'a>],
 ) -> Result<&'t [Token<'a>], Misread>
-    ensures { Reads (λ rest. rest.now) result (word_expected_of word tokens.now) }
+    ensures { Reads (λ rest. rest.now) result (word_expected_of word.now tokens.now) }
 {
     match after_word(word, tokens) {
         Some(rest) => Ok(rest),
@@ -72,10 +71,10 @@ pub(crate) fn word_expected<'a, 't>(
 /// The tokens after a mark that has to stand there.
 #[tactic(auto, unfolding(crate::specs::Formulas::mark_expected))]
 pub(crate) fn mark_expected<'a, 't>(
-    mark: Symbol,
+    mark: &str,
     tokens: &'t [Token<'a>],
 ) -> Result<&'t [Token<'a>], Misread>
-    ensures { Reads (λ rest. rest.now) result (mark_expected_of mark tokens.now) }
+    ensures { Reads (λ rest. rest.now) result (mark_expected_of mark.now tokens.now) }
 {
     match after_mark(mark, tokens) {
         Some(rest) => Ok(rest),

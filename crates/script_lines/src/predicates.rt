@@ -10,7 +10,6 @@ use crate::formulas::expression;
 use crate::line::Test;
 use crate::parts::{BAD_LINE, MOST_TOKENS, Reading, after_mark, after_word, mark_expected};
 use crate::token::Token;
-use crate::words::{Keyword, Symbol};
 use std::alloc::Global;
 use tick_model::plan::Comparison;
 
@@ -84,7 +83,7 @@ fn both<'a, 't>(
     if most == 0 {
         return Err(BAD_LINE);
     }
-    if let Some(rest) = after_word(Keyword::And, tokens) {
+    if let Some(rest) = after_word("and", tokens) {
         let (right, rest) = fact(alloc, depth, rest)?;
         let both_sides = conjunction_of(alloc, left, right)?;
         return both(alloc, depth, most - 1, both_sides, rest);
@@ -121,7 +120,7 @@ fn either<'a, 't>(
     if most == 0 {
         return Err(BAD_LINE);
     }
-    if let Some(rest) = after_word(Keyword::Or, tokens) {
+    if let Some(rest) = after_word("or", tokens) {
         let (right, rest) = conjunction(alloc, depth, rest)?;
         let either_side = disjunction_of(alloc, left, right)?;
         return either(alloc, depth, most - 1, either_side, rest);
@@ -152,13 +151,13 @@ fn fact<'a, 't>(alloc: Global, depth: usize, tokens: &'t [Token<'a>]) -> Reading
     if depth == 0 {
         return Err(BAD_LINE);
     }
-    if let Some(rest) = after_word(Keyword::Not, tokens) {
+    if let Some(rest) = after_word("not", tokens) {
         let (inner, rest) = fact(alloc, depth - 1, rest)?;
         return Ok((Test::Not(Box::new(alloc, inner)?), rest));
     }
-    if let Some(rest) = after_mark(Symbol::OpenSquare, tokens) {
+    if let Some(rest) = after_mark("[", tokens) {
         let (inner, rest) = disjunction(alloc, depth - 1, rest)?;
-        let rest = mark_expected(Symbol::CloseSquare, rest)?;
+        let rest = mark_expected("]", rest)?;
         return Ok((inner, rest));
     }
     compare(alloc, tokens)

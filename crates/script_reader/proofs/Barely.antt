@@ -10,8 +10,8 @@ use Rattle.script_lines.specs.declared.line.Computed.{Computed}
 use Rattle.script_lines.specs.declared.line.Formula.{Formula, Column, Number as Digits, Text as Quoted, Null as Nothing, Neg' as Minus', Add' as Plus', Sub' as Less', Mul' as Times'}
 use Rattle.script_lines.specs.declared.line.Line.{Line}
 use Rattle.script_lines.specs.declared.line.Line.TheVariants as lines
-use Rattle.script_lines.specs.declared.line.Making.{Making}
-use Rattle.script_lines.specs.declared.line.Making.TheVariants.{Keep, View, Join, AsOf, Agg, Merge, Sort, Head, Tail}
+use Rattle.script_lines.specs.declared.making.Making.{Making}
+use Rattle.script_lines.specs.declared.making.Making.TheVariants.{Keep, View, Join, AsOf, Agg, Merge, Sort, Head, Tail}
 use Rattle.script_lines.specs.declared.line.Test.{Test, Compare as Compares, And' as Both', Or' as Either', Not' as Never'}
 use Rattle.script_lines.specs.Answers.{◌>>=◌}
 use Rattle.script_lines.specs.Bare.{bare, bare_test, bare_column, bare_making, bare_line}

@@ -34,8 +34,8 @@ use Rattle.script_lines.specs.declared.line.Function.TheVariants.{Count, Sum, Mi
 use Rattle.script_lines.specs.declared.line.Gathered.{Gathered}
 use Rattle.script_lines.specs.declared.line.Line.{Line}
 use Rattle.script_lines.specs.declared.line.Line.TheVariants as lines
-use Rattle.script_lines.specs.declared.line.Making.{Making}
-use Rattle.script_lines.specs.declared.line.Making.TheVariants.{Keep, View, Join, AsOf, Agg, Merge, Sort, Head, Tail}
+use Rattle.script_lines.specs.declared.making.Making.{Making}
+use Rattle.script_lines.specs.declared.making.Making.TheVariants.{Keep, View, Join, AsOf, Agg, Merge, Sort, Head, Tail}
 use Rattle.script_lines.specs.declared.line.Pair.{Pair}
 use Rattle.script_lines.specs.declared.line.Sorted.{Sorted}
 use Rattle.script_lines.specs.declared.line.Test.{Test, Compare as Compares, And' as Both', Or' as Either', Not' as Never'}

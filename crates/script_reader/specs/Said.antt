@@ -3,7 +3,7 @@
 use Rattle.std.specs.Prelude.{ℕ, ℤ, List, [], ◌∷◌, length, Option, Result}
 use Rattle.script_lines.specs.declared.fault.ScriptKind.{ScriptKind}
 use Rattle.script_lines.specs.declared.line.Declared.{Declared}
-use Rattle.script_lines.specs.declared.line.Making.{Making}
+use Rattle.script_lines.specs.declared.making.Making.{Making}
 use Rattle.script_lines.specs.Answers.{◌>>=◌}
 use Rattle.script_reader.specs.declared.script.Script.{Script}
 use Rattle.script_reader.specs.Checks.{before_of, node_named, names_of, drafted, placed, printed, published, source_draft}

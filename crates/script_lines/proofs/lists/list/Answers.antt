@@ -1,7 +1,7 @@
 use Rattle.std.proofs.Common.{◌≡◌, ◌++◌, ◌∷◌, [], map, refl}
 use Rattle.std.proofs.lemmas.Result.{err_from_is_err_and}
 use Rattle.std.proofs.lemmas.List.{map_push}
-use Rattle.script_lines.specs.Grammar.{list_at}
+use Rattle.script_lines.specs.Members.{list_at}
 use Rattle.script_lines.proofs.ListLemmas.{misses_bind, goes_on, ends, is_done, runs_out}
 use Rattle.script_lines.proofs.lists.list.Goals as goal
 

@@ -1,5 +1,5 @@
 use Rattle.std.proofs.Common.{◌≡◌, ◌-◌, map}
-use Rattle.script_lines.specs.Grammar.{more_at, list_at}
+use Rattle.script_lines.specs.Members.{more_at, list_at}
 use Rattle.script_lines.proofs.lists.list.Given as goal
 
 abbrev pub invariant-loop : goal.invariant-loop
