@@ -15,8 +15,7 @@ use Rattle.script_reader.specs.declared.script.Script.{Script}
 use Rattle.script_reader.specs.Binding.{bound_node, ranks_of}
 use Rattle.script_reader.specs.Plain.{plain_node, plain_plan, plain_script}
 use Rattle.script_reader.specs.Scripts.{Refusal as Refused, nothing, after_lines, script_of}
-use Rattle.script_laws.proofs.Lawful.{bound_lawful, script_lawful}
-use Rattle.script_laws.proofs.Written.{script_written}
+use Rattle.script_laws.proofs.Lawful.{bound_lawful, script_lawful, script_written}
 use Rattle.feed_reader.specs.declared.raw.RawFeed.{RawFeed}
 use Rattle.feed_reader.specs.declared.raw.RawTable.{RawTable}
 use Rattle.feed_reader.specs.Assembled.{AreTablesOf, plain_run, run_of}

@@ -75,28 +75,12 @@ module _ (ranks : List ℕ) where
   test_bound (Not' p a) = test_bound a
 
   pub inputs_bound : (op : Op) → inputs_of (bound_op ranks op) ≡ inputs_of op
-  inputs_bound ops.Source = refl
   inputs_bound (ops.Keep input test) = refl
-  inputs_bound (ops.View input exprs) = refl
-  inputs_bound (ops.Join left right on take choice) = refl
-  inputs_bound (ops.Agg input by aggs) = refl
-  inputs_bound (ops.Merge inputs) = refl
-  inputs_bound (ops.Sort input by) = refl
-  inputs_bound (ops.Head input rows) = refl
-  inputs_bound (ops.Tail input rows) = refl
-  inputs_bound (ops.AsOf left right on at take) = refl
+  inputs_bound op = refl
 
   room_bound : (op : Op) (bound : ℕ → ℕ) → bound_of (bound_op ranks op) bound ≡ bound_of op bound
-  room_bound ops.Source bound = refl
   room_bound (ops.Keep input test) bound = refl
-  room_bound (ops.View input exprs) bound = refl
-  room_bound (ops.Join left right on take choice) bound = refl
-  room_bound (ops.Agg input by aggs) bound = refl
-  room_bound (ops.Merge inputs) bound = refl
-  room_bound (ops.Sort input by) bound = refl
-  room_bound (ops.Head input rows) bound = refl
-  room_bound (ops.Tail input rows) bound = refl
-  room_bound (ops.AsOf left right on at take) bound = refl
+  room_bound op bound = refl
 
   rooms_bound : (nodes : List Node) (bounds : List ℕ) → fold with_bound bounds (map (bound_node ranks) nodes) ≡ fold with_bound bounds nodes
   rooms_bound [] bounds = refl

@@ -1,6 +1,6 @@
 -- A script so far keeps the rules of plans, with ranks in the place of its literals, and each line keeps it so.
 use Rattle.std.proofs.Common.{◌≡◌, refl, ap, sym, ◌∙◌, subst, Bool, true, false, ◌&&◌, ℕ, zero, suc, ◌+◌, ◌<◌, ◌≤◌, ◌^◌, arith, List, [], ◌∷◌, ◌++◌, map, length, length-append, Some, None, Ok, Err}
-use Rattle.std.specs.Prelude.{ℤ, pos, negsuc, IfOk, nat_lt, nat_le, slice_index, nat_eq, unwrap_or}
+use Rattle.std.specs.Prelude.{ℤ, pos, negsuc, nat_lt, nat_le, slice_index, nat_eq, unwrap_or}
 use Rattle.std.specs.List.{AllByRecursion, list_all, enumerate_from}
 use Rattle.std.proofs.lemmas.Bool.{cond_both, and_from, lt-ltb, le-leb, ltb-false, leb-true, eqb-false, eq-eqb, true≢false}
 use Rattle.std.proofs.lemmas.List.{length-map, map_push, get_or_append_left}
@@ -21,14 +21,15 @@ use Rattle.script_lines.specs.Kept.{IsNamed}
 use Rattle.script_reader.specs.declared.script.Script.{Script}
 use Rattle.script_reader.specs.declared.script.SourceFile.{SourceFile}
 use Rattle.script_reader.specs.Binding.{bound, ranks_of, bound_op, bound_node}
-use Rattle.script_reader.specs.Checks.{Draft, before_of, node_named, names_of, tables_of, table_at, drafted, source_draft, broken, placed, printed, published, is_among, is_no_limit, rows_of, publication_of, with_node, with_printed, with_published, said}
+use Rattle.script_reader.specs.Checks.{before_of, source_draft, broken, placed, printed, published, is_among, is_no_limit, publication_of, with_node, with_printed, with_published, said, Draft, names_of, tables_of, table_at, rows_of, node_named}
 use Rattle.script_reader.specs.Scripts.{nothing, script_of}
-use Rattle.script_laws.proofs.Reading.{then, node_found, script_read}
+use Rattle.script_laws.proofs.Reading.{Holds, done, then, node_found, script_read}
 use Rattle.script_laws.proofs.Unbroken.{IsUnbroken, unbroken, where_unbroken}
 use Rattle.script_laws.proofs.Bound.{inputs_bound, key_bounds_bound, names_bound, tables_bound}
 use Rattle.script_laws.proofs.Columns.{IsTable, one_or_more}
+use Rattle.script_laws.proofs.Drafts.{IsSound, draft_sound, source_sound}
 use Rattle.tick_model.proofs.Results.{columns_fit_same}
-use Rattle.script_laws.proofs.Fitting.{IsFitting, draft_fits, source_fits}
+use Rattle.script_laws.proofs.Written.{IsWrittenScript, nothing_written, one_written}
 use Rattle.script_laws.proofs.Ordered.{are_distinct-push, number_distinct-push, rises-in_order, every-in_order}
 
 -- a node with a number among nodes with columns
@@ -66,6 +67,7 @@ pub record IsLawfulSoFar (ranks : List ℕ) (script : Script) : Type 0 where
   pub published_apart : number_distinct (published_nodes script.plan.published) ≡ true
   pub publications : AllByRecursion (IsPublication (tables_of script.plan.nodes)) script.plan.published
   pub words : published_words script.plan.published ≤ 1048576
+  pub written : IsWrittenScript script
 
 -- nodes keep their rules when one comes behind them
 module _ (ranks : List ℕ) where
@@ -115,7 +117,7 @@ module _ (ranks : List ℕ) where
         most = is.most;
       }
 
-  one_more : (script : Script) (name : List ℕ) (draft : Draft) (files : List SourceFile) → IsNamed name → IsLawfulSoFar ranks script → IsFitting ranks (tables_of script.plan.nodes) draft → IsUnbroken script.plan.nodes name draft
+  one_more : (script : Script) (name : List ℕ) (draft : Draft) (files : List SourceFile) → IsNamed name → IsLawfulSoFar ranks script → IsSound ranks (before_of script) draft → IsUnbroken script.plan.nodes name draft
       → IsLawfulSoFar ranks (with_node script (record { name = name; columns = draft.columns; op = draft.op }) draft.literals files)
   one_more script name draft files is_named so_far new rules =
       let nodes : List Node = script.plan.nodes in
@@ -147,17 +149,17 @@ module _ (ranks : List ℕ) where
         publications = subst (λ tables. AllByRecursion (IsPublication tables) script.plan.published) (sym more)
             (every_weaker (IsPublication tables) (IsPublication (tables ++ draft.columns ∷ [])) script.plan.published (publication-grown tables (draft.columns ∷ [])) so_far.publications);
         words = so_far.words;
+        written = one_written script name draft files so_far.written new.written rules.columns;
       }
 
-  placed_lawful : (script : Script) (name : List ℕ) (draft : Draft) (files : List SourceFile) → IsNamed name → IsLawfulSoFar ranks script → IsFitting ranks (tables_of script.plan.nodes) draft → IfOk (placed script name draft files) (IsLawfulSoFar ranks)
+  placed_lawful : (script : Script) (name : List ℕ) (draft : Draft) (files : List SourceFile) → IsNamed name → IsLawfulSoFar ranks script → IsSound ranks (before_of script) draft → Holds (IsLawfulSoFar ranks) (placed script name draft files)
   placed_lawful script name draft files is_named so_far new =
-      where_unbroken (IsLawfulSoFar ranks) (broken script.plan.nodes name draft) (with_node script (record { name = name; columns = draft.columns; op = draft.op }) draft.literals files)
-      (λ e. one_more script name draft files is_named so_far new (unbroken script.plan.nodes name draft e))
+      where_unbroken (broken script.plan.nodes name draft) _ (λ e. one_more script name draft files is_named so_far new (unbroken script.plan.nodes name draft e))
 
-  printed_lawful : (script : Script) (node : ℕ) → IsLawfulSoFar ranks script → node < length script.plan.nodes → IfOk (printed script node) (IsLawfulSoFar ranks)
+  printed_lawful : (script : Script) (node : ℕ) → IsLawfulSoFar ranks script → node < length script.plan.nodes → Holds (IsLawfulSoFar ranks) (printed script node)
   printed_lawful script node so_far within =
-      cond_both (is_among node script.plan.printed) (Err TakenName) (Ok (with_printed script node)) (λ r. IfOk r (IsLawfulSoFar ranks)) (λ _. tt)
-      (λ new. record {
+      cond_both (is_among node script.plan.printed) (Err TakenName) (Ok (with_printed script node)) (Holds (IsLawfulSoFar ranks)) (λ _. record { holds = tt })
+      (λ new. done (record {
         few = so_far.few;
         apart = so_far.apart;
         nodes = so_far.nodes;
@@ -167,7 +169,8 @@ module _ (ranks : List ℕ) where
         published_apart = so_far.published_apart;
         publications = so_far.publications;
         words = so_far.words;
-      })
+        written = record { texts = so_far.written.texts; literals = so_far.written.literals; numbers = so_far.written.numbers; columns = so_far.written.columns };
+      }))
 
   -- how many rows are published
   limit_fits : (rows : ℤ) → is_no_limit (rows_of rows) ≡ false → (1 ≤ unwrap_or (rows_of rows) 0) × (unwrap_or (rows_of rows) 0 ≤ 4194304)
@@ -180,14 +183,14 @@ module _ (ranks : List ℕ) where
       one_at_least zero other = absurd (other refl)
       one_at_least (suc n) other = omega arith
 
-  published_lawful : (script : Script) (node : ℕ) (rows : ℤ) → IsLawfulSoFar ranks script → node < length script.plan.nodes → IfOk (published script node rows) (IsLawfulSoFar ranks)
+  published_lawful : (script : Script) (node : ℕ) (rows : ℤ) → IsLawfulSoFar ranks script → node < length script.plan.nodes → Holds (IsLawfulSoFar ranks) (published script node rows)
   published_lawful script node rows so_far within =
       let publication : Published = publication_of script node rows in
       let more : List Published = script.plan.published ++ publication ∷ [] in
-      cond_both (is_among node (published_nodes script.plan.published)) (Err TakenName) _ (λ r. IfOk r (IsLawfulSoFar ranks)) (λ _. tt)
-      (λ new. cond_both (is_no_limit (rows_of rows)) (Err NumberRange) _ (λ r. IfOk r (IsLawfulSoFar ranks)) (λ _. tt)
-      (λ some. cond_both (nat_lt 1048576 (published_words more)) (Err TooWide) (Ok (with_published script publication)) (λ r. IfOk r (IsLawfulSoFar ranks)) (λ _. tt)
-      (λ narrow. record {
+      cond_both (is_among node (published_nodes script.plan.published)) (Err TakenName) _ (Holds (IsLawfulSoFar ranks)) (λ _. record { holds = tt })
+      (λ new. cond_both (is_no_limit (rows_of rows)) (Err NumberRange) _ (Holds (IsLawfulSoFar ranks)) (λ _. record { holds = tt })
+      (λ some. cond_both (nat_lt 1048576 (published_words more)) (Err TooWide) (Ok (with_published script publication)) (Holds (IsLawfulSoFar ranks)) (λ _. record { holds = tt })
+      (λ narrow. done (record {
         few = so_far.few;
         apart = so_far.apart;
         nodes = so_far.nodes;
@@ -205,27 +208,25 @@ module _ (ranks : List ℕ) where
           tt,
         );
         words = ltb-false 1048576 (published_words more) narrow;
-      })))
+        written = record { texts = so_far.written.texts; literals = so_far.written.literals; numbers = so_far.written.numbers; columns = so_far.written.columns };
+      }))))
 
-  node_within : (nodes : List Node) (name : List ℕ) → IfOk (node_named (names_of nodes) name) (λ node. node < length nodes)
-  node_within nodes name = subst (λ n. IfOk (node_named (names_of nodes) name) (λ node. node < n)) (length-map nodes (λ (node : Node). node.name)) (node_found (names_of nodes) name)
+  node_within : (nodes : List Node) (name : List ℕ) → Holds (λ node. node < length nodes) (node_named (names_of nodes) name)
+  node_within nodes name = subst (λ n. Holds (λ node. node < n) (node_named (names_of nodes) name)) (length-map nodes (λ (node : Node). node.name)) (node_found (names_of nodes) name)
 
-  line_lawful : (script : Script) (line : Line) → KeepsRules line → IsLawfulSoFar ranks script → IfOk (said script line) (IsLawfulSoFar ranks)
+  line_lawful : (script : Script) (line : Line) → KeepsRules line → IsLawfulSoFar ranks script → Holds (IsLawfulSoFar ranks) (said script line)
   unfolding said
-  line_lawful script lines.Skipped keeps so_far = so_far
+  line_lawful script lines.Skipped keeps so_far = done so_far
   line_lawful script (lines.Source name columns file) keeps so_far =
-      placed_lawful script name (source_draft columns script.literals) (record { node = length script.plan.nodes; file = file } ∷ []) keeps.0 so_far (source_fits ranks (tables_of script.plan.nodes) columns script.literals keeps.1)
+      placed_lawful script name (source_draft columns script.literals) (record { node = length script.plan.nodes; file = file } ∷ []) keeps.0 so_far (source_sound ranks (before_of script) columns so_far.written.texts keeps.1)
   line_lawful script (lines.Node name making) keeps so_far =
-      then (IsFitting ranks (tables_of script.plan.nodes)) (IsLawfulSoFar ranks) (drafted (before_of script) making) _
-      (draft_fits ranks (before_of script) (length-map script.plan.nodes (λ (node : Node). node.name) ∙ sym (length-map script.plan.nodes (λ (node : Node). node.columns))) (all_tables (tables_of script.plan.nodes) 0 script.plan.nodes so_far.nodes) making keeps.1)
+      then (draft_sound ranks (before_of script) (length-map script.plan.nodes (λ (node : Node). node.name) ∙ sym (length-map script.plan.nodes (λ (node : Node). node.columns))) (all_tables (tables_of script.plan.nodes) 0 script.plan.nodes so_far.nodes) so_far.written.texts making keeps.1) _
       (λ draft new. placed_lawful script name draft [] keeps.0 so_far new)
-  line_lawful script (lines.Print name) keeps so_far =
-      then (λ (node : ℕ). node < length script.plan.nodes) (IsLawfulSoFar ranks) (node_named (names_of script.plan.nodes) name) _ (node_within script.plan.nodes name) (λ node within. printed_lawful script node so_far within)
-  line_lawful script (lines.Publish name rows) keeps so_far =
-      then (λ (node : ℕ). node < length script.plan.nodes) (IsLawfulSoFar ranks) (node_named (names_of script.plan.nodes) name) _ (node_within script.plan.nodes name) (λ node within. published_lawful script node rows so_far within)
+  line_lawful script (lines.Print name) keeps so_far = then (node_within script.plan.nodes name) _ (λ node within. printed_lawful script node so_far within)
+  line_lawful script (lines.Publish name rows) keeps so_far = then (node_within script.plan.nodes name) _ (λ node within. published_lawful script node rows so_far within)
 
   nothing_lawful : IsLawfulSoFar ranks nothing
-  nothing_lawful = record { few = omega arith; apart = refl; nodes = tt; room = refl; rising = refl; printed = tt; published_apart = refl; publications = tt; words = omega arith }
+  nothing_lawful = record { few = omega arith; apart = refl; nodes = tt; room = refl; rising = refl; printed = tt; published_apart = refl; publications = tt; words = omega arith; written = nothing_written }
 
   pub script_lawful : (bytes : List ℕ) (script : Script) → script_of bytes ≡ Ok script → IsLawfulSoFar ranks script
   script_lawful = script_read (IsLawfulSoFar ranks) line_lawful nothing_lawful
@@ -303,6 +304,9 @@ module _ (ranks : List ℕ) where
       (pass_all (publication_lawful (with_ranks nodes)) script.plan.published
       (every_weaker (IsPublication (tables_of nodes)) (λ publication. publication_lawful (with_ranks nodes) publication ≡ true) script.plan.published (publication_passes nodes) is.publications)))
       (le-leb (published_words script.plan.published) 1048576 is.words)
+
+pub script_written : (bytes : List ℕ) (script : Script) → script_of bytes ≡ Ok script → IsWrittenScript script
+script_written bytes script read = (script_lawful [] bytes script read).written
 
 pub bound_lawful : (bytes : List ℕ) (script : Script) (texts : List (List ℕ)) → script_of bytes ≡ Ok script → is_lawful (bound script texts) ≡ true
 bound_lawful bytes script texts read = plan_passes (ranks_of texts script.literals) script (script_lawful (ranks_of texts script.literals) bytes script read)

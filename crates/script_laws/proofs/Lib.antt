@@ -1,6 +1,6 @@
 pub mod Bound
 pub mod Columns
-pub mod Fitting
+pub mod Drafts
 pub mod Lawful
 pub mod Ordered
 pub mod Reading

@@ -1,6 +1,6 @@
 -- The formulas of a script that is read: their numbers are of 64 bits, and their literals are its texts, none of which is empty.
 use Rattle.std.proofs.Common.{◌≡◌, refl, ap, Bool, true, false, not, ◌||◌, ℕ, zero, suc, ◌+◌, ◌<◌, ◌≤◌, arith, List, [], ◌∷◌, ◌++◌, length, length-append, Result, Ok}
-use Rattle.std.specs.Prelude.{IfOk, slice_index_or}
+use Rattle.std.specs.Prelude.{slice_index_or}
 use Rattle.std.specs.List.{AllByRecursion, list_all, list_any, position_or_len}
 use Rattle.std.specs.Str.{bytes_eq}
 use Rattle.std.proofs.lemmas.Bool.{cond_both, and_parts, and_from, lt-ltb, ltb-true}
@@ -20,7 +20,7 @@ use Rattle.script_lines.specs.Kept.{FormulaKeeps, TestKeeps, ComputedKeeps}
 use Rattle.script_reader.specs.Checks.{column_named, expr_of, pred_of, exprs_of, with_text, place_of}
 use Rattle.script_reader.specs.Plain.{add, sub, mul, both, either}
 use Rattle.script_laws.specs.Literals.{names_literal, has_literals, has_test_literals}
-use Rattle.script_laws.proofs.Reading.{then, whatever}
+use Rattle.script_laws.proofs.Reading.{Holds, done, then, whatever}
 
 -- no text is empty
 abbrev pub AreWritten : List (List ℕ) → Type 0
@@ -107,33 +107,27 @@ pub record IsFormula (before : List (List ℕ)) (found : Expr × List (List ℕ)
 module _ (columns : List ColumnSpec) where
   -- two formulas, one after the other
   two_read : (e : Expr → Expr → Expr) → ((texts : List (List ℕ)) (a b : Expr) → has_literals texts a ≡ true → has_literals texts b ≡ true → has_literals texts (e a b) ≡ true) → ((a b : Expr) → HasNumbers a → HasNumbers b → HasNumbers (e a b))
-      → (texts : List (List ℕ)) (b : Formula) (first : Result (Expr × List (List ℕ)) ScriptKind) → IfOk first (IsFormula texts) → ((more : List (List ℕ)) → AreWritten more → IfOk (expr_of columns more b) (IsFormula more))
-      → IfOk (first >>= (λ x. expr_of columns x.1 b >>= (λ y. Ok (e x.0 y.0, y.1)))) (IsFormula texts)
-  two_read e literals numbers texts b first holds next =
-      then (IsFormula texts) (IsFormula texts) first _ holds
-      (λ x one. then (IsFormula x.1) (IsFormula texts) (expr_of columns x.1 b) _ (next x.1 one.grown.written)
-      (λ y two. record {
+      → (texts : List (List ℕ)) (b : Formula) {first : Result (Expr × List (List ℕ)) ScriptKind} → Holds (IsFormula texts) first → ((more : List (List ℕ)) → AreWritten more → Holds (IsFormula more) (expr_of columns more b))
+      → Holds (IsFormula texts) (first >>= (λ x. expr_of columns x.1 b >>= (λ y. Ok (e x.0 y.0, y.1))))
+  two_read e literals numbers texts b first next =
+      then first _ (λ x one. then (next x.1 one.grown.written) _ (λ y two. done (record {
         grown = grown_twice texts x.1 y.1 one.grown two.grown;
         literals = literals y.1 x.0 y.0 (literals-grown x.1 y.1 two.grown x.0 one.literals) two.literals;
         numbers = numbers x.0 y.0 one.numbers two.numbers;
-      }))
+      })))
 
-  pub expr_read : (formula : Formula) (texts : List (List ℕ)) → AreWritten texts → FormulaKeeps formula → IfOk (expr_of columns texts formula) (IsFormula texts)
+  pub expr_read : (formula : Formula) (texts : List (List ℕ)) → AreWritten texts → FormulaKeeps formula → Holds (IsFormula texts) (expr_of columns texts formula)
   unfolding expr_of
-  expr_read (Column name) texts written keeps = whatever (IsFormula texts) (column_named columns name) _ (λ column. record { grown = not_grown texts written; literals = refl; numbers = tt })
-  expr_read (Digits n) texts written keeps = record { grown = not_grown texts written; literals = refl; numbers = keeps }
+  expr_read (Column name) texts written keeps = whatever (column_named columns name) _ (λ column. done (record { grown = not_grown texts written; literals = refl; numbers = tt }))
+  expr_read (Digits n) texts written keeps = done (record { grown = not_grown texts written; literals = refl; numbers = keeps })
   expr_read (Quoted text) texts written keeps =
       let more = text_written texts text written keeps in
-      record { grown = more.grown; literals = named (with_text texts text) (place_of text texts) more.grown.written more.place; numbers = tt }
-  expr_read Nothing texts written keeps = record { grown = not_grown texts written; literals = refl; numbers = tt }
-  expr_read (Minus' p a) texts written keeps =
-      then (IsFormula texts) (IsFormula texts) (expr_of columns texts a) _ (expr_read a texts written keeps) (λ x one. record { grown = one.grown; literals = one.literals; numbers = one.numbers })
-  expr_read (Plus' p a q b) texts written keeps =
-      two_read add (λ texts a b. and_from (has_literals texts a) (has_literals texts b)) (λ a b x y. (x, y)) texts b (expr_of columns texts a) (expr_read a texts written keeps.0) (λ more still. expr_read b more still keeps.1)
-  expr_read (Less' p a q b) texts written keeps =
-      two_read sub (λ texts a b. and_from (has_literals texts a) (has_literals texts b)) (λ a b x y. (x, y)) texts b (expr_of columns texts a) (expr_read a texts written keeps.0) (λ more still. expr_read b more still keeps.1)
-  expr_read (Times' p a q b) texts written keeps =
-      two_read mul (λ texts a b. and_from (has_literals texts a) (has_literals texts b)) (λ a b x y. (x, y)) texts b (expr_of columns texts a) (expr_read a texts written keeps.0) (λ more still. expr_read b more still keeps.1)
+      done (record { grown = more.grown; literals = named (with_text texts text) (place_of text texts) more.grown.written more.place; numbers = tt })
+  expr_read Nothing texts written keeps = done (record { grown = not_grown texts written; literals = refl; numbers = tt })
+  expr_read (Minus' p a) texts written keeps = then (expr_read a texts written keeps) _ (λ x one. done (record { grown = one.grown; literals = one.literals; numbers = one.numbers }))
+  expr_read (Plus' p a q b) texts written keeps = two_read add (λ texts a b. and_from _ _) (λ a b x y. (x, y)) texts b (expr_read a texts written keeps.0) (λ more still. expr_read b more still keeps.1)
+  expr_read (Less' p a q b) texts written keeps = two_read sub (λ texts a b. and_from _ _) (λ a b x y. (x, y)) texts b (expr_read a texts written keeps.0) (λ more still. expr_read b more still keeps.1)
+  expr_read (Times' p a q b) texts written keeps = two_read mul (λ texts a b. and_from _ _) (λ a b x y. (x, y)) texts b (expr_read a texts written keeps.0) (λ more still. expr_read b more still keeps.1)
 
 -- what is read of a test
 pub record IsTest (before : List (List ℕ)) (found : Pred × List (List ℕ)) : Type 0 where
@@ -142,46 +136,39 @@ pub record IsTest (before : List (List ℕ)) (found : Pred × List (List ℕ)) :
 
 module _ (columns : List ColumnSpec) where
   two_tests : (t : Pred → Pred → Pred) → ((texts : List (List ℕ)) (a b : Pred) → has_test_literals texts a ≡ true → has_test_literals texts b ≡ true → has_test_literals texts (t a b) ≡ true)
-      → (texts : List (List ℕ)) (b : Test) (first : Result (Pred × List (List ℕ)) ScriptKind) → IfOk first (IsTest texts) → ((more : List (List ℕ)) → AreWritten more → IfOk (pred_of columns more b) (IsTest more))
-      → IfOk (first >>= (λ x. pred_of columns x.1 b >>= (λ y. Ok (t x.0 y.0, y.1)))) (IsTest texts)
-  two_tests t literals texts b first holds next =
-      then (IsTest texts) (IsTest texts) first _ holds
-      (λ x one. then (IsTest x.1) (IsTest texts) (pred_of columns x.1 b) _ (next x.1 one.grown.written)
-      (λ y two. record {
+      → (texts : List (List ℕ)) (b : Test) {first : Result (Pred × List (List ℕ)) ScriptKind} → Holds (IsTest texts) first → ((more : List (List ℕ)) → AreWritten more → Holds (IsTest more) (pred_of columns more b))
+      → Holds (IsTest texts) (first >>= (λ x. pred_of columns x.1 b >>= (λ y. Ok (t x.0 y.0, y.1))))
+  two_tests t literals texts b first next =
+      then first _ (λ x one. then (next x.1 one.grown.written) _ (λ y two. done (record {
         grown = grown_twice texts x.1 y.1 one.grown two.grown;
         literals = literals y.1 x.0 y.0 (test_literals-grown x.1 y.1 two.grown x.0 one.literals) two.literals;
-      }))
+      })))
 
-  pub test_read : (test : Test) (texts : List (List ℕ)) → AreWritten texts → TestKeeps test → IfOk (pred_of columns texts test) (IsTest texts)
+  pub test_read : (test : Test) (texts : List (List ℕ)) → AreWritten texts → TestKeeps test → Holds (IsTest texts) (pred_of columns texts test)
   unfolding pred_of
   test_read (Compares how a b) texts written keeps =
-      then (IsFormula texts) (IsTest texts) (expr_of columns texts a) _ (expr_read columns a texts written keeps.0)
-      (λ x one. then (IsFormula x.1) (IsTest texts) (expr_of columns x.1 b) _ (expr_read columns b x.1 one.grown.written keeps.1)
-      (λ y two. record {
+      then (expr_read columns a texts written keeps.0) _ (λ x one. then (expr_read columns b x.1 one.grown.written keeps.1) _ (λ y two. done (record {
         grown = grown_twice texts x.1 y.1 one.grown two.grown;
         literals = and_from (has_literals y.1 x.0) (has_literals y.1 y.0) (literals-grown x.1 y.1 two.grown x.0 one.literals) two.literals;
-      }))
-  test_read (Both' p a q b) texts written keeps =
-      two_tests both (λ texts a b. and_from (has_test_literals texts a) (has_test_literals texts b)) texts b (pred_of columns texts a) (test_read a texts written keeps.0) (λ more still. test_read b more still keeps.1)
-  test_read (Either' p a q b) texts written keeps =
-      two_tests either (λ texts a b. and_from (has_test_literals texts a) (has_test_literals texts b)) texts b (pred_of columns texts a) (test_read a texts written keeps.0) (λ more still. test_read b more still keeps.1)
-  test_read (Never' p a) texts written keeps =
-      then (IsTest texts) (IsTest texts) (pred_of columns texts a) _ (test_read a texts written keeps) (λ x one. record { grown = one.grown; literals = one.literals })
+      })))
+  test_read (Both' p a q b) texts written keeps = two_tests both (λ texts a b. and_from _ _) texts b (test_read a texts written keeps.0) (λ more still. test_read b more still keeps.1)
+  test_read (Either' p a q b) texts written keeps = two_tests either (λ texts a b. and_from _ _) texts b (test_read a texts written keeps.0) (λ more still. test_read b more still keeps.1)
+  test_read (Never' p a) texts written keeps = then (test_read a texts written keeps) _ (λ x one. done (record { grown = one.grown; literals = one.literals }))
 
 -- what is read of formulas, one behind the other
-pub record AreFormulas (before : List (List ℕ)) (found : List Expr × List (List ℕ)) : Type 0 where
+pub record AreFormulas (before : List (List ℕ)) (many : ℕ) (found : List Expr × List (List ℕ)) : Type 0 where
+  pub long : length found.0 ≡ many
   pub grown : Grow before found.1
   pub literals : list_all (has_literals found.1) found.0 ≡ true
   pub numbers : AllByRecursion HasNumbers found.0
 
-pub exprs_read : (columns : List ColumnSpec) (computed : List Computed) (texts : List (List ℕ)) → AreWritten texts → AllByRecursion ComputedKeeps computed → IfOk (exprs_of columns texts computed) (AreFormulas texts)
+pub exprs_read : (columns : List ColumnSpec) (computed : List Computed) (texts : List (List ℕ)) → AreWritten texts → AllByRecursion ComputedKeeps computed → Holds (AreFormulas texts (length computed)) (exprs_of columns texts computed)
 unfolding exprs_of
-exprs_read columns [] texts written keeps = record { grown = not_grown texts written; literals = refl; numbers = tt }
+exprs_read columns [] texts written keeps = done (record { long = refl; grown = not_grown texts written; literals = refl; numbers = tt })
 exprs_read columns (c ∷ computed) texts written keeps =
-    then (IsFormula texts) (AreFormulas texts) (expr_of columns texts c.formula) _ (expr_read columns c.formula texts written keeps.0.1)
-    (λ x one. then (AreFormulas x.1) (AreFormulas texts) (exprs_of columns x.1 computed) _ (exprs_read columns computed x.1 one.grown.written keeps.1)
-    (λ ys later. record {
+    then (expr_read columns c.formula texts written keeps.0.1) _ (λ x one. then (exprs_read columns computed x.1 one.grown.written keeps.1) _ (λ ys later. done (record {
+      long = ap suc later.long;
       grown = grown_twice texts x.1 ys.1 one.grown later.grown;
       literals = and_from (has_literals ys.1 x.0) (list_all (has_literals ys.1) ys.0) (literals-grown x.1 ys.1 later.grown x.0 one.literals) later.literals;
       numbers = (one.numbers, later.numbers);
-    }))
+    })))

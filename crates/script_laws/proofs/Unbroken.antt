@@ -1,6 +1,6 @@
 -- A node that breaks no rule.
 use Rattle.std.proofs.Common.{◌≡◌, refl, Bool, true, false, not, cond, ℕ, ◌^◌, ◌<◌, ◌≤◌, List, length, map, Option, Some, None}
-use Rattle.std.specs.Prelude.{IfOk, nat_le, nat_lt, slice_index}
+use Rattle.std.specs.Prelude.{nat_le, nat_lt, slice_index}
 use Rattle.std.proofs.lemmas.Bool.{leb-false, ltb-false}
 use Rattle.tick_model.specs.declared.plan.ColumnSpec.{ColumnSpec}
 use Rattle.tick_model.specs.declared.plan.Node.{Node}
@@ -9,7 +9,8 @@ use Rattle.tick_model.specs.Plans.{key_bounds}
 use Rattle.tick_model.specs.Operators.{bound_of}
 use Rattle.script_lines.specs.declared.fault.ScriptKind.{ScriptKind}
 use Rattle.script_lines.specs.declared.fault.ScriptKind.TheVariants.{TakenName, TakenColumn, WrongKind, NumberRange, TooManyNodes, TooManyColumns, KeySpace}
-use Rattle.script_reader.specs.Checks.{Draft, broken, or_broken, names_of}
+use Rattle.script_reader.specs.Checks.{broken, or_broken, Draft, names_of}
+use Rattle.script_laws.proofs.Reading.{Holds, done}
 
 record AreUnbroken (taken distinct kinds_fit rows_fit many_columns many_nodes no_room : Bool) : Type 0 where
   pub new : taken ≡ false
@@ -64,6 +65,6 @@ unbroken nodes name draft h =
       room = leb-false (2 ^ 62) (bound_of draft.op (slice_index (key_bounds nodes))) parts.room;
     }
 
-pub where_unbroken : {X : Type 0} (P : X → Type 0) (rule : Option ScriptKind) (x : X) → (rule ≡ None → P x) → IfOk (or_broken rule x) P
-where_unbroken P None x holds = holds refl
-where_unbroken P (Some kind) x holds = tt
+pub where_unbroken : {X : Type 0} {P : X → Type 0} (rule : Option ScriptKind) (x : X) → (rule ≡ None → P x) → Holds P (or_broken rule x)
+where_unbroken None x holds = done (holds refl)
+where_unbroken (Some kind) x holds = record { holds = tt }

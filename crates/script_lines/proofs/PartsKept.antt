@@ -9,7 +9,7 @@ use Rattle.key_lists.proofs.Every.{every-append}
 use Rattle.tick_model.specs.declared.plan.Comparison.{Comparison}
 use Rattle.tick_model.specs.declared.plan.Kind.{Kind}
 use Rattle.tick_model.specs.Names.{is_name}
-use Rattle.tick_model.specs.Plans.{some_of}
+use Rattle.tick_model.specs.Columns.{some_of}
 use Rattle.script_lines.specs.declared.fault.ScriptKind.{ScriptKind}
 use Rattle.script_lines.specs.declared.fault.ScriptKind.TheVariants.{BadLine}
 use Rattle.script_lines.specs.declared.line.Formula.{Formula, Column, Null}

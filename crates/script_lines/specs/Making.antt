@@ -5,7 +5,7 @@ use Rattle.std.specs.Prelude.{◌≡◌, ℕ, ◌≤◌, ◌&&◌, true, ℤ, Li
 use Rattle.std.specs.List.{AllByRecursion}
 use Rattle.tick_model.specs.declared.plan.Choice.{Choice}
 use Rattle.tick_model.specs.declared.plan.Choice.TheVariants as choices
-use Rattle.tick_model.specs.Plans.{some_of}
+use Rattle.tick_model.specs.Columns.{some_of}
 use Rattle.script_lines.specs.declared.fault.ScriptKind.TheVariants.{BadLine}
 use Rattle.script_lines.specs.declared.line.Pair.{Pair}
 use Rattle.script_lines.specs.declared.lists.Separator.TheVariants.{Comma, Nothing}

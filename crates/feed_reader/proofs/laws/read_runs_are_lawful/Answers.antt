@@ -1,5 +1,4 @@
-use Rattle.script_laws.proofs.Lawful.{bound_lawful}
-use Rattle.script_laws.proofs.Written.{script_written}
+use Rattle.script_laws.proofs.Lawful.{bound_lawful, script_written}
 use Rattle.feed_reader.proofs.AssembledLemmas.{run_is_lawful}
 use Rattle.feed_reader.proofs.laws.read_runs_are_lawful.Goals as goal
 

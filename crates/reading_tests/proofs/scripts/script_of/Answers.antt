@@ -3,8 +3,7 @@ use Rattle.std.proofs.lemmas.List.{length-map}
 use Rattle.std.specs.List.{AllByRecursion}
 use Rattle.key_lists.proofs.Every.{all_from}
 use Rattle.tick_model.specs.declared.plan.Node.{Node}
-use Rattle.script_laws.proofs.Lawful.{script_lawful}
-use Rattle.script_laws.proofs.Written.{script_written}
+use Rattle.script_laws.proofs.Lawful.{script_lawful, script_written}
 use Rattle.script_reader.specs.Plain.{plain_node, plain_script}
 use Rattle.reading_tests.proofs.scripts.script_of.Goals as goal
 

@@ -1,4 +1,4 @@
-use Rattle.script_laws.proofs.Written.{script_written}
+use Rattle.script_laws.proofs.Lawful.{script_written}
 use Rattle.script_laws.proofs.formulas.read_literals_are_texts.Goals as goal
 
 pub returns : goal.returns

@@ -1,4 +1,4 @@
-use Rattle.script_laws.proofs.Written.{script_written}
+use Rattle.script_laws.proofs.Lawful.{script_written}
 use Rattle.script_laws.proofs.formulas.read_numbers_are_of_64_bits.Goals as goal
 
 pub returns : goal.returns
