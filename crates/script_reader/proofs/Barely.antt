@@ -11,7 +11,7 @@ use Rattle.script_lines.specs.declared.line.Formula.{Formula, Column, Number as 
 use Rattle.script_lines.specs.declared.line.Line.{Line}
 use Rattle.script_lines.specs.declared.line.Line.TheVariants as lines
 use Rattle.script_lines.specs.declared.making.Making.{Making}
-use Rattle.script_lines.specs.declared.making.Making.TheVariants.{Keep, View, Join, AsOf, Agg, Merge, Sort, Head, Tail}
+use Rattle.script_lines.specs.declared.making.Making.TheVariants.{Keep, View}
 use Rattle.script_lines.specs.declared.line.Test.{Test, Compare as Compares, And' as Both', Or' as Either', Not' as Never'}
 use Rattle.script_lines.specs.Answers.{◌>>=◌}
 use Rattle.script_lines.specs.Bare.{bare, bare_test, bare_column, bare_making, bare_line}
@@ -112,18 +112,9 @@ pub drafted_bare : (before : Before) (making : Making) → drafted before (bare_
 unfolding drafted
 drafted_bare before (Keep input test) = kept_bare before input test
 drafted_bare before (View input columns) = viewed_bare before input columns
-drafted_bare before (Join left right on take choice) = refl
-drafted_bare before (AsOf left right on at take) = refl
-drafted_bare before (Agg input by columns) = refl
-drafted_bare before (Merge inputs) = refl
-drafted_bare before (Sort input by) = refl
-drafted_bare before (Head rows input) = refl
-drafted_bare before (Tail rows input) = refl
+drafted_bare before making = refl
 
 pub said_bare : (script : Script) (line : Line) → said script (bare_line line) ≡ said script line
 unfolding said
-said_bare script lines.Skipped = refl
-said_bare script (lines.Source name columns file) = refl
 said_bare script (lines.Node name making) = ap (λ r. r >>= (λ draft. placed script name draft [])) (drafted_bare (before_of script) making)
-said_bare script (lines.Print name) = refl
-said_bare script (lines.Publish name rows) = refl
+said_bare script line = refl

@@ -52,16 +52,8 @@ expr_kinds_plain columns (expr ∷ exprs) =
     ap (λ k. k ∷ expr_kinds columns (map plain exprs)) (kind_of_plain expr (kinds_of columns)) ∙ ap (λ ks. kind_of expr (kinds_of columns) ∷ ks) (expr_kinds_plain columns exprs)
 
 pub bound_plain : (op : Op) (bound : ℕ → ℕ) → bound_of (plain_op op) bound ≡ bound_of op bound
-bound_plain ops.Source bound = refl
 bound_plain (ops.Keep input test) bound = refl
-bound_plain (ops.View input exprs) bound = refl
-bound_plain (ops.Join left right on take choice) bound = refl
-bound_plain (ops.Agg input by aggs) bound = refl
-bound_plain (ops.Merge inputs) bound = refl
-bound_plain (ops.Sort input by) bound = refl
-bound_plain (ops.Head input rows) bound = refl
-bound_plain (ops.Tail input rows) bound = refl
-bound_plain (ops.AsOf left right on at take) bound = refl
+bound_plain op bound = refl
 
 pub key_bounds_plain : (nodes : List Node) → key_bounds (map plain_node nodes) ≡ key_bounds nodes
 key_bounds_plain nodes = from nodes []
