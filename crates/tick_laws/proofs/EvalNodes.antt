@@ -1,9 +1,9 @@
 -- The outcomes of a plan's nodes, each from those of its inputs, and what holds of their tables where it holds of the sources and
 -- each operator keeps it.
-use Rattle.std.proofs.Common.{◌≡◌, refl, ap, ap₂, sym, ◌∙◌, subst, ℕ, zero, suc, ◌<◌, ◌&&◌, ◌⊎◌, inl, inr, arith, Bool, true, false, true≢false, List, [], ◌∷◌, take, length, get_or, length-take-le, Option, Some, None}
+use Rattle.std.proofs.Common.{◌≡◌, refl, ap, ap₂, sym, ◌∙◌, subst, ℕ, ◌<◌, ◌&&◌, ◌⊎◌, inl, inr, arith, Bool, true, false, true≢false, List, [], ◌∷◌, take, length, get_or, length-take-le, Option, Some, None}
 use Rattle.std.specs.Prelude.{fold}
 use Rattle.std.specs.List.{list_all, AllByRecursion}
-use Rattle.std.proofs.lemmas.Bool.{and_parts, cases_lt}
+use Rattle.std.proofs.lemmas.Bool.{and_parts}
 use Rattle.std.proofs.lemmas.List.{get_or-take}
 use Rattle.tick_model.specs.declared.plan.Node.{Node}
 use Rattle.tick_model.specs.declared.plan.Op.{Op}
@@ -17,7 +17,7 @@ use Rattle.tick_model.specs.Evaluation.{Outcome, Table, NoInput, has_table, tabl
 use Rattle.tick_model.specs.Tables.{no_table}
 use Rattle.tick_model.specs.Operators.{is_source_op, inputs_of, result, fault_of}
 use Rattle.key_lists.proofs.Every.{every_weaker, map_same}
-use Rattle.tick_laws.proofs.Grown.{made_at, length-grown}
+use Rattle.tick_laws.proofs.Grown.{by_lesser, made_at, length-grown}
 
 -- what a test says of all elements
 pub all_pass : {X : Type 0} (p : X → Bool) (xs : List X) → list_all p xs ≡ true → AllByRecursion (λ x. p x ≡ true) xs
@@ -143,16 +143,8 @@ module _ (nodes : List Node) (d : Node) (sources : List PlainTable) where
                 subst (P n) (sym (ap table_of by_inputs.1 ∙ is.table)) (of_operator n within by_inputs.0 (table_at O) (inputs_have P n before (inputs_of (node_at n).op) (lesser n within) is.inputs) is.fault)
           ]
 
-      before_have : (m n : ℕ) → n < m → n < length nodes → has_table (get_or O n NoInput) ≡ true → P n (table_at O n)
-      before_have zero n less within h = absurd (omega (arith, less))
-      before_have (suc m) n less within h =
-          elim (cases_lt n m) [
-            | inl before ↦ before_have m n before within h
-            | inr last ↦
-                let is = outcome_is n within in
-                subst (λ (o : Outcome). P n (table_of o)) (sym is) (node_has n within (λ k below. before_have m k (omega (arith, below, less)) (omega (arith, below, within))) (ap has_table (sym is) ∙ h))
-          ]
-
       -- each node that has a table has such a one
       pub each_node_has : (n : ℕ) → n < length nodes → has_table (get_or O n NoInput) ≡ true → P n (table_at O n)
-      each_node_has n = before_have (suc n) n (omega arith)
+      each_node_has = by_lesser (λ n. n < length nodes → has_table (get_or O n NoInput) ≡ true → P n (table_at O n)) (λ n before within h.
+          let is = outcome_is n within in
+          subst (λ (o : Outcome). P n (table_of o)) (sym is) (node_has n within (λ k below. before k below (omega (arith, below, within))) (ap has_table (sym is) ∙ h)))

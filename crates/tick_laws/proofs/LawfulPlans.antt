@@ -1,8 +1,8 @@
 -- What the test of a lawful plan says of its nodes.
-use Rattle.std.proofs.Common.{◌≡◌, refl, sym, ◌∙◌, subst, ℕ, zero, suc, ◌+◌, ◌*◌, ◌<◌, ◌^◌, ◌&&◌, arith, true, true≢false, List, [], ◌∷◌, length, get_or, inl, inr}
+use Rattle.std.proofs.Common.{◌≡◌, refl, sym, ◌∙◌, subst, ℕ, ◌+◌, ◌*◌, ◌<◌, ◌^◌, ◌&&◌, arith, true, true≢false, List, [], ◌∷◌, length, get_or}
 use Rattle.std.specs.Prelude.{sum_by, slice_index, nat_le}
 use Rattle.std.specs.List.{AllByRecursion}
-use Rattle.std.proofs.lemmas.Bool.{and_parts, cases_lt}
+use Rattle.std.proofs.lemmas.Bool.{and_parts}
 use Rattle.std.proofs.lemmas.List.{get_or-map, get_or_default}
 use Rattle.std.proofs.lemmas.List.Sums.{sum-map, sum_by-cons}
 use Rattle.tick_model.specs.declared.plan.ColumnSpec.{ColumnSpec}
@@ -16,6 +16,7 @@ use Rattle.tick_model.proofs.KeyBounds.{bound_here, length-key_bounds}
 use Rattle.tick_model.proofs.LawfulNodes.{IsLawfulNode as IsNode, lawful_node}
 use Rattle.key_lists.proofs.Every.{every_weaker}
 use Rattle.key_lists.proofs.Parts.{every_from}
+use Rattle.tick_laws.proofs.Grown.{by_lesser}
 
 -- a bound of keys: so many regions of 65536 keys, and one at least
 pub record IsBound (bound : ℕ) : Type 0 where
@@ -63,19 +64,11 @@ module _ (plan : Plan) (d : Node) (l : IsLawfulPlan plan d) where
   pub bound_is : (n : ℕ) → n < length plan.nodes → get_or B n 0 ≡ bound_of (get_or plan.nodes n d).op (slice_index B)
   bound_is n h = bound_here plan.nodes n (get_or plan.nodes n d) h (get_or_default plan.nodes n d (get_or plan.nodes n d) h) (l.nodes n h).lesser
 
-  bounds_before : (m n : ℕ) → n < m → n < length plan.nodes → IsBound (get_or B n 0)
-  bounds_before zero n less h = absurd (omega (arith, less))
-  bounds_before (suc m) n less h =
-      elim (cases_lt n m) [
-        | inl before ↦ bounds_before m n before h
-        | inr last ↦
-            subst IsBound (sym (bound_is n h))
-            (op_bound (get_or plan.nodes n d).op (columns_at plan.nodes) (get_or plan.nodes n d).columns (slice_index B) (l.nodes n h).columns
-            (every_weaker (λ i. i < n) (λ i. IsBound (slice_index B i)) (inputs_of (get_or plan.nodes n d).op) (λ i below. bounds_before m i (omega (arith, below, less)) (omega (arith, below, h))) (l.nodes n h).lesser))
-      ]
-
   pub each_bound : (n : ℕ) → n < length plan.nodes → IsBound (get_or B n 0)
-  each_bound n = bounds_before (suc n) n (omega arith)
+  each_bound = by_lesser (λ n. n < length plan.nodes → IsBound (get_or B n 0)) (λ n before h.
+      subst IsBound (sym (bound_is n h))
+      (op_bound (get_or plan.nodes n d).op (columns_at plan.nodes) (get_or plan.nodes n d).columns (slice_index B) (l.nodes n h).columns
+      (every_weaker (λ i. i < n) (λ i. IsBound (slice_index B i)) (inputs_of (get_or plan.nodes n d).op) (λ i below. before i below (omega (arith, below, h))) (l.nodes n h).lesser)))
 
   -- no bound is past the keys
   pub bound_room : (n : ℕ) → n < length plan.nodes → get_or B n 0 < 2 ^ 62

@@ -1,8 +1,7 @@
 -- Each node's change is a tick, from its table at one step to its table at the next.
-use Rattle.std.proofs.Common.{◌≡◌, refl, ap, sym, ◌∙◌, subst, ℕ, zero, suc, ◌<◌, inl, inr, arith, true, false, List, [], length, get_or}
+use Rattle.std.proofs.Common.{◌≡◌, refl, ap, sym, ◌∙◌, subst, ℕ, ◌<◌, inl, inr, arith, true, false, List, [], length, get_or}
 use Rattle.std.specs.Prelude.{fold}
 use Rattle.std.specs.List.{AllByRecursion}
-use Rattle.std.proofs.lemmas.Bool.{cases_lt}
 use Rattle.tick_model.specs.declared.plan.Node.{Node}
 use Rattle.tick_model.specs.declared.plan.Op.{Op}
 use Rattle.tick_model.specs.declared.table.PlainTable.{PlainTable}
@@ -15,6 +14,7 @@ use Rattle.tick_model.specs.States.{tick_node}
 use Rattle.key_lists.proofs.Every.{every_weaker}
 use Rattle.tick_laws.specs.Reached.{IsTickFrom}
 use Rattle.tick_laws.proofs.EvalNodes.{applied_has, operator_outcome, outcome_is, result_same, source_outcome}
+use Rattle.tick_laws.proofs.Grown.{by_lesser}
 use Rattle.tick_laws.proofs.OperatorTicks.{operator_keeps}
 use Rattle.tick_laws.proofs.TickNodes.{tick_cases, tick_from, tick_is}
 
@@ -76,20 +76,12 @@ module _ (nodes : List Node) (d : Node) (olds news : List PlainTable) (own : Lis
           new_is = refl;
         }
 
-    ticks_before : (m n : ℕ) → n < m → n < length nodes → IsNodeTick n (get_or T n no_tick)
-    ticks_before zero n less h = absurd (omega (arith, less))
-    ticks_before (suc m) n less h =
-        elim (cases_lt n m) [
-          | inl before ↦ ticks_before m n before h
-          | inr last ↦
-              subst (IsNodeTick n) (sym (tick_is nodes d own (table_at O) (table_at N) n h (lesser n h)))
-              (elim (tick_cases (op_at n) (tick_at own (source_number nodes n)) T (table_at O n) (table_at N n)) [
-                | inl source ↦ subst (IsNodeTick n) (sym source.1) (source_tick n h source.0)
-                | inr made ↦
-                    subst (IsNodeTick n) (sym made.1)
-                    (operator_tick n h made.0 (every_weaker (λ k. k < n) (λ k. IsNodeTick k (tick_at T k)) (inputs_of (op_at n)) (λ k below. ticks_before m k (omega (arith, below, less)) (omega (arith, below, h))) (lesser n h)))
-              ])
-        ]
-
     pub each_node_tick : (n : ℕ) → n < length nodes → IsTickFrom (table_at O n) (table_at N n) (get_or T n no_tick)
-    each_node_tick n = ticks_before (suc n) n (omega arith)
+    each_node_tick = by_lesser (λ n. n < length nodes → IsNodeTick n (get_or T n no_tick)) (λ n before h.
+        subst (IsNodeTick n) (sym (tick_is nodes d own (table_at O) (table_at N) n h (lesser n h)))
+        (elim (tick_cases (op_at n) (tick_at own (source_number nodes n)) T (table_at O n) (table_at N n)) [
+          | inl source ↦ subst (IsNodeTick n) (sym source.1) (source_tick n h source.0)
+          | inr made ↦
+              subst (IsNodeTick n) (sym made.1)
+              (operator_tick n h made.0 (every_weaker (λ k. k < n) (λ k. IsNodeTick k (tick_at T k)) (inputs_of (op_at n)) (λ k below. before k below (omega (arith, below, h))) (lesser n h)))
+        ]))

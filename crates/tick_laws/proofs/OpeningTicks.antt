@@ -2,7 +2,6 @@
 use Rattle.std.proofs.Common.{◌≡◌, refl, ap, sym, ◌∙◌, subst, ℕ, zero, suc, ◌+◌, ◌<◌, inl, inr, arith, true, List, [], ◌∷◌, map, length, get_or}
 use Rattle.std.specs.Prelude.{fold}
 use Rattle.std.specs.List.{AllByRecursion}
-use Rattle.std.proofs.lemmas.Bool.{cases_lt}
 use Rattle.tick_model.specs.declared.feed.Run.{Run}
 use Rattle.tick_model.specs.declared.plan.Node.{Node}
 use Rattle.tick_model.specs.declared.plan.Op.{Op}
@@ -21,6 +20,7 @@ use Rattle.tick_model.specs.States.{empty_at, state, tick, tick_node}
 use Rattle.key_lists.proofs.Every.{every_weaker}
 use Rattle.tick_laws.specs.Reached.{IsReached, IsTickFrom}
 use Rattle.tick_laws.proofs.EvalNodes.{outcome_is, source_outcome}
+use Rattle.tick_laws.proofs.Grown.{by_lesser}
 use Rattle.tick_laws.proofs.TickNodes.{kept_same, tick_cases, tick_from, tick_is}
 use Rattle.tick_laws.proofs.LawfulPlans.{columns_at-node}
 use Rattle.tick_laws.proofs.LawfulSources.{lawful_tables, source_fits}
@@ -133,18 +133,10 @@ module _ (run : Run) (h : IsLawfulRun run) (r : IsReached run 0) where
         opening = ap (tick_from (old_table n) (new_at n)) none;
       }
 
-  opened_before : (m n : ℕ) → n < m → n < length nodes → IsOpened n (get_or T n no_tick)
-  opened_before zero n less within = absurd (omega (arith, less))
-  opened_before (suc m) n less within =
-      elim (cases_lt n m) [
-        | inl before ↦ opened_before m n before within
-        | inr last ↦
-            subst (IsOpened n) (sym (tick_is nodes no_node own_ticks old_table new_at n within (lesser n within)))
-            (elim (tick_cases (get_or nodes n no_node).op (tick_at own_ticks (source_number nodes n)) T (old_table n) (new_at n)) [
-              | inl own ↦ subst (IsOpened n) (sym own.1) (source_opened n within own.0)
-              | inr made ↦ subst (IsOpened n) (sym made.1) (operator_opened n within (λ k below. opened_before m k (omega (arith, below, less)) (omega (arith, below, within))))
-            ])
-      ]
-
   pub opening_ticks : (n : ℕ) → n < length nodes → IsTickFrom (old_table n) (new_at n) (tick run 0 n)
-  opening_ticks n less = (opened_before (suc n) n (omega arith) less).from
+  opening_ticks n less = (by_lesser (λ n. n < length nodes → IsOpened n (get_or T n no_tick)) (λ n before within.
+      subst (IsOpened n) (sym (tick_is nodes no_node own_ticks old_table new_at n within (lesser n within)))
+      (elim (tick_cases (get_or nodes n no_node).op (tick_at own_ticks (source_number nodes n)) T (old_table n) (new_at n)) [
+        | inl own ↦ subst (IsOpened n) (sym own.1) (source_opened n within own.0)
+        | inr made ↦ subst (IsOpened n) (sym made.1) (operator_opened n within (λ k below. before k below (omega (arith, below, within))))
+      ])) n less).from

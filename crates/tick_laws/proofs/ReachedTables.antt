@@ -10,7 +10,7 @@ use Rattle.tick_model.specs.declared.plan.Op.{Op}
 use Rattle.tick_model.specs.declared.plan.Plan.{Plan}
 use Rattle.tick_model.specs.declared.table.NodeFault.{NodeFault}
 use Rattle.tick_model.specs.declared.table.PlainTable.{PlainTable}
-use Rattle.tick_model.specs.Tables.{IsTable}
+use Rattle.tick_model.specs.Tables.{IsTable, no_table}
 use Rattle.tick_model.specs.Evaluation.{Outcome, Table, Fault, NoInput, eval, has_table, table_of, table_at, outcome_at, or_fault, applied, source_number}
 use Rattle.tick_model.specs.Operators.{inputs_of, result, fault_of}
 use Rattle.tick_model.specs.LawfulRuns.{IsLawfulRun}
@@ -22,6 +22,7 @@ use Rattle.key_lists.proofs.Every.{every_weaker, pass_all}
 use Rattle.tick_laws.specs.Bounded.{IsNodeTable}
 use Rattle.tick_laws.specs.Reached.{KeepsRules, IsReached}
 use Rattle.tick_laws.proofs.EvalNodes.{outcome_cases, length_outcomes, outcome_is}
+use Rattle.tick_laws.proofs.Grown.{by_lesser}
 use Rattle.tick_laws.proofs.LawfulPlans.{lawful_plan}
 use Rattle.tick_laws.proofs.LawfulSources.{sources_bounded}
 use Rattle.tick_laws.proofs.Paired.{no_node}
@@ -60,33 +61,18 @@ module _ (plan : Plan) (sources : List PlainTable) (lawful : is_lawful plan ≡ 
   abbrev O : List Outcome
   O = eval plan sources
 
-  tables_before : (m n : ℕ) → n < m → n < length nodes → has_table (get_or O n NoInput) ≡ true
-  tables_before zero n less within = absurd (omega (arith, less))
-  tables_before (suc m) n less within =
-      elim (cases_lt n m) [
-        | inl before ↦ tables_before m n before within
-        | inr last ↦
-            let is = outcome_is nodes no_node sources (λ n. lesser_inputs plan lawful n no_node) n within in
-            let op = (get_or nodes n no_node).op in
-            elim (outcome_cases op (get_or sources (own n) none) O) [
-              | inl own ↦ ap has_table (is ∙ own.1)
-              | inr by_inputs ↦
-                  ap has_table (is ∙ by_inputs.1)
-                  ∙ applied_to_tables op O
-                  (every_weaker (λ input. input < n) (λ input. has_table (outcome_at O input) ≡ true) (inputs_of op)
-                  (λ input below. tables_before m input (omega (arith, below, less)) (omega (arith, below, within))) (lesser_inputs plan lawful n no_node within))
-                  (ap is_fault (sym (is ∙ by_inputs.1)) ∙ no_fault_at 0 O n fine)
-            ]
-      ]
-    where
-      none : PlainTable
-      none = record { width = 0; rows = [] }
-
-      own : ℕ → ℕ
-      own k = source_number nodes k
-
   pub tables_all : (n : ℕ) → n < length nodes → has_table (get_or O n NoInput) ≡ true
-  tables_all n = tables_before (suc n) n (omega arith)
+  tables_all = by_lesser (λ n. n < length nodes → has_table (get_or O n NoInput) ≡ true) (λ n before within.
+      let is = outcome_is nodes no_node sources (λ n. lesser_inputs plan lawful n no_node) n within in
+      let op = (get_or nodes n no_node).op in
+      elim (outcome_cases op (get_or sources (source_number nodes n) no_table) O) [
+        | inl own ↦ ap has_table (is ∙ own.1)
+        | inr by_inputs ↦
+            ap has_table (is ∙ by_inputs.1)
+            ∙ applied_to_tables op O
+            (every_weaker (λ input. input < n) (λ input. has_table (outcome_at O input) ≡ true) (inputs_of op) (λ input below. before input below (omega (arith, below, within))) (lesser_inputs plan lawful n no_node within))
+            (ap is_fault (sym (is ∙ by_inputs.1)) ∙ no_fault_at 0 O n fine)
+      ])
 
 -- past the last node there is no table
 past_last : (outcomes : List Outcome) (n : ℕ) → length outcomes ≤ n → IsTable (table_at outcomes n)
