@@ -13,7 +13,7 @@ use Rattle.tick_model.specs.Tables.{cell, cells_at, keys, row_at, IsTable}
 use Rattle.tick_model.specs.Updates.{Tick, IsTick, old_keys, new_keys}
 use Rattle.tick_model.specs.Sort.{column_cmp, sort_cmp, place, in_order, numbered, same_place, place_of, place_pair, sort_pairs, sort_table}
 use Rattle.tick_model.proofs.Among.{rest_above, each_found}
-use Rattle.key_lists.proofs.Every.{every_weaker, every_both, every-map, every_unmapped, every-filter}
+use Rattle.key_lists.proofs.Every.{every_weaker, every_both, every-map, every_unmapped, every-filter, filter_passes}
 use Rattle.tick_model.proofs.SortOrders.{comes_before, comes_before_weak}
 use Rattle.tick_model.proofs.TableRows.{every-ordered, every-place}
 
@@ -148,22 +148,19 @@ module _ (by : List SortBy) (input : Tick) (h : IsTick input) where
   abbrev Found : PlainRow → Type 0
   Found row = row_at row.key input.old.rows ≡ Some row
 
-  -- what is known of a pair of equal sort cells
+  -- what is known of a pair, and of one of equal sort cells
+  abbrev Rises : KeyPair → Type 0
+  Rises pair = (is_among pair.new (keys input.new.rows) ≡ true) × AllByRecursion (λ (q : KeyPair). pair.old < q.old → pair.new < q.new) input.kept
+
   abbrev IsGood : KeyPair → Type 0
   IsGood pair = (same_place by input pair ≡ true) × (is_among pair.new (keys input.new.rows) ≡ true) × AllByRecursion (λ (q : KeyPair). pair.old < q.old → pair.new < q.new) input.kept
 
   each_good : AllByRecursion IsGood kept
-  each_good = go input.kept
-      (every_both (λ (p : KeyPair). is_among p.new (keys input.new.rows) ≡ true) (λ (p : KeyPair). AllByRecursion (λ (q : KeyPair). p.old < q.old → p.new < q.new) input.kept) (λ (p : KeyPair). (is_among p.new (keys input.new.rows) ≡ true) × AllByRecursion (λ (q : KeyPair). p.old < q.old → p.new < q.new) input.kept) input.kept (λ p a b. (a, b))
-      (every_unmapped (λ key. is_among key (keys input.new.rows) ≡ true) (λ (p : KeyPair). p.new) input.kept h.of_new) (pairs_rise input.kept h.rising_old h.rising_new))
-    where
-      go : (ps : List KeyPair) → AllByRecursion (λ (p : KeyPair). (is_among p.new (keys input.new.rows) ≡ true) × AllByRecursion (λ (q : KeyPair). p.old < q.old → p.new < q.new) input.kept) ps → AllByRecursion IsGood (filter (same_place by input) ps)
-      go [] k = tt
-      go (p ∷ ps) k =
-          (elim (same_place by input p) as (λ b. same_place by input p ≡ b → AllByRecursion IsGood (cond b (p ∷ filter (same_place by input) ps) (filter (same_place by input) ps))) [
-            | true ↦ λ e. ((e, k.0.0, k.0.1), go ps k.1)
-            | false ↦ λ e. go ps k.1
-          ]) refl
+  each_good =
+      every_both (λ (p : KeyPair). same_place by input p ≡ true) Rises IsGood kept (λ p same rises. (same, rises.0, rises.1)) (filter_passes (same_place by input) input.kept)
+      (every-filter Rises (same_place by input) input.kept
+      (every_both (λ (p : KeyPair). is_among p.new (keys input.new.rows) ≡ true) (λ (p : KeyPair). AllByRecursion (λ (q : KeyPair). p.old < q.old → p.new < q.new) input.kept) Rises input.kept (λ p there rise. (there, rise))
+      (every_unmapped (λ key. is_among key (keys input.new.rows) ≡ true) (λ (p : KeyPair). p.new) input.kept h.of_new) (pairs_rise input.kept h.rising_old h.rising_new)))
 
   -- a row and the new row of its pair have equal sort cells
   alike : (a a' : PlainRow) (p : KeyPair) → Found a → p.old ≡ a.key → row_at p.new input.new.rows ≡ Some a' → same_place by input p ≡ true → AlikeRows by a a'
