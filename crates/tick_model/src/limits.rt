@@ -11,7 +11,7 @@ pub const FEWEST_INPUTS: usize = 2;
 
 pub const MOST_INPUTS: usize = 16;
 
-/// The most rows of a table, and the most that a head, a tail or a publication may ask for.
+/// The most rows of a table, and the most that a line of a script may ask for.
 pub const MOST_ROWS: u32 = 4_194_304;
 
 /// Each key of a source is below it.

@@ -2,16 +2,9 @@
 
 ghost use Rattle.std.specs.Prelude.{◌≡◌, map};
 ghost use Rattle.std.specs.List.{list_all};
-ghost use Rattle.tick_model.specs.Names.{is_letter as is_letter_code, is_name_byte as is_name_code, is_one_of, reserved, is_name as is_name_of, are_distinct as are_distinct_names};
+ghost use Rattle.tick_model.specs.Names.{is_letter as is_letter_code, is_name_byte as is_name_code, is_one_of, is_reserved as is_reserved_word, is_name as is_name_of, are_distinct as are_distinct_names};
 
-use crate::plan::{ColumnSpec, Node};
-
-/// The words of scripts that are no names.
-const RESERVED: [&str; 28] = [
-    "table", "from", "where", "view", "join", "on", "take", "agg", "by", "do", "merge", "sort",
-    "head", "tail", "print", "publish", "and", "or", "not", "null", "long", "text", "count", "sum",
-    "min", "max", "first", "last",
-];
+use crate::plan::{ColumnSpec, Node, RESERVED};
 
 /// The most bytes that may follow the first of a name.
 const MOST_OTHERS: usize = 31;
@@ -62,7 +55,7 @@ fn are_name_bytes(bytes: &[u8]) -> bool
 }
 
 fn is_reserved(word: &str) -> bool
-    ensures { result ≡ is_one_of reserved word.now }
+    ensures { result ≡ is_reserved_word word.now }
 {
     RESERVED.iter().any(|reserved| word == *reserved)
 }
