@@ -12,13 +12,12 @@ use Rattle.tick_model.specs.declared.plan.Expr.{Cell}
 use Rattle.tick_model.specs.declared.plan.Kind.TheVariants.{Long}
 use Rattle.tick_model.specs.declared.plan.Op.{Op}
 use Rattle.tick_model.specs.declared.plan.Op.TheVariants.{Source, Keep, View, Join, Agg as AggOp, Merge, Sort, Head, Tail, AsOf}
-use Rattle.tick_model.specs.Operators.{inputs_of, result, columns_fit}
+use Rattle.tick_model.specs.Operators.{inputs_of, result, columns_fit, result_width}
 use Rattle.tick_model.specs.Formulas.{IsTestWithin, IsWithin}
 use Rattle.tick_model.specs.Columns.{agg_kind, follow, has_kind, have_kinds, keep_names, is_bound, is_test_bound, kind_at, kind_of, kinds_of, same_columns, same_kind_at, some_of, test_fits}
 use Rattle.tick_model.proofs.Results.{IsOperator}
 use Rattle.tick_model.proofs.Widths.{all_within, follow_some, follow_width, have_some, kinds_width, same_width, test_within, within, long_some}
 use Rattle.agg_by.specs.Aggregator.{IsColumn}
-use Rattle.table_operator.specs.Made.{result_width}
 use Rattle.operators.specs.Operating.{CanBeMade}
 use Rattle.tick_laws.proofs.EvalNodes.{all_pass}
 use Rattle.tick_model.specs.declared.table.PlainRow.{PlainRow}

@@ -4,14 +4,14 @@ use Rattle.std.specs.Prelude.{sum}
 use Rattle.tick_model.specs.declared.plan.Op.{Op}
 use Rattle.tick_model.specs.declared.table.PlainTable.{PlainTable}
 use Rattle.tick_model.specs.Changes.{Change, change_of}
-use Rattle.tick_model.specs.Operators.{fault_of}
+use Rattle.tick_model.specs.Operators.{fault_of, result_width}
 use Rattle.tick_model.specs.Ready.{table_in}
 use Rattle.tick_model.specs.Updates.{Tick}
 use Rattle.tick_laws.specs.Operated.{operated}
 use Rattle.tick_table.specs.Exact.{counted}
 use Rattle.tick_table.specs.Ticking.{Ticking}
 use Rattle.table_operator.specs.Inputs.{counted_in, tick_in}
-use Rattle.table_operator.specs.Made.{IsMadeOf, Made, own_fault, own_tick, result_width, room_for}
+use Rattle.table_operator.specs.Made.{IsMadeOf, Made, own_fault, own_tick, room_for}
 use Rattle.operators.specs.declared.running.Running.{Running}
 use Rattle.operators.specs.Inputs.{AreTables, AreTicks}
 use Rattle.operators.specs.Operating.{made_of}

@@ -4,11 +4,11 @@
 ghost use Rattle.std.specs.Prelude.{◌≡◌, ℕ, ◌<◌, List, false, length, map, slice_index, slice_index_or, true};
 ghost use Rattle.operators.specs.Operating.{CanBeMade};
 ghost use Rattle.operators.specs.Planned.{input_widths, op_at};
-ghost use Rattle.table_operator.specs.Made.{HasKeys, result_width};
+ghost use Rattle.table_operator.specs.Made.{HasKeys};
 ghost use Rattle.tick_laws.specs.Bounded.{IsNodeTable};
 ghost use Rattle.tick_laws.specs.Operated.{EachInput};
 ghost use Rattle.tick_model.specs.Evaluation.{is_source};
-ghost use Rattle.tick_model.specs.Operators.{inputs_of, result as result_of};
+ghost use Rattle.tick_model.specs.Operators.{inputs_of, result as result_of, result_width};
 ghost use Rattle.tick_model.specs.Plans.{columns_at, is_lawful, key_bounds};
 ghost use Rattle.tick_model.specs.States.{empty_at};
 ghost use Rattle.tick_model.specs.declared.plan.Node.{Node};

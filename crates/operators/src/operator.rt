@@ -3,12 +3,12 @@
 ghost use Rattle.std.specs.Prelude.{◌≡◌, ℕ, ◌+◌, ◌-◌, ◌*◌, ◌≤◌, ◌++◌, ◌∷◌, [], None, length, map, sum, IfErr, IfOk, OnErr, OnOk};
 ghost use Rattle.std.specs.List.{AllByRecursion};
 ghost use Rattle.table_operator.specs.Inputs.{counted_in, news, olds, tables};
-ghost use Rattle.table_operator.specs.Made.{HasKeys, IsCause, result_width};
+ghost use Rattle.table_operator.specs.Made.{HasKeys, IsCause};
 ghost use Rattle.operators.specs.Inputs.{AreTables, AreTicks};
 ghost use Rattle.operators.specs.Operating.{CanBeMade, StandsFor, idled};
 ghost use Rattle.tick_laws.specs.Operated.{operated};
 ghost use Rattle.tick_model.specs.Changes.{change_of};
-ghost use Rattle.tick_model.specs.Operators.{fault_of, inputs_of};
+ghost use Rattle.tick_model.specs.Operators.{fault_of, inputs_of, result_width};
 ghost use Rattle.tick_model.specs.Updates.{Tick};
 ghost use Rattle.tick_model.specs.declared.table.PlainTable.{PlainTable};
 ghost use Rattle.tick_table.specs.Exact.{IsExact, counted, tick_of};

@@ -1,20 +1,19 @@
 -- What an operator is made of, and what a step of it may rely on and has to give.
 --     Made      an operator of a plan over inputs that are numbered in order, and their widths
---     result_width op widths      the width of the table that an operator makes of inputs of these widths
 --     IsMadeOf op made      it makes of its inputs what this operator of a plan makes of the nodes that it reads
 --     HasKeys op tables      there are keys enough for the rows that it makes
 --     IsReady made Stands inputs      the inputs are its own, and it stands for their rows before the step
 --     own_tick made inputs, own_fault made inputs      the tick of its own table, and its fault where it has none now
 --     IsCause fault own      what a step answers in place of a change, where its inputs' tables have this fault
 --     room_for made inputs      how many cells a step may read
-use Rattle.std.specs.Prelude.{◌≡◌, ℕ, ◌+◌, ◌*◌, ◌^◌, ◌<◌, ◌≤◌, List, length, map, slice_index, sum, Option, Some}
+use Rattle.std.specs.Prelude.{◌≡◌, ℕ, ◌+◌, ◌*◌, ◌^◌, ◌<◌, ◌≤◌, List, length, map, sum, Option, Some}
 use Rattle.std.specs.List.{AllByRecursion}
 use Rattle.tick_model.specs.declared.plan.Op.{Op}
-use Rattle.tick_model.specs.declared.plan.Op.TheVariants.{Source, Keep, View, Join, Agg, Merge, Sort, Head, Tail, AsOf}
+use Rattle.tick_model.specs.declared.plan.Op.TheVariants.{Merge}
 use Rattle.tick_model.specs.declared.table.NodeFault.{NodeFault}
 use Rattle.tick_model.specs.declared.table.PlainTable.{PlainTable}
 use Rattle.tick_model.specs.Changes.{change_of}
-use Rattle.tick_model.specs.Operators.{fault_of, inputs_of}
+use Rattle.tick_model.specs.Operators.{fault_of, inputs_of, result_width}
 use Rattle.tick_model.specs.Merge.{merge_table}
 use Rattle.tick_model.specs.Ready.{table_in}
 use Rattle.tick_model.specs.Tables.{keys}
@@ -29,18 +28,6 @@ use Rattle.table_operator.specs.Inputs.{counted_in, news, olds, tick_in}
 pub record Made : Type 0 where
   pub op : Op
   pub widths : List ℕ
-
-abbrev pub result_width : Op → List ℕ → ℕ
-result_width Source widths = 0
-result_width (Keep input test) widths = slice_index widths 0
-result_width (View input exprs) widths = slice_index widths 0 + length exprs
-result_width (Join left right on take choice) widths = slice_index widths 0 + length take
-result_width (Agg input by aggs) widths = length by + length aggs
-result_width (Merge inputs) widths = slice_index widths 0
-result_width (Sort input by) widths = slice_index widths 0
-result_width (Head input rows) widths = slice_index widths 0
-result_width (Tail input rows) widths = slice_index widths 0
-result_width (AsOf left right on at take) widths = slice_index widths 0 + length take
 
 abbrev pub HasKeys : Op → List PlainTable → Type 0
 HasKeys (Merge inputs) tables = AllByRecursion (λ key. key < 2 ^ 62) (keys (merge_table tables).rows)

@@ -4,9 +4,10 @@
 --     result op table, fault_of op table      its table from those of the nodes, or why it has none although its inputs have theirs
 --     kept_by op tick old new      the pairs of keys of the rows that it keeps, from the ticks of the nodes and its own table before and after
 --     columns_fit op input columns      these are its columns, over those of the nodes
+--     result_width op widths      how many columns its table has, from those of its inputs in order
 --     bound_of op bound      a number greater than each of its keys, from those of the nodes
 --     IsReady op tables      it may be applied to the tables of the nodes before it: its inputs are there, its formulas are within their rows, and their keys have room
-use Rattle.std.specs.Prelude.{ℕ, ◌+◌, ◌^◌, ◌<◌, ◌&&◌, Bool, true, false, List, [], ◌∷◌, ◌++◌, map, length, Option, None, nat_le, sum, is_some}
+use Rattle.std.specs.Prelude.{ℕ, ◌+◌, ◌^◌, ◌<◌, ◌&&◌, Bool, true, false, List, [], ◌∷◌, ◌++◌, map, length, Option, None, nat_le, slice_index, sum, is_some}
 use Rattle.std.specs.List.{All, list_all}
 use Rattle.tick_model.specs.declared.plan.ColumnSpec.{ColumnSpec}
 use Rattle.tick_model.specs.declared.plan.Kind.TheVariants.{Long}
@@ -98,6 +99,19 @@ columns_fit (Tail from rows) input columns = same_columns columns (input from) &
 columns_fit (AsOf left right on at taken) input columns =
     some_of taken && list_all (same_kind_at (input left) (input right)) on && has_kind Long (kind_at (input left) at.left) && has_kind Long (kind_at (input right) at.right)
     && follow columns (input left) (map (kind_at (input right)) taken)
+
+-- the width of the table that an operator makes of inputs of these widths
+abbrev pub result_width : Op → List ℕ → ℕ
+result_width Source widths = 0
+result_width (Keep input test) widths = slice_index widths 0
+result_width (View input exprs) widths = slice_index widths 0 + length exprs
+result_width (Join left right on take choice) widths = slice_index widths 0 + length take
+result_width (Agg input by aggs) widths = length by + length aggs
+result_width (Merge inputs) widths = slice_index widths 0
+result_width (Sort input by) widths = slice_index widths 0
+result_width (Head input rows) widths = slice_index widths 0
+result_width (Tail input rows) widths = slice_index widths 0
+result_width (AsOf left right on at take) widths = slice_index widths 0 + length take
 
 -- a number greater than each key of a node
 abbrev pub bound_of : Op → (ℕ → ℕ) → ℕ

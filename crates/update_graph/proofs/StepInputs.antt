@@ -7,7 +7,7 @@ use Rattle.std.proofs.lemmas.Bool.{not-true}
 use Rattle.std.proofs.lemmas.List.Folds.{list_all-map}
 use Rattle.key_lists.proofs.Every.{every-map, every_unmapped, every_weaker, map_map, map_same, pass_all}
 use Rattle.table_operator.specs.Inputs.{counted_in, news, olds, tables}
-use Rattle.table_operator.specs.Made.{HasKeys, result_width}
+use Rattle.table_operator.specs.Made.{HasKeys}
 use Rattle.operators.specs.Inputs.{AreTables, AreTicks}
 use Rattle.operators.specs.Planned.{input_widths}
 use Rattle.tick_model.specs.declared.feed.Run.{Run}
@@ -16,7 +16,7 @@ use Rattle.tick_model.specs.declared.table.NodeFault.{NodeFault}
 use Rattle.tick_model.specs.declared.table.PlainTable.{PlainTable}
 use Rattle.tick_model.specs.Changes.{Change, change_of}
 use Rattle.tick_model.specs.Evaluation.{Outcome, Fault, NoInput, applied, has_table, is_source, or_fault, outcome_at, table_at}
-use Rattle.tick_model.specs.Operators.{fault_of, inputs_of, result}
+use Rattle.tick_model.specs.Operators.{fault_of, inputs_of, result, result_width}
 use Rattle.tick_model.specs.Plans.{columns_at, key_bounds}
 use Rattle.tick_model.specs.States.{state, tick}
 use Rattle.tick_model.specs.Updates.{Tick}

@@ -23,7 +23,6 @@ use Rattle.std.specs.declared.sync.Arc.{Arc}
 use mathlib.Core.Option.{some}
 use lib.ListN.{get_elem?}
 use Rattle.table_operator.specs.Inputs.{counted_in, tables}
-use Rattle.table_operator.specs.Made.{result_width}
 use Rattle.operators.specs.Operating.{Operating, StandsFor}
 use Rattle.operators.specs.Planned.{input_widths}
 use Rattle.tick_laws.specs.Operated.{operated}
@@ -31,7 +30,7 @@ use Rattle.tick_model.specs.declared.feed.Run.{Run}
 use Rattle.tick_model.specs.declared.table.PlainTable.{PlainTable}
 use Rattle.tick_model.specs.Changes.{change_of, is_empty}
 use Rattle.tick_model.specs.Evaluation.{Fault, NoInput, has_table, outcome_at, source_number, table_at}
-use Rattle.tick_model.specs.Operators.{inputs_of}
+use Rattle.tick_model.specs.Operators.{inputs_of, result_width}
 use Rattle.tick_model.specs.States.{state, tick}
 use Rattle.tick_model.specs.Updates.{Update}
 use Rattle.tick_table.specs.Exact.{counted, ticking}

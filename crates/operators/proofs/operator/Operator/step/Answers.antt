@@ -5,11 +5,11 @@ use Rattle.row_changes.proofs.Comparing.{on_err}
 use Rattle.tick_laws.specs.Operated.{operated}
 use Rattle.tick_model.specs.declared.table.PlainTable.{PlainTable}
 use Rattle.tick_model.specs.Changes.{Change, change_of}
-use Rattle.tick_model.specs.Operators.{fault_of}
+use Rattle.tick_model.specs.Operators.{fault_of, result_width}
 use Rattle.tick_model.specs.Updates.{Tick}
 use Rattle.tick_table.specs.Exact.{counted}
 use Rattle.table_operator.specs.Inputs.{counted_in, news, olds, tables}
-use Rattle.table_operator.specs.Made.{HasKeys, IsCause, result_width}
+use Rattle.table_operator.specs.Made.{HasKeys, IsCause}
 use Rattle.operators.specs.Inputs.{AreTables, AreTicks}
 use Rattle.operators.specs.Operating.{Operating, StandsFor, made_of}
 use Rattle.operators.proofs.Stepped.{own_fault_is, own_tick_is, room_is}
