@@ -1,9 +1,9 @@
 -- In a lawful plan a merge has keys enough.
-use Rattle.std.proofs.Common.{◌≡◌, ap, ◌∙◌, subst, ℕ, ◌+◌, ◌*◌, ◌^◌, ◌<◌, ◌≤◌, arith, true, suc, List, [], ◌∷◌, length, map, sum}
+use Rattle.std.proofs.Common.{◌≡◌, subst, ℕ, ◌+◌, ◌^◌, ◌<◌, ◌≤◌, arith, true, List, [], ◌∷◌, length, map, sum}
 use Rattle.std.specs.Prelude.{slice_index}
 use Rattle.std.specs.List.{AllByRecursion}
 use Rattle.std.proofs.lemmas.List.Elements.{recursion_from_All}
-use Rattle.key_lists.proofs.Every.{every_both, every_weaker, every-append, every-map, every_unmapped}
+use Rattle.key_lists.proofs.Every.{every_both, every_weaker, every-append, every-map}
 use Rattle.tick_model.specs.declared.plan.Node.{Node}
 use Rattle.tick_model.specs.declared.plan.Op.{Op}
 use Rattle.tick_model.specs.declared.plan.Op.TheVariants.{Merge}
@@ -14,11 +14,12 @@ use Rattle.tick_model.specs.Operators.{inputs_of, bound_of}
 use Rattle.tick_model.specs.Merge.{merged_rows, region, row_from}
 use Rattle.tick_model.specs.Plans.{columns_at, is_lawful, key_bounds}
 use Rattle.tick_model.specs.Ready.{HaveRoom}
-use Rattle.tick_model.specs.Tables.{IsRow, keys}
+use Rattle.tick_model.specs.Tables.{keys}
 use Rattle.tick_model.proofs.Results.{AreResults, IsResult, merged_room}
 use Rattle.tick_laws.specs.Bounded.{IsNodeTable}
 use Rattle.tick_laws.specs.Operated.{EachInput}
 use Rattle.tick_laws.proofs.LawfulPlans.{IsLawfulPlan, bound_is, bound_room, each_bound, lawful_plan}
+use Rattle.tick_laws.proofs.NodeTables.{node_result}
 use Rattle.table_operator.specs.Made.{HasKeys}
 use Rattle.operators.specs.Planned.{op_at}
 
@@ -46,23 +47,9 @@ roomy_node plan n d lawful less table h = go (op_at plan n d) (subst (λ b. b < 
     bound : ℕ → ℕ
     bound = slice_index (key_bounds plan.nodes)
 
-    result_at : (i : ℕ) → i < length plan.nodes → IsNodeTable (width i) (bound i) (table i) → IsResult (width i) (bound i) (table i)
-    result_at i less t =
-        let b = each_bound plan d l i less in
-        record {
-          width_is = t.width_is;
-          few = t.count;
-          whole = every_weaker (IsRow (table i).width) (λ row. length row.cells ≡ width i) (table i).rows (λ row r. r.whole ∙ t.width_is) t.is_table.rows;
-          below = every_unmapped (λ key. key < bound i) (λ (row : PlainRow). row.key) (table i).rows t.below;
-          regions = (b.regions, b.are ∙ ap (λ k. 65536 * k) (next b.regions));
-        }
-      where
-        next : (k : ℕ) → k + 1 ≡ suc k
-        next k = omega arith
-
     go : (op : Op) → bound_of op bound < 2 ^ 62 → AllByRecursion (λ i. i < length plan.nodes) (inputs_of op) → EachInput op (λ i. IsNodeTable (width i) (bound i) (table i)) → HasKeys op (map table (inputs_of op))
     go (Merge inputs) room known t =
         let small : sum (map bound inputs) ≤ 2 ^ 62 = omega (arith, room) in
-        let results : AreResults width bound table inputs = every_both (λ i. i < length plan.nodes) (λ i. IsNodeTable (width i) (bound i) (table i)) (λ i. IsResult (width i) (bound i) (table i)) inputs result_at known t in
+        let results : AreResults width bound table inputs = every_both (λ i. i < length plan.nodes) (λ i. IsNodeTable (width i) (bound i) (table i)) (λ i. IsResult (width i) (bound i) (table i)) inputs (λ i less. node_result (width i) (bound i) (table i) (each_bound plan d l i less)) known t in
         roomy_keys (map table inputs) (merged_room (sum (map bound inputs)) width bound table inputs 0 small results (omega arith))
     go op room known t = tt
