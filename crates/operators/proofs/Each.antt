@@ -1,4 +1,5 @@
--- What holds of each operator: it can be made where its columns fit, and makes a table without rows of such ones.
+-- What holds of each operator: it can be made where its columns fit, makes a table without rows of such ones, and may go to another thread.
+use denote.Param.Send.{IsSend, sendable}
 use Rattle.std.proofs.Common.{◌≡◌, refl, sym, ◌∙◌, subst, true, false, true≢false, ◌&&◌, ℕ, ◌+◌, ◌<◌, ◌≤◌, arith, List, [], ◌∷◌, ◌++◌, length, map, length-append, ap, ap₂, zero, suc, ◌-◌, take, drop}
 use Rattle.std.specs.Prelude.{nat_le, is_some, slice_index}
 use Rattle.std.specs.List.{AllByRecursion, list_all}
@@ -32,6 +33,20 @@ use Rattle.tick_model.specs.View.{view_table}
 use Rattle.tick_model.specs.Where.{where_table}
 use Rattle.tick_table.specs.Ticking.{no_rows}
 use Rattle.merge_op.proofs.Planned.{none_merged}
+use Rattle.boxcar.proofs.Sent.{tag_send}
+use Rattle.std.proofs.Crossing as crossing
+use Rattle.std.proofs.MapsCrossing as maps
+use Rattle.tick_model.proofs.plan.Comparison.TheSendSync as comparison
+use Rattle.tick_model.proofs.plan.Expr.TheLaws.TheKnot as expr
+use Rattle.tick_model.proofs.plan.Pred.TheLaws.TheKnot as pred
+use Rattle.row_set.proofs.rows.RowSet.TheSendSync as row_set
+use Rattle.agg_by.proofs.agg_op.AggOp.TheSendSync as agg_op
+use Rattle.head_tail.proofs.end_op.EndOp.TheSendSync as end_op
+use Rattle.lookup_join.proofs.as_of_op.AsOfOp.TheSendSync as as_of_op
+use Rattle.lookup_join.proofs.join_op.JoinOp.TheSendSync as join_op
+use Rattle.merge_op.proofs.merging.MergeOp.TheSendSync as merge_op
+use Rattle.sort_op.proofs.operator.SortOp.TheSendSync as sort_op
+use Rattle.operators.specs.contracts.operator.Operator as operator
 
 kinds_count : (columns : List ColumnSpec) → length (kinds_of columns) ≡ length columns
 kinds_count columns = length-map columns (λ (column : ColumnSpec). column.kind)
@@ -184,3 +199,21 @@ empty_result (Sort input by) table widths e = ap (sort_table by) (first_empty (t
 empty_result (Head input rows) table widths e = ap (head_table rows) (first_empty (table input) [] widths e) ∙ ap (with_rows (slice_index widths 0)) (taken rows)
 empty_result (Tail input rows) table widths e = ap (tail_table rows) (first_empty (table input) [] widths e) ∙ ap (with_rows (slice_index widths 0)) (dropped (0 - rows))
 empty_result (AsOf left right on at taken) table widths e = ap (λ (t : PlainTable). asof_table on at taken t (table right)) (first_empty (table left) (table right ∷ []) widths e)
+
+pub operator_send : IsSend operator.the_row
+operator_send = search (
+  agg_op.the_send,
+  as_of_op.the_send,
+  end_op.the_send,
+  merge_op.the_send,
+  join_op.the_send,
+  row_set.the_send,
+  sort_op.the_send,
+  tag_send,
+  comparison.the_field_send,
+  maps.crosses,
+  crossing.crosses,
+  expr.crosses,
+  pred.crosses,
+  sendable,
+) depth 60 fits 20000
