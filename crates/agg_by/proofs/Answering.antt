@@ -1,39 +1,12 @@
 -- What is kept for an aggregate says of a group what the aggregate of its rows is.
 use Rattle.std.proofs.Common.{◌≡◌, refl, ap, ap₂, sym, ◌∙◌, subst, Bool, true, false, not, cond, ◌==◌, ◌||◌, ℕ, zero, suc, ◌-◌, ◌^◌, ◌<◌, ◌≤◌, arith, List, [], ◌∷◌, ◌++◌, map, filter, length, Option, Some, None, ℤ, pos, ◌+ℤ◌, w64, fold, option_map, true≢false, append_assoc, is_some, is_ok, OnOk, Result, Ok, Err, if◌then◌else◌}
-use Rattle.std.specs.Cmp.{signed_Decides}
-use Rattle.std.specs.Cmp.Rules.{signed_items}
-use Rattle.std.specs.List.{AllByRecursion}
-use Rattle.std.specs.Option.{option_map_or}
-use Rattle.std.specs.Ordering.{int_eq}
-use Rattle.std.specs.Prelude.{find, slice_get, unwrap_or}
-use Rattle.std.proofs.lemmas.Bool.{and_parts}
-use Rattle.std.proofs.lemmas.Int.{int_wrap_fits, ints}
-use Rattle.std.proofs.lemmas.List.{length-map}
-use Rattle.key_lists.specs.Keys.{is_among, IsRising}
-use Rattle.key_lists.proofs.Every.{every-filter, every-map, every_weaker, filter-map, filter_passes, map_map, map_same}
+use Rattle.std.{specs.Cmp.signed_Decides, specs.Cmp.Rules.signed_items, specs.List.AllByRecursion, specs.Option.option_map_or, specs.Ordering.int_eq, specs.Prelude.{find, slice_get, unwrap_or}, proofs.lemmas.Bool.and_parts, proofs.lemmas.Int.{int_wrap_fits, ints}, proofs.lemmas.List.length-map}
+use Rattle.key_lists.{specs.Keys.{is_among, IsRising}, proofs.Every.{every-filter, every-map, every_weaker, filter-map, filter_passes, map_map, map_same}}
 use Rattle.row_changes.specs.Sums.{added_up}
-use Rattle.row_groups.proofs.Keys.{some_of}
-use Rattle.row_groups.specs.Members.{Grouped, IsNumberOf, Member, Names, by_at, group_of, keys_of, member_under, name_at, placed as member_placed}
-use Rattle.tick_laws.proofs.ResultCells.{length-filter_most}
-use Rattle.tick_model.proofs.Among.{each_found, rows_among}
-use Rattle.tick_laws.proofs.ResultTables.{table_count}
-use Rattle.tick_model.specs.Agg.{agg_table, aggregate, column_of, key_cells, over, present, sum_of}
-use Rattle.tick_model.specs.declared.plan.Agg.{Agg}
-use Rattle.tick_model.specs.declared.table.PlainRow.{PlainRow}
-use Rattle.tick_model.specs.declared.table.PlainTable.{PlainTable}
-use Rattle.tick_model.specs.Formulas.{wrap}
-use Rattle.tick_model.specs.Tables.{cell, cells_at, is_null, keys, null, row_at, same_cells, IsTable}
-use Rattle.agg_by.specs.declared.running.Running.{Running}
-use Rattle.agg_by.specs.declared.running.Running.TheVariants.{Count, Sum, Min, Max, First, Last}
-use Rattle.agg_by.specs.Answers.{answer, cell_of}
-use Rattle.agg_by.specs.ByNumber.{at_number}
-use Rattle.agg_by.specs.Kept.{AnswerAll, Answers, agg_of, cells_in, group_rows, indexed, member_by}
-use Rattle.agg_by.specs.Steps.{first_keys, kept_cells, key_at}
-use Rattle.agg_by.specs.Sums.{no_total, sum_or_null, total_of}
-use Rattle.agg_by.specs.Values.{greatest, in_order, least, opposites}
-use Rattle.agg_by.proofs.Bringing.{keys-members, members}
-use Rattle.agg_by.proofs.GroupRows.{cells-agg, first_at}
-use Rattle.agg_by.proofs.Ordered.{greatest_is, least_is}
+use Rattle.row_groups.{proofs.Keys.some_of, specs.Members.{Grouped, IsNumberOf, Member, Names, by_at, group_of, keys_of, member_under, name_at, placed as member_placed}}
+use Rattle.tick_laws.{proofs.ResultCells.length-filter_most, proofs.ResultTables.table_count}
+use Rattle.tick_model.{proofs.Among.{each_found, rows_among}, specs.Agg.{agg_table, aggregate, column_of, key_cells, over, present, sum_of}, specs.declared.plan.Agg.Agg, specs.declared.table.PlainRow.PlainRow, specs.declared.table.PlainTable.PlainTable, specs.Formulas.wrap, specs.Tables.{cell, cells_at, is_null, keys, null, row_at, same_cells, IsTable}}
+use Rattle.agg_by.{specs.declared.running.Running.Running, specs.declared.running.Running.TheVariants.{Count, Sum, Min, Max, First, Last}, specs.Answers.{answer, cell_of}, specs.ByNumber.at_number, specs.Kept.{AnswerAll, Answers, agg_of, cells_in, group_rows, indexed, member_by}, specs.Steps.{first_keys, kept_cells, key_at}, specs.Sums.{no_total, sum_or_null, total_of}, specs.Values.{greatest, in_order, least, opposites}, proofs.Bringing.{keys-members, members}, proofs.GroupRows.{cells-agg, first_at}, proofs.Ordered.{greatest_is, least_is}}
 
 -- the sum of cells
 fold_added : (a : ℤ) (xs : List ℤ) → fold ◌+ℤ◌ a xs ≡ a +ℤ added_up (λ x. x) xs

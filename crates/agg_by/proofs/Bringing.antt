@@ -1,20 +1,10 @@
 -- An index that a step brings on has the rows of now.
 use Rattle.std.proofs.Common.{◌≡◌, refl, ap, ap₂, sym, ◌∙◌, Bool, true, false, not, cond, ◌||◌, ◌==◌, ℕ, ◌<◌, arith, List, [], ◌∷◌, map, Option, Some, None, true≢false, inl, inr, is_some, pos}
-use Rattle.std.specs.Prelude.{nat_lt, option_map, unwrap_or}
-use Rattle.std.specs.List.{AllByRecursion}
-use Rattle.std.proofs.lemmas.Bool.{cases_eq, eq-eqb, eqb-true, lt-ltb, ne_eqb, or_parts}
-use Rattle.key_lists.specs.Keys.{is_among, IsRising}
-use Rattle.key_lists.proofs.Among.{of_among}
-use Rattle.key_lists.proofs.Every.{every, every_weaker, every-filter, filter-map, filter_same, map_map, map_same}
+use Rattle.std.{specs.Prelude.{nat_lt, option_map, unwrap_or}, specs.List.AllByRecursion, proofs.lemmas.Bool.{cases_eq, eq-eqb, eqb-true, lt-ltb, ne_eqb, or_parts}}
+use Rattle.key_lists.{specs.Keys.{is_among, IsRising}, proofs.Among.of_among, proofs.Every.{every, every_weaker, every-filter, filter-map, filter_same, map_map, map_same}}
 use Rattle.row_groups.specs.Members.{Member, keys_of, left_members, member_of, member_under, moved_member, moved_members, with_member}
-use Rattle.tick_model.proofs.Among.{rest_above, row_own, row_past}
-use Rattle.tick_model.specs.declared.table.PlainRow.{PlainRow}
-use Rattle.tick_model.specs.declared.update.ShiftRange.{ShiftRange}
-use Rattle.tick_model.specs.Agg.{key_cells}
-use Rattle.tick_model.specs.Tables.{cells_at, keys}
-use Rattle.tick_model.specs.Updates.{moved_row, removing, shifting}
-use Rattle.agg_by.specs.Kept.{member_by, place_in}
-use Rattle.agg_by.specs.Steps.{key_at}
+use Rattle.tick_model.{proofs.Among.{rest_above, row_own, row_past}, specs.declared.table.PlainRow.PlainRow, specs.declared.update.ShiftRange.ShiftRange, specs.Agg.key_cells, specs.Tables.{cells_at, keys}, specs.Updates.{moved_row, removing, shifting}}
+use Rattle.agg_by.{specs.Kept.{member_by, place_in}, specs.Steps.key_at}
 
 module _ (by : List ℕ) (column : Option ℕ) where
   abbrev pub members : List PlainRow → List Member

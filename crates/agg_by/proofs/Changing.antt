@@ -1,47 +1,14 @@
 -- Modified rows that stay in their groups, as their cells of now come in place of those from before.
 use Rattle.std.proofs.Common.{◌≡◌, refl, ap, ap₂, sym, ◌∙◌, subst, Bool, true, false, not, ◌&&◌, ◌||◌, ◌==◌, ℕ, ◌+◌, ◌<◌, arith, List, [], ◌∷◌, ◌++◌, map, filter, get_or, length, take, drop, Option, Some, None, ℤ, inl, inr, if◌then◌else◌, unwrap_or, pos, true≢false, cond, ltb, append-nil, eqb-true}
-use Rattle.std.specs.Prelude.{option_map, slice_index}
-use Rattle.std.specs.Cmp.{signed_Decides}
-use Rattle.std.specs.Cmp.Rules.{signed_items}
-use Rattle.std.specs.List.{AllByRecursion, AllZip, list_any, range_with_len}
-use Rattle.std.proofs.lemmas.Bool.{cases_lt, eq-eqb, not-false, not-true, or_right}
-use Rattle.std.proofs.lemmas.List.Elements.{AllZip-get_or, length_all_zip}
-use Rattle.std.proofs.lemmas.List.Folds.{list_any-append}
-use Rattle.std.proofs.lemmas.Option.{same_Some}
-use Rattle.std.proofs.lemmas.List.{get_or-map, get_or_past, length-map, take-append-drop, take_more}
-use Rattle.key_lists.specs.Keys.{is_among, IsRising}
-use Rattle.key_lists.proofs.Among.{among-append, among-filter, among_above, each_among}
-use Rattle.key_lists.proofs.Booleans.{or_assoc, or_false, or_swap, or_twice}
-use Rattle.key_lists.proofs.Every.{every, every_both, every_weaker, every-filter, every_unmapped, filter-map, filter_all, filter_passes, filter_same, map_map, map_same, turned}
-use Rattle.key_lists.proofs.Parts.{every_at, some_at}
-use Rattle.key_lists.proofs.Ranges.{among_range}
-use Rattle.key_lists.proofs.Rising.{rising-filter}
+use Rattle.std.{specs.Prelude.{option_map, slice_index}, specs.Cmp.signed_Decides, specs.Cmp.Rules.signed_items, specs.List.{AllByRecursion, AllZip, list_any, range_with_len}, proofs.lemmas.Bool.{cases_lt, eq-eqb, not-false, not-true, or_right}, proofs.lemmas.List.Elements.{AllZip-get_or, length_all_zip}, proofs.lemmas.List.Folds.list_any-append, proofs.lemmas.Option.same_Some, proofs.lemmas.List.{get_or-map, get_or_past, length-map, take-append-drop, take_more}}
+use Rattle.key_lists.{specs.Keys.{is_among, IsRising}, proofs.Among.{among-append, among-filter, among_above, each_among}, proofs.Booleans.{or_assoc, or_false, or_swap, or_twice}, proofs.Every.{every, every_both, every_weaker, every-filter, every_unmapped, filter-map, filter_all, filter_passes, filter_same, map_map, map_same, turned}, proofs.Parts.{every_at, some_at}, proofs.Ranges.among_range, proofs.Rising.rising-filter}
 use Rattle.row_groups.specs.Members.{Grouped, IsNumberOf, IsNumberUnder, IsPart, Member, Names, Numbered, group_of, groups_of, member_under, name_at}
-use Rattle.row_set.specs.Sets.{united, with_key}
-use Rattle.row_set.proofs.Windows.{rising_before, rising_front}
+use Rattle.row_set.{specs.Sets.{united, with_key}, proofs.Windows.{rising_before, rising_front}}
 use Rattle.shown_rows.proofs.Restricted.{is_modified, kept, modified_new, modified_old}
 use Rattle.table_update.specs.Kept.{old_modified}
-use Rattle.tick_model.proofs.Among.{each_found}
-use Rattle.tick_model.specs.Agg.{key_cells}
-use Rattle.tick_model.specs.Tables.{cell, cells_at, keys, null, row_at, same_cells}
-use Rattle.tick_model.specs.Updates.{Update, differs_in, new_keys, old_keys, pairs, removing, shifting}
-use Rattle.tick_model.specs.declared.table.PlainRow.{PlainRow}
-use Rattle.tick_model.specs.declared.update.KeyPair.{KeyPair}
-use Rattle.tick_table.proofs.WholeRows.{row_whole}
-use Rattle.tick_table.specs.Exact.{IsExact}
-use Rattle.tick_table.specs.Ticking.{Ticking}
-use Rattle.agg_by.specs.Answers.{HasRow, with_row, without_row}
-use Rattle.agg_by.specs.Kept.{Answers, group_rows, indexed, member_by}
-use Rattle.agg_by.specs.Steps.{changing, changing_before, come, coming, gone, keeps_groups, kept_cells, key_at, leaving, touched_cells}
-use Rattle.agg_by.specs.declared.running.Running.{Running}
-use Rattle.agg_by.proofs.Answering.{cells_known, group_is, own_cells as kept_own_cells}
-use Rattle.agg_by.proofs.Bringing.{members}
-use Rattle.agg_by.proofs.KeptSteps.{gains, has_row, loses}
-use Rattle.agg_by.proofs.Made.{no_rows}
-use Rattle.agg_by.proofs.Noted.{find_name}
-use Rattle.agg_by.proofs.Touching.{changing_there, left_there}
-use Rattle.agg_by.proofs.Unmoved.{added_at, and_with, come_at, gone_at, is_quiet, moved_rows, new_rows, now_row, old_at, quiet_cells}
-use Rattle.agg_by.proofs.Untouched.{none_of, own_cells}
+use Rattle.tick_model.{proofs.Among.each_found, specs.Agg.key_cells, specs.Tables.{cell, cells_at, keys, null, row_at, same_cells}, specs.Updates.{Update, differs_in, new_keys, old_keys, pairs, removing, shifting}, specs.declared.table.PlainRow.PlainRow, specs.declared.update.KeyPair.KeyPair}
+use Rattle.tick_table.{proofs.WholeRows.row_whole, specs.Exact.IsExact, specs.Ticking.Ticking}
+use Rattle.agg_by.{specs.Answers.{HasRow, with_row, without_row}, specs.Kept.{Answers, group_rows, indexed, member_by}, specs.Steps.{changing, changing_before, come, coming, gone, keeps_groups, kept_cells, key_at, leaving, touched_cells}, specs.declared.running.Running.Running, proofs.Answering.{cells_known, group_is, own_cells as kept_own_cells}, proofs.Bringing.members, proofs.KeptSteps.{gains, has_row, loses}, proofs.Made.no_rows, proofs.Noted.find_name, proofs.Touching.{changing_there, left_there}, proofs.Unmoved.{added_at, and_with, come_at, gone_at, is_quiet, moved_rows, new_rows, now_row, old_at, quiet_cells}, proofs.Untouched.{none_of, own_cells}}
 
 -- the rows that stay in their groups, where modified ones do or not, each under its key of now: those under some keys have their cells of now, the others those from before
 abbrev pub row_in : Ticking → List ℕ → KeyPair → PlainRow

@@ -1,20 +1,8 @@
 -- Cells by how often each is among them: cells in order are known by it, and so are those that are left of heaps.
 use Rattle.std.proofs.Common.{◌≡◌, refl, ap, ap₂, sym, ◌∙◌, subst, Bool, true, false, cond, ℕ, zero, suc, ◌+◌, ◌<◌, ◌≤◌, arith, List, [], ◌∷◌, length, get_or, Option, Some, None, ℤ, int_lt, is_ok, is_some, OnOk, Result, Ok, Err, true≢false, if◌then◌else◌}
-use Rattle.std.specs.BinaryHeap.{IsHeap, IsUpperBound, PopsGreatest}
-use Rattle.std.specs.Cmp.{int_cmp_total, signed_Decides}
-use Rattle.std.specs.List.{AllByRecursion}
-use Rattle.std.specs.List.Sorted.{IsPermutation}
-use Rattle.std.specs.Ordering.{int_cmp, int_eq, is_lt}
-use Rattle.std.specs.declared.cmp.Ordering.TheVariants.{Less, Equal, Greater}
-use Rattle.std.specs.Prelude.{IfSome, nat_lt, slice_get}
-use Rattle.std.proofs.lemmas.Bool.{lt-ltb}
-use Rattle.std.proofs.HeapSift.{empty as heap_empty, greatest as heap_greatest}
-use Rattle.std.proofs.lemmas.Int.{ints}
-use Rattle.std.proofs.lemmas.List.Sorted.{sum_by-IsPermutation}
-use Rattle.std.proofs.lemmas.List.Sums.{sum_by-cons}
+use Rattle.std.{specs.BinaryHeap.{IsHeap, IsUpperBound, PopsGreatest}, specs.Cmp.{int_cmp_total, signed_Decides}, specs.List.AllByRecursion, specs.List.Sorted.IsPermutation, specs.Ordering.{int_cmp, int_eq, is_lt}, specs.declared.cmp.Ordering.TheVariants.{Less, Equal, Greater}, specs.Prelude.{IfSome, nat_lt, slice_get}, proofs.lemmas.Bool.lt-ltb, proofs.HeapSift.{empty as heap_empty, greatest as heap_greatest}, proofs.lemmas.Int.ints, proofs.lemmas.List.Sorted.sum_by-IsPermutation, proofs.lemmas.List.Sums.sum_by-cons}
 use Rattle.row_groups.proofs.Order.{lt_from, lt_to, not_lt_from}
-use Rattle.agg_by.specs.Values.{Ascends, IsAmong, IsKept, IsSettled, count, in_order, last, left, placed, top, unplaced}
-use Rattle.agg_by.proofs.Ordered.{final, final_above, in_order_ascends, last_final, not_itself, placed_ascends, unplaced_ascends}
+use Rattle.agg_by.{specs.Values.{Ascends, IsAmong, IsKept, IsSettled, count, in_order, last, left, placed, top, unplaced}, proofs.Ordered.{final, final_above, in_order_ascends, last_final, not_itself, placed_ascends, unplaced_ascends}}
 
 -- whether two cells are the same, as a number
 abbrev one : ℤ → ℤ → ℕ

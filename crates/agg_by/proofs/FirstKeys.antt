@@ -1,30 +1,11 @@
 -- The first rows of touched groups, found by the key cells of touched rows.
 use Rattle.std.proofs.Common.{◌≡◌, refl, ap, ap₂, sym, ◌∙◌, subst, Bool, true, false, ◌&&◌, ◌||◌, ◌==◌, ℕ, ◌+◌, ◌^◌, ◌<◌, ◌≤◌, arith, List, [], ◌∷◌, filter, length, Option, Some, None, option_map, unwrap_or, is_some, ℤ, true≢false}
-use Rattle.std.specs.Cmp.Rules.{signed_items}
-use Rattle.std.specs.List.{AllByRecursion, list_any}
-use Rattle.std.specs.Option.{option_map_or}
-use Rattle.std.specs.Prelude.{slice_get}
-use Rattle.std.proofs.lemmas.Bool.{eqb-true}
-use Rattle.std.proofs.lemmas.Option.{none-some, same_Some}
-use Rattle.key_lists.specs.Keys.{is_among, IsRising}
-use Rattle.key_lists.proofs.Among.{among-filter}
-use Rattle.key_lists.proofs.Every.{every_both, every-filter, every-map, every_unmapped, filter_passes}
-use Rattle.key_lists.proofs.Rising.{rising-filter, rising_same, rising_some}
-use Rattle.row_groups.specs.Members.{AreGrouped, Grouped, Member, group_of, keys_of, member_under}
-use Rattle.row_groups.proofs.Placed.{every-by_at}
-use Rattle.row_set.specs.Sets.{with_key}
-use Rattle.row_set.proofs.United.{among-with_key, length-united, with_key_rises}
-use Rattle.tick_model.proofs.Among.{rows_among}
-use Rattle.tick_model.specs.Agg.{is_first, key_cells}
-use Rattle.tick_model.specs.declared.table.PlainRow.{PlainRow}
-use Rattle.tick_model.specs.declared.table.PlainTable.{PlainTable}
-use Rattle.tick_model.specs.Tables.{keys, same_cells, IsTable}
-use Rattle.agg_by.specs.Kept.{group_rows}
-use Rattle.agg_by.specs.Steps.{first_keys, kept_cells, key_at, starts}
-use Rattle.agg_by.proofs.Answering.{keys_group}
-use Rattle.agg_by.proofs.Bringing.{members}
-use Rattle.agg_by.proofs.GroupRows.{first_at, leads, leads_own}
-use Rattle.agg_by.proofs.Untouched.{own_cells}
+use Rattle.std.{specs.Cmp.Rules.signed_items, specs.List.{AllByRecursion, list_any}, specs.Option.option_map_or, specs.Prelude.slice_get, proofs.lemmas.Bool.eqb-true, proofs.lemmas.Option.{none-some, same_Some}}
+use Rattle.key_lists.{specs.Keys.{is_among, IsRising}, proofs.Among.among-filter, proofs.Every.{every_both, every-filter, every-map, every_unmapped, filter_passes}, proofs.Rising.{rising-filter, rising_same, rising_some}}
+use Rattle.row_groups.{specs.Members.{AreGrouped, Grouped, Member, group_of, keys_of, member_under}, proofs.Placed.every-by_at}
+use Rattle.row_set.{specs.Sets.with_key, proofs.United.{among-with_key, length-united, with_key_rises}}
+use Rattle.tick_model.{proofs.Among.rows_among, specs.Agg.{is_first, key_cells}, specs.declared.table.PlainRow.PlainRow, specs.declared.table.PlainTable.PlainTable, specs.Tables.{keys, same_cells, IsTable}}
+use Rattle.agg_by.{specs.Kept.group_rows, specs.Steps.{first_keys, kept_cells, key_at, starts}, proofs.Answering.keys_group, proofs.Bringing.members, proofs.GroupRows.{first_at, leads, leads_own}, proofs.Untouched.own_cells}
 
 group_small : (grouped : Grouped) (cells : List ℤ) → AreGrouped grouped → AllByRecursion (λ key. key < 2 ^ 62) (keys_of (group_of cells grouped.members))
 group_small grouped cells are =

@@ -1,47 +1,16 @@
 -- The parts of the change of an aggregation are found among the groups that the step touches.
 use Rattle.std.proofs.Common.{◌≡◌, refl, ap, ap₂, sym, ◌∙◌, subst, Bool, true, false, not, ◌&&◌, ◌||◌, ◌==◌, ℕ, ◌<◌, arith, List, [], ◌∷◌, ◌++◌, map, filter, length, inl, inr, true≢false, ℤ}
-use Rattle.std.specs.Prelude.{nat_lt, slice_get}
-use Rattle.std.specs.Option.{option_map_or}
-use Rattle.std.specs.Cmp.Rules.{signed_items}
-use Rattle.std.specs.List.{AllByRecursion}
-use Rattle.std.proofs.lemmas.Bool.{and_parts, cases_eq, eq-eqb, ltb-false, ltb-true, ne_eqb, or_parts}
-use Rattle.std.proofs.lemmas.List.{length-map}
-use Rattle.key_lists.specs.Keys.{is_among, IsRising, without}
-use Rattle.key_lists.proofs.Among.{among-filter, each_among, of_among, absent-filter}
-use Rattle.key_lists.proofs.Every.{and_swap, every, every_both, every_weaker, every-filter, every-map, every_unmapped, filter-map, filter_filter, filter_passes, filter_same, filter_swap, map_map, map_own, map_same}
-use Rattle.row_changes.proofs.Comparing.{pairs_of-keys}
-use Rattle.row_changes.specs.Parts.{AreParts, Parts}
+use Rattle.std.{specs.Prelude.{nat_lt, slice_get}, specs.Option.option_map_or, specs.Cmp.Rules.signed_items, specs.List.AllByRecursion, proofs.lemmas.Bool.{and_parts, cases_eq, eq-eqb, ltb-false, ltb-true, ne_eqb, or_parts}, proofs.lemmas.List.length-map}
+use Rattle.key_lists.{specs.Keys.{is_among, IsRising, without}, proofs.Among.{among-filter, each_among, of_among, absent-filter}, proofs.Every.{and_swap, every, every_both, every_weaker, every-filter, every-map, every_unmapped, filter-map, filter_filter, filter_passes, filter_same, filter_swap, map_map, map_own, map_same}, proofs.Rising.rising_some, proofs.Booleans.and_false}
+use Rattle.row_changes.{proofs.Comparing.pairs_of-keys, specs.Parts.{AreParts, Parts}}
 use Rattle.row_set.proofs.United.{among-united}
-use Rattle.shift_data.proofs.ByRange.{moves_up}
-use Rattle.shift_data.specs.Moves.{IsLawful, canonical, pair_by, pairs_of}
-use Rattle.shown_rows.proofs.Named.{filter_named, named_by, of_named}
-use Rattle.shown_rows.proofs.Restricted.{exact_shift, is_modified, kept, old_some}
-use Rattle.key_lists.proofs.Rising.{rising_some}
-use Rattle.key_lists.proofs.Booleans.{and_false}
-use Rattle.table_update.proofs.LawfulParts.{lawful_some}
-use Rattle.table_update.specs.Kept.{old_modified}
-use Rattle.tick_laws.proofs.OperatorTicks.{operator_keeps}
-use Rattle.tick_laws.proofs.ResultTables.{result_table}
-use Rattle.tick_model.proofs.Among.{rows_among}
-use Rattle.tick_model.specs.Agg.{agg_table, aggregate, key_cells}
-use Rattle.tick_model.specs.declared.plan.Agg.{Agg}
-use Rattle.tick_model.specs.declared.plan.Op.TheVariants.{Agg as Aggregated}
-use Rattle.tick_model.specs.declared.table.PlainRow.{PlainRow}
-use Rattle.tick_model.specs.declared.table.PlainTable.{PlainTable}
-use Rattle.tick_model.specs.declared.update.KeyPair.{KeyPair}
-use Rattle.tick_model.specs.declared.update.ShiftRange.{ShiftRange}
-use Rattle.tick_model.specs.Shifts.{as_key, moved, shifted}
-use Rattle.tick_model.specs.Tables.{cells_at, keys, same_cells, IsTable}
-use Rattle.tick_model.specs.Updates.{IsTick, Tick, between, differs, kept_pair, new_keys, old_keys, shifting}
-use Rattle.tick_table.proofs.Between.{staying_are}
-use Rattle.tick_table.specs.Exact.{IsExact, tick_of}
-use Rattle.tick_table.specs.Ticking.{Ticking}
-use Rattle.agg_by.specs.Aggregator.{grouped}
-use Rattle.agg_by.specs.Kept.{group_rows}
-use Rattle.agg_by.specs.Steps.{come, first_keys, gone, is_touched, key_at, staying, stays, touched_firsts}
-use Rattle.agg_by.proofs.GroupRows.{cells-agg, first_at, first_keys_by, group_cells, keys-agg, leads, leads_own}
-use Rattle.agg_by.proofs.Unmoved.{added_at, and_with, old_at, quiet_before, quiet_cells, quiet_now}
-use Rattle.agg_by.proofs.Untouched.{aggregate-shifting, group_stays, none_come, none_gone, own_cells}
+use Rattle.shift_data.{proofs.ByRange.moves_up, specs.Moves.{IsLawful, canonical, pair_by, pairs_of}}
+use Rattle.shown_rows.{proofs.Named.{filter_named, named_by, of_named}, proofs.Restricted.{exact_shift, is_modified, kept, old_some}}
+use Rattle.table_update.{proofs.LawfulParts.lawful_some, specs.Kept.old_modified}
+use Rattle.tick_laws.{proofs.OperatorTicks.operator_keeps, proofs.ResultTables.result_table}
+use Rattle.tick_model.{proofs.Among.rows_among, specs.Agg.{agg_table, aggregate, key_cells}, specs.declared.plan.Agg.Agg, specs.declared.plan.Op.TheVariants.Agg as Aggregated, specs.declared.table.PlainRow.PlainRow, specs.declared.table.PlainTable.PlainTable, specs.declared.update.KeyPair.KeyPair, specs.declared.update.ShiftRange.ShiftRange, specs.Shifts.{as_key, moved, shifted}, specs.Tables.{cells_at, keys, same_cells, IsTable}, specs.Updates.{IsTick, Tick, between, differs, kept_pair, new_keys, old_keys, shifting}}
+use Rattle.tick_table.{proofs.Between.staying_are, specs.Exact.{IsExact, tick_of}, specs.Ticking.Ticking}
+use Rattle.agg_by.{specs.Aggregator.grouped, specs.Kept.group_rows, specs.Steps.{come, first_keys, gone, is_touched, key_at, staying, stays, touched_firsts}, proofs.GroupRows.{cells-agg, first_at, first_keys_by, group_cells, keys-agg, leads, leads_own}, proofs.Unmoved.{added_at, and_with, old_at, quiet_before, quiet_cells, quiet_now}, proofs.Untouched.{aggregate-shifting, group_stays, none_come, none_gone, own_cells}}
 
 -- where rising keys rise again after a move, the move keeps them apart
 moves_apart : (f : ℕ → ℕ) (xs : List ℕ) (a b : ℕ) → IsRising xs → IsRising (map f xs) → is_among a xs ≡ true → is_among b xs ≡ true → (f a == f b) ≡ (a == b)

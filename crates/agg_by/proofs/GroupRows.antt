@@ -1,22 +1,11 @@
 -- The rows of the groups, by the keys of their first rows.
 use Rattle.std.proofs.Common.{◌≡◌, refl, ap, sym, ◌∙◌, Bool, true, false, cond, ◌&&◌, ◌==◌, ℕ, List, [], ◌∷◌, ◌++◌, map, filter, Option, Some, ℤ}
-use Rattle.std.specs.Prelude.{find, option_map, slice_get, unwrap_or}
-use Rattle.std.specs.Option.{option_map_or}
-use Rattle.std.proofs.lemmas.Bool.{and_parts}
-use Rattle.key_lists.specs.Keys.{is_among}
-use Rattle.key_lists.proofs.Among.{among-filter}
-use Rattle.key_lists.proofs.Every.{every_weaker, filter-map, filter_same}
+use Rattle.std.{specs.Prelude.{find, option_map, slice_get, unwrap_or}, specs.Option.option_map_or, proofs.lemmas.Bool.and_parts}
+use Rattle.key_lists.{specs.Keys.is_among, proofs.Among.among-filter, proofs.Every.{every_weaker, filter-map, filter_same}}
 use Rattle.row_changes.proofs.MadeRows.{cells-made, made_row}
 use Rattle.tick_laws.proofs.OperatorTicks.{keys_mapped}
-use Rattle.tick_model.proofs.Among.{row_at-filter}
-use Rattle.tick_model.specs.Agg.{agg_row, agg_table, aggregate, is_first, key_cells, same_group}
-use Rattle.tick_model.specs.declared.plan.Agg.{Agg}
-use Rattle.tick_model.specs.declared.table.PlainRow.{PlainRow}
-use Rattle.tick_model.specs.declared.table.PlainTable.{PlainTable}
-use Rattle.tick_model.specs.Tables.{cells_at, keys, IsTable}
-use Rattle.agg_by.specs.Kept.{group_rows}
-use Rattle.agg_by.specs.Steps.{first_keys, key_at}
-use Rattle.agg_by.proofs.Untouched.{own_cells}
+use Rattle.tick_model.{proofs.Among.row_at-filter, specs.Agg.{agg_row, agg_table, aggregate, is_first, key_cells, same_group}, specs.declared.plan.Agg.Agg, specs.declared.table.PlainRow.PlainRow, specs.declared.table.PlainTable.PlainTable, specs.Tables.{cells_at, keys, IsTable}}
+use Rattle.agg_by.{specs.Kept.group_rows, specs.Steps.{first_keys, key_at}, proofs.Untouched.own_cells}
 
 -- the first that passes is the first of those that pass
 pub find_first : {X : Type 0} (p : X → Bool) (xs : List X) → find p xs ≡ slice_get (filter p xs) 0

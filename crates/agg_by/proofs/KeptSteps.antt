@@ -1,28 +1,11 @@
 -- What answers the aggregates, as rows go, move and come.
 use Rattle.std.proofs.Common.{◌≡◌, refl, ap, sym, ◌∙◌, subst, Bool, true, false, not, ◌||◌, ◌==◌, ℕ, List, [], ◌∷◌, ◌++◌, length, map, Option, Some, None, ℤ, pos}
-use Rattle.key_lists.proofs.Among.{among-append}
+use Rattle.key_lists.{proofs.Among.among-append, specs.Keys.{is_among, IsRising, without}, proofs.Every.{every, every-map, every_weaker, filter-map, filter_same, map_map, map_same}}
 use Rattle.std.specs.List.{AllByRecursion}
-use Rattle.key_lists.specs.Keys.{is_among, IsRising, without}
-use Rattle.key_lists.proofs.Every.{every, every-map, every_weaker, filter-map, filter_same, map_map, map_same}
 use Rattle.row_groups.specs.Members.{Grouped, IsNumberOf, Member, Names, keys_of, left_members, member_of, member_under, moved_members, name_at, with_member}
 use Rattle.shift_data.specs.Moves.{IsLawful}
-use Rattle.tick_model.specs.declared.plan.Agg.{Agg}
-use Rattle.tick_model.specs.declared.table.PlainRow.{PlainRow}
-use Rattle.tick_model.specs.declared.update.ShiftRange.{ShiftRange}
-use Rattle.tick_model.specs.Agg.{column_of, key_cells, present}
-use Rattle.tick_model.specs.Tables.{cells_at, keys, same_cells}
-use Rattle.tick_model.specs.Updates.{moved_row, removing, shifting}
-use Rattle.agg_by.specs.declared.running.Running.{Running}
-use Rattle.agg_by.specs.declared.running.Running.TheVariants.{Count, Sum, Min, Max, First, Last}
-use Rattle.agg_by.specs.Answers.{HasRow, with_row, without_row}
-use Rattle.agg_by.specs.Kept.{Answers, agg_of, cells_in, group_rows, indexed}
-use Rattle.agg_by.specs.Steps.{key_at}
-use Rattle.agg_by.specs.Sums.{HasAny, minus, no_total, plus, total_of}
-use Rattle.agg_by.specs.Values.{IsAmong, in_order, opposite, opposites, placed, unplaced}
-use Rattle.agg_by.proofs.Bringing.{absent_member, keys-members, left-members, moved-members, put_back}
-use Rattle.agg_by.proofs.Counted.{placed_among}
-use Rattle.agg_by.proofs.Made.{made_gains, made_has, made_loses, mirrored, sums, values}
-use Rattle.agg_by.proofs.Untouched.{column-shifting}
+use Rattle.tick_model.{specs.declared.plan.Agg.Agg, specs.declared.table.PlainRow.PlainRow, specs.declared.update.ShiftRange.ShiftRange, specs.Agg.{column_of, key_cells, present}, specs.Tables.{cells_at, keys, same_cells}, specs.Updates.{moved_row, removing, shifting}}
+use Rattle.agg_by.{specs.declared.running.Running.Running, specs.declared.running.Running.TheVariants.{Count, Sum, Min, Max, First, Last}, specs.Answers.{HasRow, with_row, without_row}, specs.Kept.{Answers, agg_of, cells_in, group_rows, indexed}, specs.Steps.key_at, specs.Sums.{HasAny, minus, no_total, plus, total_of}, specs.Values.{IsAmong, in_order, opposite, opposites, placed, unplaced}, proofs.Bringing.{absent_member, keys-members, left-members, moved-members, put_back}, proofs.Counted.placed_among, proofs.Made.{made_gains, made_has, made_loses, mirrored, sums, values}, proofs.Untouched.column-shifting}
 
 -- the index of some members
 abbrev of_members : List ℕ → List Member → Grouped

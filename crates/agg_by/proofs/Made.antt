@@ -1,29 +1,11 @@
 -- What is made of the cells of each group, where a row comes or goes, and where groups keep their numbers.
 use Rattle.std.proofs.Common.{◌≡◌, ◌≢◌, refl, ap, ap₂, sym, ◌∙◌, subst, Bool, true, false, cond, not, ℕ, suc, List, [], ◌∷◌, map, filter, length, Option, Some, None, inl, inr, ℤ, pos, ◌+ℤ◌, ◌-ℤ◌, neg_ℤ, arith, w64, if◌then◌else◌}
-use Rattle.std.specs.Prelude.{nat_lt}
-use Rattle.std.specs.Cmp.Rules.{signed_items}
-use Rattle.std.proofs.lemmas.Bool.{cases_eq}
-use Rattle.std.proofs.lemmas.Int.{int_wrap-add_left, ints}
-use Rattle.std.proofs.lemmas.Option.{none-some}
-use Rattle.key_lists.specs.Keys.{is_among, IsRising}
-use Rattle.key_lists.proofs.Every.{filter-map, map_map}
+use Rattle.std.{specs.Prelude.nat_lt, specs.Cmp.Rules.signed_items, proofs.lemmas.Bool.cases_eq, proofs.lemmas.Int.{int_wrap-add_left, ints}, proofs.lemmas.Option.none-some}
+use Rattle.key_lists.{specs.Keys.{is_among, IsRising}, proofs.Every.{filter-map, map_map}}
 use Rattle.row_changes.specs.Sums.{added_up}
 use Rattle.row_groups.specs.Members.{IsNumberOf, IsPart, Member, Names, Numbered, group_of, name_at, with_member}
-use Rattle.tick_model.specs.declared.table.PlainRow.{PlainRow}
-use Rattle.tick_model.specs.Agg.{column_of, present}
-use Rattle.tick_model.specs.Formulas.{wrap}
-use Rattle.tick_model.specs.Tables.{cell, cells_at, is_null, keys, same_cells}
-use Rattle.tick_model.specs.Updates.{removing}
-use Rattle.agg_by.specs.declared.sums.Total.{Total}
-use Rattle.agg_by.specs.ByNumber.{IsHeld, at_number, changed_at, changed_by}
-use Rattle.agg_by.specs.Kept.{AreMade, cells_in, group_rows, member_by}
-use Rattle.agg_by.specs.Steps.{key_at}
-use Rattle.agg_by.specs.Sums.{minus, no_total, plus, total_of}
-use Rattle.agg_by.specs.Values.{in_order, opposite, opposites, placed, unplaced}
-use Rattle.agg_by.proofs.Bringing.{members, member_at, put_back}
-use Rattle.agg_by.proofs.Answering.{group_is, small_wraps}
-use Rattle.agg_by.proofs.ByNumber.{changed_other, changed_own}
-use Rattle.agg_by.proofs.Ordered.{either_first, unplaced-placed}
+use Rattle.tick_model.{specs.declared.table.PlainRow.PlainRow, specs.Agg.{column_of, present}, specs.Formulas.wrap, specs.Tables.{cell, cells_at, is_null, keys, same_cells}, specs.Updates.removing}
+use Rattle.agg_by.{specs.declared.sums.Total.Total, specs.ByNumber.{IsHeld, at_number, changed_at, changed_by}, specs.Kept.{AreMade, cells_in, group_rows, member_by}, specs.Steps.key_at, specs.Sums.{minus, no_total, plus, total_of}, specs.Values.{in_order, opposite, opposites, placed, unplaced}, proofs.Bringing.{members, member_at, put_back}, proofs.Answering.{group_is, small_wraps}, proofs.ByNumber.{changed_other, changed_own}, proofs.Ordered.{either_first, unplaced-placed}}
 
 -- what is made of cells, whichever order they have, gains one and loses it again
 pub record IsMadeOf {X : Type 0} (none : X) (make : List ℤ → X) (gain lose : ℤ → X → X) : Type 0 where

@@ -1,32 +1,11 @@
 -- The numbers of touched groups, as they are noted, and the groups that have them before and after a step.
 use Rattle.std.proofs.Common.{◌≡◌, ◌≢◌, is_some, refl, ap, ap₂, sym, ◌∙◌, subst, Bool, true, false, cond, ◌||◌, ◌==◌, ℕ, zero, suc, ◌+◌, ◌<◌, arith, List, [], ◌∷◌, ◌++◌, map, filter, get_or, length, set, take, Option, Some, None, ℤ, true≢false, inl, inr, ◌⊎◌, if◌then◌else◌}
-use Rattle.std.specs.Prelude.{slice_get, not}
-use Rattle.std.specs.Cmp.Rules.{signed_items}
-use Rattle.std.specs.List.{AllByRecursion, AllZip, list_any}
-use Rattle.std.specs.Option.{option_map_or}
-use Rattle.std.proofs.lemmas.Bool.{cases_eq, eq-eqb, eqb-true, ne_eqb, or_cases, or_right, and_parts}
-use Rattle.std.proofs.lemmas.List.{get_or-set_other, get_or-set_same, map-append}
-use Rattle.std.proofs.lemmas.Option.{none-some, same_Some}
-use Rattle.std.proofs.lemmas.List.Folds.{list_any-append}
-use Rattle.key_lists.specs.Keys.{is_among}
-use Rattle.key_lists.proofs.Among.{among-append, of_among}
-use Rattle.key_lists.proofs.Every.{every-append, every_unmapped, every_weaker, filter-map, filter_swap, any-map}
-use Rattle.key_lists.proofs.Booleans.{or_assoc, or_false, same_truth}
+use Rattle.std.{specs.Prelude.{slice_get, not}, specs.Cmp.Rules.signed_items, specs.List.{AllByRecursion, AllZip, list_any}, specs.Option.option_map_or, proofs.lemmas.Bool.{cases_eq, eq-eqb, eqb-true, ne_eqb, or_cases, or_right, and_parts}, proofs.lemmas.List.{get_or-set_other, get_or-set_same, map-append}, proofs.lemmas.Option.{none-some, same_Some}, proofs.lemmas.List.Folds.list_any-append}
+use Rattle.key_lists.{specs.Keys.is_among, proofs.Among.{among-append, of_among}, proofs.Every.{every-append, every_unmapped, every_weaker, filter-map, filter_swap, any-map}, proofs.Booleans.{or_assoc, or_false, same_truth}}
 use Rattle.row_groups.specs.Members.{IsNumberOf, IsNumberUnder, IsPart, Member, Names, Numbered, group_of, keys_of, member_under, name_at}
 use Rattle.shown_rows.proofs.Walks.{take_next}
-use Rattle.tick_model.specs.declared.table.PlainRow.{PlainRow}
-use Rattle.tick_model.specs.declared.table.PlainTable.{PlainTable}
-use Rattle.tick_model.specs.declared.update.ShiftRange.{ShiftRange}
-use Rattle.tick_model.specs.Agg.{key_cells}
-use Rattle.tick_model.specs.Tables.{IsTable, keys, same_cells}
-use Rattle.tick_model.specs.Updates.{moved_row, removing, shifting}
-use Rattle.agg_by.specs.Kept.{group_rows}
-use Rattle.agg_by.specs.Steps.{kept_cells, key_at, starts}
-use Rattle.agg_by.specs.Touched.{AreNoted, is_named, starts_numbered, with_number}
-use Rattle.agg_by.proofs.Answering.{group_is, keys_group}
-use Rattle.agg_by.proofs.Bringing.{members}
-use Rattle.agg_by.proofs.FirstKeys.{kept_own, starts_when}
-use Rattle.agg_by.proofs.Made.{no_rows}
+use Rattle.tick_model.{specs.declared.table.PlainRow.PlainRow, specs.declared.table.PlainTable.PlainTable, specs.declared.update.ShiftRange.ShiftRange, specs.Agg.key_cells, specs.Tables.{IsTable, keys, same_cells}, specs.Updates.{moved_row, removing, shifting}}
+use Rattle.agg_by.{specs.Kept.group_rows, specs.Steps.{kept_cells, key_at, starts}, specs.Touched.{AreNoted, is_named, starts_numbered, with_number}, proofs.Answering.{group_is, keys_group}, proofs.Bringing.members, proofs.FirstKeys.{kept_own, starts_when}, proofs.Made.no_rows}
 
 -- marks of numbers
 pub marked_within : (marks : List Bool) (number : ℕ) → get_or marks number false ≡ true → number < length marks

@@ -1,28 +1,11 @@
 -- The rows that are noted of the touched groups.
 use Rattle.std.proofs.Common.{◌≡◌, refl, ap, ap₂, sym, ◌∙◌, Bool, true, false, ℕ, zero, suc, ◌+◌, ◌-◌, ◌*◌, ◌<◌, ◌≤◌, zero-add, arith, List, [], ◌∷◌, ◌++◌, length, take, drop, Some, ℤ, slice_range, if◌then◌else◌, Ok, Err}
-use Rattle.std.specs.List.{AllByRecursion}
-use Rattle.std.specs.Prelude.{flat_map, slice_get}
-use Rattle.std.specs.Result.{result_ok}
-use Rattle.std.proofs.Math.Nat.{mul-le-mul_left}
-use Rattle.std.proofs.lemmas.List.{length-append}
-use Rattle.std.proofs.lemmas.Option.{none-some, same_Some}
-use Rattle.key_lists.specs.Keys.{is_among, IsRising}
-use Rattle.key_lists.proofs.Every.{every_weaker}
-use Rattle.key_lists.proofs.Parts.{take_front}
-use Rattle.row_set.specs.Sets.{count_below, found}
-use Rattle.row_set.proofs.Lookups.{count_at}
-use Rattle.tick_laws.proofs.ResultTables.{result_table}
-use Rattle.tick_laws.proofs.ToldRows.{cells_of_row}
-use Rattle.tick_model.specs.Agg.{agg_table}
-use Rattle.tick_model.specs.declared.plan.Agg.{Agg}
-use Rattle.tick_model.specs.declared.plan.Op.TheVariants.{Agg as Aggregated}
-use Rattle.tick_model.specs.declared.table.PlainRow.{PlainRow}
-use Rattle.tick_model.specs.declared.table.PlainTable.{PlainTable}
-use Rattle.tick_model.specs.Tables.{cells_at, keys, IsRow, IsTable}
-use Rattle.agg_by.specs.declared.notes.Notes.{Notes}
-use Rattle.agg_by.specs.Notes.{IsNoted}
-use Rattle.agg_by.specs.Steps.{first_keys}
-use Rattle.agg_by.proofs.GroupRows.{keys-agg}
+use Rattle.std.{specs.List.AllByRecursion, specs.Prelude.{flat_map, slice_get}, specs.Result.result_ok, proofs.Math.Nat.mul-le-mul_left, proofs.lemmas.List.length-append, proofs.lemmas.Option.{none-some, same_Some}}
+use Rattle.key_lists.{specs.Keys.{is_among, IsRising}, proofs.Every.every_weaker, proofs.Parts.take_front}
+use Rattle.row_set.{specs.Sets.{count_below, found}, proofs.Lookups.count_at}
+use Rattle.tick_laws.{proofs.ResultTables.result_table, proofs.ToldRows.cells_of_row}
+use Rattle.tick_model.{specs.Agg.agg_table, specs.declared.plan.Agg.Agg, specs.declared.plan.Op.TheVariants.Agg as Aggregated, specs.declared.table.PlainRow.PlainRow, specs.declared.table.PlainTable.PlainTable, specs.Tables.{cells_at, keys, IsRow, IsTable}}
+use Rattle.agg_by.{specs.declared.notes.Notes.Notes, specs.Notes.IsNoted, specs.Steps.first_keys, proofs.GroupRows.keys-agg}
 
 pub agg_is_table : (by : List ℕ) (aggs : List Agg) (table : PlainTable) → IsTable table → IsTable (agg_table by aggs table)
 agg_is_table by aggs table t = result_table (Aggregated 0 by aggs) (λ _. table) (t, tt) tt

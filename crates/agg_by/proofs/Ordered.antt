@@ -1,14 +1,9 @@
 -- Cells in order: one comes to its place and goes again, and the last one is the greatest.
 use Rattle.std.proofs.Common.{◌≡◌, refl, ap, sym, ◌∙◌, Bool, true, false, cond, ℕ, suc, ◌-◌, arith, List, [], ◌∷◌, length, map, Option, Some, true≢false, ℤ, int_lt, fold, if◌then◌else◌}
-use Rattle.std.specs.Int.{int_min, int_max}
-use Rattle.std.specs.List.{AllByRecursion}
-use Rattle.std.specs.Option.{option_map_or}
-use Rattle.std.specs.Prelude.{slice_get, unwrap_or}
-use Rattle.std.proofs.lemmas.Int.{clamps, ints}
+use Rattle.std.{specs.Int.{int_min, int_max}, specs.List.AllByRecursion, specs.Option.option_map_or, specs.Prelude.{slice_get, unwrap_or}, proofs.lemmas.Int.{clamps, ints}}
 use Rattle.key_lists.proofs.Every.{every_weaker}
 use Rattle.row_groups.proofs.Order.{later_too, lt_from, lt_to, not_lt_from, not_lt_to}
-use Rattle.tick_model.specs.Agg.{over}
-use Rattle.tick_model.specs.Tables.{null}
+use Rattle.tick_model.{specs.Agg.over, specs.Tables.null}
 use Rattle.agg_by.specs.Values.{Ascends, greatest, in_order, last, least, opposite, opposites, placed, unplaced}
 
 less_then : (x y : ℤ) → int_lt y x ≡ true → int_lt x y ≡ false

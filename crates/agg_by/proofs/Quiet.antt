@@ -1,17 +1,9 @@
 -- A group that is not noted has the row that it has now, under the key to which its first row moved.
 use Rattle.std.proofs.Common.{◌≡◌, sym, ◌∙◌, true, false, ℕ, List}
 use Rattle.key_lists.specs.Keys.{is_among}
-use Rattle.tick_model.specs.Agg.{agg_table}
-use Rattle.tick_model.specs.declared.plan.Agg.{Agg}
-use Rattle.tick_model.specs.Shifts.{as_key, moved}
-use Rattle.tick_model.specs.Tables.{cells_at}
-use Rattle.tick_model.specs.Updates.{kept_pair}
-use Rattle.tick_table.specs.Exact.{IsExact}
-use Rattle.tick_table.specs.Ticking.{Ticking}
-use Rattle.agg_by.specs.Steps.{first_keys, is_touched, key_at, touched_firsts}
-use Rattle.agg_by.proofs.GroupParts.{IsCalm, Knows, all_known, calm_before, calm_rows, not_gone, of_survivor, survivor, survivors, touched_at}
-use Rattle.agg_by.proofs.StayingRows.{first_there}
-use Rattle.agg_by.proofs.Unmoved.{and_with}
+use Rattle.tick_model.{specs.Agg.agg_table, specs.declared.plan.Agg.Agg, specs.Shifts.{as_key, moved}, specs.Tables.cells_at, specs.Updates.kept_pair}
+use Rattle.tick_table.{specs.Exact.IsExact, specs.Ticking.Ticking}
+use Rattle.agg_by.{specs.Steps.{first_keys, is_touched, key_at, touched_firsts}, proofs.GroupParts.{IsCalm, Knows, all_known, calm_before, calm_rows, not_gone, of_survivor, survivor, survivors, touched_at}, proofs.StayingRows.first_there, proofs.Unmoved.and_with}
 
 module _ (by : List ℕ) (aggs : List Agg) (t : Ticking) (e : IsExact t) (key : ℕ) (own : is_among key (first_keys by t.old.rows) ≡ true) (absent : is_among key (touched_firsts by t t.old.rows) ≡ false) where
   untouched : is_touched by t (key_at by t.old.rows key) ≡ false

@@ -1,38 +1,14 @@
 -- The touched groups whose first row stays the first.
 use Rattle.std.proofs.Common.{◌≡◌, refl, ap, ap₂, sym, ◌∙◌, subst, Bool, true, false, not, cond, ◌&&◌, ℕ, ◌+◌, ◌^◌, ◌<◌, ◌≤◌, arith, List, [], ◌∷◌, ◌++◌, map, filter, length, take, Option, Some, None, option_map, ℤ, if◌then◌else◌}
-use Rattle.std.specs.Cmp.Rules.{signed_items}
-use Rattle.std.specs.List.{AllByRecursion}
-use Rattle.std.specs.Option.{option_map_or}
-use Rattle.std.proofs.lemmas.Bool.{and_parts}
-use Rattle.std.proofs.lemmas.List.{append-nil, length-append, length-map, map-append}
-use Rattle.std.proofs.lemmas.List.Elements.{filter-append}
-use Rattle.std.proofs.lemmas.Option.{same_Some}
-use Rattle.key_lists.specs.Keys.{is_among, IsRising, without}
-use Rattle.key_lists.proofs.Among.{among-filter, each_among, of_among}
-use Rattle.key_lists.proofs.Every.{every_both, every_weaker, every-filter, every-map, filter-map, filter_filter, filter_passes}
-use Rattle.key_lists.proofs.Rising.{rising_some}
-use Rattle.key_lists.proofs.Parts.{every_front, take_front}
+use Rattle.std.{specs.Cmp.Rules.signed_items, specs.List.AllByRecursion, specs.Option.option_map_or, proofs.lemmas.Bool.and_parts, proofs.lemmas.List.{append-nil, length-append, length-map, map-append}, proofs.lemmas.List.Elements.filter-append, proofs.lemmas.Option.same_Some}
+use Rattle.key_lists.{specs.Keys.{is_among, IsRising, without}, proofs.Among.{among-filter, each_among, of_among}, proofs.Every.{every_both, every_weaker, every-filter, every-map, filter-map, filter_filter, filter_passes}, proofs.Rising.rising_some, proofs.Parts.{every_front, take_front}}
 use Rattle.row_groups.specs.Members.{Grouped, Member, member_under}
 use Rattle.row_set.proofs.Windows.{rising_before}
-use Rattle.shift_data.proofs.Lawful.{lawful, not_past}
+use Rattle.shift_data.{proofs.Lawful.{lawful, not_past}, proofs.ByRange.moves_up}
 use Rattle.shown_rows.proofs.Restricted.{exact_shift}
-use Rattle.tick_model.specs.Agg.{agg_table, aggregate}
-use Rattle.tick_model.specs.declared.plan.Agg.{Agg}
-use Rattle.tick_model.specs.declared.table.PlainRow.{PlainRow}
-use Rattle.tick_model.specs.declared.update.KeyPair.{KeyPair}
-use Rattle.tick_model.specs.Rules.{is_past}
-use Rattle.tick_model.specs.Shifts.{as_key, moved}
-use Rattle.tick_model.specs.Tables.{cell, cells_at, keys, same_cells, IsRow}
-use Rattle.tick_model.specs.Updates.{kept_pair, new_keys, old_keys}
-use Rattle.tick_table.specs.Exact.{IsExact}
-use Rattle.tick_table.specs.Ticking.{Ticking}
-use Rattle.agg_by.specs.Kept.{group_rows, indexed}
-use Rattle.agg_by.specs.Steps.{first_keys, is_touched, key_at, stays, touched_firsts}
-use Rattle.agg_by.proofs.Answering.{cells_known}
-use Rattle.agg_by.proofs.FirstKeys.{first_keys_rise}
-use Rattle.shift_data.proofs.ByRange.{moves_up}
-use Rattle.agg_by.proofs.GroupParts.{rising_moved}
-use Rattle.agg_by.proofs.GroupRows.{cells-agg, first_at}
+use Rattle.tick_model.{specs.Agg.{agg_table, aggregate}, specs.declared.plan.Agg.Agg, specs.declared.table.PlainRow.PlainRow, specs.declared.update.KeyPair.KeyPair, specs.Rules.is_past, specs.Shifts.{as_key, moved}, specs.Tables.{cell, cells_at, keys, same_cells, IsRow}, specs.Updates.{kept_pair, new_keys, old_keys}}
+use Rattle.tick_table.{specs.Exact.IsExact, specs.Ticking.Ticking}
+use Rattle.agg_by.{specs.Kept.{group_rows, indexed}, specs.Steps.{first_keys, is_touched, key_at, stays, touched_firsts}, proofs.Answering.cells_known, proofs.FirstKeys.first_keys_rise, proofs.GroupParts.rising_moved, proofs.GroupRows.{cells-agg, first_at}}
 
 pub same_turned : (xs ys : List ℤ) → same_cells xs ys ≡ same_cells ys xs
 same_turned xs ys = cases (same_cells xs ys) (same_cells ys xs) refl refl

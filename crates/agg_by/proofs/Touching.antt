@@ -1,20 +1,13 @@
 -- The rows that a step takes out of their groups are there before, those that it puts in are there now, and the others move in order.
 use Rattle.std.proofs.Common.{◌≡◌, refl, ap, sym, ◌∙◌, subst, Bool, true, false, not, ◌&&◌, ◌||◌, ℕ, [], filter, if◌then◌else◌}
-use Rattle.std.specs.List.{AllByRecursion}
-use Rattle.std.proofs.lemmas.Bool.{and_parts, or_right}
-use Rattle.key_lists.specs.Keys.{is_among, without}
-use Rattle.key_lists.proofs.Among.{among-filter, each_among, of_among}
-use Rattle.key_lists.proofs.Every.{every, every_weaker, every-filter, every-map, every_unmapped, filter_filter, filter_same}
+use Rattle.std.{specs.List.AllByRecursion, proofs.lemmas.Bool.{and_parts, or_right}}
+use Rattle.key_lists.{specs.Keys.{is_among, without}, proofs.Among.{among-filter, each_among, of_among}, proofs.Every.{every, every_weaker, every-filter, every-map, every_unmapped, filter_filter, filter_same}}
 use Rattle.row_set.proofs.United.{among-united}
 use Rattle.shift_data.specs.Moves.{IsLawful}
 use Rattle.shown_rows.proofs.Restricted.{exact_shift, is_modified, kept, modified_new}
-use Rattle.table_update.proofs.LawfulParts.{lawful_some}
-use Rattle.table_update.specs.Kept.{old_modified}
-use Rattle.tick_model.specs.declared.update.KeyPair.{KeyPair}
-use Rattle.tick_model.specs.Tables.{keys}
-use Rattle.tick_model.specs.Updates.{Update, kept_pair, new_keys, old_keys}
-use Rattle.tick_table.specs.Exact.{IsExact}
-use Rattle.tick_table.specs.Ticking.{Ticking}
+use Rattle.table_update.{proofs.LawfulParts.lawful_some, specs.Kept.old_modified}
+use Rattle.tick_model.{specs.declared.update.KeyPair.KeyPair, specs.Tables.keys, specs.Updates.{Update, kept_pair, new_keys, old_keys}}
+use Rattle.tick_table.{specs.Exact.IsExact, specs.Ticking.Ticking}
 use Rattle.agg_by.specs.Steps.{come, gone}
 
 either_there : (a b c : Bool) → (a ≡ true → c ≡ true) → (b ≡ true → c ≡ true) → (a || b) ≡ true → c ≡ true

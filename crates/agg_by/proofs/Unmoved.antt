@@ -1,23 +1,13 @@
 -- The rows that a step leaves as they are: those of now without the ones that come or are modified are those of before without the ones that go or are modified, under the keys to which they move.
 use Rattle.std.proofs.Common.{◌≡◌, refl, ap, sym, ◌∙◌, Bool, true, false, not, ◌&&◌, ◌||◌, ℕ, List, map, filter, true≢false, ℤ}
-use Rattle.std.specs.Cmp.Rules.{signed_items}
-use Rattle.std.specs.List.{AllByRecursion}
-use Rattle.std.proofs.lemmas.Bool.{not-false, or_parts, not-true}
-use Rattle.key_lists.specs.Keys.{is_among, without}
-use Rattle.key_lists.proofs.Among.{among-filter, each_among}
-use Rattle.key_lists.proofs.Every.{every, every_both, every_weaker, every-filter, every-map, every_unmapped, filter-map, filter_passes, filter_same, map_map, map_same}
-use Rattle.key_lists.proofs.Rising.{rising-filter}
+use Rattle.std.{specs.Cmp.Rules.signed_items, specs.List.AllByRecursion, proofs.lemmas.Bool.{not-false, or_parts, not-true}}
+use Rattle.key_lists.{specs.Keys.{is_among, without}, proofs.Among.{among-filter, each_among}, proofs.Every.{every, every_both, every_weaker, every-filter, every-map, every_unmapped, filter-map, filter_passes, filter_same, map_map, map_same}, proofs.Rising.rising-filter}
 use Rattle.row_set.proofs.United.{among-united}
 use Rattle.shown_rows.proofs.Restricted.{is_modified, kept, modified_by, old_some}
 use Rattle.table_update.specs.Kept.{old_modified}
 use Rattle.tick_laws.proofs.Carried.{Within, named_rows, within_from}
-use Rattle.tick_model.proofs.Among.{rows_among}
-use Rattle.tick_model.specs.declared.table.PlainRow.{PlainRow}
-use Rattle.tick_model.specs.declared.update.KeyPair.{KeyPair}
-use Rattle.tick_model.specs.Tables.{cells_at, keys}
-use Rattle.tick_model.specs.Updates.{Update, differs, kept_pair, moved_row, new_keys, old_keys, removing, shifting}
-use Rattle.tick_table.specs.Exact.{IsExact}
-use Rattle.tick_table.specs.Ticking.{Ticking}
+use Rattle.tick_model.{proofs.Among.rows_among, specs.declared.table.PlainRow.PlainRow, specs.declared.update.KeyPair.KeyPair, specs.Tables.{cells_at, keys}, specs.Updates.{Update, differs, kept_pair, moved_row, new_keys, old_keys, removing, shifting}}
+use Rattle.tick_table.{specs.Exact.IsExact, specs.Ticking.Ticking}
 use Rattle.agg_by.specs.Steps.{come, gone, staying_rows}
 
 pub and_with : (p t : Bool) → t ≡ true → (p && t) ≡ p

@@ -1,27 +1,10 @@
 -- A group that a step does not touch has the same rows before and now, under the keys to which they move.
 use Rattle.std.proofs.Common.{◌≡◌, refl, ap, sym, ◌∙◌, Bool, false, not, ◌||◌, ℕ, List, [], ◌∷◌, ◌++◌, map, Option, Some, ℤ}
-use Rattle.std.specs.Prelude.{option_map, unwrap_or}
-use Rattle.std.specs.List.{AllByRecursion, list_any}
-use Rattle.std.proofs.lemmas.Bool.{not-false, or_parts}
-use Rattle.std.proofs.lemmas.List.{length-map}
-use Rattle.key_lists.specs.Keys.{is_among, IsRising}
-use Rattle.key_lists.proofs.Among.{of_among}
-use Rattle.key_lists.proofs.Every.{every_weaker, filter-map, filter_in, map_map, any-map}
-use Rattle.tick_model.proofs.Among.{each_found}
-use Rattle.tick_model.specs.Agg.{aggregate, column_of, key_cells, over, present, sum_of}
-use Rattle.std.specs.Int.{int_min, int_max}
-use Rattle.tick_model.specs.declared.plan.Agg.{Agg}
-use Rattle.tick_model.specs.declared.plan.Agg.TheVariants.{Count, Sum, Min, Max, First, Last}
-use Rattle.tick_model.specs.declared.table.PlainRow.{PlainRow}
-use Rattle.tick_model.specs.declared.update.ShiftRange.{ShiftRange}
-use Rattle.tick_model.specs.Tables.{cell, keys, row_at, same_cells}
-use Rattle.tick_model.specs.Updates.{moved_row, removing, shifting}
-use Rattle.std.specs.Prelude.{pos}
-use Rattle.tick_table.specs.Exact.{IsExact}
-use Rattle.tick_table.specs.Ticking.{Ticking}
-use Rattle.agg_by.specs.Kept.{group_rows}
-use Rattle.agg_by.specs.Steps.{come, gone, is_touched, key_at}
-use Rattle.agg_by.proofs.Unmoved.{unmoved}
+use Rattle.std.{specs.Prelude.{option_map, unwrap_or, pos}, specs.List.{AllByRecursion, list_any}, proofs.lemmas.Bool.{not-false, or_parts}, proofs.lemmas.List.length-map, specs.Int.{int_min, int_max}}
+use Rattle.key_lists.{specs.Keys.{is_among, IsRising}, proofs.Among.of_among, proofs.Every.{every_weaker, filter-map, filter_in, map_map, any-map}}
+use Rattle.tick_model.{proofs.Among.each_found, specs.Agg.{aggregate, column_of, key_cells, over, present, sum_of}, specs.declared.plan.Agg.Agg, specs.declared.plan.Agg.TheVariants.{Count, Sum, Min, Max, First, Last}, specs.declared.table.PlainRow.PlainRow, specs.declared.update.ShiftRange.ShiftRange, specs.Tables.{cell, keys, row_at, same_cells}, specs.Updates.{moved_row, removing, shifting}}
+use Rattle.tick_table.{specs.Exact.IsExact, specs.Ticking.Ticking}
+use Rattle.agg_by.{specs.Kept.group_rows, specs.Steps.{come, gone, is_touched, key_at}, proofs.Unmoved.unmoved}
 
 -- where no element passes, each fails
 pub none_of : {X : Type 0} (p : X → Bool) (xs : List X) → list_any p xs ≡ false → AllByRecursion (λ x. p x ≡ false) xs

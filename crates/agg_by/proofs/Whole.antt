@@ -1,39 +1,15 @@
 -- A whole step: what is kept before it, and what it reads.
 use Rattle.std.proofs.Common.{◌≡◌, refl, ap, ap₂, sym, ◌∙◌, subst, Bool, true, false, not, cond, ℕ, suc, ◌+◌, ◌*◌, ◌^◌, ◌≤◌, arith, List, [], ◌∷◌, map, filter, length, None, if◌then◌else◌}
-use Rattle.std.specs.List.{AllByRecursion, AllZip, list_any}
-use Rattle.std.proofs.lemmas.Bool.{and_parts}
-use Rattle.std.proofs.lemmas.List.Elements.{length_all_zip}
-use Rattle.std.proofs.lemmas.List.{length-append, length-map}
-use Rattle.std.proofs.Math.Nat.{mul-le-mul_left}
-use Rattle.key_lists.specs.Keys.{is_among, IsRising, without}
-use Rattle.key_lists.proofs.Among.{each_among}
-use Rattle.key_lists.proofs.Every.{every_unmapped, every_weaker, every-filter, every-map, filter_passes}
-use Rattle.key_lists.proofs.Rising.{as_filter, rising-filter, rising_some}
+use Rattle.std.{specs.List.{AllByRecursion, AllZip, list_any}, proofs.lemmas.Bool.and_parts, proofs.lemmas.List.Elements.length_all_zip, proofs.lemmas.List.{length-append, length-map}, proofs.Math.Nat.mul-le-mul_left}
+use Rattle.key_lists.{specs.Keys.{is_among, IsRising, without}, proofs.Among.each_among, proofs.Every.{every_unmapped, every_weaker, every-filter, every-map, filter_passes}, proofs.Rising.{as_filter, rising-filter, rising_some}}
 use Rattle.row_groups.specs.Members.{Grouped, IsNumberUnder, Numbered, groups_of}
 use Rattle.row_set.proofs.United.{length-united}
 use Rattle.shown_rows.proofs.Restricted.{kept, modified_even}
 use Rattle.table_update.specs.Kept.{old_modified}
-use Rattle.tick_model.specs.declared.plan.Agg.{Agg}
-use Rattle.tick_model.specs.declared.table.PlainRow.{PlainRow}
-use Rattle.tick_model.specs.declared.table.PlainTable.{PlainTable}
-use Rattle.tick_model.specs.declared.update.KeyPair.{KeyPair}
+use Rattle.tick_model.{specs.declared.plan.Agg.Agg, specs.declared.table.PlainRow.PlainRow, specs.declared.table.PlainTable.PlainTable, specs.declared.update.KeyPair.KeyPair, specs.Rules.update_fault, specs.Tables.{keys, IsTable}, specs.Updates.{between, kept_pair, new_keys}}
 use Rattle.tick_laws.specs.Checked.{keys_after}
-use Rattle.tick_model.specs.Rules.{update_fault}
-use Rattle.tick_model.specs.Tables.{keys, IsTable}
-use Rattle.tick_model.specs.Updates.{between, kept_pair, new_keys}
-use Rattle.tick_table.proofs.Between.{between_lawful, keys_after_between}
-use Rattle.tick_table.specs.Exact.{IsExact, counted}
-use Rattle.tick_table.specs.Ticking.{Ticking}
-use Rattle.agg_by.specs.Aggregator.{IsColumn}
-use Rattle.agg_by.specs.declared.kept.Kept.{Kept}
-use Rattle.agg_by.specs.declared.running.Running.{Running}
-use Rattle.agg_by.specs.declared.running.Running.TheVariants.{Count, Sum, Min, Max, First, Last}
-use Rattle.agg_by.specs.Answers.{IsWithin}
-use Rattle.agg_by.specs.Kept.{AnswerAll, Are, IsMade, Keeps, agg_of, indexed}
-use Rattle.agg_by.specs.Steps.{changing_before, come, coming, first_keys, gone, is_touched, keeps_groups, key_at, leaving, starts, staying, stays, touched_cells, touched_firsts}
-use Rattle.agg_by.proofs.FirstKeys.{few_firsts, first_keys_rise, firsts_are}
-use Rattle.agg_by.proofs.GroupParts.{is_tick, staying_is, tick, touched}
-use Rattle.agg_by.proofs.GroupRows.{keys-agg}
+use Rattle.tick_table.{proofs.Between.{between_lawful, keys_after_between}, specs.Exact.{IsExact, counted}, specs.Ticking.Ticking}
+use Rattle.agg_by.{specs.Aggregator.IsColumn, specs.declared.kept.Kept.Kept, specs.declared.running.Running.Running, specs.declared.running.Running.TheVariants.{Count, Sum, Min, Max, First, Last}, specs.Answers.IsWithin, specs.Kept.{AnswerAll, Are, IsMade, Keeps, agg_of, indexed}, specs.Steps.{changing_before, come, coming, first_keys, gone, is_touched, keeps_groups, key_at, leaving, starts, staying, stays, touched_cells, touched_firsts}, proofs.FirstKeys.{few_firsts, first_keys_rise, firsts_are}, proofs.GroupParts.{is_tick, staying_is, tick, touched}, proofs.GroupRows.keys-agg}
 
 within_one : (width : ℕ) (running : Running) → IsColumn width (agg_of running) → IsWithin width running
 within_one width Count h = tt

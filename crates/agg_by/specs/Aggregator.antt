@@ -3,17 +3,10 @@
 --     IsAggregator by aggs width      its columns are the input's, and the result has few
 --     StandsFor aggregator table      it stands for the rows of this table
 --     grouped by aggs tick      the tick of an aggregation, from that of its input
-use Rattle.std.specs.Prelude.{◌≡◌, ℕ, ◌+◌, ◌<◌, ◌≤◌, List, length, None}
-use Rattle.std.specs.List.{AllByRecursion}
-use Rattle.agg_by.specs.declared.running.Running.{Running}
-use Rattle.agg_by.specs.Kept.{Are, indexed}
-use Rattle.agg_by.specs.Steps.{first_keys}
+use Rattle.std.{specs.Prelude.{◌≡◌, ℕ, ◌+◌, ◌<◌, ◌≤◌, List, length, None}, specs.List.AllByRecursion}
+use Rattle.agg_by.{specs.declared.running.Running.Running, specs.Kept.{Are, indexed}, specs.Steps.first_keys}
 use Rattle.row_groups.specs.Members.{Numbered, groups_of}
-use Rattle.tick_model.specs.declared.plan.Agg.{Agg}
-use Rattle.tick_model.specs.declared.plan.Agg.TheVariants.{Count, Sum, Min, Max, First, Last}
-use Rattle.tick_model.specs.declared.plan.Op.TheVariants.{Agg as Aggregated}
-use Rattle.tick_model.specs.declared.table.PlainTable.{PlainTable}
-use Rattle.tick_model.specs.Updates.{Tick}
+use Rattle.tick_model.{specs.declared.plan.Agg.Agg, specs.declared.plan.Agg.TheVariants.{Count, Sum, Min, Max, First, Last}, specs.declared.plan.Op.TheVariants.Agg as Aggregated, specs.declared.table.PlainTable.PlainTable, specs.Updates.Tick}
 use Rattle.tick_laws.specs.Operated.{operated}
 
 pub record Aggregator : Type 0 where

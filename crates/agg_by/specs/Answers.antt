@@ -3,16 +3,10 @@
 --     HasRow number row running      a row of the group with a number is among those that are answered
 --     without_row number row running      a row of the group with a number goes
 --     with_row number row running      a row comes into the group with a number
-use Rattle.std.specs.Prelude.{ℕ, ◌-◌, ◌<◌, List, [], Option, length, slice_get, ℤ, pos}
-use Rattle.std.specs.Option.{option_map_or}
-use Rattle.agg_by.specs.declared.running.Running.{Running}
-use Rattle.agg_by.specs.declared.running.Running.TheVariants.{Count, Sum, Min, Max, First, Last}
-use Rattle.agg_by.specs.ByNumber.{IsHeld, changed_by}
-use Rattle.agg_by.specs.Sums.{HasAny, minus, no_total, plus, sum_or_null}
-use Rattle.agg_by.specs.Values.{IsAmong, greatest, least, opposite, placed, unplaced}
+use Rattle.std.{specs.Prelude.{ℕ, ◌-◌, ◌<◌, List, [], Option, length, slice_get, ℤ, pos}, specs.Option.option_map_or}
+use Rattle.agg_by.{specs.declared.running.Running.Running, specs.declared.running.Running.TheVariants.{Count, Sum, Min, Max, First, Last}, specs.ByNumber.{IsHeld, changed_by}, specs.Sums.{HasAny, minus, no_total, plus, sum_or_null}, specs.Values.{IsAmong, greatest, least, opposite, placed, unplaced}}
 use Rattle.row_groups.specs.Members.{Member, keys_of}
-use Rattle.tick_model.specs.Tables.{cell, cells_at, null}
-use Rattle.tick_model.specs.declared.table.PlainRow.{PlainRow}
+use Rattle.tick_model.{specs.Tables.{cell, cells_at, null}, specs.declared.table.PlainRow.PlainRow}
 
 -- the cell of the row at a position of the group
 abbrev pub cell_of : List PlainRow → ℕ → Option ℕ → ℤ

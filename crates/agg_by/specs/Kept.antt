@@ -7,21 +7,10 @@
 --     Answers by names rows running      what is kept for the aggregate is that of these rows
 --     Are by names aggs rows running      these answer the aggregates of these rows; they are begun at the first step, before which there are no rows
 --     Keeps kept rows      all that is kept is that of these rows
-use Rattle.std.specs.Prelude.{◌≡◌, ℕ, List, [], Option, None, Some, filter, length, map, ℤ, pos, ◌⊎◌}
-use Rattle.std.specs.List.{AllByRecursion}
-use Rattle.std.specs.Option.{option_map_or}
-use Rattle.agg_by.specs.declared.kept.Kept.{Kept}
-use Rattle.agg_by.specs.declared.running.Running.{Running}
-use Rattle.agg_by.specs.declared.running.Running.TheVariants.{Count, Sum, Min, Max, First, Last}
-use Rattle.agg_by.specs.ByNumber.{at_number}
-use Rattle.agg_by.specs.Sums.{no_total, total_of}
-use Rattle.agg_by.specs.Values.{in_order, opposites}
+use Rattle.std.{specs.Prelude.{◌≡◌, ℕ, List, [], Option, None, Some, filter, length, map, ℤ, pos, ◌⊎◌}, specs.List.AllByRecursion, specs.Option.option_map_or}
+use Rattle.agg_by.{specs.declared.kept.Kept.Kept, specs.declared.running.Running.Running, specs.declared.running.Running.TheVariants.{Count, Sum, Min, Max, First, Last}, specs.ByNumber.at_number, specs.Sums.{no_total, total_of}, specs.Values.{in_order, opposites}}
 use Rattle.row_groups.specs.Members.{Grouped, Member, Names, groups_of, member_of, name_at}
-use Rattle.tick_model.specs.Agg.{column_of, key_cells, present}
-use Rattle.tick_model.specs.Tables.{cell, same_cells}
-use Rattle.tick_model.specs.declared.plan.Agg.{Agg}
-use Rattle.tick_model.specs.declared.plan.Agg.TheVariants.{Count as CountAgg, Sum as SumAgg, Min as MinAgg, Max as MaxAgg, First as FirstAgg, Last as LastAgg}
-use Rattle.tick_model.specs.declared.table.PlainRow.{PlainRow}
+use Rattle.tick_model.{specs.Agg.{column_of, key_cells, present}, specs.Tables.{cell, same_cells}, specs.declared.plan.Agg.Agg, specs.declared.plan.Agg.TheVariants.{Count as CountAgg, Sum as SumAgg, Min as MinAgg, Max as MaxAgg, First as FirstAgg, Last as LastAgg}, specs.declared.table.PlainRow.PlainRow}
 
 -- by what a row stands in its group
 abbrev pub place_in : Option ℕ → List ℤ → ℤ

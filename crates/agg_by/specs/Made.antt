@@ -3,10 +3,7 @@
 --     StandsForFirst agg tables      it stands for the rows of its input
 --     CanAggregate op widths      it can be made of this operator of a plan, for inputs of these widths
 use Rattle.std.specs.Prelude.{ℕ, List, [], ◌∷◌, slice_index}
-use Rattle.tick_model.specs.declared.plan.Op.{Op}
-use Rattle.tick_model.specs.declared.plan.Op.TheVariants.{Agg}
-use Rattle.tick_model.specs.declared.table.PlainTable.{PlainTable}
-use Rattle.tick_model.specs.Ready.{table_in}
+use Rattle.tick_model.{specs.declared.plan.Op.Op, specs.declared.plan.Op.TheVariants.Agg, specs.declared.table.PlainTable.PlainTable, specs.Ready.table_in}
 use Rattle.table_operator.specs.Made.{Made}
 use Rattle.agg_by.specs.Aggregator.{Aggregator, IsAggregator, StandsFor}
 

@@ -1,7 +1,6 @@
 -- The two ends of a step.
 --     table_at moment input      the input's table before the step, or now
-use Rattle.agg_by.specs.declared.moment.Moment.{Moment}
-use Rattle.agg_by.specs.declared.moment.Moment.TheVariants.{Before, Now}
+use Rattle.agg_by.{specs.declared.moment.Moment.Moment, specs.declared.moment.Moment.TheVariants.{Before, Now}}
 use Rattle.tick_model.specs.declared.table.PlainTable.{PlainTable}
 use Rattle.tick_table.specs.Ticking.{Ticking}
 

@@ -1,16 +1,9 @@
 -- When the rows of the groups may be read.
 --     AreReady input kept notes      what is kept is that of the input's rows, and the touched groups are noted as they were before
-use Rattle.std.specs.Prelude.{◌≡◌}
-use Rattle.std.specs.List.{AllByRecursion}
-use Rattle.agg_by.specs.declared.kept.Kept.{Kept}
-use Rattle.agg_by.specs.declared.notes.Notes.{Notes}
-use Rattle.agg_by.specs.Answers.{IsWithin}
-use Rattle.agg_by.specs.Kept.{Keeps}
-use Rattle.agg_by.specs.Notes.{IsNoted}
-use Rattle.agg_by.specs.Steps.{touched_firsts}
+use Rattle.std.{specs.Prelude.◌≡◌, specs.List.AllByRecursion}
+use Rattle.agg_by.{specs.declared.kept.Kept.Kept, specs.declared.notes.Notes.Notes, specs.Answers.IsWithin, specs.Kept.Keeps, specs.Notes.IsNoted, specs.Steps.touched_firsts}
 use Rattle.tick_model.specs.Agg.{agg_table}
-use Rattle.tick_table.specs.Exact.{IsExact}
-use Rattle.tick_table.specs.Ticking.{Ticking}
+use Rattle.tick_table.{specs.Exact.IsExact, specs.Ticking.Ticking}
 
 pub record AreReady (input : Ticking) (kept : Kept) (notes : Notes) : Type 0 where
   pub exact : IsExact input

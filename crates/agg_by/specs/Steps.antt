@@ -10,18 +10,12 @@
 --     changing_before by input, changing by input      the old keys of the modified rows that stay in their groups, and their new keys
 --     kept_cells members key      the key cells that are kept under a key
 --     stays by input pair      whether both rows of a pair are first rows of one touched group
-use Rattle.std.specs.Prelude.{ℕ, ◌==◌, ◌&&◌, Bool, false, not, List, [], ◌++◌, filter, map, option_map, slice_get, unwrap_or, ℤ, if◌then◌else◌}
-use Rattle.std.specs.List.{list_any}
-use Rattle.std.specs.Option.{option_map_or}
+use Rattle.std.{specs.Prelude.{ℕ, ◌==◌, ◌&&◌, Bool, false, not, List, [], ◌++◌, filter, map, option_map, slice_get, unwrap_or, ℤ, if◌then◌else◌}, specs.List.list_any, specs.Option.option_map_or}
 use Rattle.key_lists.specs.Keys.{is_among, without}
 use Rattle.row_groups.specs.Members.{Member, group_of, keys_of, member_under}
 use Rattle.row_set.specs.Sets.{united}
 use Rattle.table_update.specs.Kept.{old_modified}
-use Rattle.tick_model.specs.Agg.{is_first, key_cells}
-use Rattle.tick_model.specs.Tables.{cells_at, keys, same_cells}
-use Rattle.tick_model.specs.Updates.{kept_pair, removing, shifting}
-use Rattle.tick_model.specs.declared.table.PlainRow.{PlainRow}
-use Rattle.tick_model.specs.declared.update.KeyPair.{KeyPair}
+use Rattle.tick_model.{specs.Agg.{is_first, key_cells}, specs.Tables.{cells_at, keys, same_cells}, specs.Updates.{kept_pair, removing, shifting}, specs.declared.table.PlainRow.PlainRow, specs.declared.update.KeyPair.KeyPair}
 use Rattle.tick_table.specs.Ticking.{Ticking}
 
 abbrev pub gone : Ticking → List ℕ

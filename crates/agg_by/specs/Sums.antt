@@ -3,12 +3,10 @@
 --     sum_or_null total      the sum, or null where it is of no cells
 --     plus value total, minus value total      one cell more, and one less
 --     HasAny value total      any cell may be taken out
-use Rattle.std.specs.Prelude.{List, length, ℤ, pos, ◌+ℤ◌, ◌-ℤ◌, if◌then◌else◌}
-use Rattle.std.specs.Ordering.{int_eq}
+use Rattle.std.{specs.Prelude.{List, length, ℤ, pos, ◌+ℤ◌, ◌-ℤ◌, if◌then◌else◌}, specs.Ordering.int_eq}
 use Rattle.agg_by.specs.declared.sums.Total.{Total}
 use Rattle.row_changes.specs.Sums.{added_up}
-use Rattle.tick_model.specs.Formulas.{wrap}
-use Rattle.tick_model.specs.Tables.{null}
+use Rattle.tick_model.{specs.Formulas.wrap, specs.Tables.null}
 
 abbrev pub no_total : Total
 no_total = record { sum = pos 0; count = pos 0 }

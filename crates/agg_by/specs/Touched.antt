@@ -4,9 +4,7 @@
 --     is_named cells names number      whether the group with a number has some of these key cells
 --     starts_numbered rows first number      whether the group with a number has its first row under a key
 --     AreNoted before cells names numbers      besides the numbers of before they are those of the groups with these key cells, each of which has one
-use Rattle.std.specs.Prelude.{ℕ, ◌≡◌, ◌||◌, Bool, true, false, List, [], ◌∷◌, ◌++◌, Some, slice_index_or, ℤ, if◌then◌else◌}
-use Rattle.std.specs.List.{AllByRecursion, list_any}
-use Rattle.std.specs.Option.{option_map_or}
+use Rattle.std.{specs.Prelude.{ℕ, ◌≡◌, ◌||◌, Bool, true, false, List, [], ◌∷◌, ◌++◌, Some, slice_index_or, ℤ, if◌then◌else◌}, specs.List.{AllByRecursion, list_any}, specs.Option.option_map_or}
 use Rattle.agg_by.specs.Steps.{starts}
 use Rattle.key_lists.specs.Keys.{is_among}
 use Rattle.row_groups.specs.Members.{Names, Numbered, name_at}

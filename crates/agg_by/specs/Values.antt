@@ -12,11 +12,7 @@
 --     top live      what stands first in a heap, or null
 --     IsKept live gone      heaps of the live cells and of those of them that have gone
 --     IsSettled live gone      the greatest of the live cells has not gone
-use Rattle.std.specs.Prelude.{◌≡◌, ℕ, ◌-◌, ◌<◌, ◌≤◌, false, List, [], ◌∷◌, Option, ℤ, negsuc, ◌-ℤ◌, count_by, int_lt, length, map, slice_get, slice_index_or, unwrap_or, if◌then◌else◌}
-use Rattle.std.specs.BinaryHeap.{IsHeap}
-use Rattle.std.specs.List.{AllByRecursion}
-use Rattle.std.specs.Option.{option_map_or}
-use Rattle.std.specs.Ordering.{int_cmp, int_eq}
+use Rattle.std.{specs.Prelude.{◌≡◌, ℕ, ◌-◌, ◌<◌, ◌≤◌, false, List, [], ◌∷◌, Option, ℤ, negsuc, ◌-ℤ◌, count_by, int_lt, length, map, slice_get, slice_index_or, unwrap_or, if◌then◌else◌}, specs.BinaryHeap.IsHeap, specs.List.AllByRecursion, specs.Option.option_map_or, specs.Ordering.{int_cmp, int_eq}}
 use Rattle.tick_model.specs.Tables.{null}
 
 abbrev pub Ascends : List ℤ → Type 0

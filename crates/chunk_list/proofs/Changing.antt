@@ -1,8 +1,6 @@
 -- Items that are changed one by one.
 use Rattle.std.proofs.Common.{◌≡◌, refl, ap, ap₂, sym, ◌∙◌, subst, ℕ, zero, suc, ◌+◌, ◌<◌, arith, List, [], ◌∷◌, ◌++◌, map, length, take, drop, get_or, set, length-append, length-drop}
-use Rattle.std.specs.List.{AllByRecursion}
-use Rattle.std.proofs.lemmas.List.{get_or_default, length-take-le, length-map, map-append}
-use Rattle.std.proofs.lemmas.List.Edits.{map_over_more}
+use Rattle.std.{specs.List.AllByRecursion, proofs.lemmas.List.{get_or_default, length-take-le, length-map, map-append}, proofs.lemmas.List.Edits.map_over_more}
 use Rattle.chunk_list.specs.Chunked.{AreChunks, IsChunk, joined}
 
 -- one more that is changed

@@ -1,13 +1,8 @@
 -- What edits of chunks do to the joined list and to the counts.
 use Rattle.std.proofs.Common.{◌≡◌, refl, ap, sym, ◌∙◌, ℕ, zero, suc, ◌+◌, ◌-◌, ◌^◌, ◌<◌, ◌≤◌, arith, List, [], ◌∷◌, ◌++◌, length, map, take, drop, get_or, set, append_assoc, length-append, Result, Ok, Err, OnErr, false, true≢false}
-use Rattle.std.specs.Prelude.{insert, remove, ◌==◌}
-use Rattle.std.specs.List.{AllByRecursion}
-use Rattle.std.proofs.lemmas.List.{append-nil}
-use Rattle.chunk_list.specs.declared.counts.Place.{Place}
-use Rattle.chunk_list.specs.Chunked.{AreChunks, IsChunk, IsPlace, joined, list_at}
-use Rattle.std.specs.Global.{Vec}
+use Rattle.std.{specs.Prelude.{insert, remove, ◌==◌}, specs.List.AllByRecursion, proofs.lemmas.List.append-nil, specs.Global.Vec}
+use Rattle.chunk_list.{specs.declared.counts.Place.Place, specs.Chunked.{AreChunks, IsChunk, IsPlace, joined, list_at}, proofs.Joined.{contents, count_at, joined_around, joined_set, own_list, set_own}}
 use Rattle.key_lists.proofs.Parts.{every_set, every_remove, map_set, put_among, taken_among}
-use Rattle.chunk_list.proofs.Joined.{contents, count_at, joined_around, joined_set, own_list, set_own}
 
 -- a chunk is not empty or too long
 pub size_at : {X : Type 0} (ls : List (List X)) (i : ℕ) → i < length ls → AllByRecursion IsChunk ls → IsChunk (list_at i ls)

@@ -1,12 +1,8 @@
 -- Chunks that are put behind others or taken off again.
 use Rattle.std.proofs.Common.{◌≡◌, refl, ap, sym, ◌∙◌, ℕ, zero, suc, ◌+◌, ◌^◌, ◌<◌, ◌≤◌, arith, List, [], ◌∷◌, ◌++◌, length, map, take, drop, get_or, set, append_assoc, append-nil, length-append, take-append-drop}
-use Rattle.std.specs.Prelude.{insert, remove}
-use Rattle.std.specs.Global.{Vec}
-use Rattle.std.proofs.lemmas.List.{drop-append-le, length-take, map-append, take-append-le, take_more}
+use Rattle.std.{specs.Prelude.{insert, remove}, specs.Global.Vec, proofs.lemmas.List.{drop-append-le, length-take, map-append, take-append-le, take_more}}
 use Rattle.key_lists.proofs.Every.{every-append}
-use Rattle.chunk_list.specs.Chunked.{AreChunks, IsChunk, joined, list_at}
-use Rattle.chunk_list.proofs.Edits.{inserted_last, map_remove}
-use Rattle.chunk_list.proofs.Joined.{contents, length-counts, length-lists, own_list}
+use Rattle.chunk_list.{specs.Chunked.{AreChunks, IsChunk, joined, list_at}, proofs.Edits.{inserted_last, map_remove}, proofs.Joined.{contents, length-counts, length-lists, own_list}}
 
 pub joined-append : {X : Type 0} (ls ks : List (List X)) → joined (ls ++ ks) ≡ joined ls ++ joined ks
 joined-append [] ks = refl

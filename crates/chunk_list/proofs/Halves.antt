@@ -1,11 +1,8 @@
 -- A chunk of which two are made, and what an edit replaces.
 use Rattle.std.proofs.Common.{◌≡◌, refl, ap, ap₂, sym, ◌∙◌, ℕ, zero, suc, ◌+◌, ◌-◌, ◌^◌, ◌<◌, ◌≤◌, arith, List, [], ◌∷◌, ◌++◌, length, map, take, drop, get_or, set, append_assoc, take-append-drop}
-use Rattle.std.specs.Prelude.{insert, remove}
-use Rattle.std.specs.Global.{Vec}
+use Rattle.std.{specs.Prelude.{insert, remove}, specs.Global.Vec}
 use Rattle.key_lists.proofs.Parts.{set_around, every_set, every_insert, map_set}
-use Rattle.chunk_list.specs.Chunked.{AreChunks, IsChunk, IsReplaced, joined, list_at}
-use Rattle.chunk_list.proofs.Edits.{length_instead, lists_set, map_insert}
-use Rattle.chunk_list.proofs.Joined.{contents, length-counts, own_list}
+use Rattle.chunk_list.{specs.Chunked.{AreChunks, IsChunk, IsReplaced, joined, list_at}, proofs.Edits.{length_instead, lists_set, map_insert}, proofs.Joined.{contents, length-counts, own_list}}
 
 -- a list in two
 pub joined_halves : {X : Type 0} (ls : List (List X)) (i : ℕ) (lower upper l : List X) → i < length ls → lower ++ upper ≡ l → joined (insert (set ls i lower) (suc i) upper) ≡ joined (set ls i l)

@@ -1,11 +1,8 @@
 -- Lists joined to one, and what stands at a position there.
 use Rattle.std.proofs.Common.{◌≡◌, refl, ap, sym, ◌∙◌, ℕ, zero, suc, ◌+◌, ◌<◌, arith, List, [], ◌∷◌, ◌++◌, length, map, take, drop, get_or, set, sum, append_assoc, length-append, Some}
-use Rattle.std.specs.Prelude.{slice_get}
-use Rattle.std.specs.Global.{Vec}
+use Rattle.std.{specs.Prelude.slice_get, specs.Global.Vec}
 use Rattle.key_lists.proofs.Parts.{drop_among, got_among, take_front}
-use Rattle.chunk_list.specs.declared.counts.Place.{Place}
-use Rattle.chunk_list.specs.Chunked.{IsPlace, joined, list_at}
-use Rattle.chunk_list.proofs.Sums.{sum-cons}
+use Rattle.chunk_list.{specs.declared.counts.Place.Place, specs.Chunked.{IsPlace, joined, list_at}, proofs.Sums.sum-cons}
 
 pub length-joined : {X : Type 0} (ls : List (List X)) → length (joined ls) ≡ sum (map length ls)
 length-joined [] = refl

@@ -1,14 +1,9 @@
 -- What a binary search for a partition point has found.
 use Rattle.std.proofs.Common.{◌≡◌, refl, ap, sym, ◌∙◌, ℕ, zero, suc, ◌+◌, ◌-◌, ◌≤◌, ◌<◌, arith, List, [], ◌∷◌, ◌++◌, length, take, drop, get_or, Bool, true, false, true≢false, inl, inr, ◌⊎◌, Some, None, length-append}
-use Rattle.std.specs.Prelude.{slice_get}
-use Rattle.std.specs.List.{AllWithin, HoldsAt}
-use Rattle.std.specs.List.Sorted.{IsPartitionPoint, IsPartitionedBy}
-use Rattle.std.specs.Fn.{AlwaysReturns, Called}
-use Rattle.std.proofs.lemmas.Bool.{cases_lt, false_from_ne_true}
+use Rattle.std.{specs.Prelude.slice_get, specs.List.{AllWithin, HoldsAt}, specs.List.Sorted.{IsPartitionPoint, IsPartitionedBy}, specs.Fn.{AlwaysReturns, Called}, proofs.lemmas.Bool.{cases_lt, false_from_ne_true}}
 use Rattle.key_lists.proofs.Parts.{get-append}
 use denote.Param.Members.{Mut}
-use Rattle.chunk_list.specs.Chunked.{joined, list_at}
-use Rattle.chunk_list.proofs.Joined.{joined_around}
+use Rattle.chunk_list.{specs.Chunked.{joined, list_at}, proofs.Joined.joined_around}
 
 pub holds_at : {X : Type 0} (P : X → Type 0) (xs : List X) (i : ℕ) (x : X) → slice_get xs i ≡ Some x → P x → HoldsAt P xs i
 holds_at P [] i x e p d = absurd (cc)

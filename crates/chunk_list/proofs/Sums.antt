@@ -1,9 +1,7 @@
 -- Sums of the first numbers of a list, when a number becomes another, comes or leaves, and the sums of blocks.
 
-use Rattle.std.proofs.lemmas.Bool.{cases_lt, cases_order}
+use Rattle.std.{proofs.lemmas.Bool.{cases_lt, cases_order}, proofs.lemmas.List.take-set-le, proofs.lemmas.List.Sums.{sum_by-cons, sum_by_more, sum_by-drop_more, sum_by-take-le, sum_by-set}}
 use Rattle.std.proofs.Common.{inl, inr, min, zero-add, length-set, get_or-set_same, get_or-set_other, ◌≡◌, ap, sym, ◌∙◌, subst, refl, ℕ, zero, suc, ◌+◌, ◌-◌, ◌*◌, ◌^◌, ◌<◌, ◌≤◌, arith, List, [], ◌∷◌, length, take, drop, get_or, set, sum, length-drop, take_all}
-use Rattle.std.proofs.lemmas.List.{take-set-le}
-use Rattle.std.proofs.lemmas.List.Sums.{sum_by-cons, sum_by_more, sum_by-drop_more, sum_by-take-le, sum_by-set}
 use Rattle.chunk_list.specs.Blocks.{IsSum, AreBlocks, AreCounts}
 
 pub sum-cons : (x : ℕ) (xs : List ℕ) → sum (x ∷ xs) ≡ x + sum xs

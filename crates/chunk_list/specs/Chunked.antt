@@ -4,10 +4,8 @@
 --     items_in chunks      the items of all chunks
 --     list_at index lists      the items of the chunk at an index
 --     IsReplaced few most old new      one chunk is replaced by from `few` to `most` others, or these come where there was none
-use Rattle.std.specs.Prelude.{ℕ, suc, ◌≡◌, ◌+◌, ◌-◌, ◌^◌, ◌<◌, ◌≤◌, List, [], ◌++◌, drop, length, map, take, slice_index_or}
-use Rattle.std.specs.List.{AllByRecursion, flat_map}
-use Rattle.chunk_list.specs.declared.chunks.Chunks.{Chunks}
-use Rattle.chunk_list.specs.declared.counts.Place.{Place}
+use Rattle.std.{specs.Prelude.{ℕ, suc, ◌≡◌, ◌+◌, ◌-◌, ◌^◌, ◌<◌, ◌≤◌, List, [], ◌++◌, drop, length, map, take, slice_index_or}, specs.List.{AllByRecursion, flat_map}}
+use Rattle.chunk_list.{specs.declared.chunks.Chunks.Chunks, specs.declared.counts.Place.Place}
 
 abbrev pub joined : {T : Type 0} → List (List T) → List T
 joined = flat_map (λ list. list)

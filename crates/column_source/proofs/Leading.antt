@@ -1,8 +1,6 @@
 -- Edits that lead from the cells from before to those of now.
 use Rattle.std.proofs.Common.{◌≡◌, refl, ap, sym, ◌∙◌, subst, ◌<◌, arith, List, [], ◌∷◌, ◌++◌, drop, get_or, length}
-use Rattle.column_source.specs.declared.edit.Edit.{Edit}
-use Rattle.column_source.specs.Edits.{AreAllowed, IsAllowed, LeadTo, edited, edited_by}
-use Rattle.column_source.specs.Entries.{Entry}
+use Rattle.column_source.{specs.declared.edit.Edit.Edit, specs.Edits.{AreAllowed, IsAllowed, LeadTo, edited, edited_by}, specs.Entries.Entry}
 
 -- one edit more
 allowed-append : (edits : List Edit) (edit : Edit) (entries : List Entry) → AreAllowed edits entries → IsAllowed edit (edited_by edits entries) → AreAllowed (edits ++ edit ∷ []) entries

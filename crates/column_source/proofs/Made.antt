@@ -1,22 +1,10 @@
 -- What each edit makes of the keys and the cells that are kept.
 use Rattle.std.proofs.Common.{◌≡◌, refl, ap, ap₂, sym, ◌∙◌, subst, true, false, cond, ℕ, zero, suc, ◌+◌, ◌<◌, ◌≤◌, arith, List, [], ◌∷◌, ◌++◌, length, ℤ, ltb, add-one}
-use Rattle.std.specs.Prelude.{◌^◌, filter, slice_get, None, Result, Ok, Err}
-use Rattle.std.specs.List.{AllByRecursion, insert, remove}
-use Rattle.std.proofs.lemmas.Option.{slice_get_within}
-use Rattle.key_lists.specs.Keys.{is_among, IsRising, without}
-use Rattle.key_lists.proofs.Among.{each_among}
-use Rattle.key_lists.proofs.Every.{every, every-filter, every_unmapped}
-use Rattle.key_lists.proofs.Parts.{every_back}
-use Rattle.key_lists.proofs.Rising.{rising_count}
-use Rattle.row_set.specs.Ranges.{keys_from}
-use Rattle.row_set.specs.Sets.{IsKeySet, common, count_below, found, united}
-use Rattle.row_set.proofs.Lookups.{count_at}
-use Rattle.row_set.proofs.United.{one_key}
-use Rattle.row_set.proofs.Windows.{rising_back, rising_before}
-use Rattle.tick_model.specs.declared.update.ShiftRange.{ShiftRange}
-use Rattle.tick_model.specs.Rules.{landed}
-use Rattle.column_source.specs.Entries.{Entry, IsEntryList, cell_under, keys_of, left_entries, moved_entries, put}
-use Rattle.column_source.proofs.Paired.{AreOf, cell_at, cells-moved, cells-next, cells-put, cells-replaced, cells_of, counted, key_held, keys-left, keys-moved, keys-put, left_common, no_cell}
+use Rattle.std.{specs.Prelude.{◌^◌, filter, slice_get, None, Result, Ok, Err}, specs.List.{AllByRecursion, insert, remove}, proofs.lemmas.Option.slice_get_within}
+use Rattle.key_lists.{specs.Keys.{is_among, IsRising, without}, proofs.Among.each_among, proofs.Every.{every, every-filter, every_unmapped}, proofs.Parts.every_back, proofs.Rising.rising_count}
+use Rattle.row_set.{specs.Ranges.keys_from, specs.Sets.{IsKeySet, common, count_below, found, united}, proofs.Lookups.count_at, proofs.United.one_key, proofs.Windows.{rising_back, rising_before}}
+use Rattle.tick_model.{specs.declared.update.ShiftRange.ShiftRange, specs.Rules.landed}
+use Rattle.column_source.{specs.Entries.{Entry, IsEntryList, cell_under, keys_of, left_entries, moved_entries, put}, proofs.Paired.{AreOf, cell_at, cells-moved, cells-next, cells-put, cells-replaced, cells_of, counted, key_held, keys-left, keys-moved, keys-put, left_common, no_cell}}
 
 -- what a search for a key says
 held : (key : ℕ) (keys : List ℕ) (n : ℕ) → found key keys ≡ Ok n → (is_among key keys ≡ true) × (n ≡ count_below key keys)

@@ -1,19 +1,9 @@
 -- Entries, their keys and their cells, and what edits make of both.
 use Rattle.std.proofs.Common.{◌≡◌, refl, ap, ap₂, sym, ◌∙◌, true, false, cond, not, ◌||◌, ℕ, suc, ◌<◌, ◌≤◌, arith, List, [], ◌∷◌, ◌++◌, length, map, ℤ, ◌==◌, inl, inr, true≢false}
-use Rattle.std.specs.Prelude.{slice_get, None, Some}
-use Rattle.std.specs.List.{AllByRecursion, insert, remove}
-use Rattle.std.proofs.lemmas.Bool.{cases_eq, cases_order, eq-eqb, le-ltb, lt-ltb, ne_eqb}
-use Rattle.key_lists.specs.Keys.{is_among, IsRising, without}
-use Rattle.key_lists.proofs.Among.{among-append, among-filter, among_above, among_below, each_among, of_among}
-use Rattle.key_lists.proofs.Booleans.{and_true, or_false, or_true}
-use Rattle.key_lists.proofs.Every.{every-append, every-filter, every_unmapped, every_weaker, filter-map, filter_same, map_map}
-use Rattle.key_lists.proofs.Rising.{rising_same}
-use Rattle.row_set.specs.Sets.{common, count_below, with_key}
-use Rattle.row_set.proofs.Lookups.{count_none}
-use Rattle.row_set.proofs.United.{among-with_key, with_key_rises}
-use Rattle.tick_model.specs.declared.update.ShiftRange.{ShiftRange}
-use Rattle.tick_model.specs.Rules.{landed}
-use Rattle.tick_model.specs.Shifts.{as_key, moved}
+use Rattle.std.{specs.Prelude.{slice_get, None, Some}, specs.List.{AllByRecursion, insert, remove}, proofs.lemmas.Bool.{cases_eq, cases_order, eq-eqb, le-ltb, lt-ltb, ne_eqb}}
+use Rattle.key_lists.{specs.Keys.{is_among, IsRising, without}, proofs.Among.{among-append, among-filter, among_above, among_below, each_among, of_among}, proofs.Booleans.{and_true, or_false, or_true}, proofs.Every.{every-append, every-filter, every_unmapped, every_weaker, filter-map, filter_same, map_map}, proofs.Rising.rising_same}
+use Rattle.row_set.{specs.Sets.{common, count_below, with_key}, proofs.Lookups.count_none, proofs.United.{among-with_key, with_key_rises}}
+use Rattle.tick_model.{specs.declared.update.ShiftRange.ShiftRange, specs.Rules.landed, specs.Shifts.{as_key, moved}}
 use Rattle.column_source.specs.Entries.{Entry, cell_under, keys_of, left_entries, moved_entries, moved_entry, paired, put}
 
 abbrev pub cells_of : List Entry → List ℤ

@@ -5,9 +5,7 @@
 --     AreAllowed edits entries      whether each of these edits may be made, after those before it
 use Rattle.std.specs.Prelude.{◌≡◌, ◌^◌, ◌<◌, List, [], ◌∷◌}
 use Rattle.shift_data.specs.Moves.{IsLawful}
-use Rattle.column_source.specs.declared.edit.Edit.{Edit}
-use Rattle.column_source.specs.declared.edit.Edit.TheVariants.{Set, DropKeys, Shift}
-use Rattle.column_source.specs.Entries.{Entry, keys_of, left_entries, moved_entries, put}
+use Rattle.column_source.{specs.declared.edit.Edit.Edit, specs.declared.edit.Edit.TheVariants.{Set, DropKeys, Shift}, specs.Entries.{Entry, keys_of, left_entries, moved_entries, put}}
 
 abbrev pub edited : Edit → List Entry → List Entry
 edited (Set key cell) = put key cell

@@ -4,11 +4,9 @@
 --     left_entries dropped entries      those under none of the dropped keys
 --     moved_entries shifts entries      each under the key to which its row moves
 --     paired keys cells      the entries of these cells under these keys, one by one
-use Rattle.std.specs.Prelude.{ℕ, ◌^◌, ◌<◌, ◌==◌, not, nat_lt, List, [], ◌∷◌, Option, Some, None, filter, map, ℤ, if◌then◌else◌}
-use Rattle.std.specs.List.{AllByRecursion}
+use Rattle.std.{specs.Prelude.{ℕ, ◌^◌, ◌<◌, ◌==◌, not, nat_lt, List, [], ◌∷◌, Option, Some, None, filter, map, ℤ, if◌then◌else◌}, specs.List.AllByRecursion}
 use Rattle.key_lists.specs.Keys.{is_among, IsRising}
-use Rattle.tick_model.specs.declared.update.ShiftRange.{ShiftRange}
-use Rattle.tick_model.specs.Shifts.{moved, as_key}
+use Rattle.tick_model.{specs.declared.update.ShiftRange.ShiftRange, specs.Shifts.{moved, as_key}}
 
 -- the key of a row, with its cell
 pub record Entry : Type 0 where

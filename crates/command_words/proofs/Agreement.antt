@@ -1,24 +1,8 @@
 -- The words make one command, by `clap`'s account of its walk and by the rules.
 use Rattle.std.proofs.Common.{◌≡◌, ◌∙◌, Bool, true, false, refl, sym, ap, List, [], ◌∷◌, map, Option, Some, None, String, string_bytes, codes, bytes_eq}
-use Rattle.std.proofs.lemmas.Bool.{true≢false}
-use Rattle.std.proofs.lemmas.Str.{IsUtf8-string_bytes}
+use Rattle.std.{proofs.lemmas.Bool.true≢false, proofs.lemmas.Str.IsUtf8-string_bytes}
 use Rattle.clap.specs.Walk.{Text}
-use Rattle.command_words.specs.declared.command.Task.{Task}
-use Rattle.command_words.specs.Commands.{command, command_from, task_of, with_settings}
-use Rattle.command_words.specs.Found.{command_in}
-use Rattle.command_words.specs.Program.{found_in}
-use Rattle.command_words.specs.Words.{Parts, parts_of}
-use Rattle.command_words.proofs.DemoRules.{demo_leaf, demo_places}
-use Rattle.command_words.proofs.EndLemmas.{demo_ends, no_task, run_ends, watch_ends}
-use Rattle.command_words.proofs.LeafRules.{demo_rules, run_rules, watch_rules}
-use Rattle.command_words.proofs.LeafSteps.{outcome_whole}
-use Rattle.command_words.proofs.LeafWalk.{Texts, leaf_agrees}
-use Rattle.command_words.proofs.PartLemmas.{command_from-finish, finish_all, no_parts, prepend}
-use Rattle.command_words.proofs.PlaceLemmas.{told}
-use Rattle.command_words.proofs.RunRules.{run_leaf, run_places}
-use Rattle.command_words.proofs.TopLemmas.{demo_told, met_none, no_words, other_none, run_told, watch_told}
-use Rattle.command_words.proofs.UseLemmas.{bytes_apart, bytes_same, bytes_self}
-use Rattle.command_words.proofs.WatchRules.{watch_leaf, watch_places}
+use Rattle.command_words.{specs.declared.command.Task.Task, specs.Commands.{command, command_from, task_of, with_settings}, specs.Found.command_in, specs.Program.found_in, specs.Words.{Parts, parts_of}, proofs.DemoRules.{demo_leaf, demo_places}, proofs.EndLemmas.{demo_ends, no_task, run_ends, watch_ends}, proofs.LeafRules.{demo_rules, run_rules, watch_rules}, proofs.LeafSteps.outcome_whole, proofs.LeafWalk.{Texts, leaf_agrees}, proofs.PartLemmas.{command_from-finish, finish_all, no_parts, prepend}, proofs.PlaceLemmas.told, proofs.RunRules.{run_leaf, run_places}, proofs.TopLemmas.{demo_told, met_none, no_words, other_none, run_told, watch_told}, proofs.UseLemmas.{bytes_apart, bytes_same, bytes_self}, proofs.WatchRules.{watch_leaf, watch_places}}
 
 prepend_to_none : (parts : Option Parts) → prepend no_parts parts ≡ parts
 prepend_to_none None = refl

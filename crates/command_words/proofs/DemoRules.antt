@@ -2,9 +2,7 @@
 use Rattle.std.proofs.Common.{◌≡◌, ◌+◌, ℕ, zero, suc, true, false, refl, ap, subst, arith, List, [], ◌∷◌, Some, None, codes, slice_get}
 use Rattle.std.proofs.lemmas.Option.{same_Some}
 use Rattle.clap.specs.Walk.{Text, arg_by_id, arg_by_index, arg_by_long}
-use Rattle.command_words.specs.Commands.{is_known}
-use Rattle.command_words.proofs.PartLemmas.{IsOption, Known, is_name, workers, callers, snaps, attempts, every}
-use Rattle.command_words.proofs.LeafRules.{IsLeaf, differs, option_taker, demo_rules, word_taker}
+use Rattle.command_words.{specs.Commands.is_known, proofs.PartLemmas.{IsOption, Known, is_name, workers, callers, snaps, attempts, every}, proofs.LeafRules.{IsLeaf, differs, option_taker, demo_rules, word_taker}}
 
 abbrev pub demo_places : List Text
 demo_places = codes "steps" ∷ []

@@ -1,20 +1,8 @@
 -- What a subcommand makes of its words at their end, and that it makes nothing of too many.
 use Rattle.std.proofs.Common.{◌≡◌, ◌∙◌, ℕ, Bool, refl, sym, ap, arith, List, [], ◌∷◌, ◌++◌, length, Option, Some, None, codes, cond, is_some, option_to_list, slice_get}
 use Rattle.std.specs.List.{list_all}
-use Rattle.clap.specs.Walk.{Text, first_of}
-use Rattle.clap.specs.Takes.{is_given}
-use Rattle.command_words.specs.declared.command.Task.{Task}
-use Rattle.command_words.specs.Commands.{demo_task, is_known, one_of, run_task, watch_task, setting, with_numbers, with_settings}
-use Rattle.command_words.specs.Found.{demo_of, found_setting, number_or, run_of, watch_of, with_found_numbers}
-use Rattle.command_words.specs.Words.{Given, Parts, with_positional}
-use Rattle.command_words.proofs.DemoRules.{demo_places}
-use Rattle.command_words.proofs.HoldLemmas.{Holds}
-use Rattle.command_words.proofs.LeafSteps.{complete}
-use Rattle.command_words.proofs.PartLemmas.{Known, attempts, callers, every, finish, finish_all, if_none, prepend, snaps, workers}
-use Rattle.command_words.proofs.PlaceLemmas.{Ends, told}
-use Rattle.command_words.proofs.RunRules.{run_places}
-use Rattle.command_words.proofs.WatchRules.{watch_places}
-use Rattle.command_words.proofs.UseLemmas.{Use, first_of-rows, is_given-rows, rows_of_uses, value_in}
+use Rattle.clap.{specs.Walk.{Text, first_of}, specs.Takes.is_given}
+use Rattle.command_words.{specs.declared.command.Task.Task, specs.Commands.{demo_task, is_known, one_of, run_task, watch_task, setting, with_numbers, with_settings}, specs.Found.{demo_of, found_setting, number_or, run_of, watch_of, with_found_numbers}, specs.Words.{Given, Parts, with_positional}, proofs.DemoRules.demo_places, proofs.HoldLemmas.Holds, proofs.LeafSteps.complete, proofs.PartLemmas.{Known, attempts, callers, every, finish, finish_all, if_none, prepend, snaps, workers}, proofs.PlaceLemmas.{Ends, told}, proofs.RunRules.run_places, proofs.WatchRules.watch_places, proofs.UseLemmas.{Use, first_of-rows, is_given-rows, rows_of_uses, value_in}}
 
 one_value : (least most default : ℕ) (value : Option Text) → number_or least most default value ≡ one_of least most default (option_to_list value)
 one_value least most default None = refl

@@ -1,12 +1,7 @@
 -- What `clap` answers is what is found in the words.
 use Rattle.std.proofs.Common.{◌≡◌, ◌∙◌, inl, inr, Bool, true, false, refl, sym, ap, subst, arith, List, [], ◌∷◌, length, Option, Some, None, if◌then◌else◌}
 use Rattle.std.proofs.lemmas.Bool.{ne_eqb}
-use Rattle.clap.specs.Walk.{Row, Text, is_empty}
-use Rattle.clap.specs.Simple.{App, is_simple, subcommand_of}
-use Rattle.clap.specs.Faults.{fault_of, is_simple_and_free}
-use Rattle.clap.specs.Kinds.{HasKind, Kinds}
-use Rattle.clap.specs.Values.{kind_of}
-use Rattle.clap.specs.declared.error.Error.{Error}
+use Rattle.clap.{specs.Walk.{Row, Text, is_empty}, specs.Simple.{App, is_simple, subcommand_of}, specs.Faults.{fault_of, is_simple_and_free}, specs.Kinds.{HasKind, Kinds}, specs.Values.kind_of, specs.declared.error.Error.Error}
 use Rattle.clap.specs.declared.error.kind.ErrorKind.TheVariants as kind
 use Rattle.command_words.specs.Program.{found_in, program_app}
 

@@ -1,15 +1,8 @@
 -- The parts so far hold what `clap` keeps of the uses.
 use Rattle.std.proofs.Common.{◌≡◌, ◌≢◌, ◌∙◌, ◌≤◌, ℕ, zero, suc, Bool, true, false, refl, sym, ap, ap₂, arith, List, [], ◌∷◌, ◌++◌, length, Some, None, bytes_eq, option_to_list, slice_get, true≢false, append-nil}
-use Rattle.std.specs.List.{list_all}
-use Rattle.std.proofs.lemmas.List.{length-append}
-use Rattle.std.proofs.lemmas.Option.{slice_get_past, slice_get_within}
-use Rattle.std.proofs.lemmas.Bool.{and_parts}
+use Rattle.std.{specs.List.list_all, proofs.lemmas.List.length-append, proofs.lemmas.Option.{slice_get_past, slice_get_within}, proofs.lemmas.Bool.and_parts}
 use Rattle.clap.specs.Walk.{Rule, Text}
-use Rattle.command_words.specs.Commands.{is_known, values_of}
-use Rattle.command_words.specs.Words.{Given, Parts}
-use Rattle.command_words.proofs.LeafRules.{IsLeaf}
-use Rattle.command_words.proofs.PartLemmas.{IsOption, Known, add_option, add_word, given, is_name, name_is, no_parts, values_of-append}
-use Rattle.command_words.proofs.UseLemmas.{Use, bytes_apart, bytes_same, bytes_self, value_in, value_in-push, value_in-push_other}
+use Rattle.command_words.{specs.Commands.{is_known, values_of}, specs.Words.{Given, Parts}, proofs.LeafRules.IsLeaf, proofs.PartLemmas.{IsOption, Known, add_option, add_word, given, is_name, name_is, no_parts, values_of-append}, proofs.UseLemmas.{Use, bytes_apart, bytes_same, bytes_self, value_in, value_in-push, value_in-push_other}}
 
 pub record Holds (first : Text) (places : List Text) (parts : Parts) (uses : List Use) : Type 0 where
   pub options : (name : Text) → Known name → values_of name parts.options ≡ option_to_list (value_in name uses)

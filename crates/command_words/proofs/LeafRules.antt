@@ -1,12 +1,8 @@
 -- The arguments of a subcommand as `clap` builds them: positional words in their places, and its options.
 use Rattle.std.proofs.Common.{◌≡◌, ◌∙◌, ◌+◌, ◌≤◌, ◌&&◌, ℕ, Bool, true, false, not, refl, sym, ap, List, [], ◌∷◌, length, Some, None, codes, bytes_eq, fold, slice_get, true≢false}
 use Rattle.std.specs.List.{list_any}
-use Rattle.clap.specs.Walk.{Row, Rule, Text, arg_by_id, arg_by_index, arg_by_long, arg_by_short, has_row, with_default}
-use Rattle.clap.specs.Takes.{is_given}
-use Rattle.clap.specs.Faults.{default_fault, defaults_fault}
-use Rattle.command_words.specs.Commands.{is_known}
-use Rattle.command_words.proofs.PartLemmas.{IsOption, is_name}
-use Rattle.command_words.proofs.UseLemmas.{bytes_apart, taker}
+use Rattle.clap.{specs.Walk.{Row, Rule, Text, arg_by_id, arg_by_index, arg_by_long, arg_by_short, has_row, with_default}, specs.Takes.is_given, specs.Faults.{default_fault, defaults_fault}}
+use Rattle.command_words.{specs.Commands.is_known, proofs.PartLemmas.{IsOption, is_name}, proofs.UseLemmas.{bytes_apart, taker}}
 
 abbrev pub option_taker : Text → Rule
 option_taker name = taker name (Some name) None false

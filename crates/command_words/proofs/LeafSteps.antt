@@ -1,19 +1,9 @@
 -- One word more in `clap`'s walk over the words of a subcommand.
 use Rattle.std.proofs.Common.{◌≡◌, ◌∙◌, ℕ, Bool, true, false, not, refl, ap, List, [], ◌∷◌, Option, Some, None, fold}
-use Rattle.std.specs.List.{list_any}
-use Rattle.std.specs.Option.{option_map_or}
-use Rattle.clap.specs.Walk.{Held, Row, Rule, Text, Waiting, Walk, arg_by_index, finished, idle, nothing_held, option, positional, rows_after, settled, settled_rows, subcommand_met, to_positional, used, walked}
-use Rattle.clap.specs.Simple.{Shape, new_shape}
-use Rattle.clap.specs.Takes.{is_given}
-use Rattle.clap.specs.Faults.{check_fault, defaults_fault, flags_fault, level_fault, positional_fault, react_fault, settle_fault, turn_fault, walk_fault}
-use Rattle.clap.specs.Kinds.{Kinds, check_kinds, or_else}
-use Rattle.clap.specs.declared.error.kind.ErrorKind.{ErrorKind}
+use Rattle.std.{specs.List.list_any, specs.Option.option_map_or}
+use Rattle.clap.{specs.Walk.{Held, Row, Rule, Text, Waiting, Walk, arg_by_index, finished, idle, nothing_held, option, positional, rows_after, settled, settled_rows, subcommand_met, to_positional, used, walked}, specs.Simple.{Shape, new_shape}, specs.Takes.is_given, specs.Faults.{check_fault, defaults_fault, flags_fault, level_fault, positional_fault, react_fault, settle_fault, turn_fault, walk_fault}, specs.Kinds.{Kinds, check_kinds, or_else}, specs.declared.error.kind.ErrorKind.ErrorKind}
 use Rattle.clap.specs.declared.error.kind.ErrorKind.TheVariants as kind
-use Rattle.command_words.specs.Commands.{is_known}
-use Rattle.command_words.proofs.LeafRules.{IsLeaf, defaults_kept, defaults_pass, option_taker}
-use Rattle.command_words.proofs.PartLemmas.{IsOption}
-use Rattle.command_words.proofs.UseLemmas.{bytes_self}
-use Rattle.command_words.proofs.WordLooks.{IsBundle, IsEnd, IsLong, IsPlain}
+use Rattle.command_words.{specs.Commands.is_known, proofs.LeafRules.{IsLeaf, defaults_kept, defaults_pass, option_taker}, proofs.PartLemmas.IsOption, proofs.UseLemmas.bytes_self, proofs.WordLooks.{IsBundle, IsEnd, IsLong, IsPlain}}
 
 -- what was made, where nothing failed
 abbrev pub passed : {X : Type 0} → Kinds → X → Option X

@@ -1,19 +1,8 @@
 -- `clap`'s walk over the words of a subcommand makes what the rules make of them.
 use Rattle.std.proofs.Common.{◌≡◌, ◌∙◌, ◌+◌, inl, inr, ℕ, Bool, true, false, refl, sym, ap, ap₂, List, [], ◌∷◌, length, Option, Some, None, IsUtf8, slice_get}
-use Rattle.clap.specs.Walk.{Row, Rule, Text, Walk, idle, option, settled, used}
-use Rattle.clap.specs.Faults.{react_fault, settle_fault, turn_fault, use_fault}
-use Rattle.clap.specs.Kinds.{Kinds, or_else}
+use Rattle.clap.{specs.Walk.{Row, Rule, Text, Walk, idle, option, settled, used}, specs.Faults.{react_fault, settle_fault, turn_fault, use_fault}, specs.Kinds.{Kinds, or_else}}
 use Rattle.clap.specs.declared.error.kind.ErrorKind.TheVariants as kind
-use Rattle.command_words.specs.Commands.{is_known}
-use Rattle.command_words.specs.Words.{Parts, after_option, is_positional, parts_after, with_option, with_positional}
-use Rattle.command_words.proofs.HoldLemmas.{Holds, holds_none}
-use Rattle.command_words.proofs.LeafRules.{IsLeaf, option_taker}
-use Rattle.command_words.proofs.LeafSteps.{at, bundle_fails, end_fails, end_next, end_passes, fails, goes, held_at, leaf_shape, name_next, name_turn, outcome, place_fault, plain_next, plain_turn, taken_next, taken_passes, trailing_next, trailing_turn, unknown_fails, value_next, value_turn}
-use Rattle.command_words.proofs.PartLemmas.{IsOption, add_option, finish_all, no_parts, option_is, prepend, prepend-option, refuses_unknown}
-use Rattle.command_words.proofs.PlaceLemmas.{Ends, Goes, ended, past_places, place, place_settles, standing, told}
-use Rattle.command_words.proofs.SettleLemmas.{Fits, Last, nothing, pending_of, rows_at, settle, settle_at, taken, total, uses_after}
-use Rattle.command_words.proofs.UseLemmas.{Use, rows_of_uses}
-use Rattle.command_words.proofs.WordLooks.{IsBundle, IsEnd, IsLong, IsPlain, Look, look}
+use Rattle.command_words.{specs.Commands.is_known, specs.Words.{Parts, after_option, is_positional, parts_after, with_option, with_positional}, proofs.HoldLemmas.{Holds, holds_none}, proofs.LeafRules.{IsLeaf, option_taker}, proofs.LeafSteps.{at, bundle_fails, end_fails, end_next, end_passes, fails, goes, held_at, leaf_shape, name_next, name_turn, outcome, place_fault, plain_next, plain_turn, taken_next, taken_passes, trailing_next, trailing_turn, unknown_fails, value_next, value_turn}, proofs.PartLemmas.{IsOption, add_option, finish_all, no_parts, option_is, prepend, prepend-option, refuses_unknown}, proofs.PlaceLemmas.{Ends, Goes, ended, past_places, place, place_settles, standing, told}, proofs.SettleLemmas.{Fits, Last, nothing, pending_of, rows_at, settle, settle_at, taken, total, uses_after}, proofs.UseLemmas.{Use, rows_of_uses}, proofs.WordLooks.{IsBundle, IsEnd, IsLong, IsPlain, Look, look}}
 
 -- ---- what the rules make of a word
 

@@ -1,13 +1,8 @@
 -- Parts so far with those of later words, and the parts that make no command.
 use Rattle.std.proofs.Common.{◌≡◌, ◌∙◌, ◌&&◌, ◌||◌, ℕ, Bool, true, false, refl, sym, ap, ap₂, List, [], ◌∷◌, ◌++◌, cond, Option, Some, None, option_map, option_and_then, codes, bytes_eq, append_assoc, append-nil, subst, true≢false}
-use Rattle.std.specs.List.{list_all}
-use Rattle.std.proofs.lemmas.Bool.{and_left}
+use Rattle.std.{specs.List.list_all, proofs.lemmas.Bool.and_left}
 use Rattle.clap.specs.Walk.{Text}
-use Rattle.command_words.specs.declared.command.Command.{Command}
-use Rattle.command_words.specs.declared.command.Task.{Task}
-use Rattle.command_words.specs.Commands.{command_from, is_known, is_of_run, is_of_watch, one_of, setting, task_of, values_of, with_numbers, with_settings}
-use Rattle.command_words.specs.Words.{Given, Parts, with_option, with_positional}
-use Rattle.command_words.proofs.UseLemmas.{bytes_same}
+use Rattle.command_words.{specs.declared.command.Command.Command, specs.declared.command.Task.Task, specs.Commands.{command_from, is_known, is_of_run, is_of_watch, one_of, setting, task_of, values_of, with_numbers, with_settings}, specs.Words.{Given, Parts, with_option, with_positional}, proofs.UseLemmas.bytes_same}
 
 abbrev pub joined : Parts → Parts → Parts
 joined parts later = record { options = parts.options ++ later.options; positional = parts.positional ++ later.positional }

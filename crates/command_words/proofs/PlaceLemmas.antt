@@ -1,22 +1,10 @@
 -- A word that goes to a place, in `clap`'s walk and by the rules.
 use Rattle.std.proofs.Common.{◌≡◌, ◌∙◌, ◌+◌, ◌≤◌, ◌&&◌, inl, inr, ℕ, Bool, false, min, refl, sym, ap, arith, cond, List, [], ◌∷◌, ◌++◌, length, Option, Some, None, option_and_then, slice_get}
-use Rattle.std.proofs.lemmas.Bool.{and_right, cases_lt}
-use Rattle.std.proofs.lemmas.List.{length-append}
-use Rattle.std.proofs.lemmas.Option.{slice_get-get_or}
+use Rattle.std.{proofs.lemmas.Bool.{and_right, cases_lt}, proofs.lemmas.List.length-append, proofs.lemmas.Option.slice_get-get_or}
 use Rattle.key_lists.proofs.Booleans.{or_false}
-use Rattle.clap.specs.Lexer.{usize_max}
-use Rattle.clap.specs.Walk.{Row, Rule, Text, Walk, arg_by_index, idle, is_pending, pushed, settled, settled_rows, to_positional, walked}
-use Rattle.clap.specs.Faults.{settle_fault, turn_fault}
+use Rattle.clap.{specs.Lexer.usize_max, specs.Walk.{Row, Rule, Text, Walk, arg_by_index, idle, is_pending, pushed, settled, settled_rows, to_positional, walked}, specs.Faults.{settle_fault, turn_fault}}
 use Rattle.clap.specs.declared.error.kind.ErrorKind.TheVariants as kind
-use Rattle.command_words.specs.declared.command.Command.{Command}
-use Rattle.command_words.specs.Found.{command_found}
-use Rattle.command_words.specs.Words.{Parts, with_positional}
-use Rattle.command_words.proofs.HoldLemmas.{Holds}
-use Rattle.command_words.proofs.LeafRules.{IsLeaf, word_taker}
-use Rattle.command_words.proofs.LeafSteps.{Pending, at, complete, end_fails, end_goes, fails, goes, held_at, leaf_shape, outcome, place_fault}
-use Rattle.command_words.proofs.PartLemmas.{finish, finish_all, no_parts, prepend, prepend-none, prepend-word}
-use Rattle.command_words.proofs.SettleLemmas.{Fits, Last, pending_of, placed, settle, total, total_fits, uses_after}
-use Rattle.command_words.proofs.UseLemmas.{Use, rows_of_uses}
+use Rattle.command_words.{specs.declared.command.Command.Command, specs.Found.command_found, specs.Words.{Parts, with_positional}, proofs.HoldLemmas.Holds, proofs.LeafRules.{IsLeaf, word_taker}, proofs.LeafSteps.{Pending, at, complete, end_fails, end_goes, fails, goes, held_at, leaf_shape, outcome, place_fault}, proofs.PartLemmas.{finish, finish_all, no_parts, prepend, prepend-none, prepend-word}, proofs.SettleLemmas.{Fits, Last, pending_of, placed, settle, total, total_fits, uses_after}, proofs.UseLemmas.{Use, rows_of_uses}}
 
 -- what a subcommand makes of its words
 abbrev pub told : Text → Option (List Row) → Option Command

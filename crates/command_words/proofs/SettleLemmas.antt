@@ -1,18 +1,9 @@
 -- A use whose values are complete is settled: it is one more use, or it repeats an option.
 use Rattle.std.proofs.Common.{◌≡◌, ◌∙◌, ◌⊎◌, ◌+◌, ◌≤◌, inl, inr, true, false, refl, sym, ap, arith, List, [], ◌∷◌, ◌++◌, length, Option, Some, None, option_to_list, slice_get}
-use Rattle.std.specs.Option.{option_map_or}
-use Rattle.std.proofs.lemmas.List.{length-append}
-use Rattle.std.proofs.lemmas.Option.{slice_get_within}
-use Rattle.clap.specs.Walk.{Row, Rule, Text, arg_by_id, settled_rows, used, used_by_id}
-use Rattle.clap.specs.Faults.{settle_fault, use_fault}
-use Rattle.clap.specs.declared.error.kind.ErrorKind.{ErrorKind}
+use Rattle.std.{specs.Option.option_map_or, proofs.lemmas.List.length-append, proofs.lemmas.Option.slice_get_within}
+use Rattle.clap.{specs.Walk.{Row, Rule, Text, arg_by_id, settled_rows, used, used_by_id}, specs.Faults.{settle_fault, use_fault}, specs.declared.error.kind.ErrorKind.ErrorKind}
 use Rattle.clap.specs.declared.error.kind.ErrorKind.TheVariants as kind
-use Rattle.command_words.specs.Words.{Parts}
-use Rattle.command_words.proofs.HoldLemmas.{Holds, holds_option, holds_word, place_new}
-use Rattle.command_words.proofs.LeafRules.{IsLeaf, option_taker, word_taker}
-use Rattle.command_words.proofs.LeafSteps.{Pending, held_at}
-use Rattle.command_words.proofs.PartLemmas.{IsOption, add_option, add_word, finish_all, prepend, prepend-option, refuses_twice}
-use Rattle.command_words.proofs.UseLemmas.{Use, bytes_self, rows_of_uses, use_passes, use_repeats, used_new, value_in}
+use Rattle.command_words.{specs.Words.Parts, proofs.HoldLemmas.{Holds, holds_option, holds_word, place_new}, proofs.LeafRules.{IsLeaf, option_taker, word_taker}, proofs.LeafSteps.{Pending, held_at}, proofs.PartLemmas.{IsOption, add_option, add_word, finish_all, prepend, prepend-option, refuses_twice}, proofs.UseLemmas.{Use, bytes_self, rows_of_uses, use_passes, use_repeats, used_new, value_in}}
 
 -- the use that is still held: of an option, or of a place
 pub data Last : Type 0 where

@@ -1,21 +1,9 @@
 -- `clap`'s walk over the first word: it enters the subcommand of this name, or refuses the words.
 use Rattle.std.proofs.Common.{◌≡◌, ◌∙◌, inl, inr, Bool, true, false, refl, sym, ap, ap₂, arith, List, [], ◌∷◌, length, Option, Some, None, IsUtf8, codes, bytes_eq, cond, find, fold, is_some, if◌then◌else◌}
 use Rattle.std.proofs.lemmas.Bool.{and_right, ne_eqb}
-use Rattle.clap.specs.Walk.{Names, Row, Rule, Text, Walk, answers_to, finished, idle, is_empty, nothing_held, rows_after, settled, stop_after, subcommand_met, walk, walk_from, walked}
-use Rattle.clap.specs.Simple.{App, Shape, entered, label_of, new_shape}
-use Rattle.clap.specs.Faults.{built_fault, check_fault, defaults_fault, entered_fault, flags_fault, level_fault, settle_fault, turn_fault, walk_fault}
-use Rattle.clap.specs.Kinds.{Kinds, or_else}
-use Rattle.clap.specs.declared.error.kind.ErrorKind.{ErrorKind}
+use Rattle.clap.{specs.Walk.{Names, Row, Rule, Text, Walk, answers_to, finished, idle, is_empty, nothing_held, rows_after, settled, stop_after, subcommand_met, walk, walk_from, walked}, specs.Simple.{App, Shape, entered, label_of, new_shape}, specs.Faults.{built_fault, check_fault, defaults_fault, entered_fault, flags_fault, level_fault, settle_fault, turn_fault, walk_fault}, specs.Kinds.{Kinds, or_else}, specs.declared.error.kind.ErrorKind.ErrorKind, proofs.FaultLemmas.stopped_fault, proofs.WalkLemmas.walk_stopped}
 use Rattle.clap.specs.declared.error.kind.ErrorKind.TheVariants as kind
-use Rattle.clap.proofs.FaultLemmas.{stopped_fault}
-use Rattle.clap.proofs.WalkLemmas.{walk_stopped}
-use Rattle.command_words.specs.declared.command.Command.{Command}
-use Rattle.command_words.specs.Found.{command_in}
-use Rattle.command_words.specs.Program.{found_in, set_up}
-use Rattle.command_words.proofs.LeafRules.{demo_rules, run_rules, watch_rules}
-use Rattle.command_words.proofs.LeafSteps.{leaf_shape, passed}
-use Rattle.command_words.proofs.PlaceLemmas.{told}
-use Rattle.command_words.proofs.WordLooks.{IsBundle, IsEnd, IsLong, IsPlain, Look, look}
+use Rattle.command_words.{specs.declared.command.Command.Command, specs.Found.command_in, specs.Program.{found_in, set_up}, proofs.LeafRules.{demo_rules, run_rules, watch_rules}, proofs.LeafSteps.{leaf_shape, passed}, proofs.PlaceLemmas.told, proofs.WordLooks.{IsBundle, IsEnd, IsLong, IsPlain, Look, look}}
 
 -- the command as it is built
 abbrev top_shape : Shape

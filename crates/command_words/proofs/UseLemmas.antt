@@ -1,17 +1,9 @@
 -- The uses of arguments, each with one value, and what `clap` keeps of them.
 use Rattle.std.proofs.Common.{◌≡◌, ◌∙◌, ℕ, Bool, true, false, refl, sym, ap, List, [], ◌∷◌, ◌++◌, map, Option, Some, None, is_some, bytes_eq, cond}
-use Rattle.std.proofs.lemmas.Bool.{false_from_ne_true, or_parts}
-use Rattle.std.proofs.lemmas.Slice.Eq.{bytes_eq-Decides}
-use Rattle.std.proofs.lemmas.List.{append-nil, map-append}
-use Rattle.clap.specs.Walk.{Row, Rule, Text, at_row, first_of, has_row, more_values, used}
-use Rattle.clap.specs.Simple.{new_rule}
-use Rattle.clap.specs.Takes.{is_given}
-use Rattle.clap.specs.Faults.{use_fault}
-use Rattle.clap.specs.declared.builder.action.ArgAction.TheVariants.{Set}
-use Rattle.clap.specs.declared.builder.value_parser.Reading.TheVariants.{AsWritten}
+use Rattle.std.{proofs.lemmas.Bool.{false_from_ne_true, or_parts}, proofs.lemmas.Slice.Eq.bytes_eq-Decides, proofs.lemmas.List.{append-nil, map-append}}
+use Rattle.clap.{specs.Walk.{Row, Rule, Text, at_row, first_of, has_row, more_values, used}, specs.Simple.new_rule, specs.Takes.is_given, specs.Faults.use_fault, specs.declared.builder.action.ArgAction.TheVariants.Set, specs.declared.builder.value_parser.Reading.TheVariants.AsWritten, specs.declared.parser.matches.ValueSource.TheVariants.CommandLine}
 use Rattle.clap.specs.declared.builder.value_parser.ValueParser.TheVariants as vp
 use Rattle.clap.specs.declared.error.kind.ErrorKind.TheVariants as kind
-use Rattle.clap.specs.declared.parser.matches.ValueSource.TheVariants.{CommandLine}
 
 -- a name with a value
 abbrev pub Use : Type 0

@@ -1,10 +1,6 @@
 -- What a word looks like, to `clap` and by the rules of the words. The two agree.
 use Rattle.std.proofs.Common.{◌≡◌, ◌∙◌, ◌+◌, ◌==◌, ◌⊎◌, inl, inr, ℕ, suc, Bool, true, false, refl, sym, ap, ap₂, arith, List, [], ◌∷◌, Option, Some, None, take, drop, if◌then◌else◌, codes, bytes_eq, IsUtf8, chars, encode_utf8_all, slice_get}
-use Rattle.std.specs.Char.{encode_utf8}
-use Rattle.std.specs.Str.{chars as chars_of}
-use Rattle.std.specs.List.{list_any, position_or_len}
-use Rattle.std.proofs.lemmas.Bool.Decides.{nat_tests}
-use Rattle.std.proofs.lemmas.Str.{encodes-chars}
+use Rattle.std.{specs.Char.encode_utf8, specs.Str.chars as chars_of, specs.List.{list_any, position_or_len}, proofs.lemmas.Bool.Decides.nat_tests, proofs.lemmas.Str.encodes-chars}
 use Rattle.clap.specs.Lexer.{long_of, short_of, name_and_value as clap_parts}
 use Rattle.command_words.specs.Words.{before_byte, is_positional, name_and_value, option_of}
 

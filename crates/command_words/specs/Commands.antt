@@ -1,14 +1,8 @@
 -- What the words after the program's name ask for.
 --     command words      the command with its numbers, or none where the words are of no command
 --     HasRanges command      its numbers are in their ranges
-use Rattle.std.specs.Prelude.{ℕ, ◌≤◌, ◌&&◌, ◌||◌, Bool, List, [], ◌∷◌, Option, Some, None, codes, filter, length, map, nat_le, option_map, if◌then◌else◌}
-use Rattle.std.specs.List.{list_all}
-use Rattle.std.specs.Str.{bytes_eq, all_ascii_digits}
-use Rattle.std.specs.Str.Parse.{digits_value}
-use Rattle.command_words.specs.declared.command.Command.{Command}
-use Rattle.command_words.specs.declared.command.Task.{Task}
-use Rattle.command_words.specs.declared.command.Task.TheVariants.{Run, Demo, Watch}
-use Rattle.command_words.specs.Words.{Given, Parts, parts_of}
+use Rattle.std.{specs.Prelude.{ℕ, ◌≤◌, ◌&&◌, ◌||◌, Bool, List, [], ◌∷◌, Option, Some, None, codes, filter, length, map, nat_le, option_map, if◌then◌else◌}, specs.List.list_all, specs.Str.{bytes_eq, all_ascii_digits}, specs.Str.Parse.digits_value}
+use Rattle.command_words.{specs.declared.command.Command.Command, specs.declared.command.Task.Task, specs.declared.command.Task.TheVariants.{Run, Demo, Watch}, specs.Words.{Given, Parts, parts_of}}
 
 -- the number that 1 to 9 digits spell, where it is in a range
 abbrev pub is_numeral : List ℕ → Bool

@@ -1,12 +1,8 @@
 -- What the entries that `clap` found for a subcommand make.
 --     command_in found      the command, or none where the words are of no command
-use Rattle.std.specs.Prelude.{ℕ, List, Option, Some, None, codes, option_and_then, option_map, if◌then◌else◌}
-use Rattle.std.specs.Str.{bytes_eq}
+use Rattle.std.{specs.Prelude.{ℕ, List, Option, Some, None, codes, option_and_then, option_map, if◌then◌else◌}, specs.Str.bytes_eq}
 use Rattle.clap.specs.Walk.{Row, Text, first_of}
-use Rattle.command_words.specs.Commands.{number_within, of_both, with_numbers}
-use Rattle.command_words.specs.declared.command.Command.{Command}
-use Rattle.command_words.specs.declared.command.Task.{Task}
-use Rattle.command_words.specs.declared.command.Task.TheVariants.{Run, Demo, Watch}
+use Rattle.command_words.{specs.Commands.{number_within, of_both, with_numbers}, specs.declared.command.Command.Command, specs.declared.command.Task.Task, specs.declared.command.Task.TheVariants.{Run, Demo, Watch}}
 
 -- the number that an option gives, or its default
 abbrev pub number_or : ℕ → ℕ → ℕ → Option Text → Option ℕ

@@ -2,9 +2,7 @@
 --     program_app      three subcommands, of which two have the same options, and no help and no version
 --     found_in words      what `clap` finds in the words, or none where it refuses them
 use Rattle.std.specs.Prelude.{List, Option, Some, None, true, codes, if◌then◌else◌}
-use Rattle.clap.specs.Walk.{Row, Rule, Text, is_empty}
-use Rattle.clap.specs.Simple.{App, Shape, new_app, new_rule, on_top, subcommand_of, with_rule, with_subcommand}
-use Rattle.clap.specs.Faults.{fault_of}
+use Rattle.clap.{specs.Walk.{Row, Rule, Text, is_empty}, specs.Simple.{App, Shape, new_app, new_rule, on_top, subcommand_of, with_rule, with_subcommand}, specs.Faults.fault_of}
 
 -- a positional word, which has to be there
 abbrev pub word_rule : Text → Rule

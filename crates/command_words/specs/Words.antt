@@ -1,7 +1,6 @@
 -- The words after the first: options with their values, and positional words.
 --     parts_of words      the parts, or none where a word is neither
-use Rattle.std.specs.Prelude.{ℕ, ◌==◌, Bool, true, not, List, [], ◌∷◌, Option, Some, None, codes, option_map, if◌then◌else◌}
-use Rattle.std.specs.Str.{bytes_eq}
+use Rattle.std.{specs.Prelude.{ℕ, ◌==◌, Bool, true, not, List, [], ◌∷◌, Option, Some, None, codes, option_map, if◌then◌else◌}, specs.Str.bytes_eq}
 
 -- an option with its value
 pub record Given : Type 0 where

@@ -1,14 +1,8 @@
 -- A node's table at a step of a graph.
 use Rattle.std.proofs.Common.{◌≡◌, sym, ap, ◌∙◌, subst, ℕ, suc, ◌+◌, ◌<◌, add-one, length}
-use Rattle.tick_laws.specs.Reached.{IsReached, IsTickFrom}
-use Rattle.tick_laws.proofs.RunTicks.{lawful_ticks}
-use Rattle.tick_model.specs.declared.feed.Run.{Run}
-use Rattle.tick_model.specs.Evaluation.{table_at}
-use Rattle.tick_model.specs.LawfulRuns.{IsLawfulRun}
-use Rattle.tick_model.specs.States.{state, tick}
-use Rattle.tick_table.specs.Exact.{IsExact, ticking}
-use Rattle.tick_table.specs.Ticking.{Ticking}
-use Rattle.tick_table.proofs.ExactAgain.{exact_again}
+use Rattle.tick_laws.{specs.Reached.{IsReached, IsTickFrom}, proofs.RunTicks.lawful_ticks}
+use Rattle.tick_model.{specs.declared.feed.Run.Run, specs.Evaluation.table_at, specs.LawfulRuns.IsLawfulRun, specs.States.{state, tick}}
+use Rattle.tick_table.{specs.Exact.{IsExact, ticking}, specs.Ticking.Ticking, proofs.ExactAgain.exact_again}
 
 module _ (run : Run) (lawful : IsLawfulRun run) (node : ℕ) (there : node < length run.plan.nodes) (other : Run) (at : ℕ) (same : other ≡ run) (reached : IsReached other at) (table : Ticking) (is : table ≡ ticking (tick other at node)) where
   own : (step : ℕ) → at ≡ step → table ≡ ticking (tick run step node)

@@ -1,38 +1,11 @@
 -- A run that is put together keeps the rules of runs.
 use Rattle.std.proofs.Common.{◌≡◌, ℕ, zero, suc, ◌^◌, ◌<◌, Bool, true, false, cond, List, [], ◌∷◌, ◌++◌, map, length, Ok, refl, sym, ap, ◌∙◌, subst, inl, inr, arith}
-use Rattle.std.specs.Prelude.{flat_map, slice_index_or}
-use Rattle.std.proofs.lemmas.List.{length-map}
-use Rattle.std.specs.List.{AllByRecursion}
-use Rattle.key_lists.proofs.Every.{every_weaker}
-use Rattle.key_lists.proofs.Parts.{every_front, every_back}
-use Rattle.tick_model.specs.declared.feed.Block.{Block}
-use Rattle.tick_model.specs.declared.feed.Batch.{Batch}
-use Rattle.tick_model.specs.declared.feed.Run.{Run}
-use Rattle.tick_model.specs.declared.plan.ColumnSpec.{ColumnSpec}
-use Rattle.tick_model.specs.declared.plan.Node.{Node}
-use Rattle.tick_model.specs.declared.plan.Op.{Op}
-use Rattle.tick_model.specs.declared.plan.Op.TheVariants.{Keep, View}
-use Rattle.tick_model.specs.declared.plan.Plan.{Plan}
-use Rattle.tick_model.specs.declared.table.PlainTable.{PlainTable}
-use Rattle.tick_model.specs.Evaluation.{is_source}
-use Rattle.tick_model.specs.LawfulRuns.{IsOpening, AreOpenings, IsSourceRow, IsLawfulBlock, IsLawfulRun, sources_of, is_source_number, has_op_ranks}
-use Rattle.tick_model.specs.Numbers.{HasPlanNumbers}
-use Rattle.tick_model.specs.Plans.{is_lawful, columns_at}
-use Rattle.script_reader.specs.declared.script.Script.{Script}
-use Rattle.script_reader.specs.Binding.{ranks_of, bound_op, bound_node, bound}
-use Rattle.script_reader.specs.Plain.{plain_op, plain_node, plain_plan}
-use Rattle.feed_reader.specs.declared.raw.RawFeed.{RawFeed}
-use Rattle.feed_reader.specs.declared.raw.RawTable.{RawTable}
+use Rattle.std.{specs.Prelude.{flat_map, slice_index_or}, proofs.lemmas.List.length-map, specs.List.AllByRecursion}
+use Rattle.key_lists.{proofs.Every.every_weaker, proofs.Parts.{every_front, every_back}}
+use Rattle.tick_model.{specs.declared.feed.Block.Block, specs.declared.feed.Batch.Batch, specs.declared.feed.Run.Run, specs.declared.plan.ColumnSpec.ColumnSpec, specs.declared.plan.Node.Node, specs.declared.plan.Op.Op, specs.declared.plan.Op.TheVariants.{Keep, View}, specs.declared.plan.Plan.Plan, specs.declared.table.PlainTable.PlainTable, specs.Evaluation.is_source, specs.LawfulRuns.{IsOpening, AreOpenings, IsSourceRow, IsLawfulBlock, IsLawfulRun, sources_of, is_source_number, has_op_ranks}, specs.Numbers.HasPlanNumbers, specs.Plans.{is_lawful, columns_at}}
+use Rattle.script_reader.{specs.declared.script.Script.Script, specs.Binding.{ranks_of, bound_op, bound_node, bound}, specs.Plain.{plain_op, plain_node, plain_plan}}
+use Rattle.feed_reader.{specs.declared.raw.RawFeed.RawFeed, specs.declared.raw.RawTable.RawTable, specs.Assembled.{plain_run, run_of, IsTableOf, AreTablesOf}, specs.Coding.{table_texts, batch_texts, texts_of, coded_table, coded_rows, coded_batch, coded_feed}, specs.Feeds.feed_of, specs.Runs.{IsAmong, opening_of}, proofs.BoundLemmas.{nodes_ranks_bound, nodes_numbers_bound}, proofs.PlainLemmas.{is_lawful_plain, plan_numbers_plain, plan_ranks_plain}, proofs.FeedLaws.{feed_steps, feed_blocks}, proofs.OrderLemmas.{texts_in_order, texts_noted}, proofs.ReadLemmas.{table_is_opening, no_rows_are_opening}}
 use Rattle.script_laws.specs.Literals.{NamesLiterals}
-use Rattle.feed_reader.specs.Assembled.{plain_run, run_of, IsTableOf, AreTablesOf}
-use Rattle.feed_reader.specs.Coding.{table_texts, batch_texts, texts_of, coded_table, coded_rows, coded_batch, coded_feed}
-use Rattle.feed_reader.specs.Feeds.{feed_of}
-use Rattle.feed_reader.specs.Runs.{IsAmong, opening_of}
-use Rattle.feed_reader.proofs.BoundLemmas.{nodes_ranks_bound, nodes_numbers_bound}
-use Rattle.feed_reader.proofs.PlainLemmas.{is_lawful_plain, plan_numbers_plain, plan_ranks_plain}
-use Rattle.feed_reader.proofs.FeedLaws.{feed_steps, feed_blocks}
-use Rattle.feed_reader.proofs.OrderLemmas.{texts_in_order, texts_noted}
-use Rattle.feed_reader.proofs.ReadLemmas.{table_is_opening, no_rows_are_opening}
 
 -- nodes that have the same columns, and are sources alike
 abbrev pub SameNodes : List Node → List Node → Type 0

@@ -1,25 +1,11 @@
 -- The ranks and the numbers of a script's plan whose literals have ranks.
 use Rattle.std.proofs.Common.{◌≡◌, ℕ, ◌^◌, ◌<◌, true, List, [], ◌∷◌, map, length, get_or, pos, refl, sym, subst, arith}
-use Rattle.std.specs.Prelude.{not, nat_lt, slice_index_or}
-use Rattle.std.specs.List.{AllByRecursion, list_all}
-use Rattle.std.specs.Int.{w64}
-use Rattle.std.proofs.lemmas.Bool.{and_parts, and_from, ltb-true, lt-ltb, not-true}
-use Rattle.std.proofs.lemmas.Int.{fits_signed_from_abs}
-use Rattle.std.proofs.lemmas.List.{get_or-map}
+use Rattle.std.{specs.Prelude.{not, nat_lt, slice_index_or}, specs.List.{AllByRecursion, list_all}, specs.Int.w64, proofs.lemmas.Bool.{and_parts, and_from, ltb-true, lt-ltb, not-true}, proofs.lemmas.Int.fits_signed_from_abs, proofs.lemmas.List.get_or-map}
 use Rattle.key_lists.proofs.Parts.{every_at}
-use Rattle.tick_model.specs.declared.plan.Expr.{Expr, Cell, Number, Null, Literal, Rank, Neg', Add', Sub', Mul'}
-use Rattle.tick_model.specs.declared.plan.Node.{Node}
-use Rattle.tick_model.specs.declared.plan.Op.{Op}
-use Rattle.tick_model.specs.declared.plan.Op.TheVariants.{Keep, View}
-use Rattle.tick_model.specs.declared.plan.Pred.{Pred, Compare, And', Or', Not'}
-use Rattle.tick_model.specs.Changes.{is_none}
-use Rattle.tick_model.specs.LawfulRuns.{has_ranks, has_test_ranks, has_op_ranks}
-use Rattle.tick_model.specs.Numbers.{HasNumbers, HasOpNumbers}
+use Rattle.tick_model.{specs.declared.plan.Expr.{Expr, Cell, Number, Null, Literal, Rank, Neg', Add', Sub', Mul'}, specs.declared.plan.Node.Node, specs.declared.plan.Op.Op, specs.declared.plan.Op.TheVariants.{Keep, View}, specs.declared.plan.Pred.{Pred, Compare, And', Or', Not'}, specs.Changes.is_none, specs.LawfulRuns.{has_ranks, has_test_ranks, has_op_ranks}, specs.Numbers.{HasNumbers, HasOpNumbers}}
 use Rattle.script_reader.specs.Binding.{ranks_of, bound_expr, bound_test, bound_op, bound_node}
 use Rattle.script_laws.specs.Literals.{names_literal, has_literals, has_test_literals, has_op_literals}
-use Rattle.feed_reader.specs.Coding.{rank_of}
-use Rattle.feed_reader.specs.Runs.{IsAmong}
-use Rattle.feed_reader.proofs.CodedLemmas.{rank_below}
+use Rattle.feed_reader.{specs.Coding.rank_of, specs.Runs.IsAmong, proofs.CodedLemmas.rank_below}
 
 module _ (texts literals : List (List ℕ)) (small : length texts < 2 ^ 63) (among : AllByRecursion (IsAmong texts) literals) where
   rank_there : (text : ℕ) → names_literal literals text ≡ true → slice_index_or (ranks_of texts literals) text 0 < length texts

@@ -1,11 +1,8 @@
 -- The loop over the cells of a row.
 use Rattle.std.proofs.Common.{◌≡◌, ℕ, ◌+◌, ◌<◌, ◌≤◌, List, [], ◌∷◌, ◌++◌, map, take, drop, get_or, Option, Some, None, refl, sym, ap, ◌∙◌, subst, length, arith, length-drop}
-use Rattle.std.specs.List.{zip}
-use Rattle.std.proofs.lemmas.List.{map-append, take_more, take-append-drop, take_all, at_drop_more, get_or-drop}
-use Rattle.std.proofs.lemmas.Slice.Zip.{get_or-zip, length-zip}
+use Rattle.std.{specs.List.zip, proofs.lemmas.List.{map-append, take_more, take-append-drop, take_all, at_drop_more, get_or-drop}, proofs.lemmas.Slice.Zip.{get_or-zip, length-zip}}
 use Rattle.tick_model.specs.declared.plan.ColumnSpec.{ColumnSpec}
-use Rattle.feed_reader.specs.declared.raw.RawCell.{RawCell}
-use Rattle.feed_reader.specs.Cells.{with_first, all_some, cell_of, cell_in, cells_of}
+use Rattle.feed_reader.{specs.declared.raw.RawCell.RawCell, specs.Cells.{with_first, all_some, cell_of, cell_in, cells_of}}
 
 -- one by one, until one is not there
 with_first-none : {X : Type 0} (first : Option X) → with_first first None ≡ None

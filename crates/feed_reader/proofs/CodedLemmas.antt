@@ -1,34 +1,9 @@
 -- Rows, tables and blocks whose texts have ranks keep the rules of a run.
 use Rattle.std.proofs.Common.{◌≡◌, ℕ, suc, ◌+◌, ◌^◌, ◌<◌, Bool, true, false, cond, List, [], ◌∷◌, map, length, pos, refl, ap, ◌∙◌, arith}
-use Rattle.std.proofs.lemmas.List.{length-map}
-use Rattle.std.specs.Prelude.{not, ◌&&◌, ◌||◌, FitsSigned, flat_map}
-use Rattle.std.specs.List.{AllByRecursion, list_any}
-use Rattle.std.specs.Int.{w64}
-use Rattle.std.specs.Str.{bytes_eq}
-use Rattle.std.proofs.lemmas.Bool.{lt-ltb}
-use Rattle.std.proofs.lemmas.Int.{fits_signed_from_abs}
-use Rattle.key_lists.specs.Keys.{IsRising}
-use Rattle.key_lists.proofs.Every.{every_weaker}
-use Rattle.key_lists.proofs.Parts.{every_front, every_back}
-use Rattle.tick_model.specs.declared.plan.ColumnSpec.{ColumnSpec}
-use Rattle.tick_model.specs.declared.plan.Kind.{Kind}
-use Rattle.tick_model.specs.declared.plan.Kind.TheVariants.{Long as LongKind, Text as TextKind}
-use Rattle.tick_model.specs.declared.plan.Plan.{Plan}
-use Rattle.tick_model.specs.declared.update.KeyRange.{KeyRange}
-use Rattle.tick_model.specs.declared.update.ShiftRange.{ShiftRange}
-use Rattle.tick_model.specs.LawfulRuns.{IsSourceRow, IsLawfulBlock, AreRanges}
-use Rattle.tick_model.specs.Plans.{columns_at}
-use Rattle.tick_model.specs.Printable.{IsShift, IsShiftRange, fits_kind, fit_columns}
-use Rattle.tick_model.specs.Tables.{keys, null}
-use Rattle.feed_reader.specs.declared.raw.RawBatch.{RawBatch}
-use Rattle.feed_reader.specs.declared.raw.RawBlock.{RawBlock}
-use Rattle.feed_reader.specs.declared.raw.RawCell.{RawCell}
-use Rattle.feed_reader.specs.declared.raw.RawCell.TheVariants.{Null, Long, Text}
-use Rattle.feed_reader.specs.declared.raw.RawRow.{RawRow}
-use Rattle.feed_reader.specs.Coding.{cell_texts, row_texts, rows_texts, block_texts, batch_texts, rank_of, coded_cell, coded_row, coded_rows, coded_block, coded_batch}
-use Rattle.feed_reader.specs.Runs.{IsAmong}
-use Rattle.feed_reader.proofs.Orderly.{CellFits, CellsFit, IsRawRow, IsRange, IsMove}
-use Rattle.feed_reader.proofs.BlockLemmas.{Ascends, IsRawBlock}
+use Rattle.std.{proofs.lemmas.List.length-map, specs.Prelude.{not, ◌&&◌, ◌||◌, FitsSigned, flat_map}, specs.List.{AllByRecursion, list_any}, specs.Int.w64, specs.Str.bytes_eq, proofs.lemmas.Bool.lt-ltb, proofs.lemmas.Int.fits_signed_from_abs}
+use Rattle.key_lists.{specs.Keys.IsRising, proofs.Every.every_weaker, proofs.Parts.{every_front, every_back}}
+use Rattle.tick_model.{specs.declared.plan.ColumnSpec.ColumnSpec, specs.declared.plan.Kind.Kind, specs.declared.plan.Kind.TheVariants.{Long as LongKind, Text as TextKind}, specs.declared.plan.Plan.Plan, specs.declared.update.KeyRange.KeyRange, specs.declared.update.ShiftRange.ShiftRange, specs.LawfulRuns.{IsSourceRow, IsLawfulBlock, AreRanges}, specs.Plans.columns_at, specs.Printable.{IsShift, IsShiftRange, fits_kind, fit_columns}, specs.Tables.{keys, null}}
+use Rattle.feed_reader.{specs.declared.raw.RawBatch.RawBatch, specs.declared.raw.RawBlock.RawBlock, specs.declared.raw.RawCell.RawCell, specs.declared.raw.RawCell.TheVariants.{Null, Long, Text}, specs.declared.raw.RawRow.RawRow, specs.Coding.{cell_texts, row_texts, rows_texts, block_texts, batch_texts, rank_of, coded_cell, coded_row, coded_rows, coded_block, coded_batch}, specs.Runs.IsAmong, proofs.Orderly.{CellFits, CellsFit, IsRawRow, IsRange, IsMove}, proofs.BlockLemmas.{Ascends, IsRawBlock}}
 
 -- a text that is among the texts has a rank below their number
 rank_next : (b : Bool) (n len : ℕ) (more : Bool) → (more ≡ true → n < len) → (b || more) ≡ true → cond (not b) (1 + n) 0 < suc len

@@ -1,16 +1,8 @@
 -- A feed that is read has few steps, and its blocks are lawful.
 use Rattle.std.proofs.Common.{◌≡◌, ℕ, ◌+◌, ◌^◌, ◌<◌, ◌≤◌, List, Ok, sym, ap, subst, length, arith}
-use Rattle.std.specs.Prelude.{flat_map}
-use Rattle.std.specs.List.{AllByRecursion}
-use Rattle.tick_model.specs.declared.plan.Plan.{Plan}
-use Rattle.tick_model.specs.LawfulRuns.{IsLawfulBlock}
-use Rattle.feed_reader.specs.declared.raw.RawFeed.{RawFeed}
-use Rattle.feed_reader.specs.Coding.{batch_texts, coded_feed}
-use Rattle.feed_reader.specs.Feeds.{feed_of}
-use Rattle.feed_reader.specs.Runs.{IsAmong}
-use Rattle.feed_reader.proofs.BlockLemmas.{batches_stand, batches_few, StandIn}
-use Rattle.feed_reader.proofs.CodedLemmas.{batches_of_run}
-use Rattle.feed_reader.proofs.ReadLemmas.{feed_read}
+use Rattle.std.{specs.Prelude.flat_map, specs.List.AllByRecursion}
+use Rattle.tick_model.{specs.declared.plan.Plan.Plan, specs.LawfulRuns.IsLawfulBlock}
+use Rattle.feed_reader.{specs.declared.raw.RawFeed.RawFeed, specs.Coding.{batch_texts, coded_feed}, specs.Feeds.feed_of, specs.Runs.IsAmong, proofs.BlockLemmas.{batches_stand, batches_few, StandIn}, proofs.CodedLemmas.batches_of_run, proofs.ReadLemmas.feed_read}
 
 pub feed_steps : (plan : Plan) (bytes : List ℕ) (feed : RawFeed) → feed_of plan bytes ≡ Ok feed → length feed.batches ≤ 100000
 feed_steps plan bytes feed read =

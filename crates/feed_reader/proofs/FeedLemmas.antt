@@ -1,37 +1,10 @@
 -- The steps that are gathered record by record are those of the definition.
 use Rattle.std.proofs.Common.{◌≡◌, ℕ, ◌+◌, List, [], ◌∷◌, ◌++◌, Bool, true, false, Option, Some, None, Result, Ok, Err, refl, sym, ap, ◌∙◌, subst, length, cond, eqb, ltb, append_assoc, length-append, take_while, ◌<◌, ◌≤◌, arith}
-use Rattle.std.specs.Prelude.{option_map}
-use Rattle.std.specs.List.{filter_map}
-use Rattle.std.specs.Option.{option_to_list}
-use Rattle.std.proofs.lemmas.Bool.{cond-true, ltb-true}
-use Rattle.std.proofs.lemmas.List.{append-nil}
-use Rattle.std.proofs.lemmas.List.Sums.{take_while-cons}
-use Rattle.tick_model.specs.declared.plan.Plan.{Plan}
-use Rattle.tick_model.specs.declared.update.KeyRange.{KeyRange}
-use Rattle.tick_model.specs.declared.update.ShiftRange.{ShiftRange}
-use Rattle.tick_model.specs.Plans.{columns_at}
-use Rattle.feed_reader.specs.declared.entries.Entry.{Entry}
-use Rattle.feed_reader.specs.declared.entries.Entry.TheVariants.{Block, Removed, Shift, Added, Modified, End}
-use Rattle.feed_reader.specs.declared.fault.TextKind.{TextKind}
-use Rattle.feed_reader.specs.declared.fault.TextKind.TheVariants.{FieldCount, NotUtf8, TooLong, Unfinished, OutOfOrder}
-use Rattle.feed_reader.specs.declared.gathered.Gathered.{Gathered}
-use Rattle.feed_reader.specs.declared.place.Part.{Part}
+use Rattle.std.{specs.Prelude.option_map, specs.List.filter_map, specs.Option.option_to_list, proofs.lemmas.Bool.{cond-true, ltb-true}, proofs.lemmas.List.append-nil, proofs.lemmas.List.Sums.take_while-cons}
+use Rattle.tick_model.{specs.declared.plan.Plan.Plan, specs.declared.update.KeyRange.KeyRange, specs.declared.update.ShiftRange.ShiftRange, specs.Plans.columns_at}
+use Rattle.feed_reader.{specs.declared.entries.Entry.Entry, specs.declared.entries.Entry.TheVariants.{Block, Removed, Shift, Added, Modified, End}, specs.declared.fault.TextKind.TextKind, specs.declared.fault.TextKind.TheVariants.{FieldCount, NotUtf8, TooLong, Unfinished, OutOfOrder}, specs.declared.gathered.Gathered.Gathered, specs.declared.place.Part.Part, specs.declared.place.Place.Place, specs.declared.place.Place.TheVariants.{Outside, Inside}, specs.declared.place.Tag.Tag, specs.declared.raw.RawBatch.RawBatch, specs.declared.raw.RawBlock.RawBlock, specs.declared.raw.RawFeed.RawFeed, specs.declared.raw.RawRow.RawRow, specs.Cells.{key_of, delta_of}, specs.Answers.{Reading, onto, read_on}, specs.Entries.{entry_of, tagged_entry, known_block, source_named, tag_of, part_entry, removed_past, shift_past, added, modified, row_entry, key_range, shift_by}, specs.Feeds.{entries_in, steps_after, is_of_block, removed_range, shift_range, added_row, modified_row, block_with, blocks_from, batches_after, batches_of, feed_with, feed_in}, specs.Gathered.{nothing, ended_blocks, with_entry, gathered}, specs.Places.{place_after, is_outside, Opened, opened, is_past}, specs.Records.{are_texts, field_of}}
 use Rattle.feed_reader.specs.declared.place.Part.TheVariants as Parts
-use Rattle.feed_reader.specs.declared.place.Place.{Place}
-use Rattle.feed_reader.specs.declared.place.Place.TheVariants.{Outside, Inside}
-use Rattle.feed_reader.specs.declared.place.Tag.{Tag}
 use Rattle.feed_reader.specs.declared.place.Tag.TheVariants as Tags
-use Rattle.feed_reader.specs.declared.raw.RawBatch.{RawBatch}
-use Rattle.feed_reader.specs.declared.raw.RawBlock.{RawBlock}
-use Rattle.feed_reader.specs.declared.raw.RawFeed.{RawFeed}
-use Rattle.feed_reader.specs.declared.raw.RawRow.{RawRow}
-use Rattle.feed_reader.specs.Cells.{key_of, delta_of}
-use Rattle.feed_reader.specs.Answers.{Reading, onto, read_on}
-use Rattle.feed_reader.specs.Entries.{entry_of, tagged_entry, known_block, source_named, tag_of, part_entry, removed_past, shift_past, added, modified, row_entry, key_range, shift_by}
-use Rattle.feed_reader.specs.Feeds.{entries_in, steps_after, is_of_block, removed_range, shift_range, added_row, modified_row, block_with, blocks_from, batches_after, batches_of, feed_with, feed_in}
-use Rattle.feed_reader.specs.Gathered.{nothing, ended_blocks, with_entry, gathered}
-use Rattle.feed_reader.specs.Places.{place_after, is_outside, Opened, opened, is_past}
-use Rattle.feed_reader.specs.Records.{are_texts, field_of}
 
 -- all that is gathered from records, the first of which has this number
 abbrev pub gathered_all : Gathered → ℕ → List Entry → Gathered

@@ -1,8 +1,6 @@
 -- The fields of a record by their places.
 use Rattle.std.proofs.Common.{◌≡◌, ℕ, zero, suc, List, [], ◌∷◌, true, false, Some, None, refl, get_or}
-use Rattle.std.specs.Str.{is_utf8}
-use Rattle.std.proofs.lemmas.Str.{IsUtf8-from_is_utf8, is_utf8-from_IsUtf8}
-use Rattle.std.proofs.lemmas.Bool.{and_from, and_parts, false_from_ne_true}
+use Rattle.std.{specs.Str.is_utf8, proofs.lemmas.Str.{IsUtf8-from_is_utf8, is_utf8-from_IsUtf8}, proofs.lemmas.Bool.{and_from, and_parts, false_from_ne_true}}
 use Rattle.csv.specs.Records.{field_at, AllText}
 use Rattle.feed_reader.specs.Records.{are_texts}
 

@@ -1,14 +1,6 @@
 -- What the tests of numbers come to.
 use Rattle.std.proofs.Common.{◌≡◌, ℕ, zero, suc, ◌+◌, ◌-◌, ◌*◌, ◌^◌, ◌<◌, ◌≤◌, List, [], ◌∷◌, ◌++◌, take, get_or, true, false, Some, None, pos, neg_ℤ, refl, sym, ap, ◌∙◌, length, length-take-le, eqb, ltb, leb, arith}
-use Rattle.std.specs.Prelude.{option_map, ◌&&◌, if◌then◌else◌}
-use Rattle.std.specs.Char.{is_ascii_digit, digit_value}
-use Rattle.std.specs.Str.{all_ascii_digits}
-use Rattle.std.specs.Str.Parse.{digits_value}
-use Rattle.std.proofs.lemmas.Bool.{cond-false, ne_eqb, and_from, and_parts, and_left, and_right}
-use Rattle.std.proofs.lemmas.Bool.Decides.{nat_tests}
-use Rattle.std.proofs.lemmas.Int.Digits.{digits_value_more}
-use Rattle.std.proofs.lemmas.List.{take_more}
-use Rattle.std.proofs.lemmas.Str.Parse.{numerals_by_value, tells_all_ascii_digits, digits_value_short}
+use Rattle.std.{specs.Prelude.{option_map, ◌&&◌, if◌then◌else◌}, specs.Char.{is_ascii_digit, digit_value}, specs.Str.all_ascii_digits, specs.Str.Parse.digits_value, proofs.lemmas.Bool.{cond-false, ne_eqb, and_from, and_parts, and_left, and_right}, proofs.lemmas.Bool.Decides.nat_tests, proofs.lemmas.Int.Digits.digits_value_more, proofs.lemmas.List.take_more, proofs.lemmas.Str.Parse.{numerals_by_value, tells_all_ascii_digits, digits_value_short}}
 use Rattle.feed_reader.specs.Cells.{number_below, signed_below}
 
 -- one more digit

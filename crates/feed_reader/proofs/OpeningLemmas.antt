@@ -1,10 +1,8 @@
 -- Opening tables where no table is left.
-use Rattle.std.proofs.Common.{◌≡◌, ◌<◌, List, [], ◌∷◌, refl, ap, ◌∙◌, sym, length, map, arith}
+use Rattle.std.proofs.Common.{◌≡◌, ◌<◌, List, [], ◌∷◌, refl, ap, ◌∙◌, sym, length, map, arith, ℕ}
 use Rattle.std.specs.List.{zip}
 use Rattle.tick_model.specs.declared.plan.Node.{Node}
-use Rattle.feed_reader.specs.declared.raw.RawTable.{RawTable}
-use Rattle.feed_reader.specs.Runs.{opened, opening_of}
-use Rattle.std.proofs.Common.{ℕ}
+use Rattle.feed_reader.{specs.declared.raw.RawTable.RawTable, specs.Runs.{opened, opening_of}}
 
 zip-none : (sources : List Node) (tables : List RawTable) → length tables < 1 → zip sources tables ≡ []
 zip-none [] tables none = refl

@@ -1,23 +1,9 @@
 -- The texts of a run stand each once, in byte order, and none is missing.
 use Rattle.std.proofs.Common.{◌≡◌, ℕ, List, [], ◌∷◌, Bool, true, false, refl, sym, ap, ◌∙◌, subst, cond}
-use Rattle.std.specs.Prelude.{◌||◌}
-use Rattle.std.specs.List.{AllByRecursion, list_any}
-use Rattle.std.specs.Str.{bytes_eq}
-use Rattle.std.specs.Ordering.{nat_cmp, is_lt, is_eq, match_ordering, ordering_reverse}
-use Rattle.std.specs.declared.cmp.Ordering.{Ordering}
-use Rattle.std.specs.declared.cmp.Ordering.TheVariants.{Less, Equal, Greater}
-use Rattle.std.specs.Cmp.Lexicographic.{slice_cmp, texts_ties}
-use Rattle.std.specs.BTreeSet.{insert_key}
-use Rattle.std.proofs.lemmas.Cmp.{nat_list_cmp_total, nat_list_eq_equiv}
-use Rattle.std.proofs.lemmas.Slice.Eq.{bytes_eq-Decides}
-use Rattle.std.proofs.lemmas.Bool.{or_right, or_left}
+use Rattle.std.{specs.Prelude.◌||◌, specs.List.{AllByRecursion, list_any}, specs.Str.bytes_eq, specs.Ordering.{nat_cmp, is_lt, is_eq, match_ordering, ordering_reverse}, specs.declared.cmp.Ordering.Ordering, specs.declared.cmp.Ordering.TheVariants.{Less, Equal, Greater}, specs.Cmp.Lexicographic.{slice_cmp, texts_ties}, specs.BTreeSet.insert_key, proofs.lemmas.Cmp.{nat_list_cmp_total, nat_list_eq_equiv}, proofs.lemmas.Slice.Eq.bytes_eq-Decides, proofs.lemmas.Bool.{or_right, or_left}}
 use Rattle.key_lists.proofs.Every.{every_weaker}
-use Rattle.tick_model.specs.Changes.{is_none}
-use Rattle.tick_model.specs.LawfulRuns.{AreTexts, is_before}
-use Rattle.feed_reader.specs.declared.raw.RawFeed.{RawFeed}
-use Rattle.feed_reader.specs.declared.raw.RawTable.{RawTable}
-use Rattle.feed_reader.specs.Coding.{with_text, with_texts, all_texts, texts_of}
-use Rattle.feed_reader.specs.Runs.{IsAmong}
+use Rattle.tick_model.{specs.Changes.is_none, specs.LawfulRuns.{AreTexts, is_before}}
+use Rattle.feed_reader.{specs.declared.raw.RawFeed.RawFeed, specs.declared.raw.RawTable.RawTable, specs.Coding.{with_text, with_texts, all_texts, texts_of}, specs.Runs.IsAmong}
 
 abbrev pub order : List ℕ → List ℕ → Ordering
 order = slice_cmp nat_cmp

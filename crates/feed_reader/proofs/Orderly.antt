@@ -1,49 +1,11 @@
 -- What the records of a feed say, one after the other: each stands where it may, and what it says is in its range.
 use Rattle.std.proofs.Common.{◌≡◌, ℕ, zero, suc, ◌+◌, ◌^◌, ◌<◌, ◌≤◌, Bool, true, false, cond, eqb, ltb, leb, List, [], ◌∷◌, length, drop, Option, Some, None, Result, Ok, Err, ℤ, pos, negsuc, neg_ℤ, refl, sym, ap, subst, arith, length-drop}
-use Rattle.std.specs.Prelude.{◌&&◌, not, FitsSigned, IfSome, IfOk, option_map, unsigned_abs}
-use Rattle.std.specs.List.{position_or_len}
-use Rattle.std.specs.Int.{w64}
-use Rattle.std.specs.Ordering.{int_eq}
-use Rattle.std.specs.Str.{all_ascii_digits}
-use Rattle.std.specs.Str.Parse.{digits_value}
-use Rattle.std.proofs.lemmas.Bool.{cond_both, and_parts, ltb-true, leb-true, eqb-true, eqb-false, false_from_ne_true}
-use Rattle.std.proofs.lemmas.Bool.Decides.{Decides-int_eq}
-use Rattle.std.proofs.lemmas.Int.{fits_signed_from_abs, ints}
-use Rattle.std.proofs.lemmas.Result.{IfOk-at_ok}
-use Rattle.std.proofs.Math.Numerals.{one-add}
-use Rattle.tick_model.specs.declared.plan.ColumnSpec.{ColumnSpec}
-use Rattle.tick_model.specs.declared.plan.Kind.{Kind}
-use Rattle.tick_model.specs.declared.plan.Kind.TheVariants.{Long as LongKind, Text as TextKind}
-use Rattle.tick_model.specs.declared.plan.Node.{Node}
-use Rattle.tick_model.specs.declared.plan.Plan.{Plan}
-use Rattle.tick_model.specs.declared.update.KeyRange.{KeyRange}
-use Rattle.tick_model.specs.declared.update.ShiftRange.{ShiftRange}
-use Rattle.tick_model.specs.Changes.{is_none}
-use Rattle.tick_model.specs.Evaluation.{is_source}
-use Rattle.tick_model.specs.Names.{same_name}
-use Rattle.tick_model.specs.LawfulRuns.{is_source_number}
-use Rattle.tick_model.specs.Plans.{columns_at}
-use Rattle.tick_model.specs.Printable.{IsShiftRange}
-use Rattle.feed_reader.specs.declared.entries.Entry.{Entry}
-use Rattle.feed_reader.specs.declared.entries.Entry.TheVariants.{Block, Removed, Shift, Added, Modified, End}
-use Rattle.feed_reader.specs.declared.fault.TextKind.{TextKind as TextKinds}
+use Rattle.std.{specs.Prelude.{◌&&◌, not, FitsSigned, IfSome, IfOk, option_map, unsigned_abs}, specs.List.position_or_len, specs.Int.w64, specs.Ordering.int_eq, specs.Str.all_ascii_digits, specs.Str.Parse.digits_value, proofs.lemmas.Bool.{cond_both, and_parts, ltb-true, leb-true, eqb-true, eqb-false, false_from_ne_true}, proofs.lemmas.Bool.Decides.Decides-int_eq, proofs.lemmas.Int.{fits_signed_from_abs, ints}, proofs.lemmas.Result.IfOk-at_ok, proofs.Math.Numerals.one-add}
+use Rattle.tick_model.{specs.declared.plan.ColumnSpec.ColumnSpec, specs.declared.plan.Kind.Kind, specs.declared.plan.Kind.TheVariants.{Long as LongKind, Text as TextKind}, specs.declared.plan.Node.Node, specs.declared.plan.Plan.Plan, specs.declared.update.KeyRange.KeyRange, specs.declared.update.ShiftRange.ShiftRange, specs.Changes.is_none, specs.Evaluation.is_source, specs.Names.same_name, specs.LawfulRuns.is_source_number, specs.Plans.columns_at, specs.Printable.IsShiftRange}
+use Rattle.feed_reader.{specs.declared.entries.Entry.Entry, specs.declared.entries.Entry.TheVariants.{Block, Removed, Shift, Added, Modified, End}, specs.declared.fault.TextKind.TextKind as TextKinds, specs.declared.place.Part.Part, specs.declared.place.Place.Place, specs.declared.place.Place.TheVariants.{Outside, Inside}, specs.declared.place.Tag.Tag, specs.declared.raw.RawCell.RawCell, specs.declared.raw.RawCell.TheVariants.{Null, Long, Text}, specs.declared.raw.RawRow.RawRow, specs.Cells.{number_below, signed_below, long_of, key_of, delta_of, not_zero, some_not_zero, known_cell, cell_of, with_first, cells_of}, specs.Entries.{entry_of, tagged_entry, is_named, source_named, known_block, tag_of, part_entry, key_range, removed_past, shift_by, shift_past, row_with, row_past, row_entry, added, modified}, specs.Answers.Reading, specs.Feeds.{entries_in, steps_after}, specs.Places.{Opened, opened, is_past, is_outside, place_after}, specs.Records.{are_texts, field_of}, proofs.FeedLemmas.read_ok}
 use Rattle.feed_reader.specs.declared.fault.TextKind.TheVariants as kinds
-use Rattle.feed_reader.specs.declared.place.Part.{Part}
 use Rattle.feed_reader.specs.declared.place.Part.TheVariants as Parts
-use Rattle.feed_reader.specs.declared.place.Place.{Place}
-use Rattle.feed_reader.specs.declared.place.Place.TheVariants.{Outside, Inside}
-use Rattle.feed_reader.specs.declared.place.Tag.{Tag}
 use Rattle.feed_reader.specs.declared.place.Tag.TheVariants as Tags
-use Rattle.feed_reader.specs.declared.raw.RawCell.{RawCell}
-use Rattle.feed_reader.specs.declared.raw.RawCell.TheVariants.{Null, Long, Text}
-use Rattle.feed_reader.specs.declared.raw.RawRow.{RawRow}
-use Rattle.feed_reader.specs.Cells.{number_below, signed_below, long_of, key_of, delta_of, not_zero, some_not_zero, known_cell, cell_of, with_first, cells_of}
-use Rattle.feed_reader.specs.Entries.{entry_of, tagged_entry, is_named, source_named, known_block, tag_of, part_entry, key_range, removed_past, shift_by, shift_past, row_with, row_past, row_entry, added, modified}
-use Rattle.feed_reader.specs.Answers.{Reading}
-use Rattle.feed_reader.specs.Feeds.{entries_in, steps_after}
-use Rattle.feed_reader.specs.Places.{Opened, opened, is_past, is_outside, place_after}
-use Rattle.feed_reader.specs.Records.{are_texts, field_of}
-use Rattle.feed_reader.proofs.FeedLemmas.{read_ok}
 
 -- a cell and the cells of a row, of a source's columns
 abbrev pub CellFits : Kind → RawCell → Type 0

@@ -1,32 +1,12 @@
 -- A feed says the same of a plan wherever the plan's formulas lie.
 use Rattle.std.proofs.Common.{◌≡◌, ℕ, ◌+◌, Bool, true, false, List, [], ◌∷◌, map, cond, eqb, ltb, length, Option, Some, None, Err, refl, ap, ◌∙◌}
 use mathlib.Core.Path.{fun_ext}
-use Rattle.std.specs.Prelude.{◌&&◌, not, position, slice_index_or}
-use Rattle.std.specs.List.{position_or_len}
-use Rattle.std.proofs.lemmas.List.{length-map}
-use Rattle.tick_model.specs.declared.plan.ColumnSpec.{ColumnSpec}
-use Rattle.tick_model.specs.declared.plan.Node.{Node}
-use Rattle.tick_model.specs.declared.plan.Op.{Op}
-use Rattle.tick_model.specs.declared.plan.Op.TheVariants.{Source, Keep, View}
-use Rattle.tick_model.specs.declared.plan.Plan.{Plan}
-use Rattle.tick_model.specs.Evaluation.{is_source}
-use Rattle.tick_model.specs.Names.{same_name}
-use Rattle.tick_model.specs.Plans.{columns_at}
-use Rattle.script_reader.specs.Plain.{plain_op, plain_node, plain_plan}
-use Rattle.script_reader.proofs.Plainly.{tables_plain}
-use Rattle.feed_reader.specs.declared.entries.Entry.{Entry}
-use Rattle.feed_reader.specs.declared.fault.TextKind.TheVariants.{FieldCount, NotUtf8, TooLong}
-use Rattle.feed_reader.specs.declared.place.Part.{Part}
+use Rattle.std.{specs.Prelude.{◌&&◌, not, position, slice_index_or}, specs.List.position_or_len, proofs.lemmas.List.length-map}
+use Rattle.tick_model.{specs.declared.plan.ColumnSpec.ColumnSpec, specs.declared.plan.Node.Node, specs.declared.plan.Op.Op, specs.declared.plan.Op.TheVariants.{Source, Keep, View}, specs.declared.plan.Plan.Plan, specs.Evaluation.is_source, specs.Names.same_name, specs.Plans.columns_at}
+use Rattle.script_reader.{specs.Plain.{plain_op, plain_node, plain_plan}, proofs.Plainly.tables_plain}
+use Rattle.feed_reader.{specs.declared.entries.Entry.Entry, specs.declared.fault.TextKind.TheVariants.{FieldCount, NotUtf8, TooLong}, specs.declared.place.Part.Part, specs.declared.place.Place.Place, specs.declared.place.Place.TheVariants.Outside, specs.declared.place.Tag.Tag, specs.Answers.read_on, specs.Entries.{is_named, known_block, block_entry, added, modified, row_entry, part_entry, tagged_entry, entry_of, tag_of}, specs.Feeds.{steps_after, entries_in, feed_with, feed_of}, specs.Places.{Opened, opened, place_after}, specs.Records.{are_texts, field_of, records_of}}
 use Rattle.feed_reader.specs.declared.place.Part.TheVariants as Parts
-use Rattle.feed_reader.specs.declared.place.Place.{Place}
-use Rattle.feed_reader.specs.declared.place.Place.TheVariants.{Outside}
-use Rattle.feed_reader.specs.declared.place.Tag.{Tag}
 use Rattle.feed_reader.specs.declared.place.Tag.TheVariants as Tags
-use Rattle.feed_reader.specs.Answers.{read_on}
-use Rattle.feed_reader.specs.Entries.{is_named, known_block, block_entry, added, modified, row_entry, part_entry, tagged_entry, entry_of, tag_of}
-use Rattle.feed_reader.specs.Feeds.{steps_after, entries_in, feed_with, feed_of}
-use Rattle.feed_reader.specs.Places.{Opened, opened, place_after}
-use Rattle.feed_reader.specs.Records.{are_texts, field_of, records_of}
 
 pub source_plain : (node : Node) → is_source (plain_node node) ≡ is_source node
 source_plain node = of node.op

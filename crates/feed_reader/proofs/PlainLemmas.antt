@@ -1,25 +1,9 @@
 -- A plan keeps its rules wherever its formulas lie.
 use Rattle.std.proofs.Common.{◌≡◌, ℕ, ◌+◌, ◌^◌, Bool, true, List, [], ◌∷◌, map, length, refl, sym, ap, ◌∙◌}
-use Rattle.std.specs.Prelude.{◌&&◌, ◌==◌, nat_lt, nat_le, slice_index_or}
-use Rattle.std.specs.List.{AllByRecursion, list_all, enumerate_from}
-use Rattle.std.proofs.lemmas.List.{length-map}
+use Rattle.std.{specs.Prelude.{◌&&◌, ◌==◌, nat_lt, nat_le, slice_index_or}, specs.List.{AllByRecursion, list_all, enumerate_from}, proofs.lemmas.List.length-map}
 use Rattle.key_lists.proofs.Every.{every_weaker, every_unmapped}
-use Rattle.tick_model.specs.declared.plan.ColumnSpec.{ColumnSpec}
-use Rattle.tick_model.specs.declared.plan.Expr.{Expr, Cell, Number, Null, Literal, Rank, Neg', Add', Sub', Mul'}
-use Rattle.tick_model.specs.declared.plan.Node.{Node}
-use Rattle.tick_model.specs.declared.plan.Op.{Op}
-use Rattle.tick_model.specs.declared.plan.Op.TheVariants.{Keep, View}
-use Rattle.tick_model.specs.declared.plan.Plan.{Plan}
-use Rattle.tick_model.specs.declared.plan.Pred.{Pred, Compare, And', Or', Not'}
-use Rattle.tick_model.specs.declared.plan.Published.{Published}
-use Rattle.tick_model.specs.Operators.{inputs_of, columns_fit}
-use Rattle.tick_model.specs.LawfulRuns.{has_ranks, has_test_ranks, has_op_ranks}
-use Rattle.tick_model.specs.Names.{is_name, are_distinct}
-use Rattle.tick_model.specs.Numbers.{HasNumbers, HasOpNumbers, HasPlanNumbers}
-use Rattle.tick_model.specs.Plans.{columns_at, node_lawful, key_bounds, rises, number_distinct, published_words, is_lawful}
-use Rattle.tick_model.specs.Columns.{is_bound, is_test_bound, same_columns, kinds_of, test_fits, some_of, follow, kind_of}
-use Rattle.script_reader.specs.Plain.{plain, plain_test, plain_op, plain_node, plain_plan}
-use Rattle.script_reader.proofs.Plainly.{test_fits_plain, expr_kinds_plain, key_bounds_plain, names_plain, tables_plain}
+use Rattle.tick_model.{specs.declared.plan.ColumnSpec.ColumnSpec, specs.declared.plan.Expr.{Expr, Cell, Number, Null, Literal, Rank, Neg', Add', Sub', Mul'}, specs.declared.plan.Node.Node, specs.declared.plan.Op.Op, specs.declared.plan.Op.TheVariants.{Keep, View}, specs.declared.plan.Plan.Plan, specs.declared.plan.Pred.{Pred, Compare, And', Or', Not'}, specs.declared.plan.Published.Published, specs.Operators.{inputs_of, columns_fit}, specs.LawfulRuns.{has_ranks, has_test_ranks, has_op_ranks}, specs.Names.{is_name, are_distinct}, specs.Numbers.{HasNumbers, HasOpNumbers, HasPlanNumbers}, specs.Plans.{columns_at, node_lawful, key_bounds, rises, number_distinct, published_words, is_lawful}, specs.Columns.{is_bound, is_test_bound, same_columns, kinds_of, test_fits, some_of, follow, kind_of}}
+use Rattle.script_reader.{specs.Plain.{plain, plain_test, plain_op, plain_node, plain_plan}, proofs.Plainly.{test_fits_plain, expr_kinds_plain, key_bounds_plain, names_plain, tables_plain}}
 
 -- two parts of a test
 and_same : (a b c d : Bool) → a ≡ b → c ≡ d → (a && c) ≡ (b && d)

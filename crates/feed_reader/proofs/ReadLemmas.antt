@@ -1,34 +1,9 @@
 -- What is read of a feed and of a table file.
 use Rattle.std.proofs.Common.{◌≡◌, ℕ, ◌+◌, ◌^◌, ◌<◌, ◌≤◌, Bool, true, false, cond, eqb, ltb, List, [], ◌∷◌, length, Option, Some, None, Ok, Err, refl, sym, ap, ◌∙◌, subst, arith}
-use Rattle.std.proofs.lemmas.List.{length-map}
-use Rattle.std.specs.Prelude.{IfOk, IfSome}
-use Rattle.std.specs.List.{AllByRecursion, range_with_len}
-use Rattle.std.proofs.lemmas.Bool.{cond_both, ltb-true, ltb-false, eqb-true}
-use Rattle.std.proofs.lemmas.Result.{IfOk-at_ok}
-use Rattle.tick_model.specs.declared.plan.ColumnSpec.{ColumnSpec}
-use Rattle.tick_model.specs.declared.plan.Plan.{Plan}
-use Rattle.tick_model.specs.LawfulRuns.{IsOpening}
-use Rattle.tick_model.specs.Tables.{keys}
-use Rattle.feed_reader.specs.declared.entries.Entry.{Entry}
-use Rattle.feed_reader.specs.declared.fault.TextKind.{TextKind}
+use Rattle.std.{proofs.lemmas.List.length-map, specs.Prelude.{IfOk, IfSome}, specs.List.{AllByRecursion, range_with_len}, proofs.lemmas.Bool.{cond_both, ltb-true, ltb-false, eqb-true}, proofs.lemmas.Result.IfOk-at_ok}
+use Rattle.tick_model.{specs.declared.plan.ColumnSpec.ColumnSpec, specs.declared.plan.Plan.Plan, specs.LawfulRuns.IsOpening, specs.Tables.keys}
+use Rattle.feed_reader.{specs.declared.entries.Entry.Entry, specs.declared.fault.TextKind.TextKind, specs.declared.place.Place.TheVariants.Outside, specs.declared.raw.RawBatch.RawBatch, specs.declared.raw.RawCell.RawCell, specs.declared.raw.RawFeed.RawFeed, specs.declared.raw.RawRow.RawRow, specs.declared.raw.RawTable.RawTable, specs.Answers.Reading, specs.Cells.cells_of, specs.Coding.{table_texts, coded_table, coded_row, coded_rows}, specs.Feeds.{entries_in, batches_of, feed_with, feed_in, feed_of}, specs.Records.{records_of, are_texts}, specs.Runs.IsAmong, specs.Tables.{header_fault, row_under, whole_row, row_of, rows_from, after_header, table_in, table_of}, proofs.FeedLemmas.read_ok, proofs.RecordLemmas.few_records, proofs.Orderly.{CellsFit, cells_fit, IsRawRow, Orderly, orderly}, proofs.CodedLemmas.rows_of_source}
 use Rattle.feed_reader.specs.declared.fault.TextKind.TheVariants as kinds
-use Rattle.feed_reader.specs.declared.place.Place.TheVariants.{Outside}
-use Rattle.feed_reader.specs.declared.raw.RawBatch.{RawBatch}
-use Rattle.feed_reader.specs.declared.raw.RawCell.{RawCell}
-use Rattle.feed_reader.specs.declared.raw.RawFeed.{RawFeed}
-use Rattle.feed_reader.specs.declared.raw.RawRow.{RawRow}
-use Rattle.feed_reader.specs.declared.raw.RawTable.{RawTable}
-use Rattle.feed_reader.specs.Answers.{Reading}
-use Rattle.feed_reader.specs.Cells.{cells_of}
-use Rattle.feed_reader.specs.Coding.{table_texts, coded_table, coded_row, coded_rows}
-use Rattle.feed_reader.specs.Feeds.{entries_in, batches_of, feed_with, feed_in, feed_of}
-use Rattle.feed_reader.specs.Records.{records_of, are_texts}
-use Rattle.feed_reader.specs.Runs.{IsAmong}
-use Rattle.feed_reader.specs.Tables.{header_fault, row_under, whole_row, row_of, rows_from, after_header, table_in, table_of}
-use Rattle.feed_reader.proofs.FeedLemmas.{read_ok}
-use Rattle.feed_reader.proofs.RecordLemmas.{few_records}
-use Rattle.feed_reader.proofs.Orderly.{CellsFit, cells_fit, IsRawRow, Orderly, orderly}
-use Rattle.feed_reader.proofs.CodedLemmas.{rows_of_source}
 
 -- bytes that are not too long
 not_long : {X : Type 0} (long : Bool) (refusal : ℕ × TextKind) (told : Reading X) (value : X) → cond long (Err refusal) told ≡ Ok value → (long ≡ false) × (told ≡ Ok value)

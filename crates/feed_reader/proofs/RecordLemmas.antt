@@ -1,21 +1,10 @@
 -- What a read of a record does to what is left.
 use Rattle.std.proofs.Common.{◌≡◌, ℕ, zero, suc, ◌+◌, ◌<◌, ◌≤◌, List, [], ◌∷◌, ◌++◌, Bool, true, false, Option, Some, None, refl, sym, ap, ◌∙◌, subst, length, cond, arith, add-one, inl}
-use Rattle.std.specs.Prelude.{IsSome}
-use Rattle.std.specs.Borrow.{Bor}
-use Rattle.csv.specs.Machine.{Read, next_record, ends_at_end, is_end, step, fields_after, field_after}
-use Rattle.csv.specs.Reading.{records_from, records_next, default_config, NextIs, strip_bom, is_bom, ReadsNext, ReadRecord, TookRecord, took_first, pending_of, ExplainsRead}
-use Rattle.csv.specs.declared.error.ErrorKind.{ErrorKind}
+use Rattle.std.{specs.Prelude.IsSome, specs.Borrow.Bor}
+use Rattle.csv.{specs.Machine.{Read, next_record, ends_at_end, is_end, step, fields_after, field_after}, specs.Reading.{records_from, records_next, default_config, NextIs, strip_bom, is_bom, ReadsNext, ReadRecord, TookRecord, took_first, pending_of, ExplainsRead}, specs.declared.error.ErrorKind.ErrorKind, specs.declared.error.Utf8Error.Utf8Error, specs.declared.record.Position.Position, specs.declared.parser.Config.Config, specs.declared.parser.State.State, specs.declared.reader.Reader.Reader}
 use Rattle.csv.specs.declared.error.ErrorKind.TheVariants as kind
-use Rattle.csv.specs.declared.error.Utf8Error.{Utf8Error}
-use Rattle.csv.specs.declared.record.Position.{Position}
-use Rattle.csv.specs.declared.parser.Config.{Config}
-use Rattle.csv.specs.declared.parser.State.{State}
 use Rattle.csv.specs.declared.parser.State.TheVariants as st
-use Rattle.csv.specs.declared.reader.Reader.{Reader}
-use Rattle.feed_reader.specs.Records.{records_left, left_of, unread, records_of, IsReading, IsNext, are_texts}
-use Rattle.feed_reader.specs.declared.records.Next.{Next}
-use Rattle.feed_reader.specs.declared.records.Next.TheVariants.{Record}
-use Rattle.feed_reader.proofs.FieldLemmas.{texts_are_not}
+use Rattle.feed_reader.{specs.Records.{records_left, left_of, unread, records_of, IsReading, IsNext, are_texts}, specs.declared.records.Next.Next, specs.declared.records.Next.TheVariants.Record, proofs.FieldLemmas.texts_are_not}
 
 -- a read from nothing ends at the start of a record, and any other takes a byte at least
 by_test : {X : Type 0} (P : X → Type 0) (b : Bool) (x : X) (o : Option X) (p : X) → cond b (Some x) o ≡ Some p → P x → (o ≡ Some p → P p) → P p

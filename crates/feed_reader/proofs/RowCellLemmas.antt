@@ -1,20 +1,8 @@
 -- The cells of a row that are kept as numbers, and the texts beside them.
 use Rattle.std.proofs.Common.{◌≡◌, ℕ, zero, suc, ◌+◌, ◌^◌, ◌<◌, ◌≤◌, ℤ, pos, List, [], ◌∷◌, ◌++◌, map, set, drop, get_or, false, Option, Some, None, refl, sym, ap, ap₂, ◌∙◌, subst, length, length-append, length-set, eqb, ⊎_elim, arith}
-use Rattle.std.specs.Prelude.{flat_map, IfSome, option_map, unsigned_abs}
-use Rattle.std.proofs.lemmas.Bool.{cond-true, cond-false, cond_both, cases_lt, eq-eqb, ne_eqb, false_from_ne_true}
-use Rattle.std.proofs.lemmas.Bool.Decides.{Decides-int_eq}
-use Rattle.std.proofs.lemmas.List.{at_drop_more, at_drop_all}
-use Rattle.tick_model.specs.declared.plan.Kind.{Kind}
-use Rattle.tick_model.specs.declared.plan.Kind.TheVariants.{Long as LongKind, Text as TextKind}
-use Rattle.tick_model.specs.Changes.{is_none}
-use Rattle.tick_model.specs.Tables.{null, is_null}
-use Rattle.feed_reader.specs.declared.raw.RawCell.{RawCell}
-use Rattle.feed_reader.specs.declared.raw.RawCell.TheVariants.{Null, Long, Text}
-use Rattle.feed_reader.specs.declared.row_cells.PlacedText.{PlacedText}
-use Rattle.feed_reader.specs.Cells.{long_of, known_cell, cell_of}
-use Rattle.feed_reader.specs.Coding.{cell_texts, coded_cell, rank_of}
-use Rattle.feed_reader.specs.RowCells.{number_cell, cells_from, AreInOrder, IsTelling}
-use Rattle.feed_reader.proofs.Orderly.{IsWithin, signed_fits}
+use Rattle.std.{specs.Prelude.{flat_map, IfSome, option_map, unsigned_abs}, proofs.lemmas.Bool.{cond-true, cond-false, cond_both, cases_lt, eq-eqb, ne_eqb, false_from_ne_true}, proofs.lemmas.Bool.Decides.Decides-int_eq, proofs.lemmas.List.{at_drop_more, at_drop_all}}
+use Rattle.tick_model.{specs.declared.plan.Kind.Kind, specs.declared.plan.Kind.TheVariants.{Long as LongKind, Text as TextKind}, specs.Changes.is_none, specs.Tables.{null, is_null}}
+use Rattle.feed_reader.{specs.declared.raw.RawCell.RawCell, specs.declared.raw.RawCell.TheVariants.{Null, Long, Text}, specs.declared.row_cells.PlacedText.PlacedText, specs.Cells.{long_of, known_cell, cell_of}, specs.Coding.{cell_texts, coded_cell, rank_of}, specs.RowCells.{number_cell, cells_from, AreInOrder, IsTelling}, proofs.Orderly.{IsWithin, signed_fits}}
 
 -- the first cell is a text, or the texts stand behind it
 at_first : (place : ℕ) (n : ℤ) (numbers : List ℤ) (text : PlacedText) (texts : List PlacedText) → text.place ≡ place → cells_from place (n ∷ numbers) (text ∷ texts) ≡ Text text.text ∷ cells_from (place + 1) numbers texts

@@ -2,15 +2,7 @@
 use Rattle.std.proofs.Common.{◌≡◌, ℕ, ◌+◌, ◌<◌, List, [], ◌∷◌, ◌++◌, Bool, true, false, Option, Some, None, Result, Ok, Err, refl, sym, ap, ◌∙◌, subst, length, cond, eqb, ltb, append_assoc}
 use Rattle.std.proofs.lemmas.Bool.{ltb-true}
 use Rattle.tick_model.specs.declared.plan.ColumnSpec.{ColumnSpec}
-use Rattle.feed_reader.specs.declared.fault.TextKind.{TextKind}
-use Rattle.feed_reader.specs.declared.fault.TextKind.TheVariants.{FieldCount, NotUtf8, TooLong}
-use Rattle.feed_reader.specs.declared.raw.RawCell.{RawCell}
-use Rattle.feed_reader.specs.declared.raw.RawRow.{RawRow}
-use Rattle.feed_reader.specs.declared.raw.RawTable.{RawTable}
-use Rattle.feed_reader.specs.Answers.{Reading, onto, read_on}
-use Rattle.feed_reader.specs.Cells.{cells_of}
-use Rattle.feed_reader.specs.Records.{are_texts}
-use Rattle.feed_reader.specs.Tables.{row_under, whole_row, row_of, rows_from}
+use Rattle.feed_reader.{specs.declared.fault.TextKind.TextKind, specs.declared.fault.TextKind.TheVariants.{FieldCount, NotUtf8, TooLong}, specs.declared.raw.RawCell.RawCell, specs.declared.raw.RawRow.RawRow, specs.declared.raw.RawTable.RawTable, specs.Answers.{Reading, onto, read_on}, specs.Cells.cells_of, specs.Records.are_texts, specs.Tables.{row_under, whole_row, row_of, rows_from}}
 
 -- these rows, and then those that are read later
 abbrev pub rows_onto : List RawRow → Reading (List RawRow) → Reading RawTable

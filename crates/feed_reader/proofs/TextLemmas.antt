@@ -1,16 +1,6 @@
 -- The loops over texts, and their ranks.
 use Rattle.std.proofs.Common.{◌≡◌, ℕ, suc, ◌+◌, ◌<◌, ◌≤◌, List, [], ◌∷◌, map, drop, get_or, Bool, true, false, Option, Some, None, refl, sym, ap, ◌∙◌, length, cond, eqb, arith}
-use Rattle.std.specs.Prelude.{flat_map, unwrap_or, not}
-use Rattle.std.specs.List.{prefix_len, position_from}
-use Rattle.std.specs.Str.{bytes_eq}
-use Rattle.std.specs.Ordering.{nat_cmp, match_ordering}
-use Rattle.std.specs.declared.cmp.Ordering.{Ordering}
-use Rattle.std.specs.declared.cmp.Ordering.TheVariants.{Less, Equal, Greater}
-use Rattle.std.specs.Cmp.Lexicographic.{slice_cmp}
-use Rattle.std.specs.BTreeSet.{insert_key}
-use Rattle.std.specs.Borrow.{Bor}
-use Rattle.std.proofs.lemmas.List.{at_drop_more, at_drop_all}
-use Rattle.std.proofs.lemmas.List.Sums.{prefix_len-le-length}
+use Rattle.std.{specs.Prelude.{flat_map, unwrap_or, not}, specs.List.{prefix_len, position_from}, specs.Str.bytes_eq, specs.Ordering.{nat_cmp, match_ordering}, specs.declared.cmp.Ordering.Ordering, specs.declared.cmp.Ordering.TheVariants.{Less, Equal, Greater}, specs.Cmp.Lexicographic.slice_cmp, specs.BTreeSet.insert_key, specs.Borrow.Bor, proofs.lemmas.List.{at_drop_more, at_drop_all}, proofs.lemmas.List.Sums.prefix_len-le-length}
 use Rattle.tick_model.specs.Changes.{is_none}
 use Rattle.feed_reader.specs.Coding.{with_texts, rank_of}
 

@@ -1,9 +1,7 @@
 -- What a definition gives, and what a call answers.
 --     Answers told result      the call answers what the definition gives, or that memory ran out
 use Rattle.std.specs.Prelude.{◌≡◌, ℕ, List, ◌∷◌, Result, Ok, Err}
-use Rattle.feed_reader.specs.declared.fault.TextFault.{TextFault}
-use Rattle.feed_reader.specs.declared.fault.TextFault.TheVariants.{Memory, Refused}
-use Rattle.feed_reader.specs.declared.fault.TextKind.{TextKind}
+use Rattle.feed_reader.{specs.declared.fault.TextFault.TextFault, specs.declared.fault.TextFault.TheVariants.{Memory, Refused}, specs.declared.fault.TextKind.TextKind}
 
 -- what is read, or the number of the first refused record with the first kind that applies to it
 abbrev pub Reading : Type 0 → Type 0

@@ -3,18 +3,9 @@
 --     run_of script tables feed      the run
 --     AreTablesOf sources tables      each source's table is one that is read for its columns, or has no rows
 use Rattle.std.specs.Prelude.{◌≡◌, ℕ, ◌⊎◌, List, [], ◌∷◌, Ok}
-use Rattle.tick_model.specs.declared.feed.Run.{Run}
-use Rattle.tick_model.specs.declared.plan.ColumnSpec.{ColumnSpec}
-use Rattle.tick_model.specs.declared.plan.Node.{Node}
-use Rattle.tick_model.specs.LawfulRuns.{sources_of}
-use Rattle.script_reader.specs.declared.script.Script.{Script}
-use Rattle.script_reader.specs.Binding.{bound}
-use Rattle.script_reader.specs.Plain.{plain_plan}
-use Rattle.feed_reader.specs.declared.raw.RawFeed.{RawFeed}
-use Rattle.feed_reader.specs.declared.raw.RawTable.{RawTable}
-use Rattle.feed_reader.specs.Coding.{texts_of, coded_feed}
-use Rattle.feed_reader.specs.Runs.{opening_of}
-use Rattle.feed_reader.specs.Tables.{table_of}
+use Rattle.tick_model.{specs.declared.feed.Run.Run, specs.declared.plan.ColumnSpec.ColumnSpec, specs.declared.plan.Node.Node, specs.LawfulRuns.sources_of}
+use Rattle.script_reader.{specs.declared.script.Script.Script, specs.Binding.bound, specs.Plain.plain_plan}
+use Rattle.feed_reader.{specs.declared.raw.RawFeed.RawFeed, specs.declared.raw.RawTable.RawTable, specs.Coding.{texts_of, coded_feed}, specs.Runs.opening_of, specs.Tables.table_of}
 
 abbrev pub plain_run : Run → Run
 plain_run run = record { plan = plain_plan run.plan; opening = run.opening; batches = run.batches; texts = run.texts }

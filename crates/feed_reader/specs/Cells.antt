@@ -3,16 +3,9 @@
 --     key_of text      the key of a row
 --     delta_of text      how far a range moves
 --     cells_of columns fields      the cells of a row
-use Rattle.std.specs.Prelude.{ℕ, ◌^◌, ◌==◌, ◌&&◌, List, [], ◌∷◌, Option, Some, None, ℤ, pos, neg_ℤ, length, map, nat_lt, nat_le, not, option_map, if◌then◌else◌}
-use Rattle.std.specs.List.{zip}
-use Rattle.std.specs.Str.{all_ascii_digits}
-use Rattle.std.specs.Str.Parse.{digits_value}
-use Rattle.tick_model.specs.declared.plan.ColumnSpec.{ColumnSpec}
-use Rattle.tick_model.specs.declared.plan.Kind.{Kind}
-use Rattle.tick_model.specs.declared.plan.Kind.TheVariants.{Long as LongKind, Text as TextKind}
-use Rattle.tick_model.specs.Changes.{is_none}
-use Rattle.feed_reader.specs.declared.raw.RawCell.{RawCell}
-use Rattle.feed_reader.specs.declared.raw.RawCell.TheVariants.{Null, Long, Text}
+use Rattle.std.{specs.Prelude.{ℕ, ◌^◌, ◌==◌, ◌&&◌, List, [], ◌∷◌, Option, Some, None, ℤ, pos, neg_ℤ, length, map, nat_lt, nat_le, not, option_map, if◌then◌else◌}, specs.List.zip, specs.Str.all_ascii_digits, specs.Str.Parse.digits_value}
+use Rattle.tick_model.{specs.declared.plan.ColumnSpec.ColumnSpec, specs.declared.plan.Kind.Kind, specs.declared.plan.Kind.TheVariants.{Long as LongKind, Text as TextKind}, specs.Changes.is_none}
+use Rattle.feed_reader.{specs.declared.raw.RawCell.RawCell, specs.declared.raw.RawCell.TheVariants.{Null, Long, Text}}
 
 -- the number that 1 to 19 digits spell, below a limit
 abbrev pub number_below : ℕ → List ℕ → Option ℕ

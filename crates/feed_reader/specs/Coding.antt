@@ -1,25 +1,9 @@
 -- The texts of a run, and the cells that they code.
 --     texts_of literals tables feed      the distinct texts of a script, of table files and of a feed, in byte order
 --     coded_table texts width table, coded_batch texts batch      the tables and batches, each text by its rank among the texts
-use Rattle.std.specs.Prelude.{ℕ, List, [], ◌∷◌, ◌++◌, map, flat_map, fold, ℤ, pos, if◌then◌else◌}
-use Rattle.std.specs.List.{position_or_len}
-use Rattle.std.specs.Str.{bytes_eq}
-use Rattle.std.specs.Ordering.{nat_cmp}
-use Rattle.std.specs.Cmp.Lexicographic.{slice_cmp}
-use Rattle.std.specs.BTreeSet.{insert_key}
-use Rattle.tick_model.specs.declared.feed.Batch.{Batch}
-use Rattle.tick_model.specs.declared.feed.Block.{Block}
-use Rattle.tick_model.specs.declared.table.PlainRow.{PlainRow}
-use Rattle.tick_model.specs.declared.table.PlainTable.{PlainTable}
-use Rattle.tick_model.specs.Changes.{is_none}
-use Rattle.tick_model.specs.Tables.{null}
-use Rattle.feed_reader.specs.declared.raw.RawBatch.{RawBatch}
-use Rattle.feed_reader.specs.declared.raw.RawBlock.{RawBlock}
-use Rattle.feed_reader.specs.declared.raw.RawCell.{RawCell}
-use Rattle.feed_reader.specs.declared.raw.RawCell.TheVariants.{Null, Long, Text}
-use Rattle.feed_reader.specs.declared.raw.RawFeed.{RawFeed}
-use Rattle.feed_reader.specs.declared.raw.RawRow.{RawRow}
-use Rattle.feed_reader.specs.declared.raw.RawTable.{RawTable}
+use Rattle.std.{specs.Prelude.{ℕ, List, [], ◌∷◌, ◌++◌, map, flat_map, fold, ℤ, pos, if◌then◌else◌}, specs.List.position_or_len, specs.Str.bytes_eq, specs.Ordering.nat_cmp, specs.Cmp.Lexicographic.slice_cmp, specs.BTreeSet.insert_key}
+use Rattle.tick_model.{specs.declared.feed.Batch.Batch, specs.declared.feed.Block.Block, specs.declared.table.PlainRow.PlainRow, specs.declared.table.PlainTable.PlainTable, specs.Changes.is_none, specs.Tables.null}
+use Rattle.feed_reader.{specs.declared.raw.RawBatch.RawBatch, specs.declared.raw.RawBlock.RawBlock, specs.declared.raw.RawCell.RawCell, specs.declared.raw.RawCell.TheVariants.{Null, Long, Text}, specs.declared.raw.RawFeed.RawFeed, specs.declared.raw.RawRow.RawRow, specs.declared.raw.RawTable.RawTable}
 
 -- one more text, at its place in byte order, unless it is there; the empty text is none
 abbrev pub with_text : List (List ℕ) → List ℕ → List (List ℕ)

@@ -1,28 +1,10 @@
 -- The records of a feed.
 --     entry_of plan place steps fields      what a record says, or the first kind that refuses it, after so many ended steps
 use Rattle.std.specs.Prelude.{ℕ, ◌+◌, ◌==◌, ◌&&◌, Bool, List, Option, Some, None, Result, Ok, Err, ℤ, drop, length, position, codes, nat_lt, nat_le, if◌then◌else◌}
-use Rattle.tick_model.specs.declared.plan.ColumnSpec.{ColumnSpec}
-use Rattle.tick_model.specs.declared.plan.Node.{Node}
-use Rattle.tick_model.specs.declared.plan.Plan.{Plan}
-use Rattle.tick_model.specs.declared.update.KeyRange.{KeyRange}
-use Rattle.tick_model.specs.declared.update.ShiftRange.{ShiftRange}
-use Rattle.tick_model.specs.Evaluation.{is_source}
-use Rattle.tick_model.specs.Names.{same_name}
-use Rattle.tick_model.specs.Plans.{columns_at}
-use Rattle.feed_reader.specs.declared.entries.Entry.{Entry}
-use Rattle.feed_reader.specs.declared.entries.Entry.TheVariants.{Block, Removed, Shift, Added, Modified, End}
-use Rattle.feed_reader.specs.declared.fault.TextKind.{TextKind}
-use Rattle.feed_reader.specs.declared.fault.TextKind.TheVariants.{BadTag, FieldCount, BadNumber, UnknownTable, OutOfOrder, NotUtf8, TooLong}
-use Rattle.feed_reader.specs.declared.place.Part.{Part}
+use Rattle.tick_model.{specs.declared.plan.ColumnSpec.ColumnSpec, specs.declared.plan.Node.Node, specs.declared.plan.Plan.Plan, specs.declared.update.KeyRange.KeyRange, specs.declared.update.ShiftRange.ShiftRange, specs.Evaluation.is_source, specs.Names.same_name, specs.Plans.columns_at}
+use Rattle.feed_reader.{specs.declared.entries.Entry.Entry, specs.declared.entries.Entry.TheVariants.{Block, Removed, Shift, Added, Modified, End}, specs.declared.fault.TextKind.TextKind, specs.declared.fault.TextKind.TheVariants.{BadTag, FieldCount, BadNumber, UnknownTable, OutOfOrder, NotUtf8, TooLong}, specs.declared.place.Part.Part, specs.declared.place.Place.Place, specs.declared.place.Tag.Tag, specs.declared.raw.RawCell.RawCell, specs.declared.raw.RawRow.RawRow, specs.Cells.{key_of, delta_of, cells_of}, specs.Places.{Opened, opened, is_past}, specs.Records.{field_of, are_texts}}
 use Rattle.feed_reader.specs.declared.place.Part.TheVariants as Parts
-use Rattle.feed_reader.specs.declared.place.Place.{Place}
-use Rattle.feed_reader.specs.declared.place.Tag.{Tag}
 use Rattle.feed_reader.specs.declared.place.Tag.TheVariants as Tags
-use Rattle.feed_reader.specs.declared.raw.RawCell.{RawCell}
-use Rattle.feed_reader.specs.declared.raw.RawRow.{RawRow}
-use Rattle.feed_reader.specs.Cells.{key_of, delta_of, cells_of}
-use Rattle.feed_reader.specs.Places.{Opened, opened, is_past}
-use Rattle.feed_reader.specs.Records.{field_of, are_texts}
 
 -- the first field is the tag
 abbrev pub tag_of : List ℕ → Option Tag

@@ -1,24 +1,9 @@
 -- Feeds.
 --     feed_of plan bytes      the steps of a feed, or its first refused record
 --     batches_of entries      the steps that the records make
-use Rattle.std.specs.Prelude.{ℕ, ◌+◌, Bool, true, false, List, [], ◌∷◌, Option, Some, None, Ok, Err, length, nat_lt, take_while, if◌then◌else◌}
-use Rattle.std.specs.List.{filter_map}
-use Rattle.tick_model.specs.declared.plan.Plan.{Plan}
-use Rattle.tick_model.specs.declared.update.KeyRange.{KeyRange}
-use Rattle.tick_model.specs.declared.update.ShiftRange.{ShiftRange}
-use Rattle.feed_reader.specs.declared.entries.Entry.{Entry}
-use Rattle.feed_reader.specs.declared.entries.Entry.TheVariants.{Block, Removed, Shift, Added, Modified, End}
-use Rattle.feed_reader.specs.declared.fault.TextKind.TheVariants.{TooLong, Unfinished}
-use Rattle.feed_reader.specs.declared.place.Place.{Place}
-use Rattle.feed_reader.specs.declared.place.Place.TheVariants.{Outside}
-use Rattle.feed_reader.specs.declared.raw.RawBatch.{RawBatch}
-use Rattle.feed_reader.specs.declared.raw.RawBlock.{RawBlock}
-use Rattle.feed_reader.specs.declared.raw.RawFeed.{RawFeed}
-use Rattle.feed_reader.specs.declared.raw.RawRow.{RawRow}
-use Rattle.feed_reader.specs.Answers.{Reading, read_on}
-use Rattle.feed_reader.specs.Entries.{entry_of}
-use Rattle.feed_reader.specs.Places.{place_after, is_outside}
-use Rattle.feed_reader.specs.Records.{records_of}
+use Rattle.std.{specs.Prelude.{ℕ, ◌+◌, Bool, true, false, List, [], ◌∷◌, Option, Some, None, Ok, Err, length, nat_lt, take_while, if◌then◌else◌}, specs.List.filter_map}
+use Rattle.tick_model.{specs.declared.plan.Plan.Plan, specs.declared.update.KeyRange.KeyRange, specs.declared.update.ShiftRange.ShiftRange}
+use Rattle.feed_reader.{specs.declared.entries.Entry.Entry, specs.declared.entries.Entry.TheVariants.{Block, Removed, Shift, Added, Modified, End}, specs.declared.fault.TextKind.TheVariants.{TooLong, Unfinished}, specs.declared.place.Place.Place, specs.declared.place.Place.TheVariants.Outside, specs.declared.raw.RawBatch.RawBatch, specs.declared.raw.RawBlock.RawBlock, specs.declared.raw.RawFeed.RawFeed, specs.declared.raw.RawRow.RawRow, specs.Answers.{Reading, read_on}, specs.Entries.entry_of, specs.Places.{place_after, is_outside}, specs.Records.records_of}
 
 -- What the records say, one after the other, after so many that were read and so many steps that were ended; or the first that is
 -- refused. A feed that ends inside a step is refused at its last record.

@@ -1,11 +1,7 @@
 -- The steps of a feed, gathered record by record.
 --     gathered so_far number entry      what is gathered after one more record
-use Rattle.std.specs.Prelude.{ℕ, List, [], ◌∷◌, ◌++◌, Some, None, option_map}
-use Rattle.std.specs.Option.{option_to_list}
-use Rattle.feed_reader.specs.declared.entries.Entry.{Entry}
-use Rattle.feed_reader.specs.declared.entries.Entry.TheVariants.{Block, Removed, Shift, Added, Modified, End}
-use Rattle.feed_reader.specs.declared.gathered.Gathered.{Gathered}
-use Rattle.feed_reader.specs.declared.raw.RawBlock.{RawBlock}
+use Rattle.std.{specs.Prelude.{ℕ, List, [], ◌∷◌, ◌++◌, Some, None, option_map}, specs.Option.option_to_list}
+use Rattle.feed_reader.{specs.declared.entries.Entry.Entry, specs.declared.entries.Entry.TheVariants.{Block, Removed, Shift, Added, Modified, End}, specs.declared.gathered.Gathered.Gathered, specs.declared.raw.RawBlock.RawBlock}
 
 abbrev pub nothing : Gathered
 nothing = record { batches = []; blocks = []; block = None }

@@ -1,14 +1,7 @@
 -- Sets of texts.
 --     noted texts      an ordered set as the list of its texts
 --     AreAmong seen texts      each text of a set is one of the texts
-use Rattle.std.specs.Prelude.{◌≡◌, ℕ, true, List, map}
-use Rattle.std.specs.Borrow.{Bor}
-use Rattle.std.specs.BTreeSet.{BTreeSet}
-use Rattle.std.specs.HashSet.{HashSet, contains_by}
-use Rattle.std.specs.List.{list_any}
-use Rattle.std.specs.Str.{bytes_eq}
-use Rattle.std.specs.declared.hash.FoldHasher.{FoldHasher}
-use Rattle.std.specs.declared.hash.BuildHasherDefault.{BuildHasherDefault}
+use Rattle.std.{specs.Prelude.{◌≡◌, ℕ, true, List, map}, specs.Borrow.Bor, specs.BTreeSet.BTreeSet, specs.HashSet.{HashSet, contains_by}, specs.List.list_any, specs.Str.bytes_eq, specs.declared.hash.FoldHasher.FoldHasher, specs.declared.hash.BuildHasherDefault.BuildHasherDefault}
 
 abbrev pub noted : BTreeSet (Bor (List ℕ)) → List (List ℕ)
 noted texts = map (λ text. text.now) texts.keys

@@ -1,12 +1,8 @@
 -- Where the reading of a feed is.
 --     place_after place entry      where it is after a record
 use Rattle.std.specs.Prelude.{ℕ, ◌==◌, Bool, true, false, Option, Some, None, nat_lt, if◌then◌else◌}
-use Rattle.feed_reader.specs.declared.entries.Entry.{Entry}
-use Rattle.feed_reader.specs.declared.entries.Entry.TheVariants.{Block, Removed, Shift, Added, Modified, End}
-use Rattle.feed_reader.specs.declared.place.Part.{Part}
+use Rattle.feed_reader.{specs.declared.entries.Entry.Entry, specs.declared.entries.Entry.TheVariants.{Block, Removed, Shift, Added, Modified, End}, specs.declared.place.Part.Part, specs.declared.place.Place.Place, specs.declared.place.Place.TheVariants.{Outside, Inside}}
 use Rattle.feed_reader.specs.declared.place.Part.TheVariants as Parts
-use Rattle.feed_reader.specs.declared.place.Place.{Place}
-use Rattle.feed_reader.specs.declared.place.Place.TheVariants.{Outside, Inside}
 
 -- the parts of a block, in their order
 abbrev pub part_rank : Part → ℕ

@@ -1,16 +1,10 @@
 -- The records of a text, by the definition of the crate `csv`: with its default settings, and without a byte order mark at the start.
 --     records_of bytes      the records, each the list of its fields
 --     left_of reader      those that a reader has yet to read
-use Rattle.std.specs.Prelude.{◌≡◌, ℕ, ◌+◌, Bool, true, false, List, [], ◌∷◌, Option, Some, None, IsSome, length, slice_index_or}
-use Rattle.std.specs.List.{list_all}
-use Rattle.std.specs.Str.{is_utf8}
-use Rattle.std.specs.Borrow.{Bor}
-use Rattle.csv.specs.Reading.{records, records_from, default_config, strip_bom, source_of, reader_config, reader_trim, reader_state, Ready}
-use Rattle.csv.specs.declared.parser.State.{State}
-use Rattle.csv.specs.declared.reader.Reader.{Reader}
+use Rattle.std.{specs.Prelude.{◌≡◌, ℕ, ◌+◌, Bool, true, false, List, [], ◌∷◌, Option, Some, None, IsSome, length, slice_index_or}, specs.List.list_all, specs.Str.is_utf8, specs.Borrow.Bor}
+use Rattle.csv.{specs.Reading.{records, records_from, default_config, strip_bom, source_of, reader_config, reader_trim, reader_state, Ready}, specs.declared.parser.State.State, specs.declared.reader.Reader.Reader}
 use Rattle.csv.specs.declared.reader.Trim.TheVariants as trim
-use Rattle.feed_reader.specs.declared.records.Next.{Next}
-use Rattle.feed_reader.specs.declared.records.Next.TheVariants.{Record, NotText, End}
+use Rattle.feed_reader.{specs.declared.records.Next.Next, specs.declared.records.Next.TheVariants.{Record, NotText, End}}
 
 abbrev pub records_of : List ℕ → List (List (List ℕ))
 records_of bytes = records default_config (strip_bom bytes)

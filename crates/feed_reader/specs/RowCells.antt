@@ -4,9 +4,7 @@
 --     IsTelling cell      a number is of a size below 2 ^ 63, so that it does not stand for null
 use Rattle.std.specs.Prelude.{ℕ, ◌+◌, ◌^◌, ◌<◌, ◌≤◌, ◌==◌, List, [], ◌∷◌, ℤ, unsigned_abs, if◌then◌else◌}
 use Rattle.tick_model.specs.Tables.{is_null}
-use Rattle.feed_reader.specs.declared.raw.RawCell.{RawCell}
-use Rattle.feed_reader.specs.declared.raw.RawCell.TheVariants.{Null, Long, Text}
-use Rattle.feed_reader.specs.declared.row_cells.PlacedText.{PlacedText}
+use Rattle.feed_reader.{specs.declared.raw.RawCell.RawCell, specs.declared.raw.RawCell.TheVariants.{Null, Long, Text}, specs.declared.row_cells.PlacedText.PlacedText}
 
 abbrev pub number_cell : ℤ → RawCell
 number_cell n = if is_null n then Null else Long n

@@ -1,14 +1,9 @@
 -- What a run is given, from what is read.
 --     opening_of texts sources tables      the opening tables of sources
 --     IsAmong texts text      a text is one of the texts, unless it is empty
-use Rattle.std.specs.Prelude.{◌≡◌, ℕ, true, false, List, map, length}
-use Rattle.std.specs.List.{zip, list_any}
-use Rattle.std.specs.Str.{bytes_eq}
-use Rattle.tick_model.specs.Changes.{is_none}
-use Rattle.tick_model.specs.declared.plan.Node.{Node}
-use Rattle.tick_model.specs.declared.table.PlainTable.{PlainTable}
-use Rattle.feed_reader.specs.declared.raw.RawTable.{RawTable}
-use Rattle.feed_reader.specs.Coding.{coded_table}
+use Rattle.std.{specs.Prelude.{◌≡◌, ℕ, true, false, List, map, length}, specs.List.{zip, list_any}, specs.Str.bytes_eq}
+use Rattle.tick_model.{specs.Changes.is_none, specs.declared.plan.Node.Node, specs.declared.table.PlainTable.PlainTable}
+use Rattle.feed_reader.{specs.declared.raw.RawTable.RawTable, specs.Coding.coded_table}
 
 -- each source with its table
 abbrev pub opened : List (List ℕ) → Node × RawTable → PlainTable

@@ -1,17 +1,8 @@
 -- Table files.
 --     table_of columns bytes      the rows of a table file, or its first refused record
-use Rattle.std.specs.Prelude.{ℕ, ◌+◌, ◌==◌, Bool, not, List, [], ◌∷◌, Option, Some, None, Result, Ok, Err, map, length, nat_lt, if◌then◌else◌}
-use Rattle.std.specs.Cmp.Lexicographic.{pointwise}
-use Rattle.tick_model.specs.declared.plan.ColumnSpec.{ColumnSpec}
-use Rattle.tick_model.specs.Names.{same_name}
-use Rattle.feed_reader.specs.declared.fault.TextKind.{TextKind}
-use Rattle.feed_reader.specs.declared.fault.TextKind.TheVariants.{Header, FieldCount, BadNumber, NotUtf8, TooLong}
-use Rattle.feed_reader.specs.declared.raw.RawCell.{RawCell}
-use Rattle.feed_reader.specs.declared.raw.RawRow.{RawRow}
-use Rattle.feed_reader.specs.declared.raw.RawTable.{RawTable}
-use Rattle.feed_reader.specs.Answers.{Reading, read_on}
-use Rattle.feed_reader.specs.Cells.{cells_of}
-use Rattle.feed_reader.specs.Records.{records_of, are_texts}
+use Rattle.std.{specs.Prelude.{ℕ, ◌+◌, ◌==◌, Bool, not, List, [], ◌∷◌, Option, Some, None, Result, Ok, Err, map, length, nat_lt, if◌then◌else◌}, specs.Cmp.Lexicographic.pointwise}
+use Rattle.tick_model.{specs.declared.plan.ColumnSpec.ColumnSpec, specs.Names.same_name}
+use Rattle.feed_reader.{specs.declared.fault.TextKind.TextKind, specs.declared.fault.TextKind.TheVariants.{Header, FieldCount, BadNumber, NotUtf8, TooLong}, specs.declared.raw.RawCell.RawCell, specs.declared.raw.RawRow.RawRow, specs.declared.raw.RawTable.RawTable, specs.Answers.{Reading, read_on}, specs.Cells.cells_of, specs.Records.{records_of, are_texts}}
 
 -- the first record has the names of the columns
 abbrev pub names_of : List ColumnSpec → List (List ℕ)

@@ -1,13 +1,8 @@
 -- What was asked for, part by part, and that no load failed.
 use Rattle.std.proofs.Common.{◌≡◌, ◌⊎◌, ℕ, List, [], ◌++◌, Bool, Option, Some, None, Result, Ok, Err, refl, sym, ap, ◌∙◌, subst, append_assoc, inl, inr}
-use Rattle.std.proofs.lemmas.List.{append-nil}
-use Rattle.std.specs.Prelude.{IsTrue}
+use Rattle.std.{proofs.lemmas.List.append-nil, specs.Prelude.IsTrue}
 use Rattle.tick_io.specs.Asked.{AsksFor, AsksSome}
-use Rattle.feed_run.specs.declared.refusal.Stop.{Stop}
-use Rattle.feed_run.specs.declared.refusal.Stop.TheVariants.{Memory, Unread, Refused}
-use Rattle.feed_run.specs.Answers.{EndsByStop, HasAsked}
-use Rattle.feed_run.specs.Found.{Found, names_after}
-use Rattle.feed_run.specs.Stops.{Asks, AsksUntil, OnFound, OnRefused, Reads}
+use Rattle.feed_run.{specs.declared.refusal.Stop.Stop, specs.declared.refusal.Stop.TheVariants.{Memory, Unread, Refused}, specs.Answers.{EndsByStop, HasAsked}, specs.Found.{Found, names_after}, specs.Stops.{Asks, AsksUntil, OnFound, OnRefused, Reads}}
 
 -- none, and some after others
 asked_none : (asked : Option (List (List ℕ))) → AsksFor asked asked []

@@ -1,16 +1,7 @@
 -- The numbers of a command's task are in their ranges.
 use Rattle.std.proofs.Common.{◌≡◌, ◌≤◌, ℕ, arith, true, false, List, [], ◌∷◌, cond, Option, Some, None, refl, subst}
-use Rattle.std.proofs.lemmas.Bool.{leb-true}
-use Rattle.std.proofs.lemmas.Option.{same_Some}
-use Rattle.std.specs.List.{list_all}
-use Rattle.std.specs.Prelude.{◌&&◌, codes, nat_le, option_map}
-use Rattle.std.specs.Str.{bytes_eq}
-use Rattle.std.specs.Str.Parse.{digits_value}
-use Rattle.command_words.specs.declared.command.Command.{Command}
-use Rattle.command_words.specs.declared.command.Task.{Task}
-use Rattle.command_words.specs.declared.command.Task.TheVariants.{Run, Demo, Watch}
-use Rattle.command_words.specs.Commands.{is_numeral, number_within, is_known, of_both, run_task, demo_task, watch_task, task_of, with_numbers, with_settings, command_from, command, setting}
-use Rattle.command_words.specs.Words.{parts_of}
+use Rattle.std.{proofs.lemmas.Bool.leb-true, proofs.lemmas.Option.same_Some, specs.List.list_all, specs.Prelude.{◌&&◌, codes, nat_le, option_map}, specs.Str.bytes_eq, specs.Str.Parse.digits_value}
+use Rattle.command_words.{specs.declared.command.Command.Command, specs.declared.command.Task.Task, specs.declared.command.Task.TheVariants.{Run, Demo, Watch}, specs.Commands.{is_numeral, number_within, is_known, of_both, run_task, demo_task, watch_task, task_of, with_numbers, with_settings, command_from, command, setting}, specs.Words.parts_of}
 use Rattle.feed_run.specs.Answers.{IsInRange}
 
 number_few : (least most : ℕ) (text : List ℕ) (n : ℕ) → number_within least most text ≡ Some n → n ≤ most

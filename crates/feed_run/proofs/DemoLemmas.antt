@@ -1,17 +1,11 @@
 -- A made run in memory: it has no spoiled step, its summary is that of the definition, and its snapshots have few words.
 use Rattle.std.proofs.Common.{◌≡◌, ◌≤◌, ◌+◌, ◌*◌, ℕ, length, None, sym, ap, ◌∙◌, subst, arith}
-use Rattle.std.proofs.Math.Nat.{mul-le-mul}
-use Rattle.std.proofs.lemmas.List.FromFn.{length-map-range_with_len}
-use Rattle.tick_model.specs.declared.feed.Run.{Run}
-use Rattle.tick_model.specs.Spoiled.{first_spoiled}
-use Rattle.tick_model.specs.Texts.{summary_text}
+use Rattle.std.{proofs.Math.Nat.mul-le-mul, proofs.lemmas.List.FromFn.length-map-range_with_len}
+use Rattle.tick_model.{specs.declared.feed.Run.Run, specs.Spoiled.first_spoiled, specs.Texts.summary_text}
 use Rattle.feed_reader.specs.Assembled.{plain_run}
-use Rattle.made_run.specs.Run.{made}
-use Rattle.made_run.specs.Steps.{batch_after}
-use Rattle.replay.specs.declared.outcome.Knobs.{Knobs}
-use Rattle.replay.specs.Kept.{kept_words, largest_words, most_words}
-use Rattle.feed_run.proofs.PlainRuns.{first_spoiled_plain}
-use Rattle.feed_run.proofs.PlainTexts.{summary_plain}
+use Rattle.made_run.{specs.Run.made, specs.Steps.batch_after}
+use Rattle.replay.{specs.declared.outcome.Knobs.Knobs, specs.Kept.{kept_words, largest_words, most_words}}
+use Rattle.feed_run.{proofs.PlainRuns.first_spoiled_plain, proofs.PlainTexts.summary_plain}
 
 one_more : (snaps : ℕ) → snaps ≤ 64 → snaps + 1 ≤ 65
 one_more snaps few = omega (arith, few)

@@ -1,22 +1,11 @@
 -- How a run ends, and the text that goes with it.
 use Rattle.std.proofs.Common.{◌≡◌, ◌≤◌, ℕ, ◌+◌, List, ◌++◌, Bool, true, false, cond, ltb, Option, Some, None, refl, sym, ap, ◌∙◌, subst, inl, inr, length, [], ◌∷◌}
-use Rattle.std.specs.Prelude.{is_some, option_map}
-use Rattle.std.specs.Io.KnownBytes.{append_known}
-use Rattle.std.specs.List.{range_with_len}
+use Rattle.std.{specs.Prelude.{is_some, option_map}, specs.Io.KnownBytes.append_known, specs.List.range_with_len}
 use Rattle.key_lists.proofs.Every.{found_passes}
-use Rattle.tick_io.specs.Counts.{Rose}
-use Rattle.tick_io.specs.Written.{AppendsPrefix}
-use Rattle.tick_io.proofs.RisingCounts.{rose_earlier}
-use Rattle.tick_io.proofs.Prefixes.{append_known-append_known, prefix_after, prefix_longer}
-use Rattle.tick_model.specs.declared.feed.Run.{Run}
-use Rattle.tick_model.specs.Spoiled.{Cause, first_spoiled, spoiled_by, step_before, good}
-use Rattle.tick_model.specs.Texts.{record_text, done_record}
-use Rattle.replay.specs.declared.outcome.Knobs.{Knobs}
-use Rattle.replay.specs.Kept.{kept_words, most_words}
-use Rattle.replay.specs.Outcomes.{IsFirstSpoiled, IsLawfulChoice, WritesPrefix, WritesWhole, last_written, text_until}
-use Rattle.feed_run.specs.Answers.{Ends, EndsByRun}
-use Rattle.feed_run.specs.Verdicts.{Verdict, Kept, Spoiled, Done, steps_verdict, run_verdict, status_of}
-use Rattle.feed_run.specs.Wholes.{kept_record, cause_record, whole, IsLawful}
+use Rattle.tick_io.{specs.Counts.Rose, specs.Written.AppendsPrefix, proofs.RisingCounts.rose_earlier, proofs.Prefixes.{append_known-append_known, prefix_after, prefix_longer}}
+use Rattle.tick_model.{specs.declared.feed.Run.Run, specs.Spoiled.{Cause, first_spoiled, spoiled_by, step_before, good}, specs.Texts.{record_text, done_record}}
+use Rattle.replay.{specs.declared.outcome.Knobs.Knobs, specs.Kept.{kept_words, most_words}, specs.Outcomes.{IsFirstSpoiled, IsLawfulChoice, WritesPrefix, WritesWhole, last_written, text_until}}
+use Rattle.feed_run.{specs.Answers.{Ends, EndsByRun}, specs.Verdicts.{Verdict, Kept, Spoiled, Done, steps_verdict, run_verdict, status_of}, specs.Wholes.{kept_record, cause_record, whole, IsLawful}}
 
 -- a record was written after what was written before
 pub ends_after : (status : ℕ) (before record_of all : List ℕ) (later failed : Type 0) (old mid new : Option (List ℕ)) (answer : ℕ) → all ≡ before ++ record_of → mid ≡ append_known old before → (later → failed) → Ends status record_of later mid new answer → Ends status all failed old new answer

@@ -1,19 +1,10 @@
 -- What the outcome of a run tells of its verdict.
 use Rattle.std.proofs.Common.{◌≡◌, ◌<◌, ℕ, List, sym, subst}
 use Rattle.std.proofs.lemmas.Bool.{le-ltb, lt-ltb}
-use Rattle.tick_model.specs.declared.feed.Run.{Run}
-use Rattle.tick_model.specs.declared.table.NodeFault.{NodeFault}
-use Rattle.tick_model.specs.declared.update.FeedRule.{FeedRule}
-use Rattle.tick_model.specs.Spoiled.{ByBatch, ByNode, ByPublication}
-use Rattle.tick_model.specs.Texts.{done_record}
-use Rattle.replay.specs.declared.outcome.Knobs.{Knobs}
-use Rattle.replay.specs.declared.outcome.Outcome.{Outcome}
+use Rattle.tick_model.{specs.declared.feed.Run.Run, specs.declared.table.NodeFault.NodeFault, specs.declared.update.FeedRule.FeedRule, specs.Spoiled.{ByBatch, ByNode, ByPublication}, specs.Texts.done_record}
+use Rattle.replay.{specs.declared.outcome.Knobs.Knobs, specs.declared.outcome.Outcome.Outcome, specs.Kept.{kept_words, most_words}, specs.Outcomes.{IsTold, IsVerdict}}
 use Rattle.replay.specs.declared.outcome.Outcome.TheVariants as Outcomes
-use Rattle.replay.specs.Kept.{kept_words, most_words}
-use Rattle.replay.specs.Outcomes.{IsTold, IsVerdict}
-use Rattle.feed_run.specs.Verdicts.{Kept, Spoiled, Done}
-use Rattle.feed_run.specs.Wholes.{kept_record, publication_record, cause_record}
-use Rattle.feed_run.proofs.EndLemmas.{Tells, tells_kept, tells_done, tells_spoiled}
+use Rattle.feed_run.{specs.Verdicts.{Kept, Spoiled, Done}, specs.Wholes.{kept_record, publication_record, cause_record}, proofs.EndLemmas.{Tells, tells_kept, tells_done, tells_spoiled}}
 
 module _ (run : Run) (knobs : Knobs) (outcome : Outcome) (told : IsTold outcome → IsVerdict run knobs outcome) where
   told_of : (other : Outcome) → outcome ≡ other → IsTold other → IsVerdict run knobs other

@@ -2,25 +2,10 @@
 use Rattle.std.proofs.Common.{◌≡◌, ℕ, List, [], ◌∷◌, ◌++◌, map, drop, length, refl, sym, ap, ◌∙◌, subst}
 use Rattle.std.specs.Option.{option_to_list}
 use Rattle.made_run.proofs.PlainRuns.{sources_plain}
-use Rattle.tick_model.specs.declared.feed.Run.{Run}
-use Rattle.tick_model.specs.declared.plan.Expr.{Expr, Cell, Number, Null, Literal, Rank, Neg', Add', Sub', Mul'}
-use Rattle.tick_model.specs.declared.plan.Node.{Node}
-use Rattle.tick_model.specs.declared.plan.Op.{Op}
-use Rattle.tick_model.specs.declared.plan.Op.TheVariants.{Keep, View}
-use Rattle.tick_model.specs.declared.plan.Pred.{Pred, Compare, And', Or', Not'}
-use Rattle.tick_model.specs.declared.table.PlainTable.{PlainTable}
-use Rattle.tick_model.specs.LawfulRuns.{sources_of}
-use Rattle.script_reader.specs.declared.script.Script.{Script}
-use Rattle.script_reader.specs.declared.script.SourceFile.{SourceFile}
-use Rattle.script_reader.specs.Binding.{ranks_of, bound_expr, bound_test, bound_op, bound_node, bound}
-use Rattle.script_reader.specs.Plain.{neg, add, sub, mul, both, either, negated, plain, plain_test, plain_op, plain_node, plain_script}
-use Rattle.feed_reader.specs.declared.raw.RawFeed.{RawFeed}
-use Rattle.feed_reader.specs.declared.raw.RawTable.{RawTable}
-use Rattle.feed_reader.specs.Assembled.{AreTablesOf, run_of}
-use Rattle.feed_reader.specs.Coding.{texts_of, coded_feed, coded_table}
-use Rattle.feed_reader.specs.Runs.{opening_of}
-use Rattle.feed_run.specs.Found.{Found, after, names_after}
-use Rattle.feed_run.specs.Readings.{Content, first_file, opening_by, with_table, tables_found, tables_read}
+use Rattle.tick_model.{specs.declared.feed.Run.Run, specs.declared.plan.Expr.{Expr, Cell, Number, Null, Literal, Rank, Neg', Add', Sub', Mul'}, specs.declared.plan.Node.Node, specs.declared.plan.Op.Op, specs.declared.plan.Op.TheVariants.{Keep, View}, specs.declared.plan.Pred.{Pred, Compare, And', Or', Not'}, specs.declared.table.PlainTable.PlainTable, specs.LawfulRuns.sources_of}
+use Rattle.script_reader.{specs.declared.script.Script.Script, specs.declared.script.SourceFile.SourceFile, specs.Binding.{ranks_of, bound_expr, bound_test, bound_op, bound_node, bound}, specs.Plain.{neg, add, sub, mul, both, either, negated, plain, plain_test, plain_op, plain_node, plain_script}}
+use Rattle.feed_reader.{specs.declared.raw.RawFeed.RawFeed, specs.declared.raw.RawTable.RawTable, specs.Assembled.{AreTablesOf, run_of}, specs.Coding.{texts_of, coded_feed, coded_table}, specs.Runs.opening_of}
+use Rattle.feed_run.{specs.Found.{Found, after, names_after}, specs.Readings.{Content, first_file, opening_by, with_table, tables_found, tables_read}}
 
 -- the tables that sources open with
 module _ (content : Content) where

@@ -1,37 +1,10 @@
 -- A run does the same wherever its formulas lie.
 use Rattle.std.proofs.Common.{◌≡◌, ℕ, zero, suc, ◌+◌, Bool, true, false, List, [], ◌∷◌, ◌++◌, map, take, filter, length, cond, Option, None, ℤ, refl, ap, ◌∙◌}
 use mathlib.Core.Path.{fun_ext}
-use Rattle.std.proofs.lemmas.List.{length-map}
-use Rattle.std.specs.Prelude.{◌+ℤ◌, ◌-ℤ◌, ◌*ℤ◌, neg_ℤ, ◌&&◌, ◌||◌, not, fold, flat_map, slice_index_or, slice_set, option_map, find, is_some}
-use Rattle.std.specs.List.{list_all, range_with_len}
-use Rattle.std.specs.Option.{option_or}
-use Rattle.tick_model.specs.declared.feed.Block.{Block}
-use Rattle.tick_model.specs.declared.feed.Run.{Run}
-use Rattle.tick_model.specs.declared.plan.ColumnSpec.{ColumnSpec}
-use Rattle.tick_model.specs.declared.plan.Expr.{Expr, Cell, Number, Null, Literal, Rank, Neg', Add', Sub', Mul'}
-use Rattle.tick_model.specs.declared.plan.Node.{Node}
-use Rattle.tick_model.specs.declared.plan.Op.{Op}
-use Rattle.tick_model.specs.declared.plan.Op.TheVariants.{Keep, View}
-use Rattle.tick_model.specs.declared.plan.Plan.{Plan}
-use Rattle.tick_model.specs.declared.plan.Pred.{Pred, Compare, And', Or', Not'}
-use Rattle.tick_model.specs.declared.table.PlainRow.{PlainRow}
-use Rattle.tick_model.specs.declared.table.PlainTable.{PlainTable}
-use Rattle.tick_model.specs.declared.update.FeedRule.{FeedRule}
-use Rattle.tick_model.specs.Changes.{change_of}
-use Rattle.tick_model.specs.Evaluation.{Outcome, NoInput, is_source, source_number, has_table, outcome_at, table_at, or_fault, outcome_of, eval_node, eval}
-use Rattle.tick_model.specs.Tables.{no_table}
-use Rattle.tick_model.specs.Formulas.{value, truth, compares, lifted, lifted2}
-use Rattle.tick_model.specs.Sources.{blocks_of, unchanged, carry_on, tick_at, after_block, after_blocks, block_fault, record_of, blocks_fault, source_ticks, sources, batch_fault}
-use Rattle.tick_model.specs.Spoiled.{Cause, ByBatch, node_fault, publication_fault, spoiled_by, first_spoiled, step_before, good}
-use Rattle.tick_model.specs.States.{state, tick_of, tick_node, ticks_between, empty_at, ticks, tick}
-use Rattle.tick_model.specs.Texts.{change_records, name_at, columns_at, node_records, step_records, records_text, updates_text}
-use Rattle.tick_model.specs.Updates.{Tick}
-use Rattle.tick_model.specs.View.{view_row, view_table}
-use Rattle.tick_model.specs.Where.{where_table}
-use Rattle.script_reader.specs.Plain.{plain, plain_test, plain_op, plain_node, plain_plan}
-use Rattle.script_reader.proofs.Plainly.{names_plain, tables_plain}
-use Rattle.feed_reader.specs.Assembled.{plain_run}
-use Rattle.feed_reader.proofs.PlainFeeds.{source_plain}
+use Rattle.std.{proofs.lemmas.List.length-map, specs.Prelude.{◌+ℤ◌, ◌-ℤ◌, ◌*ℤ◌, neg_ℤ, ◌&&◌, ◌||◌, not, fold, flat_map, slice_index_or, slice_set, option_map, find, is_some}, specs.List.{list_all, range_with_len}, specs.Option.option_or}
+use Rattle.tick_model.{specs.declared.feed.Block.Block, specs.declared.feed.Run.Run, specs.declared.plan.ColumnSpec.ColumnSpec, specs.declared.plan.Expr.{Expr, Cell, Number, Null, Literal, Rank, Neg', Add', Sub', Mul'}, specs.declared.plan.Node.Node, specs.declared.plan.Op.Op, specs.declared.plan.Op.TheVariants.{Keep, View}, specs.declared.plan.Plan.Plan, specs.declared.plan.Pred.{Pred, Compare, And', Or', Not'}, specs.declared.table.PlainRow.PlainRow, specs.declared.table.PlainTable.PlainTable, specs.declared.update.FeedRule.FeedRule, specs.Changes.change_of, specs.Evaluation.{Outcome, NoInput, is_source, source_number, has_table, outcome_at, table_at, or_fault, outcome_of, eval_node, eval}, specs.Tables.no_table, specs.Formulas.{value, truth, compares, lifted, lifted2}, specs.Sources.{blocks_of, unchanged, carry_on, tick_at, after_block, after_blocks, block_fault, record_of, blocks_fault, source_ticks, sources, batch_fault}, specs.Spoiled.{Cause, ByBatch, node_fault, publication_fault, spoiled_by, first_spoiled, step_before, good}, specs.States.{state, tick_of, tick_node, ticks_between, empty_at, ticks, tick}, specs.Texts.{change_records, name_at, columns_at, node_records, step_records, records_text, updates_text}, specs.Updates.Tick, specs.View.{view_row, view_table}, specs.Where.where_table}
+use Rattle.script_reader.{specs.Plain.{plain, plain_test, plain_op, plain_node, plain_plan}, proofs.Plainly.{names_plain, tables_plain}}
+use Rattle.feed_reader.{specs.Assembled.plain_run, proofs.PlainFeeds.source_plain}
 
 -- formulas and tests
 abbrev Values : Type 0

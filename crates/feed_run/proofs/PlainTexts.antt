@@ -1,14 +1,7 @@
 -- The snapshots and the summary of a run are the same wherever its formulas lie.
 use Rattle.std.proofs.Common.{◌≡◌, ℕ, ◌+◌, List, [], ◌∷◌, ◌++◌, map, length, refl, ap, ◌∙◌}
-use Rattle.std.specs.Fmt.{decimal}
-use Rattle.std.specs.List.{range_with_len}
-use Rattle.std.specs.Prelude.{◌%◌, codes, flat_map}
-use Rattle.tick_model.specs.declared.feed.Run.{Run}
-use Rattle.tick_model.specs.declared.plan.ColumnSpec.{ColumnSpec}
-use Rattle.tick_model.specs.declared.plan.Node.{Node}
-use Rattle.tick_model.specs.Evaluation.{table_at}
-use Rattle.tick_model.specs.States.{state}
-use Rattle.tick_model.specs.Texts.{name_at, columns_at, records_text, updates_records, snapshot_of, published_node, snapshot_records, calls_records, callers_records, some_published, snapshots_text, size_records, summary_text, done_record}
+use Rattle.std.{specs.Fmt.decimal, specs.List.range_with_len, specs.Prelude.{◌%◌, codes, flat_map}}
+use Rattle.tick_model.{specs.declared.feed.Run.Run, specs.declared.plan.ColumnSpec.ColumnSpec, specs.declared.plan.Node.Node, specs.Evaluation.table_at, specs.States.state, specs.Texts.{name_at, columns_at, records_text, updates_records, snapshot_of, published_node, snapshot_records, calls_records, callers_records, some_published, snapshots_text, size_records, summary_text, done_record}}
 use Rattle.script_reader.specs.Plain.{plain_node}
 use Rattle.feed_reader.specs.Assembled.{plain_run}
 use Rattle.feed_run.proofs.PlainRuns.{state_plain, name_plain, columns_plain, step_records_plain}

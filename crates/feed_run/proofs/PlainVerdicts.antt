@@ -1,22 +1,11 @@
 -- The verdict on a run and its text are the same wherever its formulas lie.
 use Rattle.std.proofs.Common.{◌≡◌, ℕ, List, ◌∷◌, [], ◌++◌, true, false, cond, ltb, Option, Some, None, refl, sym, ap, ◌∙◌, subst}
-use Rattle.std.specs.Fmt.{decimal}
-use Rattle.std.specs.Prelude.{codes, option_map}
-use Rattle.tick_model.specs.declared.feed.Run.{Run}
-use Rattle.tick_model.specs.Spoiled.{Cause, ByBatch, ByNode, ByPublication, first_spoiled, spoiled_by, good}
-use Rattle.tick_model.specs.Texts.{record_text, updates_text, snapshots_text, done_record, published_node}
+use Rattle.std.{specs.Fmt.decimal, specs.Prelude.{codes, option_map}}
+use Rattle.tick_model.{specs.declared.feed.Run.Run, specs.Spoiled.{Cause, ByBatch, ByNode, ByPublication, first_spoiled, spoiled_by, good}, specs.Texts.{record_text, updates_text, snapshots_text, done_record, published_node}}
 use Rattle.feed_reader.specs.Assembled.{plain_run}
-use Rattle.replay.specs.declared.outcome.Knobs.{Knobs}
-use Rattle.replay.specs.Kept.{kept_words, most_words}
-use Rattle.replay.specs.Outcomes.{IsLawfulChoice, limit_at, text_until}
-use Rattle.feed_run.specs.FaultWords.{node_fields}
-use Rattle.watched_run.specs.declared.watch.Watch.{Watch}
-use Rattle.watched_run.specs.ToCome.{watch_until}
-use Rattle.feed_run.specs.Verdicts.{Verdict, Refused, Summary, Kept, Spoiled, Done, Unnamed, WatchSpoiled, WatchDone, steps_verdict, run_verdict, status_of, watched_steps_verdict}
-use Rattle.feed_run.specs.Wholes.{cause_record, whole, IsLawful}
-use Rattle.feed_run.proofs.PlainRuns.{first_spoiled_plain, spoiled_plain, good_plain, name_plain, updates_plain}
-use Rattle.feed_run.proofs.PlainTexts.{snapshots_plain}
-use Rattle.feed_run.proofs.PlainWatches.{until_plain, watch_plain}
+use Rattle.replay.{specs.declared.outcome.Knobs.Knobs, specs.Kept.{kept_words, most_words}, specs.Outcomes.{IsLawfulChoice, limit_at, text_until}}
+use Rattle.feed_run.{specs.FaultWords.node_fields, specs.Verdicts.{Verdict, Refused, Summary, Kept, Spoiled, Done, Unnamed, WatchSpoiled, WatchDone, steps_verdict, run_verdict, status_of, watched_steps_verdict}, specs.Wholes.{cause_record, whole, IsLawful}, proofs.PlainRuns.{first_spoiled_plain, spoiled_plain, good_plain, name_plain, updates_plain}, proofs.PlainTexts.snapshots_plain, proofs.PlainWatches.{until_plain, watch_plain}}
+use Rattle.watched_run.{specs.declared.watch.Watch.Watch, specs.ToCome.watch_until}
 
 -- a verdict, without where the formulas of its run lie
 abbrev pub plainly : Verdict → Verdict

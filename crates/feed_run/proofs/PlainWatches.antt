@@ -1,24 +1,9 @@
 -- The messages of a watched run are the same wherever its formulas lie.
 use Rattle.std.proofs.Common.{◌≡◌, refl, ap, ◌∙◌, ℕ, zero, suc, ◌+◌, List, [], ◌∷◌, ◌++◌, map, length, Option, Some, None}
-use Rattle.tick_model.specs.declared.feed.Run.{Run}
-use Rattle.tick_model.specs.declared.plan.ColumnSpec.{ColumnSpec}
-use Rattle.tick_model.specs.declared.table.PlainTable.{PlainTable}
-use Rattle.tick_model.specs.declared.update.KeyPair.{KeyPair}
-use Rattle.tick_model.specs.Changes.{change_of}
-use Rattle.tick_model.specs.Evaluation.{Outcome, table_at}
-use Rattle.tick_model.specs.Shifts.{composed}
-use Rattle.tick_model.specs.Slices.{first_tick, kept_over, slice_tick}
-use Rattle.tick_model.specs.Sources.{opened, same_key}
-use Rattle.tick_model.specs.States.{state, tick}
-use Rattle.tick_model.specs.Tables.{keys}
-use Rattle.tick_model.specs.Texts.{change_records, columns_at, name_at, records_text}
-use Rattle.tick_model.specs.Updates.{Tick, both_in}
+use Rattle.tick_model.{specs.declared.feed.Run.Run, specs.declared.plan.ColumnSpec.ColumnSpec, specs.declared.table.PlainTable.PlainTable, specs.declared.update.KeyPair.KeyPair, specs.Changes.change_of, specs.Evaluation.{Outcome, table_at}, specs.Shifts.composed, specs.Slices.{first_tick, kept_over, slice_tick}, specs.Sources.{opened, same_key}, specs.States.{state, tick}, specs.Tables.keys, specs.Texts.{change_records, columns_at, name_at, records_text}, specs.Updates.{Tick, both_in}}
 use Rattle.feed_reader.specs.Assembled.{plain_run}
-use Rattle.viewport.specs.declared.slice.Slice.{Slice}
-use Rattle.viewport.specs.Slices.{cut}
-use Rattle.watched_run.specs.declared.watch.Watch.{Watch}
-use Rattle.watched_run.specs.Messages.{first_records, gaps, later_records, message_records, slice_of, slice_with, tick_records, watch_text}
-use Rattle.watched_run.specs.ToCome.{watch_until}
+use Rattle.viewport.{specs.declared.slice.Slice.Slice, specs.Slices.cut}
+use Rattle.watched_run.{specs.declared.watch.Watch.Watch, specs.Messages.{first_records, gaps, later_records, message_records, slice_of, slice_with, tick_records, watch_text}, specs.ToCome.watch_until}
 use Rattle.feed_run.proofs.PlainRuns.{columns_plain, name_plain, state_plain, tick_plain}
 
 -- the tick between two slices, along pairs of the table

@@ -4,16 +4,7 @@ use Rattle.std.specs.Prelude.{IsTrue, option_map}
 use Rattle.tick_model.specs.declared.feed.Run.{Run}
 use Rattle.feed_reader.specs.Assembled.{plain_run}
 use Rattle.replay.specs.declared.outcome.Knobs.{Knobs}
-use Rattle.feed_run.specs.declared.refusal.Stop.{Stop}
-use Rattle.feed_run.specs.declared.refusal.Stop.TheVariants.{Memory, Unread, Refused as Stopped}
-use Rattle.feed_run.specs.Answers.{Ends, EndsByStop, EndsByRun, Answers}
-use Rattle.feed_run.specs.Found.{Found}
-use Rattle.feed_run.specs.Headline.{NoneFailed, IsComplete, TellsVerdict, TellsLoadFault, OfVerdict, OfLoad, WritesPrefix, WritesPrefixOrNothing}
-use Rattle.feed_run.specs.Stops.{Reads}
-use Rattle.feed_run.specs.Verdicts.{Verdict, Refused, found_verdict, status_of}
-use Rattle.feed_run.specs.Wholes.{whole}
-use Rattle.feed_run.proofs.PlainVerdicts.{plainly, verdict_plain, whole_plain, lawful_plain, status_plain}
-use Rattle.feed_run.proofs.Statuses.{verdict_status}
+use Rattle.feed_run.{specs.declared.refusal.Stop.Stop, specs.declared.refusal.Stop.TheVariants.{Memory, Unread, Refused as Stopped}, specs.Answers.{Ends, EndsByStop, EndsByRun, Answers}, specs.Found.Found, specs.Headline.{NoneFailed, IsComplete, TellsVerdict, TellsLoadFault, OfVerdict, OfLoad, WritesPrefix, WritesPrefixOrNothing}, specs.Stops.Reads, specs.Verdicts.{Verdict, Refused, found_verdict, status_of}, specs.Wholes.whole, proofs.PlainVerdicts.{plainly, verdict_plain, whole_plain, lawful_plain, status_plain}, proofs.Statuses.verdict_status}
 
 module _ (told : Bool) (unread read : List ℕ → Type 0) (failed : Type 0) (old new : Option (List ℕ)) (answer : ℕ) where
   -- a run that was read and run to its end

@@ -1,8 +1,6 @@
 -- The text of records, one after the other.
 use Rattle.std.proofs.Common.{◌≡◌, ◌<◌, ℕ, ◌+◌, List, [], ◌∷◌, ◌++◌, take, drop, length, get_or, Option, sym, ap, ◌∙◌}
-use Rattle.std.specs.Io.KnownBytes.{append_known}
-use Rattle.std.proofs.lemmas.List.{append-nil, take-append-drop, take_more}
-use Rattle.std.proofs.lemmas.Grind.{flat_map-append}
+use Rattle.std.{specs.Io.KnownBytes.append_known, proofs.lemmas.List.{append-nil, take-append-drop, take_more}, proofs.lemmas.Grind.flat_map-append}
 use Rattle.tick_io.proofs.Prefixes.{append_known-append_known}
 use Rattle.tick_model.specs.Texts.{record_text, records_text}
 

@@ -2,22 +2,10 @@
 use Rattle.std.proofs.Common.{◌≡◌, ℕ, List, [], ◌∷◌, ◌++◌, map, Bool, Option, Some, Result, Ok, Err, sym, ap, ◌∙◌, subst}
 use Rattle.std.specs.Prelude.{IsTrue, option_map}
 use Rattle.tick_io.specs.Asked.{AsksFor}
-use Rattle.tick_model.specs.declared.feed.Run.{Run}
-use Rattle.tick_model.specs.declared.plan.Node.{Node}
-use Rattle.tick_model.specs.LawfulRuns.{sources_of}
-use Rattle.script_reader.specs.declared.script.Script.{Script}
-use Rattle.script_reader.specs.declared.script.SourceFile.{SourceFile}
-use Rattle.script_reader.specs.Plain.{plain_node, plain_script}
-use Rattle.feed_reader.specs.declared.raw.RawTable.{RawTable}
-use Rattle.feed_reader.specs.Assembled.{plain_run}
-use Rattle.feed_run.specs.declared.refusal.Stop.{Stop}
-use Rattle.feed_run.specs.Found.{Found, names_after}
-use Rattle.feed_run.specs.Headline.{IsOneOf}
-use Rattle.feed_run.specs.Readings.{Content, script_in, tables_found, tables_read, feed_found, plan_found, plan_read, run_found, files_read}
-use Rattle.feed_run.specs.Stops.{Asks, AsksUntil, Reads}
-use Rattle.feed_run.proofs.AskLemmas.{asks_after, asks_all, until_all, until_stopped}
-use Rattle.feed_run.proofs.PlainReadings.{tables_found_plain, tables_read_plain}
-use Rattle.feed_run.proofs.StopLemmas.{one_of_front, one_of_back, one_of_later, reads_on, reads_stopped}
+use Rattle.tick_model.{specs.declared.feed.Run.Run, specs.declared.plan.Node.Node, specs.LawfulRuns.sources_of}
+use Rattle.script_reader.{specs.declared.script.Script.Script, specs.declared.script.SourceFile.SourceFile, specs.Plain.{plain_node, plain_script}}
+use Rattle.feed_reader.{specs.declared.raw.RawTable.RawTable, specs.Assembled.plain_run}
+use Rattle.feed_run.{specs.declared.refusal.Stop.Stop, specs.Found.{Found, names_after}, specs.Headline.IsOneOf, specs.Readings.{Content, script_in, tables_found, tables_read, feed_found, plan_found, plan_read, run_found, files_read}, specs.Stops.{Asks, AsksUntil, Reads}, proofs.AskLemmas.{asks_after, asks_all, until_all, until_stopped}, proofs.PlainReadings.{tables_found_plain, tables_read_plain}, proofs.StopLemmas.{one_of_front, one_of_back, one_of_later, reads_on, reads_stopped}}
 
 module _ (told : Bool) (content : Content) (script : Script) (feed : List ℕ) where
   -- the tables, by the nodes of the script as it lies in memory

@@ -1,32 +1,14 @@
 -- Scripts that are taken, and the runs that are made of them.
 use Rattle.std.proofs.Common.{◌≡◌, ℕ, ◌<◌, ◌≤◌, ◌^◌, List, [], map, cond, Option, Result, Ok, Err, sym, ap, ◌∙◌, length, arith}
 use mathlib.Core.Path.{fun_ext}
-use Rattle.std.specs.Prelude.{option_map, All}
-use Rattle.std.proofs.lemmas.Bool.{lt-ltb}
-use Rattle.std.proofs.lemmas.List.{length-map}
+use Rattle.std.{specs.Prelude.{option_map, All}, proofs.lemmas.Bool.lt-ltb, proofs.lemmas.List.length-map}
 use Rattle.key_lists.proofs.Every.{all_from, every_unmapped, every_weaker}
-use Rattle.tick_model.specs.declared.feed.Run.{Run}
-use Rattle.tick_model.specs.declared.plan.Node.{Node}
-use Rattle.tick_model.specs.declared.plan.Plan.{Plan}
-use Rattle.tick_model.specs.LawfulRuns.{IsLawfulRun, sources_of}
-use Rattle.script_lines.specs.Lines.{lines_of}
-use Rattle.script_lines.specs.declared.fault.ScriptKind.TheVariants.{TooLong}
-use Rattle.script_reader.specs.declared.script.Script.{Script}
-use Rattle.script_reader.specs.Binding.{bound_node, ranks_of}
-use Rattle.script_reader.specs.Plain.{plain_node, plain_plan, plain_script}
-use Rattle.script_reader.specs.Scripts.{Refusal as Refused, nothing, after_lines, script_of}
+use Rattle.tick_model.{specs.declared.feed.Run.Run, specs.declared.plan.Node.Node, specs.declared.plan.Plan.Plan, specs.LawfulRuns.{IsLawfulRun, sources_of}}
+use Rattle.script_lines.{specs.Lines.lines_of, specs.declared.fault.ScriptKind.TheVariants.TooLong}
+use Rattle.script_reader.{specs.declared.script.Script.Script, specs.Binding.{bound_node, ranks_of}, specs.Plain.{plain_node, plain_plan, plain_script}, specs.Scripts.{Refusal as Refused, nothing, after_lines, script_of}}
 use Rattle.script_laws.proofs.Lawful.{bound_lawful, script_lawful, script_written}
-use Rattle.feed_reader.specs.declared.raw.RawFeed.{RawFeed}
-use Rattle.feed_reader.specs.declared.raw.RawTable.{RawTable}
-use Rattle.feed_reader.specs.Assembled.{AreTablesOf, plain_run, run_of}
-use Rattle.feed_reader.specs.Coding.{texts_of}
-use Rattle.feed_reader.specs.Feeds.{feed_of}
-use Rattle.feed_reader.proofs.AssembledLemmas.{run_is_lawful}
-use Rattle.feed_reader.proofs.PlainFeeds.{feed_plain}
-use Rattle.feed_run.specs.declared.refusal.Refusal.{Refusal}
-use Rattle.feed_run.specs.declared.refusal.Refusal.TheVariants.{Script as ScriptRefused}
-use Rattle.feed_run.specs.Readings.{script_read, script_in, feed_read, feed_in}
-use Rattle.feed_run.proofs.PlainReadings.{run_of_plain, tables_are_plain}
+use Rattle.feed_reader.{specs.declared.raw.RawFeed.RawFeed, specs.declared.raw.RawTable.RawTable, specs.Assembled.{AreTablesOf, plain_run, run_of}, specs.Coding.texts_of, specs.Feeds.feed_of, proofs.AssembledLemmas.run_is_lawful, proofs.PlainFeeds.feed_plain}
+use Rattle.feed_run.{specs.declared.refusal.Refusal.Refusal, specs.declared.refusal.Refusal.TheVariants.Script as ScriptRefused, specs.Readings.{script_read, script_in, feed_read, feed_in}, proofs.PlainReadings.{run_of_plain, tables_are_plain}}
 
 -- a script that is too long
 pub script_long : (bytes : List ℕ) → 1048576 < length bytes → script_in bytes ≡ Err (ScriptRefused 0 TooLong)

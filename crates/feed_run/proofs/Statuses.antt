@@ -1,24 +1,10 @@
 -- The statuses that there are.
 use Rattle.std.proofs.Common.{◌≡◌, refl, sym, subst, ℕ, ◌≤◌, ◌⊎◌, inl, inr, arith, Bool, true, false, cond, List, length, Option, Some, None}
-use Rattle.std.specs.Prelude.{nat_lt, option_map}
-use Rattle.std.proofs.lemmas.Option.{same_Some}
-use Rattle.tick_model.specs.declared.feed.Run.{Run}
-use Rattle.tick_model.specs.Spoiled.{Cause, ByBatch, ByNode, ByPublication, first_spoiled, spoiled_by}
-use Rattle.tick_model.specs.Texts.{record_text}
-use Rattle.command_words.specs.declared.command.Command.{Command}
-use Rattle.command_words.specs.declared.command.Task.{Task}
-use Rattle.command_words.specs.declared.command.Task.TheVariants.{Watch as WatchTask}
-use Rattle.command_words.specs.Commands.{command}
-use Rattle.replay.specs.declared.outcome.Knobs.{Knobs}
-use Rattle.replay.specs.Kept.{kept_words, most_words}
-use Rattle.feed_run.specs.declared.refusal.Refusal.{Refusal}
-use Rattle.feed_run.specs.declared.refusal.Refusal.TheVariants.{Usage, Script, Table, Feed}
-use Rattle.feed_run.specs.declared.refusal.Stop.{Stop}
-use Rattle.feed_run.specs.declared.refusal.Stop.TheVariants.{Memory, Unread, Refused as Stopped}
-use Rattle.feed_run.specs.Answers.{Answers, Ends, EndsBy, EndsByRun, EndsByStop}
-use Rattle.feed_run.specs.Headline.{AsksForWatch, IsStatus, IsTaskStatus, IsWatch}
-use Rattle.feed_run.specs.Verdicts.{Verdict, Refused, Summary, Kept, Spoiled, Done, Unnamed, WatchSpoiled, WatchDone, refusal_status, run_verdict, status_of, steps_verdict}
-use Rattle.feed_run.specs.Wholes.{refusal_record, unread_record, whole}
+use Rattle.std.{specs.Prelude.{nat_lt, option_map}, proofs.lemmas.Option.same_Some}
+use Rattle.tick_model.{specs.declared.feed.Run.Run, specs.Spoiled.{Cause, ByBatch, ByNode, ByPublication, first_spoiled, spoiled_by}, specs.Texts.record_text}
+use Rattle.command_words.{specs.declared.command.Command.Command, specs.declared.command.Task.Task, specs.declared.command.Task.TheVariants.Watch as WatchTask, specs.Commands.command}
+use Rattle.replay.{specs.declared.outcome.Knobs.Knobs, specs.Kept.{kept_words, most_words}}
+use Rattle.feed_run.{specs.declared.refusal.Refusal.Refusal, specs.declared.refusal.Refusal.TheVariants.{Usage, Script, Table, Feed}, specs.declared.refusal.Stop.Stop, specs.declared.refusal.Stop.TheVariants.{Memory, Unread, Refused as Stopped}, specs.Answers.{Answers, Ends, EndsBy, EndsByRun, EndsByStop}, specs.Headline.{AsksForWatch, IsStatus, IsTaskStatus, IsWatch}, specs.Verdicts.{Verdict, Refused, Summary, Kept, Spoiled, Done, Unnamed, WatchSpoiled, WatchDone, refusal_status, run_verdict, status_of, steps_verdict}, specs.Wholes.{refusal_record, unread_record, whole}}
 
 -- the statuses of verdicts: none is that of a fault, and one is that of a watched run alone
 pub record IsVerdictStatus (status : ℕ) : Type 0 where

@@ -1,15 +1,7 @@
 -- What is found part by part, and why there is no run.
 use Rattle.std.proofs.Common.{◌≡◌, ℕ, ◌<◌, List, [], ◌∷◌, ◌++◌, Bool, true, false, Option, Some, None, Result, Ok, Err, refl, ap, ◌∙◌, length}
-use Rattle.std.specs.Prelude.{◌||◌, IsTrue, IsSomeAnd, option_map}
-use Rattle.std.specs.List.{list_any}
-use Rattle.std.specs.Str.{bytes_eq}
-use Rattle.std.proofs.lemmas.Bool.{or_right}
-use Rattle.feed_run.specs.declared.refusal.Refusal.{Refusal}
-use Rattle.feed_run.specs.declared.refusal.Stop.{Stop}
-use Rattle.feed_run.specs.declared.refusal.Stop.TheVariants.{Memory, Unread, Refused}
-use Rattle.feed_run.specs.Found.{Found, after}
-use Rattle.feed_run.specs.Headline.{IsOneOf}
-use Rattle.feed_run.specs.Stops.{Reads}
+use Rattle.std.{specs.Prelude.{◌||◌, IsTrue, IsSomeAnd, option_map}, specs.List.list_any, specs.Str.bytes_eq, proofs.lemmas.Bool.or_right}
+use Rattle.feed_run.{specs.declared.refusal.Refusal.Refusal, specs.declared.refusal.Stop.Stop, specs.declared.refusal.Stop.TheVariants.{Memory, Unread, Refused}, specs.Found.{Found, after}, specs.Headline.IsOneOf, specs.Stops.Reads}
 
 pub one_of_later : (name first : List ℕ) (others : List (List ℕ)) → IsOneOf others name → IsOneOf (first ∷ others) name
 one_of_later name first others is = or_right (bytes_eq name first) (list_any (bytes_eq name) others) is

@@ -1,14 +1,7 @@
 -- The records of a summary, one after the other.
 use Rattle.std.proofs.Common.{◌≡◌, ◌<◌, ℕ, ◌+◌, List, [], ◌∷◌, ◌++◌, take, length, get_or, refl, sym, ap, ◌∙◌, arith}
-use Rattle.std.proofs.Math.ListN.{get_or-map}
-use Rattle.std.proofs.lemmas.List.{length-take, take_more}
-use Rattle.std.specs.Fmt.{decimal}
-use Rattle.std.specs.Prelude.{codes}
-use Rattle.tick_model.specs.declared.feed.Run.{Run}
-use Rattle.tick_model.specs.declared.plan.Node.{Node}
-use Rattle.tick_model.specs.Evaluation.{Outcome, NoInput, table_of}
-use Rattle.tick_model.specs.States.{state}
-use Rattle.tick_model.specs.Texts.{done_record, records_text, size_records, summary_text, updates_records}
+use Rattle.std.{proofs.Math.ListN.get_or-map, proofs.lemmas.List.{length-take, take_more}, specs.Fmt.decimal, specs.Prelude.codes}
+use Rattle.tick_model.{specs.declared.feed.Run.Run, specs.declared.plan.Node.Node, specs.Evaluation.{Outcome, NoInput, table_of}, specs.States.state, specs.Texts.{done_record, records_text, size_records, summary_text, updates_records}}
 use Rattle.replay.specs.Outcomes.{IsDone, row_counts}
 use Rattle.feed_run.specs.Summaries.{demo_record, size_record, sizes}
 

@@ -1,21 +1,11 @@
 -- The tables that sources open with, one after the other.
 use Rattle.std.proofs.Common.{◌≡◌, ℕ, List, [], ◌∷◌, ◌++◌, drop, Bool, Option, Some, None, Ok, Err, refl, sym, ap, ◌∙◌, subst, append_assoc}
-use Rattle.std.proofs.lemmas.List.{append-nil}
-use Rattle.std.specs.Prelude.{IsTrue, MatchOption}
-use Rattle.std.specs.Option.{option_to_list}
+use Rattle.std.{proofs.lemmas.List.append-nil, specs.Prelude.{IsTrue, MatchOption}, specs.Option.option_to_list}
 use Rattle.tick_io.specs.Asked.{AsksFor}
 use Rattle.tick_model.specs.declared.plan.Node.{Node}
 use Rattle.script_reader.specs.declared.script.SourceFile.{SourceFile}
-use Rattle.feed_reader.specs.declared.raw.RawTable.{RawTable}
-use Rattle.feed_reader.specs.Assembled.{IsTableOf, AreTablesOf}
-use Rattle.feed_run.specs.declared.refusal.Stop.{Stop}
-use Rattle.feed_run.specs.declared.refusal.Stop.TheVariants.{Memory, Unread, Refused}
-use Rattle.feed_run.specs.Found.{Found, after, names_after}
-use Rattle.feed_run.specs.Headline.{IsOneOf}
-use Rattle.feed_run.specs.Readings.{Content, first_file, opening_by, with_table, tables_found, tables_read}
-use Rattle.feed_run.specs.Stops.{AsksUntil, Reads}
-use Rattle.feed_run.proofs.AskLemmas.{asked_both, asked_same, until_after, until_all, until_stopped}
-use Rattle.feed_run.proofs.StopLemmas.{one_of_front, one_of_back}
+use Rattle.feed_reader.{specs.declared.raw.RawTable.RawTable, specs.Assembled.{IsTableOf, AreTablesOf}}
+use Rattle.feed_run.{specs.declared.refusal.Stop.Stop, specs.declared.refusal.Stop.TheVariants.{Memory, Unread, Refused}, specs.Found.{Found, after, names_after}, specs.Headline.IsOneOf, specs.Readings.{Content, first_file, opening_by, with_table, tables_found, tables_read}, specs.Stops.{AsksUntil, Reads}, proofs.AskLemmas.{asked_both, asked_same, until_after, until_all, until_stopped}, proofs.StopLemmas.{one_of_front, one_of_back}}
 
 -- the tables so far, before the later ones
 abbrev pub onto : List RawTable → List RawTable → Found (List RawTable)

@@ -1,28 +1,13 @@
 -- How a watched run ends, and the text that goes with it.
 use Rattle.std.proofs.Common.{◌≡◌, refl, sym, ap, ◌∙◌, subst, ℕ, ◌+◌, ◌≤◌, ◌++◌, inl, inr, length, List, [], Option, Some, None}
-use Rattle.std.specs.Prelude.{is_some, option_map}
-use Rattle.std.specs.Io.KnownBytes.{append_known}
-use Rattle.std.specs.List.{range_with_len}
+use Rattle.std.{specs.Prelude.{is_some, option_map}, specs.Io.KnownBytes.append_known, specs.List.range_with_len}
 use Rattle.key_lists.proofs.Every.{found_passes}
-use Rattle.tick_io.specs.Counts.{Rose}
-use Rattle.tick_io.specs.Written.{AppendsPrefix}
-use Rattle.tick_io.proofs.Prefixes.{prefix_longer}
-use Rattle.tick_io.proofs.RisingCounts.{rose_earlier}
-use Rattle.tick_model.specs.declared.feed.Run.{Run}
-use Rattle.tick_model.specs.declared.table.NodeFault.{NodeFault}
-use Rattle.tick_model.specs.declared.update.FeedRule.{FeedRule}
-use Rattle.tick_model.specs.Spoiled.{Cause, ByBatch, ByNode, ByPublication, first_spoiled, good, spoiled_by, step_before}
-use Rattle.tick_model.specs.Texts.{done_record, record_text}
-use Rattle.replay.specs.declared.outcome.Outcome.{Outcome}
+use Rattle.tick_io.{specs.Counts.Rose, specs.Written.AppendsPrefix, proofs.Prefixes.prefix_longer, proofs.RisingCounts.rose_earlier}
+use Rattle.tick_model.{specs.declared.feed.Run.Run, specs.declared.table.NodeFault.NodeFault, specs.declared.update.FeedRule.FeedRule, specs.Spoiled.{Cause, ByBatch, ByNode, ByPublication, first_spoiled, good, spoiled_by, step_before}, specs.Texts.{done_record, record_text}}
+use Rattle.replay.{specs.declared.outcome.Outcome.Outcome, specs.Outcomes.{IsFirstSpoiled, IsTold}}
 use Rattle.replay.specs.declared.outcome.Outcome.TheVariants as Outcomes
-use Rattle.replay.specs.Outcomes.{IsFirstSpoiled, IsTold}
-use Rattle.watched_run.specs.declared.watch.Watch.{Watch}
-use Rattle.watched_run.specs.Stopped.{IsStopped}
-use Rattle.watched_run.specs.ToCome.{watch_until}
-use Rattle.feed_run.specs.Answers.{Ends, EndsByWatch}
-use Rattle.feed_run.specs.Verdicts.{Verdict, WatchDone, WatchSpoiled, status_of, watched_steps_verdict}
-use Rattle.feed_run.specs.Wholes.{IsLawful, cause_record, publication_record, whole}
-use Rattle.feed_run.proofs.EndLemmas.{ends_after, there}
+use Rattle.watched_run.{specs.declared.watch.Watch.Watch, specs.Stopped.IsStopped, specs.ToCome.watch_until}
+use Rattle.feed_run.{specs.Answers.{Ends, EndsByWatch}, specs.Verdicts.{Verdict, WatchDone, WatchSpoiled, status_of, watched_steps_verdict}, specs.Wholes.{IsLawful, cause_record, publication_record, whole}, proofs.EndLemmas.{ends_after, there}}
 
 -- a verdict of a watched run: its text is that of the messages, and then these fields
 pub record TellsWatch (run : Run) (watch : Watch) (of : Verdict) (fields : List (List ℕ)) : Type 0 where

@@ -1,29 +1,12 @@
 -- What is found of a watched run: its script, the node of the name, and then its tables and its feed.
 use Rattle.std.proofs.Common.{◌≡◌, refl, sym, ap, ◌∙◌, subst, ℕ, inl, inr, Bool, List, [], ◌∷◌, Option, Some, None, Result, Ok, Err}
-use Rattle.std.specs.Prelude.{IsTrue, option_map}
-use Rattle.std.specs.Str.{bytes_eq}
+use Rattle.std.{specs.Prelude.{IsTrue, option_map}, specs.Str.bytes_eq}
 use Rattle.tick_io.specs.Asked.{AsksFor}
-use Rattle.tick_model.specs.declared.feed.Run.{Run}
-use Rattle.tick_model.specs.declared.plan.Node.{Node}
-use Rattle.tick_model.specs.declared.plan.Plan.{Plan}
-use Rattle.tick_model.specs.Texts.{record_text}
-use Rattle.script_reader.specs.declared.script.Script.{Script}
-use Rattle.script_reader.specs.Plain.{plain_node, plain_plan, plain_script}
-use Rattle.script_reader.proofs.Places.{position-map}
+use Rattle.tick_model.{specs.declared.feed.Run.Run, specs.declared.plan.Node.Node, specs.declared.plan.Plan.Plan, specs.Texts.record_text}
+use Rattle.script_reader.{specs.declared.script.Script.Script, specs.Plain.{plain_node, plain_plan, plain_script}, proofs.Places.position-map}
 use Rattle.feed_reader.specs.Assembled.{plain_run}
 use Rattle.watched_run.specs.declared.watch.Watch.{Watch}
-use Rattle.feed_run.specs.declared.refusal.Stop.{Stop}
-use Rattle.feed_run.specs.declared.refusal.Stop.TheVariants.{Memory, Unread, Refused as Stopped}
-use Rattle.feed_run.specs.Answers.{Answers, Ends, EndsByStop, EndsByWatch}
-use Rattle.feed_run.specs.Found.{Found, names_after}
-use Rattle.feed_run.specs.Headline.{IsOneOf}
-use Rattle.feed_run.specs.Readings.{Content, plan_found, plan_read, script_in}
-use Rattle.feed_run.specs.Stops.{Asks, AsksUntil, Reads}
-use Rattle.feed_run.specs.Verdicts.{Refused, Unnamed, named_files, named_verdict, node_named, status_of, watch_files, watch_verdict, watched_verdict}
-use Rattle.feed_run.specs.Wholes.{unnamed_record, whole}
-use Rattle.feed_run.proofs.AskLemmas.{asks_after, until_all, until_stopped}
-use Rattle.feed_run.proofs.PlainVerdicts.{lawful_plain, plainly, status_plain, watched_plain, whole_plain}
-use Rattle.feed_run.proofs.StopLemmas.{one_of_front, one_of_later}
+use Rattle.feed_run.{specs.declared.refusal.Stop.Stop, specs.declared.refusal.Stop.TheVariants.{Memory, Unread, Refused as Stopped}, specs.Answers.{Answers, Ends, EndsByStop, EndsByWatch}, specs.Found.{Found, names_after}, specs.Headline.IsOneOf, specs.Readings.{Content, plan_found, plan_read, script_in}, specs.Stops.{Asks, AsksUntil, Reads}, specs.Verdicts.{Refused, Unnamed, named_files, named_verdict, node_named, status_of, watch_files, watch_verdict, watched_verdict}, specs.Wholes.{unnamed_record, whole}, proofs.AskLemmas.{asks_after, until_all, until_stopped}, proofs.PlainVerdicts.{lawful_plain, plainly, status_plain, watched_plain, whole_plain}, proofs.StopLemmas.{one_of_front, one_of_later}}
 
 -- the node of a name, wherever formulas lie
 pub named_plain : (name : List ℕ) (plan : Plan) → node_named name (plain_plan plan) ≡ node_named name plan

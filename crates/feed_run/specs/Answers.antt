@@ -1,22 +1,12 @@
 -- What the parts of the program say of what they wrote and of their status.
-use Rattle.std.specs.Prelude.{◌≡◌, ◌<◌, ◌≤◌, ◌⊎◌, ℕ, Bool, IsTrue, List, [], Option, Some, Result, Ok, Err}
-use Rattle.std.specs.Io.KnownBytes.{append_known}
-use Rattle.tick_io.specs.Asked.{AsksFor, AsksSome}
-use Rattle.tick_io.specs.Written.{AppendsPrefix}
-use Rattle.tick_model.specs.declared.feed.Run.{Run}
-use Rattle.tick_model.specs.Texts.{record_text}
-use Rattle.command_words.specs.declared.command.Task.{Task}
-use Rattle.command_words.specs.declared.command.Task.TheVariants.{Run as RunTask, Demo, Watch as WatchTask}
+use Rattle.std.{specs.Prelude.{◌≡◌, ◌<◌, ◌≤◌, ◌⊎◌, ℕ, Bool, IsTrue, List, [], Option, Some, Result, Ok, Err}, specs.Io.KnownBytes.append_known}
+use Rattle.tick_io.{specs.Asked.{AsksFor, AsksSome}, specs.Written.AppendsPrefix}
+use Rattle.tick_model.{specs.declared.feed.Run.Run, specs.Texts.record_text, specs.Spoiled.first_spoiled}
+use Rattle.command_words.{specs.declared.command.Task.Task, specs.declared.command.Task.TheVariants.{Run as RunTask, Demo, Watch as WatchTask}}
 use Rattle.replay.specs.declared.outcome.Knobs.{Knobs}
-use Rattle.update_text.specs.declared.fault.WriteFault.{WriteFault}
-use Rattle.update_text.specs.declared.fault.WriteFault.TheVariants.{Memory, Failed}
-use Rattle.feed_run.specs.declared.refusal.Stop.{Stop}
-use Rattle.feed_run.specs.declared.refusal.Stop.TheVariants.{Memory as OutOfMemory, Unread, Refused}
-use Rattle.tick_model.specs.Spoiled.{first_spoiled}
+use Rattle.update_text.{specs.declared.fault.WriteFault.WriteFault, specs.declared.fault.WriteFault.TheVariants.{Memory, Failed}}
+use Rattle.feed_run.{specs.declared.refusal.Stop.Stop, specs.declared.refusal.Stop.TheVariants.{Memory as OutOfMemory, Unread, Refused}, specs.Headline.IsOfVerdict, specs.Verdicts.{Verdict, refusal_status, run_verdict, status_of, watched_steps_verdict}, specs.Wholes.{refusal_record, unread_record, whole, IsLawful}}
 use Rattle.watched_run.specs.declared.watch.Watch.{Watch}
-use Rattle.feed_run.specs.Headline.{IsOfVerdict}
-use Rattle.feed_run.specs.Verdicts.{Verdict, refusal_status, run_verdict, status_of, watched_steps_verdict}
-use Rattle.feed_run.specs.Wholes.{refusal_record, unread_record, whole, IsLawful}
 
 -- a made run has at most so many steps, and watched rows have positions in their range
 abbrev pub IsInRange : Task → Type 0

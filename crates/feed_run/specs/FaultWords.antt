@@ -1,15 +1,12 @@
 -- The words and numbers by which the records of faults tell a kind, a rule or a node's fault.
-use Rattle.std.specs.Prelude.{ℕ, List, [], ◌∷◌, codes}
-use Rattle.std.specs.Fmt.{decimal}
+use Rattle.std.{specs.Prelude.{ℕ, List, [], ◌∷◌, codes}, specs.Fmt.decimal}
 use Rattle.feed_reader.specs.declared.fault.TextKind.{TextKind}
 use Rattle.feed_reader.specs.declared.fault.TextKind.TheVariants as texts
 use Rattle.script_lines.specs.declared.fault.ScriptKind.{ScriptKind}
 use Rattle.script_lines.specs.declared.fault.ScriptKind.TheVariants as scripts
-use Rattle.tick_model.specs.declared.table.NodeFault.{NodeFault}
+use Rattle.tick_model.{specs.declared.table.NodeFault.NodeFault, specs.declared.update.FeedRule.FeedRule, specs.declared.update.UpdateFault.UpdateFault}
 use Rattle.tick_model.specs.declared.table.NodeFault.TheVariants as nodes
-use Rattle.tick_model.specs.declared.update.FeedRule.{FeedRule}
 use Rattle.tick_model.specs.declared.update.FeedRule.TheVariants as rules
-use Rattle.tick_model.specs.declared.update.UpdateFault.{UpdateFault}
 use Rattle.tick_model.specs.declared.update.UpdateFault.TheVariants as updates
 
 -- why a line of a script is refused

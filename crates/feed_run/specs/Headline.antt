@@ -3,20 +3,11 @@
 --     TellsLoadFault failed reached old new      a load of a file failed that has to be read, and the record that says so was written
 --     WritesPrefix verdict failed reached old new      a prefix of an allowed text was written
 --     IsComplete verdict status      memory ran out, or the status is that of the verdict
-use Rattle.std.specs.Prelude.{◌≡◌, ◌≤◌, ◌⊎◌, ℕ, true, List, Option, Some, None}
-use Rattle.std.specs.Io.KnownBytes.{append_known}
-use Rattle.std.specs.List.{list_any}
-use Rattle.std.specs.Str.{bytes_eq}
-use Rattle.tick_io.specs.Counts.{Rose}
-use Rattle.tick_io.specs.Written.{AppendsPrefix}
+use Rattle.std.{specs.Prelude.{◌≡◌, ◌≤◌, ◌⊎◌, ℕ, true, List, Option, Some, None}, specs.Io.KnownBytes.append_known, specs.List.list_any, specs.Str.bytes_eq}
+use Rattle.tick_io.{specs.Counts.Rose, specs.Written.AppendsPrefix}
 use Rattle.tick_model.specs.Texts.{record_text}
-use Rattle.command_words.specs.declared.command.Command.{Command}
-use Rattle.command_words.specs.declared.command.Task.{Task}
-use Rattle.command_words.specs.declared.command.Task.TheVariants.{Run as RunTask, Demo, Watch as WatchTask}
-use Rattle.command_words.specs.Commands.{command}
-use Rattle.feed_run.specs.Readings.{Content}
-use Rattle.feed_run.specs.Verdicts.{Verdict, files, status_of}
-use Rattle.feed_run.specs.Wholes.{whole, unread_record, IsLawful}
+use Rattle.command_words.{specs.declared.command.Command.Command, specs.declared.command.Task.Task, specs.declared.command.Task.TheVariants.{Run as RunTask, Demo, Watch as WatchTask}, specs.Commands.command}
+use Rattle.feed_run.{specs.Readings.Content, specs.Verdicts.{Verdict, files, status_of}, specs.Wholes.{whole, unread_record, IsLawful}}
 
 -- a name is one of the names; a file has to be read
 abbrev pub IsOneOf : List (List ℕ) → List ℕ → Type 0

@@ -1,24 +1,11 @@
 -- What the files of a run say.
 --     run_found content script feed      the run of the script and the feed that lie in the files of these names
 --     files_read content script feed      the names of the files that are read: up to the first that is not there or is refused
-use Rattle.std.specs.Prelude.{ℕ, List, [], ◌∷◌, ◌++◌, drop, Option, Some, None, Result, Ok, Err, option_map}
-use Rattle.std.specs.Option.{option_to_list}
-use Rattle.tick_model.specs.declared.feed.Run.{Run}
-use Rattle.tick_model.specs.declared.plan.Node.{Node}
-use Rattle.tick_model.specs.declared.plan.Plan.{Plan}
-use Rattle.tick_model.specs.LawfulRuns.{sources_of}
-use Rattle.script_reader.specs.declared.script.Script.{Script}
-use Rattle.script_reader.specs.declared.script.SourceFile.{SourceFile}
-use Rattle.script_reader.specs.Scripts.{Refusal as Refused, script_of}
-use Rattle.feed_reader.specs.declared.raw.RawFeed.{RawFeed}
-use Rattle.feed_reader.specs.declared.raw.RawTable.{RawTable}
-use Rattle.feed_reader.specs.Answers.{Reading}
-use Rattle.feed_reader.specs.Assembled.{run_of}
-use Rattle.feed_reader.specs.Feeds.{feed_of}
-use Rattle.feed_reader.specs.Tables.{table_of}
-use Rattle.feed_run.specs.declared.refusal.Refusal.{Refusal}
-use Rattle.feed_run.specs.declared.refusal.Refusal.TheVariants.{Script as ScriptRefused, Table as TableRefused, Feed as FeedRefused}
-use Rattle.feed_run.specs.Found.{Found, after, names_after}
+use Rattle.std.{specs.Prelude.{ℕ, List, [], ◌∷◌, ◌++◌, drop, Option, Some, None, Result, Ok, Err, option_map}, specs.Option.option_to_list}
+use Rattle.tick_model.{specs.declared.feed.Run.Run, specs.declared.plan.Node.Node, specs.declared.plan.Plan.Plan, specs.LawfulRuns.sources_of}
+use Rattle.script_reader.{specs.declared.script.Script.Script, specs.declared.script.SourceFile.SourceFile, specs.Scripts.{Refusal as Refused, script_of}}
+use Rattle.feed_reader.{specs.declared.raw.RawFeed.RawFeed, specs.declared.raw.RawTable.RawTable, specs.Answers.Reading, specs.Assembled.run_of, specs.Feeds.feed_of, specs.Tables.table_of}
+use Rattle.feed_run.{specs.declared.refusal.Refusal.Refusal, specs.declared.refusal.Refusal.TheVariants.{Script as ScriptRefused, Table as TableRefused, Feed as FeedRefused}, specs.Found.{Found, after, names_after}}
 
 -- the bytes of the files, by their names
 abbrev pub Content : Type 0

@@ -6,13 +6,9 @@
 --     Says told view result      the value that a definition gives, or its refusal
 --     IsRefusal refusal stop      the refusal, unless memory ran out
 --     IsUnread name stop      a file of this name could not be read, unless memory ran out
-use Rattle.std.specs.Prelude.{◌≡◌, ◌<◌, ℕ, Bool, IsTrue, List, Option, Some, None, Result, Ok, Err, IsSomeAnd, length}
-use Rattle.std.specs.Global.{Vec}
+use Rattle.std.{specs.Prelude.{◌≡◌, ◌<◌, ℕ, Bool, IsTrue, List, Option, Some, None, Result, Ok, Err, IsSomeAnd, length}, specs.Global.Vec}
 use Rattle.tick_io.specs.Asked.{AsksFor, AsksSome}
-use Rattle.feed_run.specs.declared.refusal.Refusal.{Refusal}
-use Rattle.feed_run.specs.declared.refusal.Stop.{Stop}
-use Rattle.feed_run.specs.declared.refusal.Stop.TheVariants.{Memory, Unread, Refused}
-use Rattle.feed_run.specs.Found.{Found}
+use Rattle.feed_run.{specs.declared.refusal.Refusal.Refusal, specs.declared.refusal.Stop.Stop, specs.declared.refusal.Stop.TheVariants.{Memory, Unread, Refused}, specs.Found.Found}
 
 -- where the contents are told, the value or the refusal is that which is found, and a file that could not be read is one that is read
 abbrev pub Reads : {X Y : Type 0} → Bool → (List ℕ → Type 0) → (List ℕ → Type 0) → Found Y → (X → Y) → Result X Stop → Type 0

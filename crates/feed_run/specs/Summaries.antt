@@ -1,7 +1,6 @@
 -- The records of a summary, by the numbers that a run ends with.
 --     sizes rows node nodes      how many rows each node has, from the node of this number on
-use Rattle.std.specs.Prelude.{ℕ, ◌+◌, List, [], ◌∷◌, codes, slice_index_or}
-use Rattle.std.specs.Fmt.{decimal}
+use Rattle.std.{specs.Prelude.{ℕ, ◌+◌, List, [], ◌∷◌, codes, slice_index_or}, specs.Fmt.decimal}
 use Rattle.tick_model.specs.declared.plan.Node.{Node}
 
 abbrev pub demo_record : ℕ → ℕ → List (List ℕ)

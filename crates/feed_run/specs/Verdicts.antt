@@ -3,24 +3,13 @@
 --     files words content      the names of the files that have to be read
 --     are_told told words      whether the contents that the words ask for are told, where those of files are told or not
 --     status_of verdict      the program's status
-use Rattle.std.specs.Prelude.{ℕ, Bool, true, List, [], ◌∷◌, Option, Some, None, Result, Ok, Err, length, nat_lt, option_map, if◌then◌else◌}
-use Rattle.std.specs.List.{position}
-use Rattle.std.specs.Str.{bytes_eq}
-use Rattle.tick_model.specs.declared.feed.Run.{Run}
-use Rattle.tick_model.specs.Spoiled.{Cause, ByBatch, ByNode, ByPublication, first_spoiled, spoiled_by}
-use Rattle.command_words.specs.declared.command.Command.{Command}
-use Rattle.command_words.specs.declared.command.Task.{Task}
-use Rattle.command_words.specs.declared.command.Task.TheVariants.{Run as RunTask, Demo, Watch as WatchTask}
-use Rattle.command_words.specs.Commands.{command}
-use Rattle.replay.specs.declared.outcome.Knobs.{Knobs}
-use Rattle.replay.specs.Kept.{kept_words, most_words}
-use Rattle.feed_run.specs.declared.refusal.Refusal.{Refusal}
-use Rattle.feed_run.specs.declared.refusal.Refusal.TheVariants.{Usage, Script, Table, Feed}
+use Rattle.std.{specs.Prelude.{ℕ, Bool, true, List, [], ◌∷◌, Option, Some, None, Result, Ok, Err, length, nat_lt, option_map, if◌then◌else◌}, specs.List.position, specs.Str.bytes_eq}
+use Rattle.tick_model.{specs.declared.feed.Run.Run, specs.Spoiled.{Cause, ByBatch, ByNode, ByPublication, first_spoiled, spoiled_by}, specs.declared.plan.Plan.Plan}
+use Rattle.command_words.{specs.declared.command.Command.Command, specs.declared.command.Task.Task, specs.declared.command.Task.TheVariants.{Run as RunTask, Demo, Watch as WatchTask}, specs.Commands.command}
+use Rattle.replay.{specs.declared.outcome.Knobs.Knobs, specs.Kept.{kept_words, most_words}}
+use Rattle.feed_run.{specs.declared.refusal.Refusal.Refusal, specs.declared.refusal.Refusal.TheVariants.{Usage, Script, Table, Feed}, specs.Found.{Found, names_after}, specs.Readings.{Content, files_read, plan_found, plan_read, run_found, script_in}}
 use Rattle.script_reader.specs.declared.script.Script.{Script as OwnScript}
-use Rattle.tick_model.specs.declared.plan.Plan.{Plan}
 use Rattle.watched_run.specs.declared.watch.Watch.{Watch}
-use Rattle.feed_run.specs.Found.{Found, names_after}
-use Rattle.feed_run.specs.Readings.{Content, files_read, plan_found, plan_read, run_found, script_in}
 
 -- The words or a file are refused; a made run of so many steps is summed up; the snapshots to be kept have too many words; a step of a run
 -- is the first that is spoiled; or every step up to the last one is done. Of a watched run the script has no node of the name; or its steps

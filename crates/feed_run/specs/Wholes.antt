@@ -1,20 +1,12 @@
 -- The text that goes with a verdict.
 --     whole verdict choice      the whole text, where the choice gives the steps of the snapshots
 --     IsLawful verdict choice      a choice that callers may make
-use Rattle.std.specs.Prelude.{◌≡◌, ℕ, List, [], ◌∷◌, ◌++◌, codes}
-use Rattle.std.specs.Fmt.{decimal}
-use Rattle.tick_model.specs.declared.feed.Run.{Run}
-use Rattle.tick_model.specs.Choices.{IsChoice}
-use Rattle.tick_model.specs.Spoiled.{Cause, ByBatch, ByNode, ByPublication, good}
-use Rattle.tick_model.specs.Texts.{record_text, updates_text, snapshots_text, summary_text, done_record, name_at, published_node}
+use Rattle.std.{specs.Prelude.{◌≡◌, ℕ, List, [], ◌∷◌, ◌++◌, codes}, specs.Fmt.decimal}
+use Rattle.tick_model.{specs.declared.feed.Run.Run, specs.Choices.IsChoice, specs.Spoiled.{Cause, ByBatch, ByNode, ByPublication, good}, specs.Texts.{record_text, updates_text, snapshots_text, summary_text, done_record, name_at, published_node}}
 use Rattle.made_run.specs.Run.{made}
 use Rattle.replay.specs.Outcomes.{IsLawfulChoice, limit_at, text_until}
-use Rattle.feed_run.specs.declared.refusal.Refusal.{Refusal}
-use Rattle.feed_run.specs.declared.refusal.Refusal.TheVariants.{Usage, Script, Table, Feed}
-use Rattle.feed_run.specs.FaultWords.{script_word, text_word, rule_fields, node_fields}
-use Rattle.watched_run.specs.Messages.{watch_text}
-use Rattle.watched_run.specs.ToCome.{watch_until}
-use Rattle.feed_run.specs.Verdicts.{Verdict, Refused, Summary, Kept, Spoiled, Done, Unnamed, WatchSpoiled, WatchDone}
+use Rattle.feed_run.{specs.declared.refusal.Refusal.Refusal, specs.declared.refusal.Refusal.TheVariants.{Usage, Script, Table, Feed}, specs.FaultWords.{script_word, text_word, rule_fields, node_fields}, specs.Verdicts.{Verdict, Refused, Summary, Kept, Spoiled, Done, Unnamed, WatchSpoiled, WatchDone}}
+use Rattle.watched_run.{specs.Messages.watch_text, specs.ToCome.watch_until}
 
 -- the record of a fault: its status, what has it, and what it is
 abbrev pub unread_record : List ℕ → List (List ℕ)

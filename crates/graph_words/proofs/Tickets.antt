@@ -4,12 +4,7 @@ use mathlib.Core.Logic.{dite}
 use mathlib.Core.Option.{some, some-injective}
 use native.Mathlib.Decide.{ℕ_discrete}
 use lib.ListN.{get_elem?}
-use Rattle.graph_words.specs.declared.graph.Edge.{Edge}
-use Rattle.graph_words.specs.declared.graph.Plan.{Plan}
-use Rattle.graph_words.specs.declared.table.Mark.TheVariants.{Unmarked}
-use Rattle.graph_words.specs.Marks.{when}
-use Rattle.graph_words.specs.Rule.{Tickets, TicketsOk, late_mark, ticket_mark, tickets_below}
-use Rattle.graph_words.proofs.Marks.{upd, upd_at, upd_else, upd_cases}
+use Rattle.graph_words.{specs.declared.graph.Edge.Edge, specs.declared.graph.Plan.Plan, specs.declared.table.Mark.TheVariants.Unmarked, specs.Marks.when, specs.Rule.{Tickets, TicketsOk, late_mark, ticket_mark, tickets_below}, proofs.Marks.{upd, upd_at, upd_else, upd_cases}}
 
 pub not_both : {A : Type 0} (b : Bool) → b ≡ false → b ≡ true → A
 not_both b e f = absurd cc

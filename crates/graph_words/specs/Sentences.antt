@@ -6,16 +6,7 @@ use Rattle.std.specs.Prelude.{◌≡◌, ◌≢◌, ◌⊎◌, ℕ, suc, ◌+◌
 use mathlib.Core.Option.{some}
 use lib.ListN.{get_elem?}
 use Rattle.atomic_table.specs.Table.{State}
-use Rattle.graph_words.specs.declared.graph.Edge.{Edge}
-use Rattle.graph_words.specs.declared.graph.Plan.{Plan}
-use Rattle.graph_words.specs.declared.table.Mark.{Mark}
-use Rattle.graph_words.specs.declared.table.Slot.{Slot}
-use Rattle.graph_words.specs.declared.table.Slot.TheVariants.{Done}
-use Rattle.graph_words.specs.declared.table.View.{View}
-use Rattle.graph_words.specs.declared.table.Mark.TheVariants.{Unmarked, Drawn, Delivered}
-use Rattle.graph_words.specs.Marks.{at, either_mark, when, inputs, IsHadMark}
-use Rattle.graph_words.specs.Rule.{EdgeState, EdgeHome, Home, MarkHome, OFFERED, OldWork, Tags, in_mark, is_drawn, out_mark}
-use Rattle.graph_words.specs.Seats.{AtEdge, Has}
+use Rattle.graph_words.{specs.declared.graph.Edge.Edge, specs.declared.graph.Plan.Plan, specs.declared.table.Mark.Mark, specs.declared.table.Slot.Slot, specs.declared.table.Slot.TheVariants.Done, specs.declared.table.View.View, specs.declared.table.Mark.TheVariants.{Unmarked, Drawn, Delivered}, specs.Marks.{at, either_mark, when, inputs, IsHadMark}, specs.Rule.{EdgeState, EdgeHome, Home, MarkHome, OFFERED, OldWork, Tags, in_mark, is_drawn, out_mark}, specs.Seats.{AtEdge, Has}}
 
 -- 1 where the mark is not that of a delivered edge
 abbrev pub owes : Mark → ℕ

@@ -2,12 +2,7 @@
 use Rattle.std.specs.Prelude.{◌≡◌, ℕ, ◌+◌, ◌-◌, Bool, true, false, [], Some, None}
 use mathlib.Core.Option.{some}
 use lib.ListN.{get_elem?}
-use Rattle.graph_words.specs.declared.graph.Edge.{Edge}
-use Rattle.graph_words.specs.declared.graph.Plan.{Plan}
-use Rattle.graph_words.specs.declared.table.View.{View}
-use Rattle.graph_words.specs.declared.table.Mark.{Mark}
-use Rattle.graph_words.specs.declared.table.Mark.TheVariants.{Unmarked, Drawn, Untaken, Delivered}
-use Rattle.graph_words.specs.Marks.{at, put, merge, starting}
+use Rattle.graph_words.{specs.declared.graph.Edge.Edge, specs.declared.graph.Plan.Plan, specs.declared.table.View.View, specs.declared.table.Mark.Mark, specs.declared.table.Mark.TheVariants.{Unmarked, Drawn, Untaken, Delivered}, specs.Marks.{at, put, merge, starting}}
 
 module _ {W : Type 0} where
   -- another mark of a node

@@ -1,25 +1,11 @@
 -- The rows that leave an end of an exact input and those that come to it are those that the operator removes and adds.
 use Rattle.std.proofs.Common.{◌≡◌, refl, ap, ap₂, sym, ◌∙◌, subst, Bool, true, false, not, ◌&&◌, ℕ, ◌-◌, List, take, drop, length}
 use Rattle.std.proofs.lemmas.List.{drop-map, length-map, take-map}
-use Rattle.key_lists.specs.Keys.{is_among, without}
-use Rattle.key_lists.proofs.Among.{among-filter, each_among}
-use Rattle.key_lists.proofs.Every.{and_swap, every, every-filter, every_weaker, filter_same}
-use Rattle.key_lists.proofs.Rising.{as_filter}
-use Rattle.tick_model.specs.Changes.{change_of}
-use Rattle.tick_model.specs.declared.table.PlainRow.{PlainRow}
-use Rattle.tick_model.specs.declared.table.PlainTable.{PlainTable}
-use Rattle.tick_model.specs.Tables.{keys}
-use Rattle.tick_model.specs.Updates.{Tick, Update, between, new_keys, old_keys}
-use Rattle.tick_table.proofs.Between.{old_keys-pairs}
-use Rattle.tick_table.specs.Exact.{IsExact, tick_of}
-use Rattle.tick_table.specs.Ticking.{Ticking}
-use Rattle.shown_rows.specs.Shown.{through}
-use Rattle.shown_rows.proofs.Restricted.{kept}
-use Rattle.head_tail.specs.declared.end.End.{End}
-use Rattle.head_tail.specs.declared.end.End.TheVariants.{First, Last}
-use Rattle.head_tail.specs.Ends.{at_end, cut, end_table, ended}
-use Rattle.head_tail.proofs.Positions.{AreOf}
-use Rattle.head_tail.proofs.Sides.{AreSides, end_shown, shown_pairs}
+use Rattle.key_lists.{specs.Keys.{is_among, without}, proofs.Among.{among-filter, each_among}, proofs.Every.{and_swap, every, every-filter, every_weaker, filter_same}, proofs.Rising.as_filter}
+use Rattle.tick_model.{specs.Changes.change_of, specs.declared.table.PlainRow.PlainRow, specs.declared.table.PlainTable.PlainTable, specs.Tables.keys, specs.Updates.{Tick, Update, between, new_keys, old_keys}}
+use Rattle.tick_table.{proofs.Between.old_keys-pairs, specs.Exact.{IsExact, tick_of}, specs.Ticking.Ticking}
+use Rattle.shown_rows.{specs.Shown.through, proofs.Restricted.kept}
+use Rattle.head_tail.{specs.declared.end.End.End, specs.declared.end.End.TheVariants.{First, Last}, specs.Ends.{at_end, cut, end_table, ended}, proofs.Positions.AreOf, proofs.Sides.{AreSides, end_shown, shown_pairs}}
 
 module _ (t : Ticking) (e : IsExact t) where
   abbrev before : List ℕ

@@ -1,17 +1,8 @@
 -- Rising lists that are cut at a position.
 use Rattle.std.proofs.Common.{◌≡◌, refl, ap, sym, ◌∙◌, subst, Bool, true, false, not, ◌&&◌, ◌||◌, ℕ, zero, suc, ◌-◌, ◌<◌, ◌==◌, arith, List, [], ◌∷◌, map, filter, take, drop, length}
-use Rattle.std.specs.List.{AllByRecursion}
-use Rattle.std.proofs.lemmas.Bool.{eqb-true}
-use Rattle.std.proofs.lemmas.List.{drop-map, take-append-drop, take-map}
-use Rattle.std.proofs.lemmas.List.Elements.{filter-append}
-use Rattle.std.proofs.Math.Seq.{take-append_seam, drop-append_seam}
-use Rattle.key_lists.specs.Keys.{is_among, IsRising}
-use Rattle.key_lists.proofs.Among.{among-append, among_below}
-use Rattle.key_lists.proofs.Booleans.{and_true, or_true}
-use Rattle.key_lists.proofs.Parts.{every-take, every-drop, take_nil}
-use Rattle.head_tail.specs.declared.end.End.{End}
-use Rattle.head_tail.specs.declared.end.End.TheVariants.{First, Last}
-use Rattle.head_tail.specs.Ends.{at_end}
+use Rattle.std.{specs.List.AllByRecursion, proofs.lemmas.Bool.eqb-true, proofs.lemmas.List.{drop-map, take-append-drop, take-map}, proofs.lemmas.List.Elements.filter-append, proofs.Math.Seq.{take-append_seam, drop-append_seam}}
+use Rattle.key_lists.{specs.Keys.{is_among, IsRising}, proofs.Among.{among-append, among_below}, proofs.Booleans.{and_true, or_true}, proofs.Parts.{every-take, every-drop, take_nil}}
+use Rattle.head_tail.{specs.declared.end.End.End, specs.declared.end.End.TheVariants.{First, Last}, specs.Ends.at_end}
 
 pub not_true : (b : Bool) → not b ≡ true → b ≡ false
 not_true true e = sym e

@@ -1,16 +1,9 @@
 -- The rows at one end of a table without those that are there on the other side of a step.
 use Rattle.std.proofs.Common.{◌≡◌, refl, ap, ap₂, sym, ◌∙◌, Bool, true, false, not, ◌&&◌, ◌||◌, ℕ, ◌-◌, List, filter, take, drop, length}
 use Rattle.std.specs.Prelude.{nat_lt}
-use Rattle.key_lists.specs.Keys.{is_among, IsRising, without}
-use Rattle.key_lists.proofs.Among.{among-filter, of_among}
-use Rattle.key_lists.proofs.Booleans.{and_false, and_true}
-use Rattle.key_lists.proofs.Every.{and_swap}
-use Rattle.key_lists.proofs.Rising.{rising_same, rising_some}
-use Rattle.row_set.specs.Sets.{count_below, united}
-use Rattle.row_set.proofs.United.{among-united, united_rises}
-use Rattle.row_set.proofs.Windows.{rising-drop, rising-take}
-use Rattle.head_tail.proofs.Cuts.{among_between, among_front, among_rest, drop-filter, take-drop, take-filter}
-use Rattle.head_tail.proofs.Positions.{AreOf, IsEdge, below_edge, drop-below, take-below}
+use Rattle.key_lists.{specs.Keys.{is_among, IsRising, without}, proofs.Among.{among-filter, of_among}, proofs.Booleans.{and_false, and_true}, proofs.Every.and_swap, proofs.Rising.{rising_same, rising_some}}
+use Rattle.row_set.{specs.Sets.{count_below, united}, proofs.United.{among-united, united_rises}, proofs.Windows.{rising-drop, rising-take}}
+use Rattle.head_tail.{proofs.Cuts.{among_between, among_front, among_rest, drop-filter, take-drop, take-filter}, proofs.Positions.{AreOf, IsEdge, below_edge, drop-below, take-below}}
 
 -- r: it is one of the others, k: one of the keys, l: below the edge, b: before the position, a: before the place
 first_cases : (r l b a : Bool) → (r ≡ true → l ≡ b) → ((l && r) || (b && not a)) ≡ (not (not r && a) && b)

@@ -1,20 +1,10 @@
 -- The rows at an end of a table are a part of it.
 use Rattle.std.proofs.Common.{◌≡◌, ap, ap₂, sym, ◌∙◌, true, false, not, ◌&&◌, ℕ, ◌-◌, List, ◌++◌, filter, take, drop, length}
-use Rattle.std.proofs.lemmas.Bool.{and_parts}
-use Rattle.std.proofs.lemmas.List.{append-nil, take-append-drop}
-use Rattle.std.proofs.lemmas.List.Elements.{filter-append}
-use Rattle.key_lists.specs.Keys.{is_among, IsRising}
-use Rattle.key_lists.proofs.Booleans.{and_false}
-use Rattle.key_lists.proofs.Every.{every_weaker, filter_all, filter_none, filter_same}
-use Rattle.tick_model.specs.declared.table.PlainRow.{PlainRow}
-use Rattle.tick_model.specs.declared.table.PlainTable.{PlainTable}
-use Rattle.tick_model.specs.Tables.{IsTable, keys}
-use Rattle.tick_model.proofs.Among.{rows_among}
+use Rattle.std.{proofs.lemmas.Bool.and_parts, proofs.lemmas.List.{append-nil, take-append-drop}, proofs.lemmas.List.Elements.filter-append}
+use Rattle.key_lists.{specs.Keys.{is_among, IsRising}, proofs.Booleans.and_false, proofs.Every.{every_weaker, filter_all, filter_none, filter_same}}
+use Rattle.tick_model.{specs.declared.table.PlainRow.PlainRow, specs.declared.table.PlainTable.PlainTable, specs.Tables.{IsTable, keys}, proofs.Among.rows_among}
 use Rattle.shown_rows.specs.Shown.{IsPart}
-use Rattle.head_tail.specs.declared.end.End.{End}
-use Rattle.head_tail.specs.declared.end.End.TheVariants.{First, Last}
-use Rattle.head_tail.specs.Ends.{end_table}
-use Rattle.head_tail.proofs.Cuts.{keys_rest, not_true}
+use Rattle.head_tail.{specs.declared.end.End.End, specs.declared.end.End.TheVariants.{First, Last}, specs.Ends.end_table, proofs.Cuts.{keys_rest, not_true}}
 
 module _ (n : ℕ) (rows : List PlainRow) (rising : IsRising (keys rows)) where
   front_part : take n rows ≡ filter (λ row. is_among row.key (keys (take n rows))) rows

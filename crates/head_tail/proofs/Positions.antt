@@ -1,16 +1,8 @@
 -- Positions among keys, and places among those of them that stay.
 use Rattle.std.proofs.Common.{◌≡◌, refl, ap, ap₂, sym, ◌∙◌, subst, Bool, true, false, cond, not, ◌&&◌, ℕ, zero, suc, ◌+◌, ◌<◌, ◌≤◌, min, arith, List, [], ◌∷◌, filter, take, drop, length, get_or, lt-ltb, le-ltb, ltb-false, take_all, inl, inr}
-use Rattle.std.specs.Prelude.{nat_lt, slice_get, unwrap_or}
-use Rattle.std.specs.List.{AllByRecursion}
-use Rattle.std.proofs.lemmas.Bool.{cases_lt}
-use Rattle.std.proofs.lemmas.List.{length-take}
-use Rattle.std.proofs.lemmas.List.Filters.{length-filter_both, length-filter_more}
-use Rattle.key_lists.specs.Keys.{is_among, IsRising, without}
-use Rattle.key_lists.proofs.Among.{among-filter, of_among}
-use Rattle.key_lists.proofs.Every.{and_swap, every_weaker, filter_none}
-use Rattle.key_lists.proofs.Rising.{rising_same, rising_some}
-use Rattle.row_set.specs.Sets.{count_below}
-use Rattle.row_set.proofs.Windows.{rising-take}
+use Rattle.std.{specs.Prelude.{nat_lt, slice_get, unwrap_or}, specs.List.AllByRecursion, proofs.lemmas.Bool.cases_lt, proofs.lemmas.List.length-take, proofs.lemmas.List.Filters.{length-filter_both, length-filter_more}}
+use Rattle.key_lists.{specs.Keys.{is_among, IsRising, without}, proofs.Among.{among-filter, of_among}, proofs.Every.{and_swap, every_weaker, filter_none}, proofs.Rising.{rising_same, rising_some}}
+use Rattle.row_set.{specs.Sets.count_below, proofs.Windows.rising-take}
 use Rattle.tick_laws.proofs.ResultCells.{length-filter_most}
 use Rattle.head_tail.proofs.Cuts.{among_rest}
 

@@ -1,16 +1,9 @@
 -- The rows that stay stand in the same places on both sides of a step.
 use Rattle.std.proofs.Common.{◌≡◌, refl, ap, ap₂, sym, ◌∙◌, subst, Bool, true, false, not, ◌&&◌, ℕ, zero, suc, ◌<◌, ◌≤◌, min, arith, List, [], ◌∷◌, map, filter, take, drop, length}
-use Rattle.std.specs.List.{AllByRecursion}
-use Rattle.std.proofs.lemmas.Bool.{and_parts}
-use Rattle.std.proofs.lemmas.List.{length-map, length-take}
-use Rattle.key_lists.specs.Keys.{is_among, IsRising, without}
-use Rattle.key_lists.proofs.Among.{among-filter, among_own, among_past, each_among}
-use Rattle.key_lists.proofs.Every.{every, every_both, every_unmapped, every_weaker, filter-map, filter_same}
+use Rattle.std.{specs.List.AllByRecursion, proofs.lemmas.Bool.and_parts, proofs.lemmas.List.{length-map, length-take}}
+use Rattle.key_lists.{specs.Keys.{is_among, IsRising, without}, proofs.Among.{among-filter, among_own, among_past, each_among}, proofs.Every.{every, every_both, every_unmapped, every_weaker, filter-map, filter_same}}
 use Rattle.tick_model.specs.declared.update.KeyPair.{KeyPair}
-use Rattle.head_tail.specs.declared.end.End.{End}
-use Rattle.head_tail.specs.declared.end.End.TheVariants.{First, Last}
-use Rattle.head_tail.specs.Ends.{at_end}
-use Rattle.head_tail.proofs.Cuts.{among_end, end-filter, end-map, keys_rest, not_true, take-filter}
+use Rattle.head_tail.{specs.declared.end.End.End, specs.declared.end.End.TheVariants.{First, Last}, specs.Ends.at_end, proofs.Cuts.{among_end, end-filter, end-map, keys_rest, not_true, take-filter}}
 
 module _ {X : Type 0} (f g : X → ℕ) where
   -- of elements that are told by two numbers, both rising, the first ones are told by either

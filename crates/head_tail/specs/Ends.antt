@@ -6,12 +6,8 @@
 --     cut end count rows      the position that parts the rows that are shown from the others, of so many rows
 --     end_table end count, ended end count      the first rows or the last of a table, and their tick
 use Rattle.std.specs.Prelude.{ℕ, ◌-◌, List, take, drop}
-use Rattle.head_tail.specs.declared.end.End.{End}
-use Rattle.head_tail.specs.declared.end.End.TheVariants.{First, Last}
-use Rattle.tick_model.specs.declared.plan.Op.TheVariants.{Head, Tail}
-use Rattle.tick_model.specs.declared.table.PlainTable.{PlainTable}
-use Rattle.tick_model.specs.HeadTail.{head_table, tail_table}
-use Rattle.tick_model.specs.Updates.{Tick}
+use Rattle.head_tail.{specs.declared.end.End.End, specs.declared.end.End.TheVariants.{First, Last}}
+use Rattle.tick_model.{specs.declared.plan.Op.TheVariants.{Head, Tail}, specs.declared.table.PlainTable.PlainTable, specs.HeadTail.{head_table, tail_table}, specs.Updates.Tick}
 use Rattle.tick_laws.specs.Operated.{operated}
 
 pub record Kept : Type 0 where

@@ -3,15 +3,9 @@
 --     StandsAt end kept tables      it shows the rows at this end of the table
 --     IsAt end op      it is made of this operator of a plan
 use Rattle.std.specs.Prelude.{◌≡◌, ℕ, List, [], ◌∷◌}
-use Rattle.tick_model.specs.declared.plan.Op.{Op}
-use Rattle.tick_model.specs.declared.plan.Op.TheVariants.{Head, Tail}
-use Rattle.tick_model.specs.declared.table.PlainTable.{PlainTable}
-use Rattle.tick_model.specs.Ready.{table_in}
-use Rattle.tick_model.specs.Tables.{keys}
+use Rattle.tick_model.{specs.declared.plan.Op.Op, specs.declared.plan.Op.TheVariants.{Head, Tail}, specs.declared.table.PlainTable.PlainTable, specs.Ready.table_in, specs.Tables.keys}
 use Rattle.table_operator.specs.Made.{Made}
-use Rattle.head_tail.specs.declared.end.End.{End}
-use Rattle.head_tail.specs.declared.end.End.TheVariants.{First, Last}
-use Rattle.head_tail.specs.Ends.{Kept, end_table}
+use Rattle.head_tail.{specs.declared.end.End.End, specs.declared.end.End.TheVariants.{First, Last}, specs.Ends.{Kept, end_table}}
 
 abbrev pub op_at : End → ℕ → Op
 op_at First count = Head 0 count

@@ -1,11 +1,7 @@
 -- Numbers among others.
 use Rattle.std.proofs.Common.{◌≡◌, refl, ap, sym, ◌∙◌, Bool, true, false, cond, ◌&&◌, ◌||◌, ℕ, ◌<◌, arith, List, [], ◌∷◌, ◌++◌, map, ◌==◌, true≢false, subst, inl, inr}
-use Rattle.std.specs.Prelude.{filter}
-use Rattle.std.specs.List.{AllByRecursion}
-use Rattle.std.proofs.lemmas.Bool.{ne_eqb, eq-eqb, eqb-true, or_right, or_cases, or_parts}
-use Rattle.key_lists.specs.Keys.{is_among}
-use Rattle.key_lists.proofs.Every.{every_weaker}
-use Rattle.key_lists.proofs.Booleans.{or_assoc}
+use Rattle.std.{specs.Prelude.filter, specs.List.AllByRecursion, proofs.lemmas.Bool.{ne_eqb, eq-eqb, eqb-true, or_right, or_cases, or_parts}}
+use Rattle.key_lists.{specs.Keys.is_among, proofs.Every.every_weaker, proofs.Booleans.or_assoc}
 
 -- a number below all others is not among them
 pub among_below : (key : ℕ) (others : List ℕ) → AllByRecursion (λ other. key < other) others → is_among key others ≡ false

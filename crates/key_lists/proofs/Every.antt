@@ -1,7 +1,6 @@
 -- What holds of every element of a list, and what follows for maps and filters.
 use Rattle.std.proofs.Common.{◌≡◌, refl, ap, sym, ◌∙◌, subst, Bool, true, false, cond, ◌&&◌, ◌||◌, ℕ, zero, suc, arith, List, [], ◌∷◌, ◌++◌, map}
-use Rattle.std.specs.Prelude.{filter, find, Some, None}
-use Rattle.std.specs.List.{All, AllByRecursion, list_all, list_any}
+use Rattle.std.{specs.Prelude.{filter, find, Some, None}, specs.List.{All, AllByRecursion, list_all, list_any}}
 
 -- every element has Q where every one has P
 pub every_weaker : {X : Type 0} (P Q : X → Type 0) (xs : List X) → ((x : X) → P x → Q x) → AllByRecursion P xs → AllByRecursion Q xs

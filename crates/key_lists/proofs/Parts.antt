@@ -1,12 +1,6 @@
 -- The parts of a list, the list around one of its elements, and what holds of them.
 use Rattle.std.proofs.Common.{◌≡◌, ◌≢◌, refl, ap, sym, ◌∙◌, subst, Bool, true, false, ℕ, zero, suc, ◌+◌, ◌-◌, ◌<◌, ◌≤◌, arith, List, [], ◌∷◌, ◌++◌, length, map, take, drop, get_or, set, get_or-take, get_or-drop, length-drop, length-take-le, add-zero, Some, ◌==◌, true≢false}
-use Rattle.std.specs.Prelude.{insert, remove, slice_get}
-use Rattle.std.specs.List.{AllByRecursion}
-use Rattle.std.specs.List.Sorted.{IsPartitionPoint}
-use Rattle.std.proofs.Math.Seq.{split_at}
-use Rattle.std.proofs.lemmas.Bool.{ne_eqb}
-use Rattle.std.proofs.lemmas.Option.{same_Some, none-some}
-use Rattle.std.proofs.lemmas.List.{take_more}
+use Rattle.std.{specs.Prelude.{insert, remove, slice_get}, specs.List.AllByRecursion, specs.List.Sorted.IsPartitionPoint, proofs.Math.Seq.split_at, proofs.lemmas.Bool.ne_eqb, proofs.lemmas.Option.{same_Some, none-some}, proofs.lemmas.List.take_more}
 use Rattle.key_lists.proofs.Every.{every-append}
 
 -- what holds of every element holds of those of a part

@@ -1,9 +1,7 @@
 -- Numbers that follow one another.
 use Rattle.std.proofs.Common.{◌≡◌, ap, sym, ◌∙◌, true, ◌||◌, ◌==◌, ℕ, zero, suc, ◌+◌, ◌<◌, ◌≤◌, arith, List, [], ◌∷◌, ◌++◌, inl, inr}
-use Rattle.std.specs.List.{AllByRecursion, range_with_len}
-use Rattle.std.proofs.lemmas.Bool.{cases_eq, eq-eqb, or_left, or_right}
-use Rattle.key_lists.specs.Keys.{is_among}
-use Rattle.key_lists.proofs.Every.{every_weaker}
+use Rattle.std.{specs.List.{AllByRecursion, range_with_len}, proofs.lemmas.Bool.{cases_eq, eq-eqb, or_left, or_right}}
+use Rattle.key_lists.{specs.Keys.is_among, proofs.Every.every_weaker}
 
 pub range-append : (first m n : ℕ) → range_with_len first (m + n) ≡ range_with_len first m ++ range_with_len (first + m) n
 range-append first zero n =

@@ -1,11 +1,7 @@
 -- Numbers that rise.
 use Rattle.std.proofs.Common.{◌≡◌, refl, ap, sym, ◌∙◌, subst, Bool, true, false, cond, ◌&&◌, ◌||◌, ℕ, ◌<◌, ◌≤◌, ◌+◌, arith, List, [], ◌∷◌, ◌++◌, length, map, true≢false, inl, inr}
-use Rattle.std.specs.Prelude.{filter}
-use Rattle.std.specs.List.{AllByRecursion}
-use Rattle.std.proofs.lemmas.Bool.{ne_eqb, cases_eq}
-use Rattle.key_lists.specs.Keys.{is_among, IsRising}
-use Rattle.key_lists.proofs.Among.{among_below, among_own, among_past, each_among, of_among}
-use Rattle.key_lists.proofs.Every.{every, every_weaker, every-map, every_unmapped, every-filter, every-append, filter_same, filter_none, filter_all}
+use Rattle.std.{specs.Prelude.filter, specs.List.AllByRecursion, proofs.lemmas.Bool.{ne_eqb, cases_eq}}
+use Rattle.key_lists.{specs.Keys.{is_among, IsRising}, proofs.Among.{among_below, among_own, among_past, each_among, of_among}, proofs.Every.{every, every_weaker, every-map, every_unmapped, every-filter, every-append, filter_same, filter_none, filter_all}}
 
 -- rising numbers rise where some are left out
 pub rising-filter : {X : Type 0} (f : X → ℕ) (p : X → Bool) (xs : List X) → IsRising (map f xs) → IsRising (map f (filter p xs))

@@ -3,8 +3,7 @@
 --     IsRising keys      each is below those after it
 --     without others keys      the keys that are none of the others
 --     runs keys      the longest runs of neighbouring keys
-use Rattle.std.specs.Prelude.{ℕ, ◌+◌, ◌<◌, ◌==◌, Bool, not, List, [], ◌∷◌, filter, if◌then◌else◌}
-use Rattle.std.specs.List.{list_any, AllByRecursion}
+use Rattle.std.{specs.Prelude.{ℕ, ◌+◌, ◌<◌, ◌==◌, Bool, not, List, [], ◌∷◌, filter, if◌then◌else◌}, specs.List.{list_any, AllByRecursion}}
 
 abbrev pub is_among : ℕ → List ℕ → Bool
 is_among key keys = list_any (λ other. other == key) keys

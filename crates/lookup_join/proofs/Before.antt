@@ -1,24 +1,11 @@
 -- What was taken before a step, by its notes and by the right rows of now.
 use Rattle.std.proofs.Common.{◌≡◌, refl, ap, ap₂, sym, ◌∙◌, subst, Bool, true, false, cond, ℕ, ◌<◌, List, [], map, filter, Option, Some, None, ℤ, true≢false}
-use Rattle.std.specs.Prelude.{int_le, int_lt, option_map, IfSome}
-use Rattle.std.specs.List.{AllByRecursion}
+use Rattle.std.{specs.Prelude.{int_le, int_lt, option_map, IfSome}, specs.List.AllByRecursion}
 use Rattle.key_lists.proofs.Every.{every_weaker, filter-map}
-use Rattle.lookup_join.specs.declared.keyed.Side.TheVariants.{Right}
-use Rattle.lookup_join.specs.declared.pick.Pick.{Pick}
-use Rattle.lookup_join.specs.Keyed.{indexed, key_cells, keyed, time_of}
-use Rattle.lookup_join.specs.Latest.{latest_by, match_of}
-use Rattle.lookup_join.specs.Notes.{Note, note_of, taken_key}
-use Rattle.lookup_join.specs.Taken.{AreMatched, IsFrom, IsThere, before_by, cell_of, gathered, match_as_before, match_before, match_now, speaks, step_notes, taken_cells}
-use Rattle.lookup_join.proofs.Gathered.{match_is}
-use Rattle.lookup_join.proofs.Noted.{found_own, noted_stays, noted_then}
-use Rattle.lookup_join.proofs.Spans.{apart, early_is, late_is, latest-map, latest_split, or_else, reach}
-use Rattle.lookup_join.proofs.Stays.{late, own, time}
-use Rattle.lookup_join.proofs.Taking.{IsOwn, is_there_before, is_there_now, map_twice, notes_own, taken_before, taken_now, unnoted_stays}
+use Rattle.lookup_join.{specs.declared.keyed.Side.TheVariants.Right, specs.declared.pick.Pick.Pick, specs.Keyed.{indexed, key_cells, keyed, time_of}, specs.Latest.{latest_by, match_of}, specs.Notes.{Note, note_of, taken_key}, specs.Taken.{AreMatched, IsFrom, IsThere, before_by, cell_of, gathered, match_as_before, match_before, match_now, speaks, step_notes, taken_cells}, proofs.Gathered.match_is, proofs.Noted.{found_own, noted_stays, noted_then}, proofs.Spans.{apart, early_is, late_is, latest-map, latest_split, or_else, reach}, proofs.Stays.{late, own, time}, proofs.Taking.{IsOwn, is_there_before, is_there_now, map_twice, notes_own, taken_before, taken_now, unnoted_stays}}
 use Rattle.row_groups.specs.Members.{Grouped, Member, member_of}
-use Rattle.tick_model.specs.declared.plan.OnPair.{OnPair}
-use Rattle.tick_model.specs.declared.table.PlainRow.{PlainRow}
-use Rattle.tick_table.specs.Exact.{IsExact}
-use Rattle.tick_table.specs.Ticking.{Ticking}
+use Rattle.tick_model.{specs.declared.plan.OnPair.OnPair, specs.declared.table.PlainRow.PlainRow}
+use Rattle.tick_table.{specs.Exact.IsExact, specs.Ticking.Ticking}
 
 -- whether a note at this time speaks, by the time of the right row of now
 abbrev speaks_at : Option ℤ → ℤ → Bool

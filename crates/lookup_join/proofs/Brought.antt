@@ -1,36 +1,15 @@
 -- An index that is brought on by a step has the rows of now.
 use Rattle.std.proofs.Common.{◌≡◌, refl, ap, ap₂, sym, ◌∙◌, subst, Bool, true, false, not, cond, ◌&&◌, ◌||◌, ◌==◌, ℕ, arith, List, [], ◌∷◌, map, filter, length, Option, Some, true≢false}
-use Rattle.std.specs.Prelude.{nat_lt, option_map, unwrap_or, None}
-use Rattle.std.specs.Cmp.{signed_Decides}
-use Rattle.std.specs.Cmp.Rules.{signed_items}
-use Rattle.std.specs.Ordering.{int_eq}
-use Rattle.std.specs.List.{AllByRecursion}
-use Rattle.std.proofs.lemmas.Bool.{and_parts, eqb-true, ltb-false, ltb-true, not-false, or_parts}
-use Rattle.key_lists.specs.Keys.{is_among, IsRising, without}
-use Rattle.key_lists.proofs.Among.{among-filter, each_among, of_among}
-use Rattle.key_lists.proofs.Every.{every_both, every_weaker, every-filter, every-map, every_unmapped, filter-map, filter_filter, filter_passes, filter_same, map_map, map_own, map_same}
-use Rattle.key_lists.proofs.Rising.{rising-filter, rising_same}
-use Rattle.key_lists.proofs.Booleans.{or_assoc, or_swap}
-use Rattle.lookup_join.specs.declared.keyed.Side.{Side}
-use Rattle.lookup_join.specs.declared.pick.Pick.{Pick}
-use Rattle.lookup_join.specs.Keyed.{IsRowOf, indexed, key_at, key_cells, keyed, member_at, rekeys, time_at, time_of}
-use Rattle.lookup_join.specs.Taken.{rekeyed_pairs}
+use Rattle.std.{specs.Prelude.{nat_lt, option_map, unwrap_or, None}, specs.Cmp.signed_Decides, specs.Cmp.Rules.signed_items, specs.Ordering.int_eq, specs.List.AllByRecursion, proofs.lemmas.Bool.{and_parts, eqb-true, ltb-false, ltb-true, not-false, or_parts}}
+use Rattle.key_lists.{specs.Keys.{is_among, IsRising, without}, proofs.Among.{among-filter, each_among, of_among}, proofs.Every.{every_both, every_weaker, every-filter, every-map, every_unmapped, filter-map, filter_filter, filter_passes, filter_same, map_map, map_own, map_same}, proofs.Rising.{rising-filter, rising_same}, proofs.Booleans.{or_assoc, or_swap}}
+use Rattle.lookup_join.{specs.declared.keyed.Side.Side, specs.declared.pick.Pick.Pick, specs.Keyed.{IsRowOf, indexed, key_at, key_cells, keyed, member_at, rekeys, time_at, time_of}, specs.Taken.rekeyed_pairs}
 use Rattle.row_groups.specs.Members.{Grouped, Member, keys_of, left_members, member_of, member_under, moved_member, moved_members, with_member}
-use Rattle.row_set.proofs.United.{among-united}
-use Rattle.row_set.specs.Sets.{united, with_key}
+use Rattle.row_set.{proofs.United.among-united, specs.Sets.{united, with_key}}
 use Rattle.shift_data.specs.Moves.{IsLawful}
-use Rattle.shown_rows.proofs.Named.{named_by, of_named}
-use Rattle.shown_rows.proofs.Restricted.{exact_shift, is_modified, kept, modified_by}
+use Rattle.shown_rows.{proofs.Named.{named_by, of_named}, proofs.Restricted.{exact_shift, is_modified, kept, modified_by}}
 use Rattle.table_update.proofs.LawfulParts.{lawful_some}
-use Rattle.tick_model.specs.declared.plan.OnPair.{OnPair}
-use Rattle.tick_model.specs.declared.table.PlainRow.{PlainRow}
-use Rattle.tick_model.specs.declared.update.KeyPair.{KeyPair}
-use Rattle.tick_model.specs.Shifts.{as_key, moved}
-use Rattle.tick_model.specs.Tables.{cells_at, keys, row_at, same_cells}
-use Rattle.tick_model.specs.Updates.{Update, differs, kept_pair, new_keys, old_keys}
-use Rattle.tick_model.proofs.Among.{each_found, rows_among}
-use Rattle.tick_table.specs.Exact.{IsExact}
-use Rattle.tick_table.specs.Ticking.{Ticking}
+use Rattle.tick_model.{specs.declared.plan.OnPair.OnPair, specs.declared.table.PlainRow.PlainRow, specs.declared.update.KeyPair.KeyPair, specs.Shifts.{as_key, moved}, specs.Tables.{cells_at, keys, row_at, same_cells}, specs.Updates.{Update, differs, kept_pair, new_keys, old_keys}, proofs.Among.{each_found, rows_among}}
+use Rattle.tick_table.{specs.Exact.IsExact, specs.Ticking.Ticking}
 
 -- the keys of an index
 pub keys-keyed : (side : Side) (on : List OnPair) (pick : Pick) (rows : List PlainRow) → keys_of (keyed side on pick rows) ≡ keys rows

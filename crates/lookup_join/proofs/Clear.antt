@@ -1,26 +1,10 @@
 -- Times between two others at which no row and no note stands.
 use Rattle.std.proofs.Common.{◌≡◌, refl, ap, sym, ◌∙◌, Bool, true, false, cond, ◌&&◌, arith, ℕ, List, [], ◌∷◌, map, filter, Option, Some, None, ℤ, true≢false}
-use Rattle.std.specs.Prelude.{find, int_le, int_lt, option_map}
-use Rattle.std.specs.List.{AllByRecursion}
-use Rattle.std.specs.Option.{option_map_or}
-use Rattle.std.proofs.lemmas.Int.{ints}
-use Rattle.key_lists.proofs.Every.{every_both, every_unmapped, every_weaker, every-filter, every-map, filter_none, filter_passes}
-use Rattle.key_lists.proofs.Booleans.{and_true}
-use Rattle.lookup_join.specs.declared.keyed.Side.TheVariants.{Right}
-use Rattle.lookup_join.specs.declared.pick.Pick.{Pick}
-use Rattle.lookup_join.specs.Keyed.{key_cells, keyed, time_of}
-use Rattle.lookup_join.specs.Latest.{earlier, latest_by, next_time}
-use Rattle.lookup_join.specs.Notes.{Note, next_after}
-use Rattle.lookup_join.proofs.Latests.{Timed, group_timed}
-use Rattle.lookup_join.proofs.Quiet.{every_unfiltered}
-use Rattle.lookup_join.proofs.Spans.{apart, between}
-use Rattle.lookup_join.proofs.Stays.{late, own, time}
-use Rattle.lookup_join.proofs.Taking.{latest_none}
-use Rattle.row_groups.specs.Members.{Member, by_at, group_of, member_of, placed}
-use Rattle.row_groups.proofs.Placed.{every-by_at}
-use Rattle.tick_model.specs.declared.plan.OnPair.{OnPair}
-use Rattle.tick_model.specs.declared.table.PlainRow.{PlainRow}
-use Rattle.tick_model.specs.Tables.{same_cells}
+use Rattle.std.{specs.Prelude.{find, int_le, int_lt, option_map}, specs.List.AllByRecursion, specs.Option.option_map_or, proofs.lemmas.Int.ints}
+use Rattle.key_lists.{proofs.Every.{every_both, every_unmapped, every_weaker, every-filter, every-map, filter_none, filter_passes}, proofs.Booleans.and_true}
+use Rattle.lookup_join.{specs.declared.keyed.Side.TheVariants.Right, specs.declared.pick.Pick.Pick, specs.Keyed.{key_cells, keyed, time_of}, specs.Latest.{earlier, latest_by, next_time}, specs.Notes.{Note, next_after}, proofs.Latests.{Timed, group_timed}, proofs.Quiet.every_unfiltered, proofs.Spans.{apart, between}, proofs.Stays.{late, own, time}, proofs.Taking.latest_none}
+use Rattle.row_groups.{specs.Members.{Member, by_at, group_of, member_of, placed}, proofs.Placed.every-by_at}
+use Rattle.tick_model.{specs.declared.plan.OnPair.OnPair, specs.declared.table.PlainRow.PlainRow, specs.Tables.same_cells}
 
 -- whether an end, which may be missing, comes after a moment
 abbrev pub ends_after : ℤ → Option ℤ → Bool

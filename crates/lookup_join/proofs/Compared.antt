@@ -1,44 +1,15 @@
 -- Which left rows a step may change, and how many these are.
 use Rattle.std.proofs.Common.{◌≡◌, refl, ap, ap₂, sym, ◌∙◌, subst, Bool, true, false, not, cond, ◌&&◌, ◌||◌, ℕ, ◌+◌, ◌<◌, ◌≤◌, ◌==◌, ◌^◌, drop, List, ◌++◌, filter, length, ℤ, [], ◌∷◌, true≢false}
-use Rattle.std.specs.Cmp.Rules.{signed_items}
-use Rattle.std.specs.List.{AllByRecursion}
-use Rattle.std.proofs.lemmas.Bool.{and_parts, not-false, or_parts}
-use Rattle.std.proofs.Math.Seq.{drop-append_seam}
-use Rattle.key_lists.specs.Keys.{is_among, IsRising, without}
-use Rattle.key_lists.proofs.Among.{among-filter, each_among, of_among}
-use Rattle.key_lists.proofs.Every.{every_both, every_weaker, every-filter, every-map, every_unmapped}
-use Rattle.key_lists.proofs.Rising.{rising-filter, rising_some}
-use Rattle.lookup_join.specs.declared.keyed.Side.TheVariants.{Left}
-use Rattle.lookup_join.specs.declared.pick.Pick.{Pick}
-use Rattle.lookup_join.specs.declared.pick.Pick.TheVariants.{First, Last, Latest}
-use Rattle.lookup_join.specs.Keyed.{key_cells, time_of}
-use Rattle.lookup_join.specs.Notes.{Note}
-use Rattle.lookup_join.specs.Matched.{matched_table}
-use Rattle.lookup_join.specs.Taken.{step_notes, turned_keys}
-use Rattle.lookup_join.proofs.Counts.{length-among_two}
-use Rattle.lookup_join.proofs.Gathered.{matched_cells, matched_rows}
-use Rattle.lookup_join.proofs.Taking.{notes_own}
-use Rattle.lookup_join.proofs.Told.{IsHeld, before, now, other_taken, same_is, same_taken, told, told_among, told_by_one, untold_each}
-use Rattle.row_changes.proofs.ComparedPairs.{compared_at}
-use Rattle.row_changes.proofs.MadeRows.{cells-made, keys-made}
-use Rattle.row_changes.specs.Mapped.{IsMapped}
-use Rattle.row_changes.specs.Parts.{AreCompared}
-use Rattle.row_set.proofs.United.{among-united, united_rises}
-use Rattle.row_set.specs.Sets.{united}
+use Rattle.std.{specs.Cmp.Rules.signed_items, specs.List.AllByRecursion, proofs.lemmas.Bool.{and_parts, not-false, or_parts}, proofs.Math.Seq.drop-append_seam}
+use Rattle.key_lists.{specs.Keys.{is_among, IsRising, without}, proofs.Among.{among-filter, each_among, of_among}, proofs.Every.{every_both, every_weaker, every-filter, every-map, every_unmapped}, proofs.Rising.{rising-filter, rising_some}}
+use Rattle.lookup_join.{specs.declared.keyed.Side.TheVariants.Left, specs.declared.pick.Pick.Pick, specs.declared.pick.Pick.TheVariants.{First, Last, Latest}, specs.Keyed.{key_cells, time_of}, specs.Notes.Note, specs.Matched.matched_table, specs.Taken.{step_notes, turned_keys}, proofs.Counts.length-among_two, proofs.Gathered.{matched_cells, matched_rows}, proofs.Taking.notes_own, proofs.Told.{IsHeld, before, now, other_taken, same_is, same_taken, told, told_among, told_by_one, untold_each}}
+use Rattle.row_changes.{proofs.ComparedPairs.compared_at, proofs.MadeRows.{cells-made, keys-made}, specs.Mapped.IsMapped, specs.Parts.AreCompared}
+use Rattle.row_set.{proofs.United.{among-united, united_rises}, specs.Sets.united}
 use Rattle.shift_data.specs.Moves.{unapplied}
-use Rattle.shown_rows.proofs.Named.{named_by, of_named}
-use Rattle.shown_rows.proofs.Restricted.{is_modified, kept, modified_by, modified_new}
+use Rattle.shown_rows.{proofs.Named.{named_by, of_named}, proofs.Restricted.{is_modified, kept, modified_by, modified_new}}
 use Rattle.tick_laws.proofs.ResultTables.{result_table}
-use Rattle.tick_model.specs.declared.plan.OnPair.{OnPair}
-use Rattle.tick_model.specs.declared.plan.Choice.TheVariants.{First as FirstMatch, Last as LastMatch}
-use Rattle.tick_model.specs.declared.plan.Op.TheVariants.{AsOf, Join}
-use Rattle.tick_model.specs.declared.table.PlainRow.{PlainRow}
-use Rattle.tick_model.specs.declared.table.PlainTable.{PlainTable}
-use Rattle.tick_model.specs.declared.update.KeyPair.{KeyPair}
-use Rattle.tick_model.specs.Tables.{IsRow, IsTable, cells_at, keys, same_cells}
-use Rattle.tick_model.specs.Updates.{Update, differs, new_keys, old_keys, pairs}
-use Rattle.tick_table.specs.Exact.{IsExact, tick_of}
-use Rattle.tick_table.specs.Ticking.{Ticking}
+use Rattle.tick_model.{specs.declared.plan.OnPair.OnPair, specs.declared.plan.Choice.TheVariants.{First as FirstMatch, Last as LastMatch}, specs.declared.plan.Op.TheVariants.{AsOf, Join}, specs.declared.table.PlainRow.PlainRow, specs.declared.table.PlainTable.PlainTable, specs.declared.update.KeyPair.KeyPair, specs.Tables.{IsRow, IsTable, cells_at, keys, same_cells}, specs.Updates.{Update, differs, new_keys, old_keys, pairs}}
+use Rattle.tick_table.{specs.Exact.{IsExact, tick_of}, specs.Ticking.Ticking}
 
 module _ (on : List OnPair) (pick : Pick) (take : List ℕ) (l : Ticking) (left_exact : IsExact l) (r : Ticking) (right_exact : IsExact r) where
   abbrev old : PlainTable

@@ -1,11 +1,8 @@
 -- How many keys two lists have together.
 use Rattle.std.proofs.Common.{◌≡◌, ap, ◌∙◌, true, ◌||◌, ℕ, ◌+◌, ◌≤◌, arith, List, filter, length}
 use Rattle.std.specs.List.{AllByRecursion}
-use Rattle.key_lists.specs.Keys.{is_among, IsRising}
-use Rattle.key_lists.proofs.Every.{every_weaker}
-use Rattle.key_lists.proofs.Rising.{as_filter}
-use Rattle.row_set.proofs.United.{among-united, length-united, united_rises}
-use Rattle.row_set.specs.Sets.{united}
+use Rattle.key_lists.{specs.Keys.{is_among, IsRising}, proofs.Every.every_weaker, proofs.Rising.as_filter}
+use Rattle.row_set.{proofs.United.{among-united, length-united, united_rises}, specs.Sets.united}
 use Rattle.tick_laws.proofs.ResultCells.{length-filter_most}
 
 -- as many as those of two lists among which all are

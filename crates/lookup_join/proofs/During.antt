@@ -1,18 +1,9 @@
 -- Those members of a group whose times are from one moment on, until another.
 use Rattle.std.proofs.Common.{◌≡◌, refl, ap, ap₂, sym, ◌∙◌, subst, Bool, true, false, cond, ◌&&◌, ℕ, zero, suc, ◌+◌, ◌<◌, ◌≤◌, ◌⊎◌, inl, inr, arith, List, [], ◌∷◌, ◌++◌, filter, length, take, drop, Option, Some, None, ℤ, pos, append_assoc, true≢false}
-use Rattle.std.specs.Prelude.{int_le, int_lt, option_map, slice_get, slice_index_or}
-use Rattle.std.specs.Option.{option_map_or}
-use Rattle.std.specs.List.{AllByRecursion, count_by}
-use Rattle.std.proofs.lemmas.Int.{ints}
-use Rattle.std.proofs.lemmas.List.{map-append}
-use Rattle.std.proofs.lemmas.List.Sums.{length-filter}
-use Rattle.std.proofs.lemmas.Option.{none-some, slice_get-map, same_Some}
+use Rattle.std.{specs.Prelude.{int_le, int_lt, option_map, slice_get, slice_index_or}, specs.Option.option_map_or, specs.List.{AllByRecursion, count_by}, proofs.lemmas.Int.ints, proofs.lemmas.List.map-append, proofs.lemmas.List.Sums.length-filter, proofs.lemmas.Option.{none-some, slice_get-map, same_Some}}
 use Rattle.key_lists.proofs.Every.{every, every_weaker, filter_none, filter_same}
-use Rattle.lookup_join.specs.Latest.{count_before, during}
-use Rattle.lookup_join.proofs.Latests.{Timed}
-use Rattle.lookup_join.proofs.Walks.{get_index}
-use Rattle.row_groups.proofs.Order.{later_too}
-use Rattle.row_groups.specs.Members.{Member, keys_of, member_of}
+use Rattle.lookup_join.{specs.Latest.{count_before, during}, proofs.Latests.Timed, proofs.Walks.get_index}
+use Rattle.row_groups.{proofs.Order.later_too, specs.Members.{Member, keys_of, member_of}}
 use Rattle.shown_rows.proofs.Walks.{one_more}
 use Rattle.tick_laws.proofs.ResultCells.{length-filter_most}
 

@@ -1,43 +1,11 @@
 -- The left row with two matches that a step's groups tell is the first of all.
 use Rattle.std.proofs.Common.{◌≡◌, refl, ap, ap₂, sym, ◌∙◌, subst, Bool, true, false, cond, ◌&&◌, ◌||◌, ℕ, ◌<◌, ◌≤◌, ◌==◌, arith, ◌⊎◌, inl, inr, List, [], ◌∷◌, ◌++◌, map, filter, length, Option, Some, None, ℤ, true≢false}
-use Rattle.std.specs.Prelude.{filter_map, find, nat_lt, option_map, slice_get, unwrap_or}
-use Rattle.std.specs.List.{AllByRecursion, cons_option}
-use Rattle.std.proofs.lemmas.Bool.{and_parts, eqb-true, ltb-false, ltb-true}
-use Rattle.std.proofs.lemmas.List.{length-map}
-use Rattle.std.proofs.lemmas.Option.{none-some}
-use Rattle.key_lists.specs.Keys.{is_among, IsRising}
-use Rattle.key_lists.proofs.Among.{among_own, each_among, of_among}
-use Rattle.key_lists.proofs.Every.{every_both, every_weaker, every-map, every_unmapped, filter-map, none_pass}
-use Rattle.key_lists.proofs.Rising.{rising-filter}
-use Rattle.key_lists.proofs.Parts.{every_front, every_back}
-use Rattle.lookup_join.specs.declared.duplicates.Duplicate.{Duplicate}
-use Rattle.lookup_join.specs.declared.keyed.Side.TheVariants.{Left, Right}
-use Rattle.lookup_join.specs.Duplicates.{cells_under, earlier, faulty_group, first_with_two, least_fault, least_of}
-use Rattle.lookup_join.specs.Keyed.{indexed, key_at, key_cells, keyed}
-use Rattle.lookup_join.specs.declared.pick.Pick.{Pick}
-use Rattle.lookup_join.specs.declared.pick.Pick.TheVariants.{First as FirstRow}
-use Rattle.lookup_join.specs.Matched.{pick_of}
-use Rattle.lookup_join.specs.Notes.{Note, NoteList}
-use Rattle.lookup_join.specs.Taken.{step_notes}
-use Rattle.lookup_join.proofs.Brought.{all_keys, brought, came, came_there, kept_key, keys-keyed}
-use Rattle.lookup_join.proofs.Gathered.{keys-group, matches_are, with_cells}
-use Rattle.lookup_join.proofs.Noting.{quiet}
-use Rattle.lookup_join.proofs.Quiet.{cells_stay}
-use Rattle.lookup_join.proofs.Told.{passing_at, same_is, same_own}
-use Rattle.lookup_join.proofs.Walks.{member_known}
+use Rattle.std.{specs.Prelude.{filter_map, find, nat_lt, option_map, slice_get, unwrap_or}, specs.List.{AllByRecursion, cons_option}, proofs.lemmas.Bool.{and_parts, eqb-true, ltb-false, ltb-true}, proofs.lemmas.List.length-map, proofs.lemmas.Option.none-some}
+use Rattle.key_lists.{specs.Keys.{is_among, IsRising}, proofs.Among.{among_own, each_among, of_among}, proofs.Every.{every_both, every_weaker, every-map, every_unmapped, filter-map, none_pass}, proofs.Rising.rising-filter, proofs.Parts.{every_front, every_back}}
+use Rattle.lookup_join.{specs.declared.duplicates.Duplicate.Duplicate, specs.declared.keyed.Side.TheVariants.{Left, Right}, specs.Duplicates.{cells_under, earlier, faulty_group, first_with_two, least_fault, least_of}, specs.Keyed.{indexed, key_at, key_cells, keyed}, specs.declared.pick.Pick.Pick, specs.declared.pick.Pick.TheVariants.First as FirstRow, specs.Matched.pick_of, specs.Notes.{Note, NoteList}, specs.Taken.step_notes, proofs.Brought.{all_keys, brought, came, came_there, kept_key, keys-keyed}, proofs.Gathered.{keys-group, matches_are, with_cells}, proofs.Noting.quiet, proofs.Quiet.cells_stay, proofs.Told.{passing_at, same_is, same_own}, proofs.Walks.member_known}
 use Rattle.row_groups.specs.Members.{Grouped, Member, keys_of}
-use Rattle.tick_model.specs.declared.plan.Choice.{Choice}
-use Rattle.tick_model.specs.declared.plan.Choice.TheVariants.{Error, First, Last}
-use Rattle.tick_model.specs.declared.plan.OnPair.{OnPair}
-use Rattle.tick_model.specs.declared.table.NodeFault.{NodeFault}
-use Rattle.tick_model.specs.declared.table.NodeFault.TheVariants.{DuplicateRight}
-use Rattle.tick_model.specs.declared.table.PlainRow.{PlainRow}
-use Rattle.tick_model.specs.declared.table.PlainTable.{PlainTable}
-use Rattle.tick_model.specs.Join.{duplicate, join_fault, matches}
-use Rattle.tick_model.specs.Tables.{IsTable, keys, row_at, same_cells}
-use Rattle.tick_model.proofs.Among.{each_found, rows_among}
-use Rattle.tick_table.specs.Exact.{IsExact}
-use Rattle.tick_table.specs.Ticking.{Ticking}
+use Rattle.tick_model.{specs.declared.plan.Choice.Choice, specs.declared.plan.Choice.TheVariants.{Error, First, Last}, specs.declared.plan.OnPair.OnPair, specs.declared.table.NodeFault.NodeFault, specs.declared.table.NodeFault.TheVariants.DuplicateRight, specs.declared.table.PlainRow.PlainRow, specs.declared.table.PlainTable.PlainTable, specs.Join.{duplicate, join_fault, matches}, specs.Tables.{IsTable, keys, row_at, same_cells}, proofs.Among.{each_found, rows_among}}
+use Rattle.tick_table.{specs.Exact.IsExact, specs.Ticking.Ticking}
 
 abbrev pub node_of : Duplicate → NodeFault
 node_of found = DuplicateRight found.left_key found.first found.second

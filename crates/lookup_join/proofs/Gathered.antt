@@ -1,28 +1,11 @@
 -- The rows of a join, made of the left rows.
 use Rattle.std.proofs.Common.{◌≡◌, refl, ap, sym, ◌∙◌, Bool, true, false, cond, ◌&&◌, arith, ℕ, List, [], ◌∷◌, ◌++◌, map, filter, Option, Some, None, ℤ, pos}
-use Rattle.std.specs.Prelude.{fold, int_le, int_lt, option_map, slice_get}
-use Rattle.std.specs.List.{AllByRecursion, last_or}
-use Rattle.std.specs.Ordering.{int_eq}
-use Rattle.std.proofs.lemmas.Int.{ints}
-use Rattle.key_lists.proofs.Every.{every, every-map, filter-map, filter_same, map_map, map_same}
-use Rattle.key_lists.proofs.Booleans.{and_true}
-use Rattle.lookup_join.specs.declared.keyed.Side.{Side}
-use Rattle.lookup_join.specs.declared.keyed.Side.TheVariants.{Left, Right}
-use Rattle.lookup_join.specs.declared.pick.Pick.{Pick}
-use Rattle.lookup_join.specs.declared.pick.Pick.TheVariants.{First, Last, Latest}
-use Rattle.lookup_join.specs.Keyed.{key_cells, keyed, time_of}
-use Rattle.lookup_join.specs.Latest.{latest_by, match_of, or_later}
-use Rattle.lookup_join.specs.Matched.{matched_table, right_of}
-use Rattle.lookup_join.specs.Taken.{gathered, taken_cells}
-use Rattle.lookup_join.proofs.Spans.{latest-map}
+use Rattle.std.{specs.Prelude.{fold, int_le, int_lt, option_map, slice_get}, specs.List.{AllByRecursion, last_or}, specs.Ordering.int_eq, proofs.lemmas.Int.ints}
+use Rattle.key_lists.{proofs.Every.{every, every-map, filter-map, filter_same, map_map, map_same}, proofs.Booleans.and_true}
+use Rattle.lookup_join.{specs.declared.keyed.Side.Side, specs.declared.keyed.Side.TheVariants.{Left, Right}, specs.declared.pick.Pick.Pick, specs.declared.pick.Pick.TheVariants.{First, Last, Latest}, specs.Keyed.{key_cells, keyed, time_of}, specs.Latest.{latest_by, match_of, or_later}, specs.Matched.{matched_table, right_of}, specs.Taken.{gathered, taken_cells}, proofs.Spans.latest-map}
 use Rattle.row_changes.proofs.MadeRows.{made_row}
 use Rattle.row_groups.specs.Members.{Member, by_at, group_of, keys_of, member_of, placed}
-use Rattle.tick_model.specs.AsOf.{later, latest, not_later}
-use Rattle.tick_model.specs.declared.plan.OnPair.{OnPair}
-use Rattle.tick_model.specs.declared.table.PlainRow.{PlainRow}
-use Rattle.tick_model.specs.declared.table.PlainTable.{PlainTable}
-use Rattle.tick_model.specs.Join.{agree, matches, taken}
-use Rattle.tick_model.specs.Tables.{cell, keys, same_cells}
+use Rattle.tick_model.{specs.AsOf.{later, latest, not_later}, specs.declared.plan.OnPair.OnPair, specs.declared.table.PlainRow.PlainRow, specs.declared.table.PlainTable.PlainTable, specs.Join.{agree, matches, taken}, specs.Tables.{cell, keys, same_cells}}
 
 -- rows agree where their key cells are the same
 agree_is : (on : List OnPair) (left right : PlainRow) → agree on left right ≡ same_cells (key_cells Left on left.cells) (key_cells Right on right.cells)

@@ -1,25 +1,11 @@
 -- What is picked of the latest of some elements, and of the members of a group, which stand by their times.
 use Rattle.std.proofs.Common.{◌≡◌, refl, ap, ap₂, sym, ◌∙◌, subst, Bool, true, false, not, cond, ℕ, zero, suc, ◌-◌, ◌≤◌, ◌&&◌, arith, List, [], ◌∷◌, map, filter, length, Option, Some, None, ℤ, true≢false}
-use Rattle.std.specs.Prelude.{find, int_le, int_lt, option_map, pos, slice_get, IfSome}
-use Rattle.std.specs.List.{AllByRecursion, count_by}
-use Rattle.std.proofs.lemmas.List.Sums.{length-filter}
-use Rattle.std.proofs.lemmas.Option.{none-some, slice_get-map}
+use Rattle.std.{specs.Prelude.{find, int_le, int_lt, option_map, pos, slice_get, IfSome}, specs.List.{AllByRecursion, count_by}, proofs.lemmas.List.Sums.length-filter, proofs.lemmas.Option.{none-some, slice_get-map}, proofs.lemmas.Int.ints}
 use Rattle.key_lists.proofs.Every.{every_weaker, every-filter, filter_filter, filter_none}
-use Rattle.lookup_join.specs.declared.latest.Found.{Found}
-use Rattle.lookup_join.specs.declared.pick.Pick.{Pick}
-use Rattle.lookup_join.specs.declared.pick.Pick.TheVariants.{First, Last, Latest}
-use Rattle.lookup_join.specs.declared.keyed.Side.{Side}
-use Rattle.lookup_join.specs.Keyed.{indexed, keyed}
-use Rattle.lookup_join.specs.Latest.{AreTimed, beats, latest_by, match_of, next_time, or_later}
-use Rattle.lookup_join.proofs.Picks.{beats_later, beats_no_earlier, beats_through, one_way}
-use Rattle.row_groups.proofs.Order.{at_most, later_too}
-use Rattle.row_groups.proofs.Placed.{every-by_at, every-placed}
-use Rattle.row_groups.specs.Members.{Grouped, Member, by_at, group_of, keys_of, placed}
-use Rattle.std.proofs.lemmas.Int.{ints}
+use Rattle.lookup_join.{specs.declared.latest.Found.Found, specs.declared.pick.Pick.Pick, specs.declared.pick.Pick.TheVariants.{First, Last, Latest}, specs.declared.keyed.Side.Side, specs.Keyed.{indexed, keyed}, specs.Latest.{AreTimed, beats, latest_by, match_of, next_time, or_later}, proofs.Picks.{beats_later, beats_no_earlier, beats_through, one_way}}
+use Rattle.row_groups.{proofs.Order.{at_most, later_too}, proofs.Placed.{every-by_at, every-placed}, specs.Members.{Grouped, Member, by_at, group_of, keys_of, placed}}
 use Rattle.tick_laws.proofs.ResultCells.{length-filter_most}
-use Rattle.tick_model.specs.declared.plan.OnPair.{OnPair}
-use Rattle.tick_model.specs.declared.table.PlainRow.{PlainRow}
-use Rattle.tick_model.specs.Tables.{same_cells}
+use Rattle.tick_model.{specs.declared.plan.OnPair.OnPair, specs.declared.table.PlainRow.PlainRow, specs.Tables.same_cells}
 
 module _ {X : Type 0} (pick : Pick) (time : X → ℤ) where
   -- of two that follow each other, of which the second is later, the order does not matter

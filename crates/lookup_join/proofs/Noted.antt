@@ -1,26 +1,10 @@
 -- A note tells what was taken before a step, until a right row of now came after it.
 use Rattle.std.proofs.Common.{◌≡◌, refl, ap, sym, ◌∙◌, subst, Bool, true, false, cond, ◌&&◌, arith, List, [], ◌∷◌, filter, Option, Some, None, ℤ, ℕ, true≢false}
-use Rattle.std.specs.Prelude.{int_le, int_lt, IfSome}
-use Rattle.std.specs.Cmp.Rules.{signed_items}
-use Rattle.std.specs.List.{AllByRecursion}
-use Rattle.std.proofs.lemmas.Bool.{and_parts}
-use Rattle.std.proofs.lemmas.Int.{ints}
+use Rattle.std.{specs.Prelude.{int_le, int_lt, IfSome}, specs.Cmp.Rules.signed_items, specs.List.AllByRecursion, proofs.lemmas.Bool.and_parts, proofs.lemmas.Int.ints}
 use Rattle.key_lists.proofs.Every.{every_both, every_weaker, every-filter, filter_passes}
-use Rattle.lookup_join.specs.declared.pick.Pick.{Pick}
-use Rattle.lookup_join.specs.declared.pick.Pick.TheVariants.{Last}
-use Rattle.lookup_join.specs.Latest.{beats, latest_by, or_later}
-use Rattle.lookup_join.specs.Notes.{Note, note_of}
-use Rattle.lookup_join.specs.Taken.{step_notes, taken_cells}
-use Rattle.lookup_join.proofs.Latests.{latest_first}
-use Rattle.lookup_join.proofs.Noting.{quiet}
-use Rattle.lookup_join.proofs.Picks.{left_no_later, picked_no_earlier}
-use Rattle.lookup_join.proofs.Spans.{between, latest_every}
-use Rattle.lookup_join.proofs.Stays.{IsQuiet, before_then, late, own, stays_late, time}
-use Rattle.lookup_join.proofs.Taking.{IsOwn, latest_none, notes_own}
-use Rattle.tick_model.specs.declared.plan.OnPair.{OnPair}
-use Rattle.tick_model.specs.Tables.{same_cells}
-use Rattle.tick_table.specs.Exact.{IsExact}
-use Rattle.tick_table.specs.Ticking.{Ticking}
+use Rattle.lookup_join.{specs.declared.pick.Pick.Pick, specs.declared.pick.Pick.TheVariants.Last, specs.Latest.{beats, latest_by, or_later}, specs.Notes.{Note, note_of}, specs.Taken.{step_notes, taken_cells}, proofs.Latests.latest_first, proofs.Noting.quiet, proofs.Picks.{left_no_later, picked_no_earlier}, proofs.Spans.{between, latest_every}, proofs.Stays.{IsQuiet, before_then, late, own, stays_late, time}, proofs.Taking.{IsOwn, latest_none, notes_own}}
+use Rattle.tick_model.{specs.declared.plan.OnPair.OnPair, specs.Tables.same_cells}
+use Rattle.tick_table.{specs.Exact.IsExact, specs.Ticking.Ticking}
 
 itself : (a : ℤ) → int_lt a a ≡ false
 itself a = grind (arith, ints)

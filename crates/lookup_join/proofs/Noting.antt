@@ -1,29 +1,11 @@
 -- What notes of places say: each touched place is noted, and between notes no row is touched.
 use Rattle.std.proofs.Common.{◌≡◌, refl, ap₂, sym, ◌∙◌, subst, Bool, true, false, cond, ◌&&◌, ℕ, ◌+◌, ◌*◌, ◌≤◌, arith, List, [], ◌∷◌, ◌++◌, map, filter, length, length-append, Option, Some, None, ℤ}
-use Rattle.std.specs.Prelude.{flat_map, int_le, IfSome}
-use Rattle.std.specs.Cmp.{signed_Decides}
-use Rattle.std.specs.Cmp.Rules.{signed_items}
-use Rattle.std.specs.List.{AllByRecursion}
-use Rattle.std.specs.Ordering.{int_eq}
-use Rattle.std.proofs.lemmas.Bool.{and_parts}
-use Rattle.std.proofs.lemmas.List.{length-map}
-use Rattle.key_lists.proofs.Every.{every_both, every_unmapped, every_weaker, every-filter, filter_passes}
-use Rattle.key_lists.proofs.Parts.{every_front, every_back}
-use Rattle.lookup_join.specs.declared.keyed.Side.TheVariants.{Right}
-use Rattle.lookup_join.specs.declared.pick.Pick.{Pick}
-use Rattle.lookup_join.specs.declared.pick.Pick.TheVariants.{Last}
-use Rattle.lookup_join.specs.Keyed.{key_cells, keyed, time_of}
-use Rattle.lookup_join.specs.Notes.{Note, Spot, fresh_note, is_noted, note_of, noting, with_note}
-use Rattle.lookup_join.specs.Taken.{modified_pairs, spot_at, step_notes, touched_spots}
-use Rattle.lookup_join.proofs.Quiet.{FailsBoth}
-use Rattle.lookup_join.proofs.Spans.{latest_every}
-use Rattle.lookup_join.proofs.Stays.{IsQuiet}
+use Rattle.std.{specs.Prelude.{flat_map, int_le, IfSome}, specs.Cmp.signed_Decides, specs.Cmp.Rules.signed_items, specs.List.AllByRecursion, specs.Ordering.int_eq, proofs.lemmas.Bool.and_parts, proofs.lemmas.List.length-map}
+use Rattle.key_lists.{proofs.Every.{every_both, every_unmapped, every_weaker, every-filter, filter_passes}, proofs.Parts.{every_front, every_back}}
+use Rattle.lookup_join.{specs.declared.keyed.Side.TheVariants.Right, specs.declared.pick.Pick.Pick, specs.declared.pick.Pick.TheVariants.Last, specs.Keyed.{key_cells, keyed, time_of}, specs.Notes.{Note, Spot, fresh_note, is_noted, note_of, noting, with_note}, specs.Taken.{modified_pairs, spot_at, step_notes, touched_spots}, proofs.Quiet.FailsBoth, proofs.Spans.latest_every, proofs.Stays.IsQuiet}
 use Rattle.row_groups.specs.Members.{Member}
-use Rattle.tick_model.specs.declared.plan.OnPair.{OnPair}
-use Rattle.tick_model.specs.declared.update.KeyPair.{KeyPair}
-use Rattle.tick_model.specs.Tables.{cells_at, same_cells}
-use Rattle.tick_table.specs.Exact.{IsExact}
-use Rattle.tick_table.specs.Ticking.{Ticking}
+use Rattle.tick_model.{specs.declared.plan.OnPair.OnPair, specs.declared.update.KeyPair.KeyPair, specs.Tables.{cells_at, same_cells}}
+use Rattle.tick_table.{specs.Exact.IsExact, specs.Ticking.Ticking}
 
 every_two : {X Y : Type 0} (P : Y → Type 0) (f g : X → Y) (xs : List X) → AllByRecursion P (flat_map (λ x. f x ∷ g x ∷ []) xs) → AllByRecursion (λ x. P (f x) × P (g x)) xs
 every_two P f g [] h = tt

@@ -1,21 +1,8 @@
 -- Notes by their numbers.
 use Rattle.std.proofs.Common.{◌≡◌, refl, ap, ap₂, sym, ◌∙◌, subst, Bool, true, false, cond, ◌&&◌, ◌==◌, ℕ, zero, suc, ◌+◌, ◌<◌, arith, List, [], ◌∷◌, ◌++◌, map, filter, length, length-append, append_assoc, Option, Some, None, ℤ, pos}
-use Rattle.std.specs.Prelude.{find, int_le, int_lt, option_map, slice_get, slice_index_or, IfSome}
-use Rattle.std.specs.List.{AllByRecursion, range_with_len}
-use Rattle.std.proofs.lemmas.Bool.{lt-ltb}
-use Rattle.std.proofs.lemmas.List.{length-map, map-append}
-use Rattle.std.proofs.lemmas.Option.{none-some, slice_get-map, same_Some}
-use Rattle.key_lists.proofs.Every.{every_unmapped, every_weaker, every-filter, filter-map, map_map}
-use Rattle.key_lists.proofs.Among.{among_above}
-use Rattle.key_lists.proofs.Ranges.{range_last, range_below}
-use Rattle.lookup_join.specs.declared.pick.Pick.TheVariants.{Last}
-use Rattle.lookup_join.specs.Latest.{latest_by, match_of, next_time}
-use Rattle.lookup_join.specs.Notes.{IsNumbered, Note, next_after, note_of, noted_of, notes_of}
-use Rattle.lookup_join.specs.declared.latest.Found.{Found}
-use Rattle.lookup_join.specs.declared.notes.Noted.{Noted}
-use Rattle.lookup_join.proofs.Brought.{none_under}
-use Rattle.lookup_join.proofs.Spans.{latest_every, latest-map}
-use Rattle.lookup_join.proofs.Walks.{get_index}
+use Rattle.std.{specs.Prelude.{find, int_le, int_lt, option_map, slice_get, slice_index_or, IfSome}, specs.List.{AllByRecursion, range_with_len}, proofs.lemmas.Bool.lt-ltb, proofs.lemmas.List.{length-map, map-append}, proofs.lemmas.Option.{none-some, slice_get-map, same_Some}}
+use Rattle.key_lists.{proofs.Every.{every_unmapped, every_weaker, every-filter, filter-map, map_map}, proofs.Among.among_above, proofs.Ranges.{range_last, range_below}}
+use Rattle.lookup_join.{specs.declared.pick.Pick.TheVariants.Last, specs.Latest.{latest_by, match_of, next_time}, specs.Notes.{IsNumbered, Note, next_after, note_of, noted_of, notes_of}, specs.declared.latest.Found.Found, specs.declared.notes.Noted.Noted, proofs.Brought.none_under, proofs.Spans.{latest_every, latest-map}, proofs.Walks.get_index}
 use Rattle.row_groups.specs.Members.{Member, by_at, group_of, keys_of, member_of, member_under, placed, with_member}
 use Rattle.tick_model.specs.Tables.{same_cells}
 

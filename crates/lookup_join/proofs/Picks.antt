@@ -1,10 +1,7 @@
 -- Which of two rows is picked, by their times.
 use Rattle.std.proofs.Common.{◌≡◌, true, false, arith, ℤ}
-use Rattle.std.specs.Prelude.{int_le, int_lt}
-use Rattle.std.proofs.lemmas.Int.{ints}
-use Rattle.lookup_join.specs.declared.pick.Pick.{Pick}
-use Rattle.lookup_join.specs.declared.pick.Pick.TheVariants.{First, Last, Latest}
-use Rattle.lookup_join.specs.Latest.{beats}
+use Rattle.std.{specs.Prelude.{int_le, int_lt}, proofs.lemmas.Int.ints}
+use Rattle.lookup_join.{specs.declared.pick.Pick.Pick, specs.declared.pick.Pick.TheVariants.{First, Last, Latest}, specs.Latest.beats}
 
 pub one_way : (a b : ℤ) → int_lt a b ≡ true → int_lt b a ≡ false
 one_way a b e = grind (arith, ints)

@@ -2,10 +2,7 @@
 use Rattle.std.proofs.Common.{Option}
 use Rattle.tick_model.specs.declared.table.NodeFault.{NodeFault}
 use Rattle.table_operator.specs.Made.{IsCause as IsStepCause}
-use Rattle.lookup_join.specs.declared.join_op.JoinFault.{JoinFault}
-use Rattle.lookup_join.specs.declared.join_op.JoinFault.TheVariants.{Memory, DuplicateRight}
-use Rattle.lookup_join.specs.Joiner.{IsCause}
-use Rattle.lookup_join.specs.Made.{of_join}
+use Rattle.lookup_join.{specs.declared.join_op.JoinFault.JoinFault, specs.declared.join_op.JoinFault.TheVariants.{Memory, DuplicateRight}, specs.Joiner.IsCause, specs.Made.of_join}
 
 pub cause_is : (fault : JoinFault) (own : Option NodeFault) → IsCause fault own → IsStepCause (of_join fault) own
 cause_is Memory own h = tt

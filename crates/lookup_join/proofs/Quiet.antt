@@ -1,22 +1,10 @@
 -- What is taken of right rows that a step does not touch stays the same.
 use Rattle.std.proofs.Common.{◌≡◌, refl, ap, sym, ◌∙◌, subst, Bool, true, false, not, cond, ℕ, ◌⊎◌, inl, inr, List, [], ◌∷◌, map, filter, Option, Some, ℤ, true≢false}
-use Rattle.std.specs.Prelude.{option_map, unwrap_or}
-use Rattle.std.specs.Cmp.Rules.{signed_items}
-use Rattle.std.specs.List.{AllByRecursion}
-use Rattle.std.proofs.lemmas.Bool.{not-false}
-use Rattle.key_lists.specs.Keys.{is_among, without}
-use Rattle.key_lists.proofs.Among.{of_among}
-use Rattle.key_lists.proofs.Every.{every, every_both, every_weaker, every-filter, filter-map, filter_in, filter_passes, filter_same, map_map, map_own, map_same}
-use Rattle.key_lists.proofs.Rising.{as_filter}
+use Rattle.std.{specs.Prelude.{option_map, unwrap_or}, specs.Cmp.Rules.signed_items, specs.List.AllByRecursion, proofs.lemmas.Bool.not-false}
+use Rattle.key_lists.{specs.Keys.{is_among, without}, proofs.Among.of_among, proofs.Every.{every, every_both, every_weaker, every-filter, filter-map, filter_in, filter_passes, filter_same, map_map, map_own, map_same}, proofs.Rising.as_filter}
 use Rattle.shown_rows.proofs.Restricted.{is_modified, kept, modified_by}
-use Rattle.tick_model.specs.declared.table.PlainRow.{PlainRow}
-use Rattle.tick_model.specs.declared.table.PlainTable.{PlainTable}
-use Rattle.tick_model.specs.declared.update.KeyPair.{KeyPair}
-use Rattle.tick_model.specs.Tables.{IsTable, cells_at, keys, row_at}
-use Rattle.tick_model.specs.Updates.{Update, differs, kept_pair, new_keys, old_keys}
-use Rattle.tick_model.proofs.Among.{each_found}
-use Rattle.tick_table.specs.Exact.{IsExact}
-use Rattle.tick_table.specs.Ticking.{Ticking}
+use Rattle.tick_model.{specs.declared.table.PlainRow.PlainRow, specs.declared.table.PlainTable.PlainTable, specs.declared.update.KeyPair.KeyPair, specs.Tables.{IsTable, cells_at, keys, row_at}, specs.Updates.{Update, differs, kept_pair, new_keys, old_keys}, proofs.Among.each_found}
+use Rattle.tick_table.{specs.Exact.IsExact, specs.Ticking.Ticking}
 
 -- what holds of the elements that pass a test holds of each that passes it
 pub every_unfiltered : {X : Type 0} (P : X → Type 0) (p : X → Bool) (xs : List X) → AllByRecursion P (filter p xs) → AllByRecursion (λ x. p x ≡ true → P x) xs

@@ -2,13 +2,8 @@
 use Rattle.std.proofs.Common.{◌≡◌, ap₂, ◌∙◌, ℕ, List, ◌++◌, take, drop, length, append_assoc, ℤ}
 use Rattle.std.proofs.Math.Seq.{drop-append_seam}
 use Rattle.key_lists.proofs.Parts.{take_front}
-use Rattle.lookup_join.specs.declared.keyed.Side.TheVariants.{Left}
-use Rattle.lookup_join.specs.declared.pick.Pick.{Pick}
-use Rattle.lookup_join.specs.Keyed.{key_cells, time_of}
-use Rattle.lookup_join.specs.Taken.{taken_cells}
-use Rattle.lookup_join.proofs.Gathered.{matched_cells}
-use Rattle.tick_model.specs.declared.plan.OnPair.{OnPair}
-use Rattle.tick_model.specs.declared.table.PlainRow.{PlainRow}
+use Rattle.lookup_join.{specs.declared.keyed.Side.TheVariants.Left, specs.declared.pick.Pick.Pick, specs.Keyed.{key_cells, time_of}, specs.Taken.taken_cells, proofs.Gathered.matched_cells}
+use Rattle.tick_model.{specs.declared.plan.OnPair.OnPair, specs.declared.table.PlainRow.PlainRow}
 
 module _ (on : List OnPair) (pick : Pick) (take_columns : List ℕ) (rows : List PlainRow) where
   -- the cells that a left row takes

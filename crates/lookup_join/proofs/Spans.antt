@@ -1,14 +1,8 @@
 -- What is picked until a time, where it is known until an earlier one.
 use Rattle.std.proofs.Common.{◌≡◌, refl, ap, ap₂, sym, ◌∙◌, Bool, true, false, cond, ◌&&◌, arith, List, [], ◌∷◌, map, filter, Option, Some, None, ℤ, true≢false}
-use Rattle.std.specs.Prelude.{int_le, int_lt, option_map, IfSome}
-use Rattle.std.specs.List.{AllByRecursion}
-use Rattle.std.proofs.lemmas.Bool.{and_parts}
-use Rattle.std.proofs.lemmas.Int.{ints}
+use Rattle.std.{specs.Prelude.{int_le, int_lt, option_map, IfSome}, specs.List.AllByRecursion, proofs.lemmas.Bool.and_parts, proofs.lemmas.Int.ints}
 use Rattle.key_lists.proofs.Every.{filter_passes}
-use Rattle.lookup_join.specs.declared.pick.Pick.{Pick}
-use Rattle.lookup_join.specs.Latest.{beats, latest_by, or_later}
-use Rattle.lookup_join.proofs.Latests.{latest_first}
-use Rattle.lookup_join.proofs.Picks.{beats_later, beats_no_earlier}
+use Rattle.lookup_join.{specs.declared.pick.Pick.Pick, specs.Latest.{beats, latest_by, or_later}, proofs.Latests.latest_first, proofs.Picks.{beats_later, beats_no_earlier}}
 
 -- the latest is one of all
 pub latest_every : {X : Type 0} (pick : Pick) (time : X → ℤ) (P : X → Type 0) (xs : List X) → AllByRecursion P xs → IfSome (latest_by pick time xs) P

@@ -1,22 +1,11 @@
 -- What is taken of right rows, where a step touches none between two times.
 use Rattle.std.proofs.Common.{◌≡◌, refl, ap, sym, ◌∙◌, Bool, true, false, List, map, filter, Option, Some, None, ℤ, ℕ}
-use Rattle.std.specs.Prelude.{int_le, option_map}
-use Rattle.std.specs.List.{AllByRecursion}
+use Rattle.std.{specs.Prelude.{int_le, option_map}, specs.List.AllByRecursion}
 use Rattle.key_lists.proofs.Every.{filter-map}
-use Rattle.lookup_join.specs.declared.keyed.Side.TheVariants.{Right}
-use Rattle.lookup_join.specs.declared.pick.Pick.{Pick}
-use Rattle.lookup_join.specs.Keyed.{key_cells, time_of}
-use Rattle.lookup_join.specs.Latest.{latest_by}
-use Rattle.lookup_join.specs.Taken.{gathered, taken_cells}
-use Rattle.lookup_join.proofs.Quiet.{FailsBoth, cells_stay}
-use Rattle.lookup_join.proofs.Spans.{between, latest-map, latest_split, or_else, reach}
+use Rattle.lookup_join.{specs.declared.keyed.Side.TheVariants.Right, specs.declared.pick.Pick.Pick, specs.Keyed.{key_cells, time_of}, specs.Latest.latest_by, specs.Taken.{gathered, taken_cells}, proofs.Quiet.{FailsBoth, cells_stay}, proofs.Spans.{between, latest-map, latest_split, or_else, reach}}
 use Rattle.shown_rows.proofs.Restricted.{is_modified, kept}
-use Rattle.tick_model.specs.declared.plan.OnPair.{OnPair}
-use Rattle.tick_model.specs.declared.table.PlainRow.{PlainRow}
-use Rattle.tick_model.specs.Join.{taken}
-use Rattle.tick_model.specs.Tables.{cell, cells_at, null, same_cells}
-use Rattle.tick_table.specs.Exact.{IsExact}
-use Rattle.tick_table.specs.Ticking.{Ticking}
+use Rattle.tick_model.{specs.declared.plan.OnPair.OnPair, specs.declared.table.PlainRow.PlainRow, specs.Join.taken, specs.Tables.{cell, cells_at, null, same_cells}}
+use Rattle.tick_table.{specs.Exact.IsExact, specs.Ticking.Ticking}
 
 abbrev taken_of : List ℕ → Option (List ℤ) → List ℤ
 taken_of take None = map (λ _. null) take

@@ -1,19 +1,11 @@
 -- The pairs of rows that a step modifies, and what a step reads.
 use Rattle.std.proofs.Common.{◌≡◌, ap, sym, ◌∙◌, subst, not, true, ℕ, ◌+◌, ◌*◌, ◌≤◌, arith, length}
-use Rattle.std.specs.List.{AllByRecursion}
-use Rattle.std.proofs.Math.Nat.{mul-le-mul_left}
-use Rattle.std.proofs.lemmas.List.{length-map}
-use Rattle.key_lists.specs.Keys.{is_among}
-use Rattle.key_lists.proofs.Among.{each_among}
-use Rattle.key_lists.proofs.Every.{every_unmapped, every-filter}
+use Rattle.std.{specs.List.AllByRecursion, proofs.Math.Nat.mul-le-mul_left, proofs.lemmas.List.length-map}
+use Rattle.key_lists.{specs.Keys.is_among, proofs.Among.each_among, proofs.Every.{every_unmapped, every-filter}}
 use Rattle.lookup_join.specs.Taken.{modified_pairs}
 use Rattle.shown_rows.proofs.Restricted.{is_modified, kept, modified_new}
-use Rattle.tick_model.specs.Changes.{Change}
-use Rattle.tick_model.specs.declared.update.KeyPair.{KeyPair}
-use Rattle.tick_model.specs.Tables.{keys}
-use Rattle.tick_model.specs.Updates.{Update, new_keys, old_keys}
-use Rattle.tick_table.specs.Exact.{IsExact, counted}
-use Rattle.tick_table.specs.Ticking.{Ticking}
+use Rattle.tick_model.{specs.Changes.Change, specs.declared.update.KeyPair.KeyPair, specs.Tables.keys, specs.Updates.{Update, new_keys, old_keys}}
+use Rattle.tick_table.{specs.Exact.{IsExact, counted}, specs.Ticking.Ticking}
 
 module _ (t : Ticking) (e : IsExact t) where
   pub modified_before : AllByRecursion (λ (pair : KeyPair). is_among pair.old (keys t.old.rows) ≡ true) (modified_pairs t)

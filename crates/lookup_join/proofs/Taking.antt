@@ -1,31 +1,11 @@
 -- What was taken before a step, by its notes or by the right rows of now.
 use Rattle.std.proofs.Common.{◌≡◌, refl, ap, sym, ◌∙◌, subst, Bool, true, false, cond, ◌&&◌, ℕ, List, [], ◌∷◌, ◌++◌, map, filter, Option, Some, None, ℤ, true≢false, unwrap_or}
-use Rattle.std.specs.Prelude.{int_le, option_map, IfSome}
-use Rattle.std.specs.List.{AllByRecursion}
-use Rattle.std.proofs.lemmas.Option.{none-some}
-use Rattle.key_lists.specs.Keys.{is_among, IsRising}
-use Rattle.key_lists.proofs.Every.{every-append, every-filter}
-use Rattle.lookup_join.specs.declared.keyed.Side.TheVariants.{Right}
-use Rattle.lookup_join.specs.declared.pick.Pick.{Pick}
-use Rattle.lookup_join.specs.declared.pick.Pick.TheVariants.{Last}
-use Rattle.lookup_join.specs.Keyed.{key_cells, keyed, time_of}
-use Rattle.lookup_join.specs.Latest.{beats, latest_by, or_later}
-use Rattle.lookup_join.specs.Notes.{Note, Spot, fresh_note, is_noted, note_of, noting, taken_key, with_note}
-use Rattle.lookup_join.specs.Taken.{AreMatched, IsThere, cell_of, gathered, match_before, match_now, modified_pairs, step_notes, taken_cells, touched_spots}
-use Rattle.lookup_join.proofs.Gathered.{match_is}
-use Rattle.lookup_join.proofs.Latests.{latest_first}
-use Rattle.lookup_join.proofs.Noting.{quiet}
-use Rattle.lookup_join.proofs.Spans.{latest_every, reach}
-use Rattle.lookup_join.proofs.Stays.{own, stays_whole, time}
+use Rattle.std.{specs.Prelude.{int_le, option_map, IfSome}, specs.List.AllByRecursion, proofs.lemmas.Option.none-some}
+use Rattle.key_lists.{specs.Keys.{is_among, IsRising}, proofs.Every.{every-append, every-filter}}
+use Rattle.lookup_join.{specs.declared.keyed.Side.TheVariants.Right, specs.declared.pick.Pick.Pick, specs.declared.pick.Pick.TheVariants.Last, specs.Keyed.{key_cells, keyed, time_of}, specs.Latest.{beats, latest_by, or_later}, specs.Notes.{Note, Spot, fresh_note, is_noted, note_of, noting, taken_key, with_note}, specs.Taken.{AreMatched, IsThere, cell_of, gathered, match_before, match_now, modified_pairs, step_notes, taken_cells, touched_spots}, proofs.Gathered.match_is, proofs.Latests.latest_first, proofs.Noting.quiet, proofs.Spans.{latest_every, reach}, proofs.Stays.{own, stays_whole, time}}
 use Rattle.row_groups.specs.Members.{Grouped, Member, member_of}
-use Rattle.tick_model.specs.declared.plan.OnPair.{OnPair}
-use Rattle.tick_model.specs.declared.table.PlainRow.{PlainRow}
-use Rattle.tick_model.specs.declared.table.PlainTable.{PlainTable}
-use Rattle.tick_model.specs.Join.{taken}
-use Rattle.tick_model.specs.Tables.{cell, keys, row_at, same_cells}
-use Rattle.tick_model.proofs.Among.{each_found, rows_among}
-use Rattle.tick_table.specs.Exact.{IsExact}
-use Rattle.tick_table.specs.Ticking.{Ticking}
+use Rattle.tick_model.{specs.declared.plan.OnPair.OnPair, specs.declared.table.PlainRow.PlainRow, specs.declared.table.PlainTable.PlainTable, specs.Join.taken, specs.Tables.{cell, keys, row_at, same_cells}, proofs.Among.{each_found, rows_among}}
+use Rattle.tick_table.{specs.Exact.IsExact, specs.Ticking.Ticking}
 
 pub map_twice : {X Y Z : Type 0} (f : Y → Z) (g : X → Y) (o : Option X) → option_map f (option_map g o) ≡ option_map (λ x. f (g x)) o
 map_twice f g None = refl

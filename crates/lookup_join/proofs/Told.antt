@@ -1,34 +1,11 @@
 -- The left rows for which a note speaks.
 use Rattle.std.proofs.Common.{◌≡◌, refl, ap, ap₂, sym, ◌∙◌, subst, Bool, true, false, not, cond, ◌&&◌, ◌||◌, ◌==◌, ℕ, List, [], ◌∷◌, map, filter, Option, Some, None, ℤ, true≢false}
-use Rattle.std.specs.Prelude.{flat_map, int_le, int_lt, option_map, unwrap_or, IfSome}
-use Rattle.std.specs.List.{AllByRecursion}
-use Rattle.std.proofs.lemmas.Bool.{and_parts, or_parts}
-use Rattle.std.specs.Cmp.Rules.{signed_items}
-use Rattle.key_lists.specs.Keys.{is_among}
-use Rattle.key_lists.proofs.Among.{among-append, among-filter}
-use Rattle.key_lists.proofs.Every.{every_weaker, every-filter, filter-map, filter_filter, filter_same, map_map}
-use Rattle.lookup_join.specs.declared.keyed.Side.TheVariants.{Left, Right}
-use Rattle.lookup_join.specs.declared.pick.Pick.{Pick}
-use Rattle.lookup_join.specs.declared.pick.Pick.TheVariants.{Last}
-use Rattle.lookup_join.specs.Keyed.{key_cells, keyed, time_of}
-use Rattle.lookup_join.specs.Latest.{during, match_of, next_time}
-use Rattle.lookup_join.specs.Notes.{Note, next_after, note_of}
-use Rattle.lookup_join.specs.Taken.{cell_of, end_of, match_before, speaks, step_notes, taken_cells, turned_note}
-use Rattle.lookup_join.proofs.Before.{spoken_late, unspoken_late}
-use Rattle.lookup_join.proofs.Clear.{after_clear, clear_after, clear_late, clear_next, earlier_ends, ends_after, late_clear, next_clear, within}
-use Rattle.lookup_join.proofs.Noted.{found_own, noted_stays, noted_then, notes_clear}
-use Rattle.lookup_join.proofs.Noting.{quiet}
-use Rattle.lookup_join.proofs.Spans.{between, latest_every}
-use Rattle.lookup_join.proofs.Stays.{before_then, late, own, taken_then, time}
-use Rattle.lookup_join.proofs.Taking.{IsOwn, taken_before, taken_now, unnoted_stays}
+use Rattle.std.{specs.Prelude.{flat_map, int_le, int_lt, option_map, unwrap_or, IfSome}, specs.List.AllByRecursion, proofs.lemmas.Bool.{and_parts, or_parts}, specs.Cmp.Rules.signed_items}
+use Rattle.key_lists.{specs.Keys.is_among, proofs.Among.{among-append, among-filter}, proofs.Every.{every_weaker, every-filter, filter-map, filter_filter, filter_same, map_map}}
+use Rattle.lookup_join.{specs.declared.keyed.Side.TheVariants.{Left, Right}, specs.declared.pick.Pick.Pick, specs.declared.pick.Pick.TheVariants.Last, specs.Keyed.{key_cells, keyed, time_of}, specs.Latest.{during, match_of, next_time}, specs.Notes.{Note, next_after, note_of}, specs.Taken.{cell_of, end_of, match_before, speaks, step_notes, taken_cells, turned_note}, proofs.Before.{spoken_late, unspoken_late}, proofs.Clear.{after_clear, clear_after, clear_late, clear_next, earlier_ends, ends_after, late_clear, next_clear, within}, proofs.Noted.{found_own, noted_stays, noted_then, notes_clear}, proofs.Noting.quiet, proofs.Spans.{between, latest_every}, proofs.Stays.{before_then, late, own, taken_then, time}, proofs.Taking.{IsOwn, taken_before, taken_now, unnoted_stays}}
 use Rattle.row_groups.specs.Members.{Member, by_at, group_of, keys_of, member_of, placed}
-use Rattle.tick_model.specs.declared.plan.OnPair.{OnPair}
-use Rattle.tick_model.specs.declared.table.PlainRow.{PlainRow}
-use Rattle.tick_model.specs.declared.table.PlainTable.{PlainTable}
-use Rattle.tick_model.specs.Tables.{IsTable, cells_at, keys, row_at, same_cells}
-use Rattle.tick_model.proofs.Among.{each_found}
-use Rattle.tick_table.specs.Exact.{IsExact}
-use Rattle.tick_table.specs.Ticking.{Ticking}
+use Rattle.tick_model.{specs.declared.plan.OnPair.OnPair, specs.declared.table.PlainRow.PlainRow, specs.declared.table.PlainTable.PlainTable, specs.Tables.{IsTable, cells_at, keys, row_at, same_cells}, proofs.Among.each_found}
+use Rattle.tick_table.{specs.Exact.IsExact, specs.Ticking.Ticking}
 
 pub same_is : (xs ys : List ℤ) → same_cells xs ys ≡ true → xs ≡ ys
 same_is xs ys = (signed_items xs ys).0

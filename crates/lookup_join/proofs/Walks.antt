@@ -1,27 +1,11 @@
 -- Walks over keys, notes and pairs: one element more.
 use Rattle.std.proofs.Common.{◌≡◌, refl, ap, ap₂, sym, ◌∙◌, subst, Bool, true, false, cond, ◌||◌, ◌==◌, ℕ, zero, suc, ◌+◌, ◌*◌, ◌<◌, ◌≤◌, arith, List, [], ◌∷◌, ◌++◌, map, take, length, Option, Some, ℤ, pos, true≢false}
-use Rattle.std.specs.Prelude.{find, flat_map, fold, is_some, option_map, slice_get, slice_index_or, unwrap_or}
-use Rattle.std.specs.List.{AllByRecursion}
-use Rattle.std.proofs.lemmas.Bool.{eqb-true}
-use Rattle.std.proofs.lemmas.Grind.{flat_map-append}
-use Rattle.std.proofs.lemmas.List.{append-nil, length-map, map-append}
-use Rattle.std.proofs.lemmas.List.Sums.{fold-append}
-use Rattle.std.proofs.lemmas.Option.{none-some, same_Some}
-use Rattle.key_lists.specs.Keys.{is_among}
-use Rattle.key_lists.proofs.Among.{among-append}
-use Rattle.key_lists.proofs.Every.{every_weaker, map_same}
-use Rattle.lookup_join.specs.declared.keyed.Side.{Side}
-use Rattle.lookup_join.specs.declared.keyed.Side.TheVariants.{Right}
-use Rattle.lookup_join.specs.declared.pick.Pick.{Pick}
-use Rattle.lookup_join.specs.Duplicates.{cells_under}
-use Rattle.lookup_join.specs.Keyed.{column_of, indexed, key_cells, keyed, member_at, time_of}
-use Rattle.lookup_join.specs.Notes.{Note, NoteList, Spot, fresh_note, noting, spot_under, with_note}
-use Rattle.lookup_join.specs.Taken.{spot_at}
+use Rattle.std.{specs.Prelude.{find, flat_map, fold, is_some, option_map, slice_get, slice_index_or, unwrap_or}, specs.List.AllByRecursion, proofs.lemmas.Bool.eqb-true, proofs.lemmas.Grind.flat_map-append, proofs.lemmas.List.{append-nil, length-map, map-append}, proofs.lemmas.List.Sums.fold-append, proofs.lemmas.Option.{none-some, same_Some}}
+use Rattle.key_lists.{specs.Keys.is_among, proofs.Among.among-append, proofs.Every.{every_weaker, map_same}}
+use Rattle.lookup_join.{specs.declared.keyed.Side.Side, specs.declared.keyed.Side.TheVariants.Right, specs.declared.pick.Pick.Pick, specs.Duplicates.cells_under, specs.Keyed.{column_of, indexed, key_cells, keyed, member_at, time_of}, specs.Notes.{Note, NoteList, Spot, fresh_note, noting, spot_under, with_note}, specs.Taken.spot_at}
 use Rattle.row_groups.specs.Members.{Grouped, Member, keys_of, member_of, member_under}
 use Rattle.shown_rows.proofs.Walks.{take_next}
-use Rattle.tick_model.specs.declared.plan.OnPair.{OnPair}
-use Rattle.tick_model.specs.declared.table.PlainRow.{PlainRow}
-use Rattle.tick_model.specs.Tables.{cell, cells_at, keys}
+use Rattle.tick_model.{specs.declared.plan.OnPair.OnPair, specs.declared.table.PlainRow.PlainRow, specs.Tables.{cell, cells_at, keys}}
 use Rattle.tick_table.specs.Ticking.{Ticking}
 
 -- a note is what is told of it

@@ -3,8 +3,7 @@
 --     least_fault left right found groups      the one of least left key in these groups and what was found
 use Rattle.std.specs.Prelude.{ℕ, List, [], ◌∷◌, Option, Some, None, fold, nat_lt, option_map, unwrap_or, if◌then◌else◌, ℤ}
 use Rattle.lookup_join.specs.declared.duplicates.Duplicate.{Duplicate}
-use Rattle.tick_model.specs.declared.plan.Choice.{Choice}
-use Rattle.tick_model.specs.declared.plan.Choice.TheVariants.{Error, First, Last}
+use Rattle.tick_model.{specs.declared.plan.Choice.Choice, specs.declared.plan.Choice.TheVariants.{Error, First, Last}}
 use Rattle.row_groups.specs.Members.{Member, group_of, keys_of, member_under}
 
 abbrev pub first_with_two : List ℕ → List ℕ → Option Duplicate

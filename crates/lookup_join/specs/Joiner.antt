@@ -5,20 +5,9 @@
 --     joiner_of on take choice left_width right_width      the join that has seen no rows
 --     IsCause fault own      what a join answers in place of a change, where its inputs' tables have this fault
 use Rattle.std.specs.Prelude.{◌≡◌, ℕ, ◌==◌, List, [], Option, None, Some, if◌then◌else◌}
-use Rattle.lookup_join.specs.declared.join_op.JoinFault.{JoinFault}
-use Rattle.lookup_join.specs.declared.join_op.JoinFault.TheVariants.{Memory, DuplicateRight}
-use Rattle.lookup_join.specs.declared.keyed.Side.TheVariants.{Left, Right}
-use Rattle.lookup_join.specs.Keyed.{indexed}
-use Rattle.lookup_join.specs.Matched.{pick_of}
+use Rattle.lookup_join.{specs.declared.join_op.JoinFault.JoinFault, specs.declared.join_op.JoinFault.TheVariants.{Memory, DuplicateRight}, specs.declared.keyed.Side.TheVariants.{Left, Right}, specs.Keyed.indexed, specs.Matched.pick_of}
 use Rattle.row_groups.specs.Members.{Grouped}
-use Rattle.tick_model.specs.declared.plan.Choice.{Choice}
-use Rattle.tick_model.specs.declared.plan.OnPair.{OnPair}
-use Rattle.tick_model.specs.declared.plan.Op.TheVariants.{Join}
-use Rattle.tick_model.specs.declared.table.NodeFault.{NodeFault}
-use Rattle.tick_model.specs.declared.table.NodeFault.TheVariants.{DuplicateRight as TwoMatches}
-use Rattle.tick_model.specs.declared.table.PlainTable.{PlainTable}
-use Rattle.tick_model.specs.Join.{join_fault}
-use Rattle.tick_model.specs.Updates.{Tick}
+use Rattle.tick_model.{specs.declared.plan.Choice.Choice, specs.declared.plan.OnPair.OnPair, specs.declared.plan.Op.TheVariants.Join, specs.declared.table.NodeFault.NodeFault, specs.declared.table.NodeFault.TheVariants.DuplicateRight as TwoMatches, specs.declared.table.PlainTable.PlainTable, specs.Join.join_fault, specs.Updates.Tick}
 use Rattle.tick_laws.specs.Operated.{operated}
 
 pub record Joiner : Type 0 where

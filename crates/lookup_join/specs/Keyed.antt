@@ -5,18 +5,10 @@
 --     indexed side on pick rows      the index of an input's rows
 --     rekeys side on pick old new pair      whether a row that stays changes its key cells or its time
 --     IsRowOf side on pick rows member      the member is the row under its key
-use Rattle.std.specs.Prelude.{◌≡◌, ℕ, Bool, ◌&&◌, not, List, length, map, ℤ, pos}
-use Rattle.std.specs.Ordering.{int_eq}
-use Rattle.lookup_join.specs.declared.keyed.Side.{Side}
-use Rattle.lookup_join.specs.declared.keyed.Side.TheVariants.{Left, Right}
-use Rattle.lookup_join.specs.declared.pick.Pick.{Pick}
-use Rattle.lookup_join.specs.declared.pick.Pick.TheVariants.{First, Last, Latest}
+use Rattle.std.{specs.Prelude.{◌≡◌, ℕ, Bool, ◌&&◌, not, List, length, map, ℤ, pos}, specs.Ordering.int_eq}
+use Rattle.lookup_join.{specs.declared.keyed.Side.Side, specs.declared.keyed.Side.TheVariants.{Left, Right}, specs.declared.pick.Pick.Pick, specs.declared.pick.Pick.TheVariants.{First, Last, Latest}}
 use Rattle.row_groups.specs.Members.{Grouped, Member, member_of}
-use Rattle.tick_model.specs.declared.plan.OnPair.{OnPair}
-use Rattle.tick_model.specs.declared.table.PlainRow.{PlainRow}
-use Rattle.tick_model.specs.declared.table.PlainTable.{PlainTable}
-use Rattle.tick_model.specs.declared.update.KeyPair.{KeyPair}
-use Rattle.tick_model.specs.Tables.{cell, cells_at, same_cells}
+use Rattle.tick_model.{specs.declared.plan.OnPair.OnPair, specs.declared.table.PlainRow.PlainRow, specs.declared.table.PlainTable.PlainTable, specs.declared.update.KeyPair.KeyPair, specs.Tables.{cell, cells_at, same_cells}}
 
 abbrev pub column_of : Side → OnPair → ℕ
 column_of Left pair = pair.left

@@ -6,11 +6,8 @@
 --     AreTimed pick members      where the pick asks for no time, all members have the same
 --     during from until member      whether the member's time is in the time from one moment until another
 --     count_before until members      how many members come before a time, which may be missing
-use Rattle.std.specs.Prelude.{◌≡◌, ℕ, Bool, true, ◌&&◌, List, [], ◌∷◌, Option, Some, None, filter, find, int_le, int_lt, length, option_map, ℤ, pos, if◌then◌else◌}
-use Rattle.std.specs.List.{AllByRecursion, count_by}
-use Rattle.std.specs.Option.{option_map_or}
-use Rattle.lookup_join.specs.declared.pick.Pick.{Pick}
-use Rattle.lookup_join.specs.declared.pick.Pick.TheVariants.{First, Last, Latest}
+use Rattle.std.{specs.Prelude.{◌≡◌, ℕ, Bool, true, ◌&&◌, List, [], ◌∷◌, Option, Some, None, filter, find, int_le, int_lt, length, option_map, ℤ, pos, if◌then◌else◌}, specs.List.{AllByRecursion, count_by}, specs.Option.option_map_or}
+use Rattle.lookup_join.{specs.declared.pick.Pick.Pick, specs.declared.pick.Pick.TheVariants.{First, Last, Latest}}
 use Rattle.row_groups.specs.Members.{Member, group_of}
 use Rattle.tick_model.specs.Tables.{same_cells}
 

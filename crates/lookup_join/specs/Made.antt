@@ -4,20 +4,10 @@
 --     CanTake take widths      the taken columns are those of the right input, and the result has few
 --     CanJoin op widths, CanMatch op widths      it can be made of this operator of a plan, for inputs of these widths
 --     of_join fault      what a fault of a join is among those of all operators
-use Rattle.std.specs.Prelude.{ℕ, ◌+◌, ◌<◌, ◌≤◌, List, [], ◌∷◌, length, slice_index}
-use Rattle.std.specs.List.{AllByRecursion}
-use Rattle.tick_model.specs.declared.plan.Op.{Op}
-use Rattle.tick_model.specs.declared.plan.Op.TheVariants.{AsOf, Join}
-use Rattle.tick_model.specs.declared.table.NodeFault.TheVariants.{DuplicateRight as TwoMatches}
-use Rattle.tick_model.specs.declared.table.PlainTable.{PlainTable}
-use Rattle.tick_model.specs.Ready.{table_in}
-use Rattle.table_operator.specs.declared.fault.StepFault.{StepFault}
-use Rattle.table_operator.specs.declared.fault.StepFault.TheVariants.{Memory, Node}
-use Rattle.table_operator.specs.Made.{Made}
-use Rattle.lookup_join.specs.declared.join_op.JoinFault.{JoinFault}
-use Rattle.lookup_join.specs.declared.join_op.JoinFault.TheVariants.{Memory as JoinMemory, DuplicateRight}
-use Rattle.lookup_join.specs.Joiner.{Joiner, Stands as StandsJoined}
-use Rattle.lookup_join.specs.Matcher.{Matcher, Stands as StandsMatched}
+use Rattle.std.{specs.Prelude.{ℕ, ◌+◌, ◌<◌, ◌≤◌, List, [], ◌∷◌, length, slice_index}, specs.List.AllByRecursion}
+use Rattle.tick_model.{specs.declared.plan.Op.Op, specs.declared.plan.Op.TheVariants.{AsOf, Join}, specs.declared.table.NodeFault.TheVariants.DuplicateRight as TwoMatches, specs.declared.table.PlainTable.PlainTable, specs.Ready.table_in}
+use Rattle.table_operator.{specs.declared.fault.StepFault.StepFault, specs.declared.fault.StepFault.TheVariants.{Memory, Node}, specs.Made.Made}
+use Rattle.lookup_join.{specs.declared.join_op.JoinFault.JoinFault, specs.declared.join_op.JoinFault.TheVariants.{Memory as JoinMemory, DuplicateRight}, specs.Joiner.{Joiner, Stands as StandsJoined}, specs.Matcher.{Matcher, Stands as StandsMatched}}
 
 abbrev pub join_made : Joiner → Made
 join_made join = record { op = Join 0 1 join.on join.take join.choice; widths = join.left_width ∷ join.right_width ∷ [] }

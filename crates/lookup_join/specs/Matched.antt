@@ -4,17 +4,9 @@
 --     matched_table on pick take left right      the left rows, each followed by cells of its right row
 --     matched_tick on pick take left right      its tick, from those of its inputs
 use Rattle.std.specs.Prelude.{ℕ, ◌+◌, List, Option, length, map}
-use Rattle.lookup_join.specs.declared.pick.Pick.{Pick}
-use Rattle.lookup_join.specs.declared.pick.Pick.TheVariants.{First, Last, Latest}
+use Rattle.lookup_join.{specs.declared.pick.Pick.Pick, specs.declared.pick.Pick.TheVariants.{First, Last, Latest}}
 use Rattle.row_changes.specs.Mapped.{mapped_tick}
-use Rattle.tick_model.specs.AsOf.{latest, not_later}
-use Rattle.tick_model.specs.declared.plan.Choice.{Choice}
-use Rattle.tick_model.specs.declared.plan.Choice.TheVariants.{Error, First as FirstMatch, Last as LastMatch}
-use Rattle.tick_model.specs.declared.plan.OnPair.{OnPair}
-use Rattle.tick_model.specs.declared.table.PlainRow.{PlainRow}
-use Rattle.tick_model.specs.declared.table.PlainTable.{PlainTable}
-use Rattle.tick_model.specs.Join.{chosen, joined, matches}
-use Rattle.tick_model.specs.Updates.{Tick}
+use Rattle.tick_model.{specs.AsOf.{latest, not_later}, specs.declared.plan.Choice.Choice, specs.declared.plan.Choice.TheVariants.{Error, First as FirstMatch, Last as LastMatch}, specs.declared.plan.OnPair.OnPair, specs.declared.table.PlainRow.PlainRow, specs.declared.table.PlainTable.PlainTable, specs.Join.{chosen, joined, matches}, specs.Updates.Tick}
 
 abbrev pub pick_of : Choice → Pick
 pick_of Error = First

@@ -4,16 +4,10 @@
 --     matched_ticks on at take left right      the tick of an as-of join, from those of its inputs
 --     IsMatcher take left_width right_width      the result has few columns, and the taken ones are the right input's
 --     matcher_of on at take left_width right_width      the as-of join that has seen no rows
-use Rattle.std.specs.Prelude.{◌≡◌, ℕ, ◌+◌, ◌<◌, ◌≤◌, ◌==◌, List, [], length, if◌then◌else◌}
-use Rattle.std.specs.List.{AllByRecursion}
-use Rattle.lookup_join.specs.declared.keyed.Side.TheVariants.{Left, Right}
-use Rattle.lookup_join.specs.declared.pick.Pick.TheVariants.{Latest}
-use Rattle.lookup_join.specs.Keyed.{indexed}
+use Rattle.std.{specs.Prelude.{◌≡◌, ℕ, ◌+◌, ◌<◌, ◌≤◌, ◌==◌, List, [], length, if◌then◌else◌}, specs.List.AllByRecursion}
+use Rattle.lookup_join.{specs.declared.keyed.Side.TheVariants.{Left, Right}, specs.declared.pick.Pick.TheVariants.Latest, specs.Keyed.indexed}
 use Rattle.row_groups.specs.Members.{Grouped}
-use Rattle.tick_model.specs.declared.plan.OnPair.{OnPair}
-use Rattle.tick_model.specs.declared.plan.Op.TheVariants.{AsOf}
-use Rattle.tick_model.specs.declared.table.PlainTable.{PlainTable}
-use Rattle.tick_model.specs.Updates.{Tick}
+use Rattle.tick_model.{specs.declared.plan.OnPair.OnPair, specs.declared.plan.Op.TheVariants.AsOf, specs.declared.table.PlainTable.PlainTable, specs.Updates.Tick}
 use Rattle.tick_laws.specs.Operated.{operated}
 
 pub record Matcher : Type 0 where

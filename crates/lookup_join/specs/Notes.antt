@@ -5,13 +5,8 @@
 --     noting pick members notes spots      notes of these places more, by the right rows that there are
 --     notes_of members before      the notes whose key cells and times are those of members
 --     IsNumbered members before      the members are numbered as what is noted of them
-use Rattle.std.specs.Prelude.{◌≡◌, ℕ, Bool, false, ◌&&◌, List, [], ◌∷◌, ◌++◌, Option, Some, None, filter, fold, int_le, length, map, option_map, unwrap_or, ℤ, pos, if◌then◌else◌}
-use Rattle.std.specs.List.{range_with_len}
-use Rattle.std.specs.Ordering.{int_eq}
-use Rattle.lookup_join.specs.declared.notes.Noted.{Noted}
-use Rattle.lookup_join.specs.declared.pick.Pick.{Pick}
-use Rattle.lookup_join.specs.declared.pick.Pick.TheVariants.{Last}
-use Rattle.lookup_join.specs.Latest.{latest_by, match_of, next_time}
+use Rattle.std.{specs.Prelude.{◌≡◌, ℕ, Bool, false, ◌&&◌, List, [], ◌∷◌, ◌++◌, Option, Some, None, filter, fold, int_le, length, map, option_map, unwrap_or, ℤ, pos, if◌then◌else◌}, specs.List.range_with_len, specs.Ordering.int_eq}
+use Rattle.lookup_join.{specs.declared.notes.Noted.Noted, specs.declared.pick.Pick.Pick, specs.declared.pick.Pick.TheVariants.Last, specs.Latest.{latest_by, match_of, next_time}}
 use Rattle.row_groups.specs.Members.{Member, keys_of, member_of, member_under}
 use Rattle.tick_model.specs.Tables.{same_cells}
 

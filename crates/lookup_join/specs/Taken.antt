@@ -8,27 +8,12 @@
 --     match_as_before pick members notes cells at      the right row that was taken before the step
 --     turned_note pick take left right notes old new note      the left rows for which a note speaks, where they take other cells now
 --     turned_keys on pick take left right      the left rows for which the notes of a step speak so
-use Rattle.std.specs.Prelude.{◌≡◌, ℕ, ◌<◌, Bool, true, ◌&&◌, List, [], ◌∷◌, ◌++◌, Option, Some, None, filter, flat_map, int_le, map, option_map, ℤ, if◌then◌else◌, IsTrue}
-use Rattle.std.specs.List.{AllByRecursion}
+use Rattle.std.{specs.Prelude.{◌≡◌, ℕ, ◌<◌, Bool, true, ◌&&◌, List, [], ◌∷◌, ◌++◌, Option, Some, None, filter, flat_map, int_le, map, option_map, ℤ, if◌then◌else◌, IsTrue}, specs.List.AllByRecursion}
 use Rattle.key_lists.specs.Keys.{is_among}
-use Rattle.lookup_join.specs.declared.keyed.Side.{Side}
-use Rattle.lookup_join.specs.declared.keyed.Side.TheVariants.{Left, Right}
-use Rattle.lookup_join.specs.declared.matches.Match.{Match}
-use Rattle.lookup_join.specs.declared.matches.Match.TheVariants.{Before, Now, Nothing}
-use Rattle.lookup_join.specs.declared.pick.Pick.{Pick}
-use Rattle.lookup_join.specs.Keyed.{indexed, key_at, key_cells, keyed, rekeys, time_at, time_of}
-use Rattle.lookup_join.specs.Latest.{during, earlier, latest_by, match_of, next_time}
-use Rattle.lookup_join.specs.Notes.{Note, Spot, next_after, note_of, noting, taken_key}
+use Rattle.lookup_join.{specs.declared.keyed.Side.Side, specs.declared.keyed.Side.TheVariants.{Left, Right}, specs.declared.matches.Match.Match, specs.declared.matches.Match.TheVariants.{Before, Now, Nothing}, specs.declared.pick.Pick.Pick, specs.Keyed.{indexed, key_at, key_cells, keyed, rekeys, time_at, time_of}, specs.Latest.{during, earlier, latest_by, match_of, next_time}, specs.Notes.{Note, Spot, next_after, note_of, noting, taken_key}}
 use Rattle.row_groups.specs.Members.{Grouped, Member, group_of, keys_of}
-use Rattle.tick_model.specs.declared.plan.OnPair.{OnPair}
-use Rattle.tick_model.specs.declared.table.PlainRow.{PlainRow}
-use Rattle.tick_model.specs.declared.table.PlainTable.{PlainTable}
-use Rattle.tick_model.specs.declared.update.KeyPair.{KeyPair}
-use Rattle.tick_model.specs.Join.{taken}
-use Rattle.tick_model.specs.Tables.{cell, cells_at, keys, null, same_cells}
-use Rattle.tick_model.specs.Updates.{Update, pairs}
-use Rattle.tick_table.specs.Exact.{IsExact}
-use Rattle.tick_table.specs.Ticking.{Ticking}
+use Rattle.tick_model.{specs.declared.plan.OnPair.OnPair, specs.declared.table.PlainRow.PlainRow, specs.declared.table.PlainTable.PlainTable, specs.declared.update.KeyPair.KeyPair, specs.Join.taken, specs.Tables.{cell, cells_at, keys, null, same_cells}, specs.Updates.{Update, pairs}}
+use Rattle.tick_table.{specs.Exact.IsExact, specs.Ticking.Ticking}
 
 abbrev pub match_before : Option ℕ → Match
 match_before None = Nothing

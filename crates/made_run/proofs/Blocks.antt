@@ -1,35 +1,10 @@
 -- The block of a step breaks no rule, and leaves its rows under keys in a row.
 use Rattle.std.proofs.Common.{◌≡◌, refl, ap, ap₂, sym, ◌∙◌, subst, ℕ, zero, suc, ◌+◌, ◌-◌, ◌*◌, ◌%◌, ◌^◌, ◌==◌, ◌<◌, ◌≤◌, arith, Bool, true, false, cond, not, ◌||◌, List, [], ◌∷◌, ◌++◌, map, length, Some, None, pos, ltb, lit≤}
-use Rattle.std.specs.Prelude.{find, option_map}
-use Rattle.std.specs.List.{AllByRecursion, range_with_len}
-use Rattle.std.specs.Option.{option_or}
-use Rattle.std.proofs.lemmas.Bool.{cond-false, le-ltb, or_left}
-use Rattle.std.proofs.lemmas.List.{length-map}
-use Rattle.std.proofs.lemmas.List.FromFn.{length-range_with_len}
-use Rattle.key_lists.specs.Keys.{is_among, IsRising, without}
-use Rattle.key_lists.proofs.Among.{among-append}
-use Rattle.key_lists.proofs.Every.{every_weaker, find_none}
-use Rattle.key_lists.proofs.Ranges.{among_range, each_from}
-use Rattle.tick_model.specs.declared.feed.Block.{Block}
-use Rattle.tick_model.specs.declared.table.PlainRow.{PlainRow}
-use Rattle.tick_model.specs.declared.table.PlainTable.{PlainTable}
-use Rattle.tick_model.specs.declared.update.FeedRule.TheVariants.{Update as ByUpdate, TooManyRows}
-use Rattle.tick_model.specs.declared.update.UpdateFault.TheVariants.{RemovedAbsent, AddedTaken, ModifiedAbsent, ModifiedAdded}
-use Rattle.tick_model.specs.Rules.{landed, shift_fault, update_fault}
-use Rattle.tick_model.specs.Shifts.{moved}
-use Rattle.tick_model.specs.Sources.{block_fault, carried, too_many, update_of}
-use Rattle.tick_model.specs.Tables.{keys}
-use Rattle.tick_model.specs.Updates.{Update}
-use Rattle.tick_laws.specs.Checked.{IsChecked, keys_after, put_keys}
-use Rattle.tick_laws.proofs.Blocks.{block_told}
-use Rattle.tick_laws.proofs.CheckedUpdates.{keys-carry}
-use Rattle.tick_laws.proofs.LawfulSources.{rising_range}
-use Rattle.made_run.specs.Draws.{draw, after, drawn_row, drawn_rows}
-use Rattle.made_run.specs.Steps.{block_of, removes, survivors}
-use Rattle.made_run.proofs.Drawn.{draw-below, keys-drawn}
-use Rattle.made_run.proofs.Numbers.{among_none_before, not_among_row, put_row, row_without, without_none}
-use Rattle.made_run.proofs.Searches.{mapped_none, or_none}
-use Rattle.made_run.proofs.Shifts.{landed_row, moved_up, no_shift_fault, unmoved, up_by_ten}
+use Rattle.std.{specs.Prelude.{find, option_map}, specs.List.{AllByRecursion, range_with_len}, specs.Option.option_or, proofs.lemmas.Bool.{cond-false, le-ltb, or_left}, proofs.lemmas.List.length-map, proofs.lemmas.List.FromFn.length-range_with_len}
+use Rattle.key_lists.{specs.Keys.{is_among, IsRising, without}, proofs.Among.among-append, proofs.Every.{every_weaker, find_none}, proofs.Ranges.{among_range, each_from}}
+use Rattle.tick_model.{specs.declared.feed.Block.Block, specs.declared.table.PlainRow.PlainRow, specs.declared.table.PlainTable.PlainTable, specs.declared.update.FeedRule.TheVariants.{Update as ByUpdate, TooManyRows}, specs.declared.update.UpdateFault.TheVariants.{RemovedAbsent, AddedTaken, ModifiedAbsent, ModifiedAdded}, specs.Rules.{landed, shift_fault, update_fault}, specs.Shifts.moved, specs.Sources.{block_fault, carried, too_many, update_of}, specs.Tables.keys, specs.Updates.Update}
+use Rattle.tick_laws.{specs.Checked.{IsChecked, keys_after, put_keys}, proofs.Blocks.block_told, proofs.CheckedUpdates.keys-carry, proofs.LawfulSources.rising_range}
+use Rattle.made_run.{specs.Draws.{draw, after, drawn_row, drawn_rows}, specs.Steps.{block_of, removes, survivors}, proofs.Drawn.{draw-below, keys-drawn}, proofs.Numbers.{among_none_before, not_among_row, put_row, row_without, without_none}, proofs.Searches.{mapped_none, or_none}, proofs.Shifts.{landed_row, moved_up, no_shift_fault, unmoved, up_by_ten}}
 
 -- an update of rows under keys in a row, which removes the first of them, moves the others into their place, adds more behind them and
 -- modifies some

@@ -1,13 +1,9 @@
 -- What is drawn: numbers below their limits, and rows under keys in a row.
 use Rattle.std.proofs.Common.{◌≡◌, refl, ap, sym, ◌∙◌, ℕ, zero, suc, ◌+◌, ◌*◌, ◌/◌, ◌%◌, ◌^◌, ◌<◌, ◌≤◌, arith, Bool, true, false, List, [], ◌∷◌, map}
-use Rattle.std.specs.List.{AllByRecursion, range_with_len}
-use Rattle.std.proofs.lemmas.Nat.{mod_below}
-use Rattle.key_lists.proofs.Every.{every-map, map_map}
-use Rattle.key_lists.proofs.Ranges.{each_from}
-use Rattle.tick_model.specs.declared.table.PlainRow.{PlainRow}
-use Rattle.tick_model.specs.Tables.{keys}
-use Rattle.made_run.specs.Draws.{next, draw, after, drawn_row, drawn_rows}
-use Rattle.made_run.proofs.Numbers.{map_plus}
+use Rattle.std.{specs.List.{AllByRecursion, range_with_len}, proofs.lemmas.Nat.mod_below}
+use Rattle.key_lists.{proofs.Every.{every-map, map_map}, proofs.Ranges.each_from}
+use Rattle.tick_model.{specs.declared.table.PlainRow.PlainRow, specs.Tables.keys}
+use Rattle.made_run.{specs.Draws.{next, draw, after, drawn_row, drawn_rows}, proofs.Numbers.map_plus}
 
 pub draw-below : (below state : ℕ) → 0 < below → draw below state < below
 unfolding draw

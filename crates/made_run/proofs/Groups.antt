@@ -1,16 +1,8 @@
 -- There are no more groups than values of the column that they are made by.
 use Rattle.std.proofs.Common.{◌≡◌, refl, ap, ap₂, sym, ◌∙◌, subst, ℕ, zero, suc, ◌+◌, ◌==◌, ◌<◌, ◌≤◌, arith, Bool, true, false, cond, not, ◌&&◌, ◌||◌, List, [], ◌∷◌, map, length, Option, Some, None, ℤ, inl, inr}
-use Rattle.std.specs.Prelude.{filter, find}
-use Rattle.std.specs.List.{AllByRecursion, list_any}
-use Rattle.std.specs.Option.{option_map_or}
-use Rattle.std.specs.Ordering.{int_eq}
-use Rattle.std.specs.Cmp.{signed_Decides}
-use Rattle.std.proofs.lemmas.Bool.{and_from, and_left, and_parts, and_right, eq-eqb, eqb-true, false_from_ne_true, ne_eqb, not_from_false, not-true, or_cases, true≢false}
-use Rattle.key_lists.specs.Keys.{IsRising}
-use Rattle.key_lists.proofs.Every.{every_unmapped, every_weaker, filter_none}
-use Rattle.tick_model.specs.declared.table.PlainRow.{PlainRow}
-use Rattle.tick_model.specs.Agg.{is_first, same_group}
-use Rattle.tick_model.specs.Tables.{cell, keys}
+use Rattle.std.{specs.Prelude.{filter, find}, specs.List.{AllByRecursion, list_any}, specs.Option.option_map_or, specs.Ordering.int_eq, specs.Cmp.signed_Decides, proofs.lemmas.Bool.{and_from, and_left, and_parts, and_right, eq-eqb, eqb-true, false_from_ne_true, ne_eqb, not_from_false, not-true, or_cases, true≢false}}
+use Rattle.key_lists.{specs.Keys.IsRising, proofs.Every.{every_unmapped, every_weaker, filter_none}}
+use Rattle.tick_model.{specs.declared.table.PlainRow.PlainRow, specs.Agg.{is_first, same_group}, specs.Tables.{cell, keys}}
 
 -- where each that passes one test passes one of two others, there are no more of it than of those
 pub passes_one_of_two : {X : Type 0} (p q r : X → Bool) (xs : List X) → ((x : X) → p x ≡ true → (q x || r x) ≡ true) → length (filter p xs) ≤ length (filter q xs) + length (filter r xs)

@@ -1,21 +1,9 @@
 -- Each row of the left side has one match at most in ref, and the sector of ref's row, or none.
 use Rattle.std.proofs.Common.{◌≡◌, refl, ap, sym, ◌∙◌, subst, ℕ, zero, suc, ◌+◌, ◌%◌, ◌==◌, ◌<◌, ◌≤◌, arith, Bool, true, false, cond, ◌&&◌, ◌||◌, List, [], ◌∷◌, ◌++◌, map, length, Option, Some, None, ℤ, pos}
-use Rattle.std.specs.Prelude.{filter, slice_get}
-use Rattle.std.specs.List.{AllByRecursion, list_any, range_with_len}
-use Rattle.std.specs.Ordering.{int_eq}
-use Rattle.std.specs.Cmp.{signed_Decides}
-use Rattle.std.proofs.lemmas.Bool.{and_parts, false_from_ne_true}
-use Rattle.std.proofs.lemmas.List.{get_or_at}
-use Rattle.key_lists.proofs.Every.{every-filter, every-map, filter_none}
-use Rattle.key_lists.proofs.Ranges.{each_from}
-use Rattle.tick_model.specs.declared.plan.Choice.TheVariants.{Error}
-use Rattle.tick_model.specs.declared.plan.OnPair.{OnPair}
-use Rattle.tick_model.specs.declared.table.PlainRow.{PlainRow}
-use Rattle.tick_model.specs.declared.table.PlainTable.{PlainTable}
-use Rattle.tick_model.specs.Join.{agree, chosen, duplicate, join_fault, joined, matches, taken}
-use Rattle.tick_model.specs.Tables.{cell, null}
-use Rattle.made_run.specs.Tables.{ref_row, ref_table, sector}
-use Rattle.made_run.proofs.Searches.{filter_map_none}
+use Rattle.std.{specs.Prelude.{filter, slice_get}, specs.List.{AllByRecursion, list_any, range_with_len}, specs.Ordering.int_eq, specs.Cmp.signed_Decides, proofs.lemmas.Bool.{and_parts, false_from_ne_true}, proofs.lemmas.List.get_or_at}
+use Rattle.key_lists.{proofs.Every.{every-filter, every-map, filter_none}, proofs.Ranges.each_from}
+use Rattle.tick_model.{specs.declared.plan.Choice.TheVariants.Error, specs.declared.plan.OnPair.OnPair, specs.declared.table.PlainRow.PlainRow, specs.declared.table.PlainTable.PlainTable, specs.Join.{agree, chosen, duplicate, join_fault, joined, matches, taken}, specs.Tables.{cell, null}}
+use Rattle.made_run.{specs.Tables.{ref_row, ref_table, sector}, proofs.Searches.filter_map_none}
 
 -- `sym` against `id`
 abbrev pub by_symbol : List OnPair

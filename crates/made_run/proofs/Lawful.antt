@@ -1,34 +1,10 @@
 -- A made run is lawful.
 use Rattle.std.proofs.Common.{◌≡◌, refl, ap, sym, ◌∙◌, subst, ℕ, zero, suc, ◌+◌, ◌-◌, ◌*◌, ◌%◌, ◌^◌, ◌==◌, ◌<◌, ◌≤◌, arith, Bool, true, false, cond, ◌&&◌, List, [], ◌∷◌, map, length, pos, negsuc, not, lit<, lit≤}
-use Rattle.std.specs.Prelude.{FitsSigned, codes, nat_lt}
-use Rattle.std.specs.List.{AllByRecursion, list_all, range_with_len}
-use Rattle.std.specs.Int.{w64}
-use Rattle.std.proofs.lemmas.Bool.{and_from, and_parts, lt-ltb, not-true}
-use Rattle.std.proofs.lemmas.Int.{ints}
-use Rattle.std.proofs.lemmas.List.{length-map}
-use Rattle.std.proofs.lemmas.List.FromFn.{length-map-range_with_len, length-range_with_len}
-use Rattle.key_lists.specs.Keys.{IsRising}
-use Rattle.key_lists.proofs.Every.{every-map}
-use Rattle.key_lists.proofs.Ranges.{each_from}
-use Rattle.tick_model.specs.declared.feed.Batch.{Batch}
-use Rattle.tick_model.specs.declared.feed.Block.{Block}
-use Rattle.tick_model.specs.declared.table.PlainRow.{PlainRow}
-use Rattle.tick_model.specs.declared.plan.Kind.TheVariants.{Long, Text}
-use Rattle.tick_model.specs.declared.update.KeyRange.{KeyRange}
-use Rattle.tick_model.specs.Changes.{is_none}
-use Rattle.tick_model.specs.LawfulRuns.{AreRanges, AreTexts, IsLawfulBlock, IsLawfulRun, IsOpening, IsSourceRow, is_before}
-use Rattle.tick_model.specs.Printable.{IsShift, IsShiftRange, fit_columns, names_text}
-use Rattle.tick_model.specs.Tables.{keys}
-use Rattle.tick_laws.proofs.EvalNodes.{all_pass}
-use Rattle.tick_laws.proofs.LawfulSources.{rising_range}
-use Rattle.made_run.specs.Draws.{after, draw, drawn_cells, drawn_row, drawn_rows}
-use Rattle.made_run.specs.Plan.{column, plan, ref_columns, trades_columns}
-use Rattle.made_run.specs.Run.{made}
-use Rattle.made_run.specs.Steps.{batch_after, block_of, draws_after, removes, rows_after, survivors}
-use Rattle.made_run.specs.Tables.{ref_row, ref_table, sector, texts, trades_table}
-use Rattle.made_run.proofs.Drawn.{draw-below, every_drawn, keys-drawn}
-use Rattle.made_run.proofs.Rows.{many_where_removed, rows_are_few, some_left}
-use Rattle.made_run.proofs.Shifts.{up_by_ten}
+use Rattle.std.{specs.Prelude.{FitsSigned, codes, nat_lt}, specs.List.{AllByRecursion, list_all, range_with_len}, specs.Int.w64, proofs.lemmas.Bool.{and_from, and_parts, lt-ltb, not-true}, proofs.lemmas.Int.ints, proofs.lemmas.List.length-map, proofs.lemmas.List.FromFn.{length-map-range_with_len, length-range_with_len}}
+use Rattle.key_lists.{specs.Keys.IsRising, proofs.Every.every-map, proofs.Ranges.each_from}
+use Rattle.tick_model.{specs.declared.feed.Batch.Batch, specs.declared.feed.Block.Block, specs.declared.table.PlainRow.PlainRow, specs.declared.plan.Kind.TheVariants.{Long, Text}, specs.declared.update.KeyRange.KeyRange, specs.Changes.is_none, specs.LawfulRuns.{AreRanges, AreTexts, IsLawfulBlock, IsLawfulRun, IsOpening, IsSourceRow, is_before}, specs.Printable.{IsShift, IsShiftRange, fit_columns, names_text}, specs.Tables.keys}
+use Rattle.tick_laws.{proofs.EvalNodes.all_pass, proofs.LawfulSources.rising_range}
+use Rattle.made_run.{specs.Draws.{after, draw, drawn_cells, drawn_row, drawn_rows}, specs.Plan.{column, plan, ref_columns, trades_columns}, specs.Run.made, specs.Steps.{batch_after, block_of, draws_after, removes, rows_after, survivors}, specs.Tables.{ref_row, ref_table, sector, texts, trades_table}, proofs.Drawn.{draw-below, every_drawn, keys-drawn}, proofs.Rows.{many_where_removed, rows_are_few, some_left}, proofs.Shifts.up_by_ten}
 
 fits : (n : ℕ) → n < 2 ^ 63 → FitsSigned w64 (pos n)
 fits n small = record { sfits = omega (arith, small) }

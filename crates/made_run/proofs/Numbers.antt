@@ -1,15 +1,8 @@
 -- Numbers in a row: which are among them, and what is left of them.
 use Rattle.std.proofs.Common.{◌≡◌, refl, ap, ap₂, sym, ◌∙◌, subst, ℕ, zero, suc, ◌+◌, ◌-◌, ◌<◌, ◌≤◌, arith, Bool, true, false, cond, not, ◌||◌, List, [], ◌∷◌, ◌++◌, map}
-use Rattle.std.specs.Prelude.{filter}
-use Rattle.std.specs.List.{AllByRecursion, range_with_len}
-use Rattle.std.proofs.lemmas.Bool.{le-ltb, lt-ltb, ne_eqb}
-use Rattle.std.proofs.lemmas.List.{append-nil}
-use Rattle.std.proofs.lemmas.List.Elements.{filter-append}
-use Rattle.key_lists.specs.Keys.{is_among, IsRising, without}
-use Rattle.key_lists.proofs.Every.{every_weaker, filter_none, filter_same, filter_all}
-use Rattle.key_lists.proofs.Ranges.{range-append, among_range, each_from}
-use Rattle.tick_laws.specs.Checked.{put_key, put_keys}
-use Rattle.tick_laws.proofs.LawfulSources.{rising_range}
+use Rattle.std.{specs.Prelude.filter, specs.List.{AllByRecursion, range_with_len}, proofs.lemmas.Bool.{le-ltb, lt-ltb, ne_eqb}, proofs.lemmas.List.append-nil, proofs.lemmas.List.Elements.filter-append}
+use Rattle.key_lists.{specs.Keys.{is_among, IsRising, without}, proofs.Every.{every_weaker, filter_none, filter_same, filter_all}, proofs.Ranges.{range-append, among_range, each_from}}
+use Rattle.tick_laws.{specs.Checked.{put_key, put_keys}, proofs.LawfulSources.rising_range}
 
 pub map_plus : (first start count : ℕ) → map (λ i. first + i) (range_with_len start count) ≡ range_with_len (first + start) count
 map_plus first start zero = refl

@@ -1,37 +1,11 @@
 -- Every node of a made run's plan has a table, and each published table is within its limit.
 use Rattle.std.proofs.Common.{◌≡◌, refl, ap, sym, ◌∙◌, subst, ℕ, zero, suc, ◌+◌, ◌<◌, ◌≤◌, min, arith, true, false, cond, List, [], ◌∷◌, ◌++◌, map, take, drop, length, Some, None, ltb, length-append, length-take, pos}
-use Rattle.std.specs.Prelude.{filter, fold}
-use Rattle.std.specs.List.{AllByRecursion}
-use Rattle.std.proofs.lemmas.Bool.{cond-false, le-ltb}
-use Rattle.std.proofs.lemmas.List.{length-map}
+use Rattle.std.{specs.Prelude.{filter, fold}, specs.List.AllByRecursion, proofs.lemmas.Bool.{cond-false, le-ltb}, proofs.lemmas.List.length-map}
 use Rattle.tick_laws.proofs.ResultCells.{length-filter_most}
-use Rattle.key_lists.specs.Keys.{IsRising}
-use Rattle.key_lists.proofs.Every.{every-filter, every-map, every_weaker, map_map}
-use Rattle.key_lists.proofs.Rising.{rising-filter}
-use Rattle.tick_model.specs.declared.plan.Agg.TheVariants.{Count, Sum, Max}
-use Rattle.tick_model.specs.declared.plan.Choice.TheVariants.{Error}
-use Rattle.tick_model.specs.declared.plan.Comparison.TheVariants.{Ge}
-use Rattle.tick_model.specs.declared.plan.Expr.{Cell, Number}
-use Rattle.tick_model.specs.declared.plan.Pred.{Compare}
-use Rattle.tick_model.specs.declared.table.NodeFault.TheVariants.{TooManyRows}
-use Rattle.tick_model.specs.declared.table.PlainRow.{PlainRow}
-use Rattle.tick_model.specs.declared.table.PlainTable.{PlainTable}
-use Rattle.tick_model.specs.Agg.{agg_row, agg_table, is_first}
-use Rattle.tick_model.specs.Evaluation.{Outcome, Table, eval, eval_node, or_fault}
-use Rattle.tick_model.specs.Formulas.{truth}
-use Rattle.tick_model.specs.HeadTail.{head_table}
-use Rattle.tick_model.specs.Join.{chosen, join_table, joined, matches}
-use Rattle.tick_model.specs.Merge.{merge_fault, merge_table}
-use Rattle.tick_model.specs.Sort.{sort_table}
-use Rattle.tick_model.specs.Spoiled.{ByPublication, node_fault, publication_fault}
-use Rattle.tick_model.specs.Tables.{IsRow, IsTable, cell, keys}
-use Rattle.tick_model.specs.View.{view_row, view_table}
-use Rattle.tick_model.specs.Where.{where_table}
+use Rattle.key_lists.{specs.Keys.IsRising, proofs.Every.{every-filter, every-map, every_weaker, map_map}, proofs.Rising.rising-filter}
+use Rattle.tick_model.{specs.declared.plan.Agg.TheVariants.{Count, Sum, Max}, specs.declared.plan.Choice.TheVariants.Error, specs.declared.plan.Comparison.TheVariants.Ge, specs.declared.plan.Expr.{Cell, Number}, specs.declared.plan.Pred.Compare, specs.declared.table.NodeFault.TheVariants.TooManyRows, specs.declared.table.PlainRow.PlainRow, specs.declared.table.PlainTable.PlainTable, specs.Agg.{agg_row, agg_table, is_first}, specs.Evaluation.{Outcome, Table, eval, eval_node, or_fault}, specs.Formulas.truth, specs.HeadTail.head_table, specs.Join.{chosen, join_table, joined, matches}, specs.Merge.{merge_fault, merge_table}, specs.Sort.sort_table, specs.Spoiled.{ByPublication, node_fault, publication_fault}, specs.Tables.{IsRow, IsTable, cell, keys}, specs.View.{view_row, view_table}, specs.Where.where_table}
 use Rattle.script_reader.specs.Plain.{mul}
-use Rattle.made_run.specs.Plan.{nodes, plan}
-use Rattle.made_run.specs.Tables.{ref_table}
-use Rattle.made_run.proofs.Groups.{few_groups}
-use Rattle.made_run.proofs.Joined.{IsSector, by_symbol, joined_sector, no_join_fault, sectors}
+use Rattle.made_run.{specs.Plan.{nodes, plan}, specs.Tables.ref_table, proofs.Groups.few_groups, proofs.Joined.{IsSector, by_symbol, joined_sector, no_join_fault, sectors}}
 
 module _ (trades : PlainTable) where
   abbrev big : PlainTable

@@ -1,23 +1,10 @@
 -- A run is lawful wherever its formulas lie.
 use Rattle.std.proofs.Common.{◌≡◌, refl, ap, sym, ◌∙◌, subst, ℕ, zero, suc, List, [], ◌∷◌, map, length}
-use Rattle.std.specs.Prelude.{slice_get, slice_index_or}
-use Rattle.std.specs.List.{AllByRecursion}
-use Rattle.std.specs.Option.{option_map_or}
+use Rattle.std.{specs.Prelude.{slice_get, slice_index_or}, specs.List.AllByRecursion, specs.Option.option_map_or}
 use Rattle.key_lists.proofs.Every.{every, every_weaker, filter-map, filter_same, map_map}
-use Rattle.tick_model.specs.declared.feed.Batch.{Batch}
-use Rattle.tick_model.specs.declared.feed.Block.{Block}
-use Rattle.tick_model.specs.declared.feed.Run.{Run}
-use Rattle.tick_model.specs.declared.plan.ColumnSpec.{ColumnSpec}
-use Rattle.tick_model.specs.declared.plan.Node.{Node}
-use Rattle.tick_model.specs.declared.plan.Plan.{Plan}
-use Rattle.tick_model.specs.declared.table.PlainTable.{PlainTable}
-use Rattle.tick_model.specs.Evaluation.{is_source}
-use Rattle.tick_model.specs.LawfulRuns.{AreOpenings, IsLawfulBlock, IsLawfulRun, IsSourceRow, is_source_number, sources_of}
-use Rattle.tick_model.specs.Plans.{columns_at}
+use Rattle.tick_model.{specs.declared.feed.Batch.Batch, specs.declared.feed.Block.Block, specs.declared.feed.Run.Run, specs.declared.plan.ColumnSpec.ColumnSpec, specs.declared.plan.Node.Node, specs.declared.plan.Plan.Plan, specs.declared.table.PlainTable.PlainTable, specs.Evaluation.is_source, specs.LawfulRuns.{AreOpenings, IsLawfulBlock, IsLawfulRun, IsSourceRow, is_source_number, sources_of}, specs.Plans.columns_at}
 use Rattle.script_reader.specs.Plain.{plain_node, plain_plan}
-use Rattle.feed_reader.specs.Assembled.{plain_run}
-use Rattle.feed_reader.proofs.PlainLemmas.{is_lawful_plain, plan_numbers_plain, plan_ranks_plain}
-use Rattle.feed_reader.proofs.PlainFeeds.{source_plain}
+use Rattle.feed_reader.{specs.Assembled.plain_run, proofs.PlainLemmas.{is_lawful_plain, plan_numbers_plain, plan_ranks_plain}, proofs.PlainFeeds.source_plain}
 
 pub sources_plain : (nodes : List Node) → sources_of (map plain_node nodes) ≡ map plain_node (sources_of nodes)
 sources_plain nodes =

@@ -1,8 +1,6 @@
 -- Searches that find nothing, and faults that do not come.
 use Rattle.std.proofs.Common.{◌≡◌, refl, ap, sym, ◌∙◌, true, List, [], ◌∷◌, Option, None}
-use Rattle.std.specs.Prelude.{option_map, filter_map}
-use Rattle.std.specs.List.{cons_option}
-use Rattle.std.specs.Option.{option_or}
+use Rattle.std.{specs.Prelude.{option_map, filter_map}, specs.List.cons_option, specs.Option.option_or}
 
 pub or_none : {X : Type 0} (a b : Option X) → a ≡ None → b ≡ None → option_or a b ≡ None
 or_none a b first second = ap (λ o. option_or o b) first ∙ second

@@ -1,14 +1,7 @@
 -- Rows that all move up by the same: no rule is broken, and where they land.
 use Rattle.std.proofs.Common.{◌≡◌, refl, ap, ap₂, sym, ◌∙◌, ℕ, zero, suc, ◌+◌, ◌-◌, ◌<◌, ◌≤◌, arith, Bool, true, false, cond, ◌&&◌, List, [], ◌∷◌, map, Option, Some, None, ℤ, pos, negsuc, ◌+ℤ◌, leb, ltb, unwrap_or}
-use Rattle.std.specs.Prelude.{int_le, option_map}
-use Rattle.std.specs.List.{range_with_len}
-use Rattle.std.proofs.lemmas.Bool.{and_from, or_from, le-leb, lt-leb, le-ltb}
-use Rattle.std.proofs.lemmas.Int.{ints}
-use Rattle.tick_model.specs.declared.update.ShiftRange.{ShiftRange}
-use Rattle.tick_model.specs.declared.update.UpdateFault.{UpdateFault}
-use Rattle.tick_model.specs.declared.update.UpdateFault.TheVariants.{ShiftBreaks}
-use Rattle.tick_model.specs.Rules.{is_past, landed, shift_fault, shift_fault_after}
-use Rattle.tick_model.specs.Shifts.{as_key, holds, moved}
+use Rattle.std.{specs.Prelude.{int_le, option_map}, specs.List.range_with_len, proofs.lemmas.Bool.{and_from, or_from, le-leb, lt-leb, le-ltb}, proofs.lemmas.Int.ints}
+use Rattle.tick_model.{specs.declared.update.ShiftRange.ShiftRange, specs.declared.update.UpdateFault.UpdateFault, specs.declared.update.UpdateFault.TheVariants.ShiftBreaks, specs.Rules.{is_past, landed, shift_fault, shift_fault_after}, specs.Shifts.{as_key, holds, moved}}
 
 module _ (limit : ℕ) (shifts : List ShiftRange) (up low high : ℕ) (fits : up ≤ low) (room : high ≤ limit) (moves : (k : ℕ) → low ≤ k → k < high → moved shifts k ≡ pos (k - up)) where
   not_past : (k : ℕ) → low ≤ k → k < high → is_past limit (moved shifts k) ≡ false

@@ -1,23 +1,9 @@
 -- The tables of a made run's sources at each step: trades goes from block to block, and ref stays.
 use Rattle.std.proofs.Common.{◌≡◌, refl, ap, ap₂, sym, ◌∙◌, subst, ℕ, zero, suc, ◌+◌, ◌*◌, ◌%◌, ◌==◌, ◌<◌, ◌≤◌, arith, Bool, true, false, List, [], ◌∷◌, map, length, None}
-use Rattle.std.specs.Prelude.{option_map, slice_index_or}
-use Rattle.std.specs.List.{range_with_len}
-use Rattle.std.proofs.lemmas.List.FromFn.{get_or-map-range_with_len}
+use Rattle.std.{specs.Prelude.{option_map, slice_index_or}, specs.List.range_with_len, proofs.lemmas.List.FromFn.get_or-map-range_with_len}
 use Rattle.key_lists.proofs.Every.{map_map}
-use Rattle.tick_model.specs.declared.feed.Batch.{Batch}
-use Rattle.tick_model.specs.declared.feed.Block.{Block}
-use Rattle.tick_model.specs.declared.table.PlainTable.{PlainTable}
-use Rattle.tick_model.specs.Sources.{after_blocks, batch_fault, block_fault, blocks_fault, blocks_of, carried, new_table, record_of, source_ticks, sources, unchanged}
-use Rattle.tick_model.specs.Tables.{keys}
-use Rattle.tick_model.specs.Updates.{Tick}
-use Rattle.made_run.specs.Draws.{after}
-use Rattle.made_run.specs.Plan.{plan}
-use Rattle.made_run.specs.Run.{made}
-use Rattle.made_run.specs.Steps.{batch_after, block_of, draws_after, rows_after, survivors}
-use Rattle.made_run.specs.Tables.{ref_table, trades_table}
-use Rattle.made_run.proofs.Blocks.{Leaves, step_leaves}
-use Rattle.made_run.proofs.Rows.{many_where_removed, rows_are_few, rows_of_next, some_where_modified}
-use Rattle.made_run.proofs.Searches.{mapped_none, or_none}
+use Rattle.tick_model.{specs.declared.feed.Batch.Batch, specs.declared.feed.Block.Block, specs.declared.table.PlainTable.PlainTable, specs.Sources.{after_blocks, batch_fault, block_fault, blocks_fault, blocks_of, carried, new_table, record_of, source_ticks, sources, unchanged}, specs.Tables.keys, specs.Updates.Tick}
+use Rattle.made_run.{specs.Draws.after, specs.Plan.plan, specs.Run.made, specs.Steps.{batch_after, block_of, draws_after, rows_after, survivors}, specs.Tables.{ref_table, trades_table}, proofs.Blocks.{Leaves, step_leaves}, proofs.Rows.{many_where_removed, rows_are_few, rows_of_next, some_where_modified}, proofs.Searches.{mapped_none, or_none}}
 
 -- the block of the step after this one
 unfoldable pub block_after : ℕ → Block

@@ -1,31 +1,10 @@
 -- No step of a made run is spoiled.
 use Rattle.std.proofs.Common.{◌≡◌, refl, ap, ap₂, sym, ◌∙◌, subst, ℕ, ◌+◌, ◌^◌, ◌<◌, ◌≤◌, arith, false, List, [], ◌∷◌, length, None}
-use Rattle.std.specs.Prelude.{is_some, option_map}
-use Rattle.std.specs.List.{range_with_len}
-use Rattle.std.specs.Option.{option_or}
-use Rattle.std.proofs.lemmas.List.{length-map}
-use Rattle.std.proofs.lemmas.List.FromFn.{length-map-range_with_len, length-range_with_len}
-use Rattle.key_lists.proofs.Every.{find_none}
-use Rattle.key_lists.proofs.Ranges.{each_from}
-use Rattle.tick_model.specs.declared.table.PlainRow.{PlainRow}
-use Rattle.tick_model.specs.declared.table.PlainTable.{PlainTable}
-use Rattle.tick_model.specs.Evaluation.{eval, table_at}
-use Rattle.tick_model.specs.LawfulRuns.{sources_of}
-use Rattle.tick_model.specs.Sources.{batch_fault, sources}
-use Rattle.tick_model.specs.Spoiled.{ByBatch, first_spoiled, node_fault, publication_fault, spoiled_by}
-use Rattle.tick_model.specs.States.{state}
-use Rattle.tick_model.specs.Tables.{keys}
-use Rattle.tick_laws.specs.Bounded.{AreSourceTables, IsNodeTable}
-use Rattle.tick_laws.proofs.LawfulSources.{sources_bounded}
-use Rattle.made_run.specs.Plan.{nodes, plan}
-use Rattle.made_run.specs.Run.{made}
-use Rattle.made_run.specs.Steps.{batch_after, rows_after}
-use Rattle.made_run.specs.Tables.{ref_table}
-use Rattle.made_run.proofs.Lawful.{made_is_lawful}
-use Rattle.made_run.proofs.Outcomes.{no_node_fault, no_publication_fault, outcomes, outcomes_are}
-use Rattle.made_run.proofs.Rows.{rows_are_few}
-use Rattle.made_run.proofs.Searches.{mapped_none, or_none}
-use Rattle.made_run.proofs.Trades.{no_batch_fault, sources_made, trades, trades_keys}
+use Rattle.std.{specs.Prelude.{is_some, option_map}, specs.List.range_with_len, specs.Option.option_or, proofs.lemmas.List.length-map, proofs.lemmas.List.FromFn.{length-map-range_with_len, length-range_with_len}}
+use Rattle.key_lists.{proofs.Every.find_none, proofs.Ranges.each_from}
+use Rattle.tick_model.{specs.declared.table.PlainRow.PlainRow, specs.declared.table.PlainTable.PlainTable, specs.Evaluation.{eval, table_at}, specs.LawfulRuns.sources_of, specs.Sources.{batch_fault, sources}, specs.Spoiled.{ByBatch, first_spoiled, node_fault, publication_fault, spoiled_by}, specs.States.state, specs.Tables.keys}
+use Rattle.tick_laws.{specs.Bounded.{AreSourceTables, IsNodeTable}, proofs.LawfulSources.sources_bounded}
+use Rattle.made_run.{specs.Plan.{nodes, plan}, specs.Run.made, specs.Steps.{batch_after, rows_after}, specs.Tables.ref_table, proofs.Lawful.made_is_lawful, proofs.Outcomes.{no_node_fault, no_publication_fault, outcomes, outcomes_are}, proofs.Rows.rows_are_few, proofs.Searches.{mapped_none, or_none}, proofs.Trades.{no_batch_fault, sources_made, trades, trades_keys}}
 
 module _ (steps : ℕ) (few : steps ≤ 10000) where
   -- trades at a step is a table of its width

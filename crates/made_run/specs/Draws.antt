@@ -3,8 +3,7 @@
 --     draw below state      the number that the draw gives
 --     after draws state      the state after so many draws
 --     drawn_row key state, drawn_rows first count state      rows of trades, from four draws each
-use Rattle.std.specs.Prelude.{ℕ, zero, suc, ◌+◌, ◌*◌, ◌/◌, ◌%◌, ◌^◌, List, [], ◌∷◌, map, ℤ, pos}
-use Rattle.std.specs.List.{range_with_len}
+use Rattle.std.{specs.Prelude.{ℕ, zero, suc, ◌+◌, ◌*◌, ◌/◌, ◌%◌, ◌^◌, List, [], ◌∷◌, map, ℤ, pos}, specs.List.range_with_len}
 use Rattle.tick_model.specs.declared.table.PlainRow.{PlainRow}
 
 unfoldable pub next : ℕ → ℕ

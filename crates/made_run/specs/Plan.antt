@@ -13,18 +13,7 @@
 --     publish bysec 64
 --     publish top10 10
 use Rattle.std.specs.Prelude.{ℕ, List, [], ◌∷◌, ◌++◌, true, pos, codes}
-use Rattle.tick_model.specs.declared.plan.Agg.TheVariants.{Count, Sum, Max}
-use Rattle.tick_model.specs.declared.plan.Choice.TheVariants.{Error}
-use Rattle.tick_model.specs.declared.plan.ColumnSpec.{ColumnSpec}
-use Rattle.tick_model.specs.declared.plan.Comparison.TheVariants.{Ge}
-use Rattle.tick_model.specs.declared.plan.Expr.{Cell, Number}
-use Rattle.tick_model.specs.declared.plan.Kind.{Kind}
-use Rattle.tick_model.specs.declared.plan.Kind.TheVariants.{Long, Text}
-use Rattle.tick_model.specs.declared.plan.Node.{Node}
-use Rattle.tick_model.specs.declared.plan.Op.{Op}
-use Rattle.tick_model.specs.declared.plan.Op.TheVariants.{Source, Keep, View, Join, Agg, Merge, Sort, Head}
-use Rattle.tick_model.specs.declared.plan.Plan.{Plan}
-use Rattle.tick_model.specs.declared.plan.Pred.{Compare}
+use Rattle.tick_model.{specs.declared.plan.Agg.TheVariants.{Count, Sum, Max}, specs.declared.plan.Choice.TheVariants.Error, specs.declared.plan.ColumnSpec.ColumnSpec, specs.declared.plan.Comparison.TheVariants.Ge, specs.declared.plan.Expr.{Cell, Number}, specs.declared.plan.Kind.Kind, specs.declared.plan.Kind.TheVariants.{Long, Text}, specs.declared.plan.Node.Node, specs.declared.plan.Op.Op, specs.declared.plan.Op.TheVariants.{Source, Keep, View, Join, Agg, Merge, Sort, Head}, specs.declared.plan.Plan.Plan, specs.declared.plan.Pred.Compare}
 use Rattle.script_reader.specs.Plain.{mul}
 
 abbrev pub column : List ℕ → Kind → ColumnSpec

@@ -1,7 +1,6 @@
 -- Made runs.
 --     made steps      the made run of so many steps
-use Rattle.std.specs.Prelude.{ℕ, map}
-use Rattle.std.specs.List.{range_with_len}
+use Rattle.std.{specs.Prelude.{ℕ, map}, specs.List.range_with_len}
 use Rattle.tick_model.specs.declared.feed.Run.{Run}
 use Rattle.made_run.specs.Plan as script
 use Rattle.made_run.specs.Steps.{batch_after}

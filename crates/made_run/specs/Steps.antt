@@ -3,11 +3,7 @@
 --     block_of step rows state      what a step changes of so many rows, by draws from a state on
 --     batch_after step      the batch of the step after this one
 use Rattle.std.specs.Prelude.{ℕ, ◌+◌, ◌-◌, ◌*◌, ◌/◌, ◌%◌, ◌==◌, Bool, List, [], ◌∷◌, negsuc, if◌then◌else◌}
-use Rattle.tick_model.specs.declared.feed.Batch.{Batch}
-use Rattle.tick_model.specs.declared.feed.Block.{Block}
-use Rattle.tick_model.specs.declared.table.PlainRow.{PlainRow}
-use Rattle.tick_model.specs.declared.update.KeyRange.{KeyRange}
-use Rattle.tick_model.specs.declared.update.ShiftRange.{ShiftRange}
+use Rattle.tick_model.{specs.declared.feed.Batch.Batch, specs.declared.feed.Block.Block, specs.declared.table.PlainRow.PlainRow, specs.declared.update.KeyRange.KeyRange, specs.declared.update.ShiftRange.ShiftRange}
 use Rattle.made_run.specs.Draws.{draw, after, drawn_row, drawn_rows}
 
 -- every fifth step removes the first ten rows, and the rows behind them move up into their place

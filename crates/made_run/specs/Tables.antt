@@ -1,10 +1,8 @@
 -- What made runs begin with: their tables and their texts.
 --     opening      trades has no rows, and ref has one for each of eight symbols
 --     texts      the symbols S0 to S7, and the sectors `even` and `odd`
-use Rattle.std.specs.Prelude.{ℕ, ◌+◌, ◌%◌, ◌==◌, List, [], ◌∷◌, ◌++◌, map, pos, codes, if◌then◌else◌}
-use Rattle.std.specs.List.{range_with_len}
-use Rattle.tick_model.specs.declared.table.PlainRow.{PlainRow}
-use Rattle.tick_model.specs.declared.table.PlainTable.{PlainTable}
+use Rattle.std.{specs.Prelude.{ℕ, ◌+◌, ◌%◌, ◌==◌, List, [], ◌∷◌, ◌++◌, map, pos, codes, if◌then◌else◌}, specs.List.range_with_len}
+use Rattle.tick_model.{specs.declared.table.PlainRow.PlainRow, specs.declared.table.PlainTable.PlainTable}
 
 -- the ranks of the sectors stand behind those of the symbols
 abbrev pub sector : ℕ → ℕ

@@ -1,12 +1,7 @@
 -- Numbers of several inputs, each input's in a region of its own.
 use Rattle.std.proofs.Common.{◌≡◌, refl, ap, ap₂, sym, ◌∙◌, true, false, not, ◌||◌, ℕ, ◌+◌, ◌<◌, ◌≤◌, ◌==◌, arith, List, [], ◌∷◌, ◌++◌, map, filter}
-use Rattle.std.specs.List.{AllByRecursion}
-use Rattle.std.proofs.lemmas.Bool.{eqb-true, eqb-false, eq-eqb, ne_eqb}
-use Rattle.std.proofs.lemmas.List.Elements.{filter-append}
-use Rattle.key_lists.specs.Keys.{is_among, without}
-use Rattle.key_lists.proofs.Among.{among-append, among_below, among_above}
-use Rattle.key_lists.proofs.Every.{every, every_both, every_weaker, every-append, every-map, filter-map, filter_same}
-use Rattle.key_lists.proofs.Booleans.{or_false}
+use Rattle.std.{specs.List.AllByRecursion, proofs.lemmas.Bool.{eqb-true, eqb-false, eq-eqb, ne_eqb}, proofs.lemmas.List.Elements.filter-append}
+use Rattle.key_lists.{specs.Keys.{is_among, without}, proofs.Among.{among-append, among_below, among_above}, proofs.Every.{every, every_both, every_weaker, every-append, every-map, filter-map, filter_same}, proofs.Booleans.or_false}
 use Rattle.tick_table.specs.Ticking.{Ticking}
 use Rattle.merge_op.specs.Regions.{in_regions}
 

@@ -1,20 +1,11 @@
 -- The input that has a row of a merge.
 use Rattle.std.proofs.Common.{◌≡◌, refl, ap, sym, ◌∙◌, subst, true, ℕ, ◌+◌, ◌-◌, ◌<◌, ◌≤◌, ◌^◌, arith, List, [], ◌∷◌, true≢false}
-use Rattle.key_lists.specs.Keys.{is_among}
-use Rattle.key_lists.proofs.Among.{of_among}
-use Rattle.tick_laws.proofs.Merged.{below_region}
-use Rattle.tick_laws.proofs.PrintedChanges.{table_keys}
-use Rattle.tick_model.specs.Merge.{merged_rows}
-use Rattle.tick_model.specs.Tables.{cells_at, keys}
-use Rattle.tick_model.specs.Updates.{IsTick}
-use Rattle.tick_table.specs.Exact.{IsExact}
-use Rattle.tick_table.specs.Ticking.{Ticking}
+use Rattle.key_lists.{specs.Keys.is_among, proofs.Among.of_among}
+use Rattle.tick_laws.{proofs.Merged.below_region, proofs.PrintedChanges.table_keys}
+use Rattle.tick_model.{specs.Merge.merged_rows, specs.Tables.{cells_at, keys}, specs.Updates.IsTick}
+use Rattle.tick_table.{specs.Exact.IsExact, specs.Ticking.Ticking}
 use Rattle.table_operator.specs.Inputs.{news, olds}
-use Rattle.merge_op.specs.Merged.{merged}
-use Rattle.merge_op.specs.Regions.{in_regions, room_before, room_now}
-use Rattle.merge_op.proofs.Apart.{among_first, among_others}
-use Rattle.merge_op.proofs.Looked.{cells_behind, cells_first}
-use Rattle.merge_op.proofs.Ticked.{keys-news, keys-olds, keys_before, keys_now}
+use Rattle.merge_op.{specs.Merged.merged, specs.Regions.{in_regions, room_before, room_now}, proofs.Apart.{among_first, among_others}, proofs.Looked.{cells_behind, cells_first}, proofs.Ticked.{keys-news, keys-olds, keys_before, keys_now}}
 
 -- a row of the merge before the step, where the inputs before `rest` do not have it
 pub record IsAheadBefore (ts rest : List Ticking) (from key : ℕ) : Type 0 where

@@ -1,27 +1,13 @@
 -- What is gathered of the inputs are the parts of the merge's change.
 use Rattle.std.proofs.Common.{◌≡◌, refl, ap, ap₂, sym, ◌∙◌, subst, true, false, ℕ, ◌<◌, ◌^◌, List, map, filter, length, ℤ, None, pos, ◌-ℤ◌}
 use Rattle.std.specs.List.{AllByRecursion}
-use Rattle.key_lists.specs.Keys.{is_among, without}
-use Rattle.key_lists.proofs.Every.{every_both, every_unmapped, every_weaker, every-map}
+use Rattle.key_lists.{specs.Keys.{is_among, without}, proofs.Every.{every_both, every_unmapped, every_weaker, every-map}}
 use Rattle.row_changes.specs.Parts.{AreParts, Parts}
-use Rattle.shift_data.proofs.Parting.{canonical_goes}
-use Rattle.shift_data.specs.Moves.{IsLawful, canonical, pair_by, pairs_of}
+use Rattle.shift_data.{proofs.Parting.canonical_goes, specs.Moves.{IsLawful, canonical, pair_by, pairs_of}}
 use Rattle.tick_laws.proofs.Moves.{each_moved}
-use Rattle.tick_model.specs.declared.update.KeyPair.{KeyPair}
-use Rattle.tick_model.specs.declared.update.ShiftRange.{ShiftRange}
-use Rattle.tick_model.specs.Shifts.{as_key, delta_at, moved, shifted}
-use Rattle.tick_model.specs.Tables.{keys}
-use Rattle.tick_model.specs.Updates.{IsTick, between, differs, old_keys}
-use Rattle.tick_table.proofs.Between.{shift_keeps_order, staying_are}
-use Rattle.tick_table.specs.Exact.{IsExact, tick_of}
-use Rattle.tick_table.specs.Ticking.{Ticking}
-use Rattle.merge_op.specs.Merged.{merged}
-use Rattle.merge_op.specs.Regions.{in_regions, moves, room_before, room_now}
-use Rattle.merge_op.proofs.Apart.{AreBelow}
-use Rattle.merge_op.proofs.Looked.{others}
-use Rattle.merge_op.proofs.Moving.{fault_same, moves_are, pairs_by}
-use Rattle.merge_op.proofs.Paired.{compared, even, modified_before, modified_now}
-use Rattle.merge_op.proofs.Ticked.{added_are, below_before, below_kept_before, below_kept_now, below_now, removed_are}
+use Rattle.tick_model.{specs.declared.update.KeyPair.KeyPair, specs.declared.update.ShiftRange.ShiftRange, specs.Shifts.{as_key, delta_at, moved, shifted}, specs.Tables.keys, specs.Updates.{IsTick, between, differs, old_keys}}
+use Rattle.tick_table.{proofs.Between.{shift_keeps_order, staying_are}, specs.Exact.{IsExact, tick_of}, specs.Ticking.Ticking}
+use Rattle.merge_op.{specs.Merged.merged, specs.Regions.{in_regions, moves, room_before, room_now}, proofs.Apart.AreBelow, proofs.Looked.others, proofs.Moving.{fault_same, moves_are, pairs_by}, proofs.Paired.{compared, even, modified_before, modified_now}, proofs.Ticked.{added_are, below_before, below_kept_before, below_kept_now, below_now, removed_are}}
 
 module _ (ts : List Ticking) (e : AllByRecursion IsExact ts) (tick : IsTick (merged ts)) (modified_below : AreBelow room_now modified_now ts) (shifts : List ShiftRange) (agrees : AllByRecursion (λ key. delta_at shifts key ≡ moves 0 0 ts key) (old_keys (merged ts).kept)) where
   moved_so : AllByRecursion (λ (pair : KeyPair). pos pair.new -ℤ pos pair.old ≡ moves 0 0 ts pair.old) (merged ts).kept

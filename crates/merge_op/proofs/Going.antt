@@ -1,33 +1,12 @@
 -- What is gathered of the first inputs, where others are still to come.
 use Rattle.std.proofs.Common.{◌≡◌, refl, ap, ap₂, sym, ◌∙◌, subst, Bool, true, false, cond, ℕ, ◌+◌, ◌-◌, ◌<◌, ◌≤◌, ◌^◌, arith, lt-ltb, inl, inr, List, [], ◌∷◌, ◌++◌, map, length, append_assoc, ℤ, pos, ◌+ℤ◌, ◌-ℤ◌}
-use Rattle.std.specs.Prelude.{nat_lt, sum_by}
-use Rattle.std.specs.List.{AllByRecursion}
-use Rattle.std.proofs.lemmas.Bool.{cases_lt}
-use Rattle.std.proofs.lemmas.Int.{ints}
-use Rattle.std.proofs.lemmas.List.{append-nil, length-append, length-map}
-use Rattle.std.proofs.lemmas.List.Sums.{sum_by-cons}
-use Rattle.key_lists.specs.Keys.{is_among, without}
-use Rattle.key_lists.proofs.Among.{each_among, of_among}
-use Rattle.key_lists.proofs.Every.{every_both, every_unmapped, every_weaker, every-append, every-filter, every-map}
-use Rattle.key_lists.proofs.Parts.{every_back}
+use Rattle.std.{specs.Prelude.{nat_lt, sum_by}, specs.List.AllByRecursion, proofs.lemmas.Bool.cases_lt, proofs.lemmas.Int.ints, proofs.lemmas.List.{append-nil, length-append, length-map}, proofs.lemmas.List.Sums.sum_by-cons}
+use Rattle.key_lists.{specs.Keys.{is_among, without}, proofs.Among.{each_among, of_among}, proofs.Every.{every_both, every_unmapped, every_weaker, every-append, every-filter, every-map}, proofs.Parts.every_back}
 use Rattle.shown_rows.proofs.Restricted.{is_modified, modified_new}
-use Rattle.tick_model.specs.declared.update.KeyPair.{KeyPair}
-use Rattle.tick_model.specs.declared.update.ShiftRange.{ShiftRange}
-use Rattle.tick_model.specs.Shifts.{delta_at}
-use Rattle.tick_model.specs.Tables.{keys}
-use Rattle.tick_model.specs.Updates.{IsTick, Update, new_keys, old_keys}
-use Rattle.tick_table.specs.Exact.{IsExact}
-use Rattle.tick_table.specs.Ticking.{Ticking}
-use Rattle.merge_op.specs.Merged.{merged}
-use Rattle.merge_op.specs.Regions.{IsStart, in_regions, moves, room_before, room_now, starts_of}
-use Rattle.merge_op.specs.Steps.{IsStep}
-use Rattle.merge_op.proofs.Apart.{AreBelow, all_plus}
-use Rattle.merge_op.proofs.Moving.{move_others, moves_are}
-use Rattle.merge_op.proofs.Paired.{modified_before, modified_now}
-use Rattle.merge_op.proofs.Ranged.{delta_behind}
-use Rattle.merge_op.proofs.Ticked.{below_kept_before, keys-news, keys-olds, keys_before, keys_now, kept_of}
-use Rattle.tick_laws.proofs.Merged.{below_region}
-use Rattle.tick_laws.proofs.PrintedChanges.{table_keys}
+use Rattle.tick_model.{specs.declared.update.KeyPair.KeyPair, specs.declared.update.ShiftRange.ShiftRange, specs.Shifts.delta_at, specs.Tables.keys, specs.Updates.{IsTick, Update, new_keys, old_keys}}
+use Rattle.tick_table.{specs.Exact.IsExact, specs.Ticking.Ticking}
+use Rattle.merge_op.{specs.Merged.merged, specs.Regions.{IsStart, in_regions, moves, room_before, room_now, starts_of}, specs.Steps.IsStep, proofs.Apart.{AreBelow, all_plus}, proofs.Moving.{move_others, moves_are}, proofs.Paired.{modified_before, modified_now}, proofs.Ranged.delta_behind, proofs.Ticked.{below_kept_before, keys-news, keys-olds, keys_before, keys_now, kept_of}}
+use Rattle.tick_laws.{proofs.Merged.below_region, proofs.PrintedChanges.table_keys}
 
 abbrev pub removed_of : Ticking → List ℕ
 removed_of t = t.update.removed

@@ -1,15 +1,8 @@
 -- Keys that are put behind others, range by range.
 use Rattle.std.proofs.Common.{◌≡◌, refl, ap, ap₂, sym, ◌∙◌, subst, ℕ, zero, suc, ◌+◌, ◌-◌, ◌<◌, ◌≤◌, ◌^◌, arith, List, ◌∷◌, ◌++◌, map, append_assoc}
-use Rattle.std.specs.List.{AllByRecursion, range_with_len}
-use Rattle.std.proofs.lemmas.List.{append-nil, map-append}
-use Rattle.key_lists.specs.Keys.{IsRising}
-use Rattle.key_lists.proofs.Every.{every, every_unmapped, every-map}
-use Rattle.key_lists.proofs.Rising.{rising-append, rising-plus}
-use Rattle.key_lists.proofs.Parts.{every_back, every_front}
-use Rattle.row_set.specs.declared.ranges.Range.{Range}
-use Rattle.row_set.specs.Ranges.{keys_from, keys_in, keys_of}
-use Rattle.row_set.specs.Sets.{united}
-use Rattle.row_set.proofs.Windows.{rising_front}
+use Rattle.std.{specs.List.{AllByRecursion, range_with_len}, proofs.lemmas.List.{append-nil, map-append}}
+use Rattle.key_lists.{specs.Keys.IsRising, proofs.Every.{every, every_unmapped, every-map}, proofs.Rising.{rising-append, rising-plus}, proofs.Parts.{every_back, every_front}}
+use Rattle.row_set.{specs.declared.ranges.Range.Range, specs.Ranges.{keys_from, keys_in, keys_of}, specs.Sets.united, proofs.Windows.rising_front}
 use Rattle.shift_data.proofs.Applied.{united_past}
 
 abbrev pub plus : ℕ → List ℕ → List ℕ

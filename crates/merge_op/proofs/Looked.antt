@@ -1,25 +1,12 @@
 -- The rows of a merge, looked up by their keys.
 use Rattle.std.proofs.Common.{◌≡◌, refl, ap, ap₂, sym, ◌∙◌, subst, Bool, true, false, cond, not, ◌||◌, ℕ, ◌+◌, ◌<◌, ◌≤◌, ◌==◌, arith, List, [], ◌∷◌, ◌++◌, map, Some, true≢false, ℤ}
-use Rattle.std.specs.Prelude.{option_map, unwrap_or}
-use Rattle.std.specs.List.{AllByRecursion}
-use Rattle.std.proofs.lemmas.Bool.{ne_eqb, or_parts}
-use Rattle.key_lists.specs.Keys.{is_among}
-use Rattle.key_lists.proofs.Every.{every_both, every_unmapped, every_weaker, every-append, every-map}
+use Rattle.std.{specs.Prelude.{option_map, unwrap_or}, specs.List.AllByRecursion, proofs.lemmas.Bool.{ne_eqb, or_parts}, proofs.lemmas.List.map-append}
+use Rattle.key_lists.{specs.Keys.is_among, proofs.Every.{every_both, every_unmapped, every_weaker, every-append, every-map, map_map}}
 use Rattle.shown_rows.proofs.Restricted.{is_modified, modified_by}
-use Rattle.tick_model.specs.declared.table.PlainRow.{PlainRow}
-use Rattle.tick_model.specs.declared.update.KeyPair.{KeyPair}
-use Rattle.tick_model.specs.Merge.{merged_pairs, merged_rows, pair_from, row_from}
-use Rattle.tick_model.specs.Tables.{cells_at, keys, row_at, same_cells}
-use Rattle.tick_model.specs.Updates.{differs}
-use Rattle.tick_table.specs.Exact.{IsExact, tick_of}
-use Rattle.tick_table.specs.Ticking.{Ticking}
+use Rattle.tick_model.{specs.declared.table.PlainRow.PlainRow, specs.declared.update.KeyPair.KeyPair, specs.Merge.{merged_pairs, merged_rows, pair_from, row_from}, specs.Tables.{cells_at, keys, row_at, same_cells}, specs.Updates.differs}
+use Rattle.tick_table.{specs.Exact.{IsExact, tick_of}, specs.Ticking.Ticking}
 use Rattle.table_operator.specs.Inputs.{news, olds}
-use Rattle.merge_op.specs.Regions.{in_regions, room_before, room_now}
-use Rattle.merge_op.proofs.Apart.{AreBelow, all_plus, among_first, among_others, regions_above, same_plus}
-use Rattle.merge_op.proofs.Paired.{modified_now, rest_past}
-use Rattle.merge_op.proofs.Ticked.{kept_before, kept_now, kept_of, keys_before, keys_now, old_keys-pairs}
-use Rattle.std.proofs.lemmas.List.{map-append}
-use Rattle.key_lists.proofs.Every.{map_map}
+use Rattle.merge_op.{specs.Regions.{in_regions, room_before, room_now}, proofs.Apart.{AreBelow, all_plus, among_first, among_others, regions_above, same_plus}, proofs.Paired.{modified_now, rest_past}, proofs.Ticked.{kept_before, kept_now, kept_of, keys_before, keys_now, old_keys-pairs}}
 
 -- the cells of a row that is found, or of the next one that may be it
 abbrev found : Bool → PlainRow → List PlainRow → ℕ → List ℤ

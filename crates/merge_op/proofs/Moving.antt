@@ -1,28 +1,12 @@
 -- How the rows of a merge move: with their inputs, and with the regions of these.
 use Rattle.std.proofs.Common.{◌≡◌, refl, ap, ap₂, sym, ◌∙◌, subst, Bool, true, false, cond, ℕ, ◌+◌, ◌-◌, ◌<◌, ◌≤◌, ◌^◌, arith, lt-ltb, le-ltb, List, [], ◌∷◌, ◌++◌, map, Option, Some, None, ℤ, pos, ◌+ℤ◌, ◌-ℤ◌}
-use Rattle.std.specs.Prelude.{nat_lt, IfSome, int_le}
-use Rattle.std.specs.List.{AllByRecursion}
-use Rattle.std.proofs.lemmas.Int.{ints}
-use Rattle.key_lists.specs.Keys.{without}
-use Rattle.key_lists.proofs.Every.{every_both, every_unmapped, every-append, every-map, map_map, map_own}
-use Rattle.shift_data.proofs.Parting.{canonical_goes}
-use Rattle.shift_data.specs.Moves.{IsLawful, pair_by}
+use Rattle.std.{specs.Prelude.{nat_lt, IfSome, int_le}, specs.List.AllByRecursion, proofs.lemmas.Int.ints}
+use Rattle.key_lists.{specs.Keys.without, proofs.Every.{every_both, every_unmapped, every-append, every-map, map_map, map_own}}
+use Rattle.shift_data.{proofs.Parting.canonical_goes, specs.Moves.{IsLawful, pair_by}}
 use Rattle.shown_rows.proofs.Restricted.{exact_shift}
-use Rattle.tick_model.specs.declared.update.KeyPair.{KeyPair}
-use Rattle.tick_model.specs.declared.update.ShiftRange.{ShiftRange}
-use Rattle.tick_model.specs.declared.update.UpdateFault.{UpdateFault}
-use Rattle.tick_model.specs.declared.update.UpdateFault.TheVariants.{ShiftBreaks}
-use Rattle.tick_model.specs.Merge.{merged_pairs, pair_from}
-use Rattle.tick_model.specs.Rules.{is_past, shift_fault_after}
-use Rattle.tick_model.specs.Shifts.{as_key, delta, delta_at, moved}
-use Rattle.tick_model.specs.Tables.{keys}
-use Rattle.tick_model.specs.Updates.{kept_pair, old_keys}
-use Rattle.tick_table.specs.Exact.{IsExact, tick_of}
-use Rattle.tick_table.specs.Ticking.{Ticking}
-use Rattle.merge_op.specs.Regions.{moves, room_before, room_now}
-use Rattle.merge_op.proofs.Apart.{AreBelow}
-use Rattle.merge_op.proofs.Looked.{rest_past_old}
-use Rattle.merge_op.proofs.Ticked.{kept_before, kept_of}
+use Rattle.tick_model.{specs.declared.update.KeyPair.KeyPair, specs.declared.update.ShiftRange.ShiftRange, specs.declared.update.UpdateFault.UpdateFault, specs.declared.update.UpdateFault.TheVariants.ShiftBreaks, specs.Merge.{merged_pairs, pair_from}, specs.Rules.{is_past, shift_fault_after}, specs.Shifts.{as_key, delta, delta_at, moved}, specs.Tables.keys, specs.Updates.{kept_pair, old_keys}}
+use Rattle.tick_table.{specs.Exact.{IsExact, tick_of}, specs.Ticking.Ticking}
+use Rattle.merge_op.{specs.Regions.{moves, room_before, room_now}, proofs.Apart.AreBelow, proofs.Looked.rest_past_old, proofs.Ticked.{kept_before, kept_of}}
 
 -- each pair of an exact input tells by how much its row moves
 each_moves : (t : Ticking) (e : IsExact t) → AllByRecursion (λ (pair : KeyPair). pos pair.new -ℤ pos pair.old ≡ delta_at t.update.shifted pair.old) (kept_of t)

@@ -1,22 +1,13 @@
 -- The rows of a merge that may differ: those of its inputs.
 use Rattle.std.proofs.Common.{◌≡◌, refl, ap, ap₂, sym, ◌∙◌, subst, true, false, ℕ, ◌+◌, ◌<◌, ◌≤◌, arith, List, [], ◌∷◌, ◌++◌, map, filter, length}
-use Rattle.std.specs.List.{AllByRecursion}
-use Rattle.std.proofs.lemmas.List.{length-append, length-map}
-use Rattle.std.proofs.lemmas.List.Elements.{filter-append}
-use Rattle.key_lists.specs.Keys.{is_among}
-use Rattle.key_lists.proofs.Every.{every_unmapped, every_weaker, filter-map, filter_same}
+use Rattle.std.{specs.List.AllByRecursion, proofs.lemmas.List.{length-append, length-map}, proofs.lemmas.List.Elements.filter-append}
+use Rattle.key_lists.{specs.Keys.is_among, proofs.Every.{every_unmapped, every_weaker, filter-map, filter_same}}
 use Rattle.shift_data.specs.Moves.{pairs_of}
 use Rattle.shown_rows.proofs.Restricted.{is_modified, modified_even, modified_pairs}
 use Rattle.table_update.specs.Kept.{old_modified}
-use Rattle.tick_model.specs.declared.update.KeyPair.{KeyPair}
-use Rattle.tick_model.specs.Merge.{merged_pairs, pair_from}
-use Rattle.tick_model.specs.Tables.{keys}
-use Rattle.tick_model.specs.Updates.{new_keys, old_keys}
-use Rattle.tick_table.specs.Exact.{IsExact, tick_of}
-use Rattle.tick_table.specs.Ticking.{Ticking}
-use Rattle.merge_op.specs.Regions.{in_regions, room_before, room_now}
-use Rattle.merge_op.proofs.Apart.{AreBelow, among_first, among_others, regions_above}
-use Rattle.merge_op.proofs.Ticked.{kept_now, kept_of, new_keys-pairs}
+use Rattle.tick_model.{specs.declared.update.KeyPair.KeyPair, specs.Merge.{merged_pairs, pair_from}, specs.Tables.keys, specs.Updates.{new_keys, old_keys}}
+use Rattle.tick_table.{specs.Exact.{IsExact, tick_of}, specs.Ticking.Ticking}
+use Rattle.merge_op.{specs.Regions.{in_regions, room_before, room_now}, proofs.Apart.{AreBelow, among_first, among_others, regions_above}, proofs.Ticked.{kept_now, kept_of, new_keys-pairs}}
 
 abbrev pub modified_before : Ticking → List ℕ
 modified_before t = old_modified (keys t.old.rows) t.update

@@ -1,31 +1,12 @@
 -- A merge makes what its operator of a plan makes, and steps as this one.
 use Rattle.std.proofs.Common.{◌≡◌, refl, ap, ap₂, sym, ◌∙◌, subst, ℕ, zero, suc, ◌+◌, ◌*◌, ◌<◌, ◌≤◌, inl, inr, arith, cond, ltb, List, [], ◌∷◌, map, length, Option, Some, None}
-use Rattle.std.specs.Prelude.{Err, Ok, Result, replicate, slice_index, slice_index_or, sum_by}
-use Rattle.std.specs.List.{AllByRecursion, range_with_len}
-use Rattle.std.proofs.lemmas.Bool.{cases_lt, lt-ltb, le-ltb}
-use Rattle.std.proofs.lemmas.List.{ext_get_or, length-map, length-replicate}
-use Rattle.std.proofs.lemmas.List.FromFn.{length-map-range_with_len, get_or-map-range_with_len}
-use Rattle.std.proofs.lemmas.List.Folds.{sum_by-replicate}
-use Rattle.std.proofs.lemmas.List.Sums.{sum_by-cons}
+use Rattle.std.{specs.Prelude.{Err, Ok, Result, replicate, slice_index, slice_index_or, sum_by}, specs.List.{AllByRecursion, range_with_len}, proofs.lemmas.Bool.{cases_lt, lt-ltb, le-ltb}, proofs.lemmas.List.{ext_get_or, length-map, length-replicate}, proofs.lemmas.List.FromFn.{length-map-range_with_len, get_or-map-range_with_len}, proofs.lemmas.List.Folds.sum_by-replicate, proofs.lemmas.List.Sums.sum_by-cons}
 use Rattle.key_lists.proofs.Every.{map_map}
-use Rattle.tick_model.specs.declared.plan.Op.TheVariants.{Merge}
-use Rattle.tick_model.specs.declared.table.NodeFault.{NodeFault}
-use Rattle.tick_model.specs.declared.table.NodeFault.TheVariants.{TooManyRows as ManyRows}
-use Rattle.tick_model.specs.declared.table.PlainTable.{PlainTable}
-use Rattle.tick_model.specs.Changes.{change_of}
-use Rattle.tick_model.specs.Tables.{no_table, keys}
-use Rattle.tick_model.specs.Merge.{merge_fault, merge_pairs, merge_table, merged_rows, region}
-use Rattle.tick_model.specs.Updates.{Tick}
+use Rattle.tick_model.{specs.declared.plan.Op.TheVariants.Merge, specs.declared.table.NodeFault.NodeFault, specs.declared.table.NodeFault.TheVariants.TooManyRows as ManyRows, specs.declared.table.PlainTable.PlainTable, specs.Changes.change_of, specs.Tables.{no_table, keys}, specs.Merge.{merge_fault, merge_pairs, merge_table, merged_rows, region}, specs.Updates.Tick}
 use Rattle.tick_laws.specs.Operated.{operated}
-use Rattle.tick_table.specs.Exact.{counted, tick_of}
-use Rattle.tick_table.specs.Ticking.{Ticking, no_rows}
-use Rattle.table_operator.specs.Inputs.{counted_in, news, tick_in}
-use Rattle.table_operator.specs.Made.{IsCause, IsMadeOf, own_fault, own_tick, room_for}
-use Rattle.table_operator.proofs.Rooms.{count_is as as_many}
-use Rattle.merge_op.specs.declared.fault.MergeFault.{MergeFault}
-use Rattle.merge_op.specs.declared.fault.MergeFault.TheVariants.{Memory, TooManyRows}
-use Rattle.merge_op.specs.Made.{merge_made, of_merge}
-use Rattle.merge_op.specs.Merged.{Merger, merged, rows_in}
+use Rattle.tick_table.{specs.Exact.{counted, tick_of}, specs.Ticking.{Ticking, no_rows}}
+use Rattle.table_operator.{specs.Inputs.{counted_in, news, tick_in}, specs.Made.{IsCause, IsMadeOf, own_fault, own_tick, room_for}, proofs.Rooms.count_is as as_many}
+use Rattle.merge_op.{specs.declared.fault.MergeFault.MergeFault, specs.declared.fault.MergeFault.TheVariants.{Memory, TooManyRows}, specs.Made.{merge_made, of_merge}, specs.Merged.{Merger, merged, rows_in}}
 
 -- the members of a list by their numbers are the list
 numbered : {X : Type 0} (none : X) (xs : List X) (count : ℕ) → length xs ≡ count → map (λ n. slice_index_or xs n none) (range_with_len 0 count) ≡ xs

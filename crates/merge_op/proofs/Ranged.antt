@@ -1,14 +1,9 @@
 -- Ranges of a shift that are put one behind the other.
 use Rattle.std.proofs.Common.{◌≡◌, refl, ap, ap₂, sym, ◌∙◌, subst, Bool, true, false, cond, ◌&&◌, ℕ, zero, suc, ◌+◌, ◌-◌, ◌<◌, ◌≤◌, ◌^◌, arith, min, le-leb, inl, inr, List, [], ◌∷◌, ◌++◌, Option, Some, None, find, ℤ, pos, ◌+ℤ◌, length, get_or}
-use Rattle.std.specs.Prelude.{option_map, unwrap_or}
-use Rattle.std.specs.List.{AllByRecursion}
-use Rattle.std.proofs.lemmas.Bool.{cases_lt}
-use Rattle.std.proofs.lemmas.Int.{ints}
+use Rattle.std.{specs.Prelude.{option_map, unwrap_or}, specs.List.AllByRecursion, proofs.lemmas.Bool.cases_lt, proofs.lemmas.Int.ints}
 use Rattle.tick_laws.proofs.Moves.{not_before, not_after, delta_other}
 use Rattle.key_lists.proofs.Every.{every_weaker}
-use Rattle.tick_model.specs.declared.update.ShiftRange.{ShiftRange}
-use Rattle.tick_model.specs.Printable.{IsShift}
-use Rattle.tick_model.specs.Shifts.{delta_at, holds}
+use Rattle.tick_model.{specs.declared.update.ShiftRange.ShiftRange, specs.Printable.IsShift, specs.Shifts.{delta_at, holds}}
 use Rattle.merge_op.specs.Steps.{IsStep}
 
 abbrev under : Bool → ShiftRange → List ShiftRange → ℕ → ℤ

@@ -1,20 +1,10 @@
 -- Which rows a step of a merge reads, and how many.
 use Rattle.std.proofs.Common.{◌≡◌, refl, ap, sym, ◌∙◌, subst, true, ℕ, ◌+◌, ◌*◌, ◌<◌, ◌≤◌, arith, List, [], ◌∷◌, length}
-use Rattle.std.proofs.Math.Nat.{mul-le-mul_left}
-use Rattle.std.proofs.lemmas.List.Sums.{sum_by-cons}
-use Rattle.std.specs.Prelude.{sum_by}
-use Rattle.std.specs.List.{AllByRecursion}
-use Rattle.key_lists.specs.Keys.{is_among}
-use Rattle.key_lists.proofs.Among.{each_among}
-use Rattle.key_lists.proofs.Every.{every_unmapped, every-filter, every-map}
-use Rattle.row_changes.specs.Parts.{AreParts, AreThere, Parts}
-use Rattle.row_changes.proofs.Comparing.{new_keys-pairs_of, old_keys-pairs_of}
-use Rattle.tick_model.specs.declared.table.PlainTable.{PlainTable}
-use Rattle.tick_model.specs.declared.update.KeyPair.{KeyPair}
-use Rattle.tick_model.specs.Tables.{keys}
-use Rattle.tick_model.specs.Updates.{Update, new_keys, old_keys}
-use Rattle.tick_table.specs.Exact.{counted}
-use Rattle.tick_table.specs.Ticking.{Ticking}
+use Rattle.std.{proofs.Math.Nat.mul-le-mul_left, proofs.lemmas.List.Sums.sum_by-cons, specs.Prelude.sum_by, specs.List.AllByRecursion}
+use Rattle.key_lists.{specs.Keys.is_among, proofs.Among.each_among, proofs.Every.{every_unmapped, every-filter, every-map}}
+use Rattle.row_changes.{specs.Parts.{AreParts, AreThere, Parts}, proofs.Comparing.{new_keys-pairs_of, old_keys-pairs_of}}
+use Rattle.tick_model.{specs.declared.table.PlainTable.PlainTable, specs.declared.update.KeyPair.KeyPair, specs.Tables.keys, specs.Updates.{Update, new_keys, old_keys}}
+use Rattle.tick_table.{specs.Exact.counted, specs.Ticking.Ticking}
 use Rattle.table_operator.specs.Inputs.{counted_in}
 use Rattle.merge_op.specs.Merged.{merged}
 

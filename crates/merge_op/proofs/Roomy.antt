@@ -1,13 +1,9 @@
 -- How much room a region has.
 use Rattle.std.proofs.Common.{◌≡◌, refl, ap, sym, ◌∙◌, subst, ℕ, zero, suc, ◌+◌, ◌-◌, ◌*◌, ◌/◌, ◌<◌, ◌≤◌, ◌^◌, arith, List, [], ◌∷◌, length}
-use Rattle.std.specs.Prelude.{fold, slice_get, unwrap_or}
-use Rattle.std.specs.List.{AllByRecursion}
+use Rattle.std.{specs.Prelude.{fold, slice_get, unwrap_or}, specs.List.AllByRecursion}
 use Rattle.key_lists.proofs.Every.{every_weaker, every-map}
 use Rattle.row_set.specs.Sets.{last_key}
-use Rattle.tick_model.specs.declared.table.PlainRow.{PlainRow}
-use Rattle.tick_model.specs.declared.table.PlainTable.{PlainTable}
-use Rattle.tick_model.specs.Merge.{region, last_key as last_row_key}
-use Rattle.tick_model.specs.Tables.{IsRow, IsTable, keys}
+use Rattle.tick_model.{specs.declared.table.PlainRow.PlainRow, specs.declared.table.PlainTable.PlainTable, specs.Merge.{region, last_key as last_row_key}, specs.Tables.{IsRow, IsTable, keys}}
 
 last_of : (key : ℕ) (rows : List PlainRow) → fold (λ _ row. row.key) key rows ≡ unwrap_or (slice_get (key ∷ keys rows) (length (keys rows))) 0
 last_of key [] = refl

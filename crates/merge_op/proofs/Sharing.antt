@@ -1,12 +1,6 @@
 -- Tables that are shared, one after the other.
 use Rattle.std.proofs.Common.{◌≡◌, ap, sym, ◌∙◌, subst, ℕ, zero, suc, ◌+◌, ◌<◌, ◌≤◌, arith, List, [], ◌∷◌, drop, length, get_or}
-use Rattle.std.specs.Arc.{arc_value}
-use Rattle.std.specs.declared.alloc.Global.{Global}
-use Rattle.std.specs.declared.sync.Arc.{Arc}
-use Rattle.std.specs.List.{AllByRecursion}
-use Rattle.std.specs.Prelude.{Err, Ok, OnErr, OnOk, Result}
-use Rattle.std.proofs.lemmas.List.{drop_more}
-use Rattle.std.proofs.Math.ListN.{drop_of_length-le}
+use Rattle.std.{specs.Arc.arc_value, specs.declared.alloc.Global.Global, specs.declared.sync.Arc.Arc, specs.List.AllByRecursion, specs.Prelude.{Err, Ok, OnErr, OnOk, Result}, proofs.lemmas.List.drop_more, proofs.Math.ListN.drop_of_length-le}
 use Rattle.tick_table.specs.Ticking.{Ticking}
 use Rattle.table_operator.specs.Inputs.{tables}
 

@@ -1,16 +1,10 @@
 -- No region begins far behind the keys, where the rows of a few inputs have keys.
 use Rattle.std.proofs.Common.{◌≡◌, subst, ℕ, ◌+◌, ◌*◌, ◌/◌, ◌<◌, ◌≤◌, ◌^◌, arith, List, [], ◌∷◌, map, length}
-use Rattle.std.specs.Prelude.{fold}
-use Rattle.std.specs.List.{AllByRecursion}
+use Rattle.std.{specs.Prelude.fold, specs.List.AllByRecursion}
 use Rattle.key_lists.proofs.Parts.{every_back, every_front}
-use Rattle.tick_model.specs.declared.table.PlainRow.{PlainRow}
-use Rattle.tick_model.specs.Merge.{last_key}
-use Rattle.tick_model.specs.Tables.{keys}
+use Rattle.tick_model.{specs.declared.table.PlainRow.PlainRow, specs.Merge.last_key, specs.Tables.keys}
 use Rattle.tick_table.specs.Ticking.{Ticking}
-use Rattle.merge_op.specs.Merged.{merged}
-use Rattle.merge_op.specs.Regions.{IsStart, in_regions, room_before, room_now, starts_of}
-use Rattle.merge_op.proofs.Going.{small_plus}
-use Rattle.merge_op.proofs.Ticked.{keys-news, keys-olds, keys_before, keys_now}
+use Rattle.merge_op.{specs.Merged.merged, specs.Regions.{IsStart, in_regions, room_before, room_now, starts_of}, proofs.Going.small_plus, proofs.Ticked.{keys-news, keys-olds, keys_before, keys_now}}
 
 last_holds : (P : ℕ → Type 0) (key : ℕ) (rows : List PlainRow) → P key → AllByRecursion P (keys rows) → P (fold (λ _ row. row.key) key rows)
 last_holds P key [] p h = p

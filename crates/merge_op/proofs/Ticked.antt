@@ -1,24 +1,12 @@
 -- The keys of a merge and of its pairs, and that its tick is one.
 use Rattle.std.proofs.Common.{◌≡◌, refl, ap, ap₂, sym, ◌∙◌, subst, true, ℕ, ◌+◌, ◌<◌, ◌≤◌, ◌^◌, arith, List, [], ◌∷◌, ◌++◌, map, length}
-use Rattle.std.specs.List.{AllByRecursion}
-use Rattle.std.proofs.lemmas.List.{map-append}
-use Rattle.key_lists.specs.Keys.{is_among, IsRising, without}
-use Rattle.key_lists.proofs.Among.{each_among, of_among}
-use Rattle.key_lists.proofs.Every.{every_both, every_weaker, every-append, every-map, map_map}
-use Rattle.tick_model.specs.declared.table.PlainRow.{PlainRow}
-use Rattle.tick_model.specs.declared.table.PlainTable.{PlainTable}
-use Rattle.tick_model.specs.declared.update.KeyPair.{KeyPair}
-use Rattle.tick_model.specs.Merge.{merge_pairs, merged_pairs, merged_rows, pair_from, region, row_from, width_of}
-use Rattle.tick_model.specs.Tables.{IsRow, IsTable, keys}
-use Rattle.tick_model.specs.Updates.{IsTick, Tick, Update, between, new_keys, old_keys, pairs}
-use Rattle.tick_laws.proofs.Merged.{IsPart, apart, apart_among, apart_rising, below_region, whole_part}
-use Rattle.tick_laws.proofs.ResultTables.{rows_of}
-use Rattle.tick_table.specs.Exact.{IsExact, tick_of}
-use Rattle.tick_table.specs.Ticking.{Ticking}
+use Rattle.std.{specs.List.AllByRecursion, proofs.lemmas.List.map-append}
+use Rattle.key_lists.{specs.Keys.{is_among, IsRising, without}, proofs.Among.{each_among, of_among}, proofs.Every.{every_both, every_weaker, every-append, every-map, map_map}}
+use Rattle.tick_model.{specs.declared.table.PlainRow.PlainRow, specs.declared.table.PlainTable.PlainTable, specs.declared.update.KeyPair.KeyPair, specs.Merge.{merge_pairs, merged_pairs, merged_rows, pair_from, region, row_from, width_of}, specs.Tables.{IsRow, IsTable, keys}, specs.Updates.{IsTick, Tick, Update, between, new_keys, old_keys, pairs}}
+use Rattle.tick_laws.{proofs.Merged.{IsPart, apart, apart_among, apart_rising, below_region, whole_part}, proofs.ResultTables.rows_of}
+use Rattle.tick_table.{specs.Exact.{IsExact, tick_of}, specs.Ticking.Ticking}
 use Rattle.table_operator.specs.Inputs.{news, olds}
-use Rattle.merge_op.specs.Merged.{merged}
-use Rattle.merge_op.specs.Regions.{in_regions, room_before, room_now}
-use Rattle.merge_op.proofs.Apart.{AreBelow, regions_same, regions_without}
+use Rattle.merge_op.{specs.Merged.merged, specs.Regions.{in_regions, room_before, room_now}, proofs.Apart.{AreBelow, regions_same, regions_without}}
 
 abbrev pub keys_before : Ticking → List ℕ
 keys_before t = keys t.old.rows

@@ -3,20 +3,10 @@
 --     ShowsMerged merge tables      it shows the merged rows
 --     CanMerge op widths      it can be made of this operator of a plan, for inputs of these widths
 --     of_merge fault      what a fault of a merge is among those of all operators
-use Rattle.std.specs.Prelude.{◌≡◌, ℕ, ◌≤◌, List, length, replicate, slice_index}
-use Rattle.std.specs.List.{AllByRecursion, range_with_len}
-use Rattle.tick_model.specs.declared.plan.Op.{Op}
-use Rattle.tick_model.specs.declared.plan.Op.TheVariants.{Merge}
-use Rattle.tick_model.specs.declared.table.NodeFault.TheVariants.{TooManyRows as ManyRows}
-use Rattle.tick_model.specs.declared.table.PlainTable.{PlainTable}
-use Rattle.tick_model.specs.Merge.{merge_table}
-use Rattle.tick_model.specs.Tables.{keys}
-use Rattle.table_operator.specs.declared.fault.StepFault.{StepFault}
-use Rattle.table_operator.specs.declared.fault.StepFault.TheVariants.{Memory, Node}
-use Rattle.table_operator.specs.Made.{Made}
-use Rattle.merge_op.specs.declared.fault.MergeFault.{MergeFault}
-use Rattle.merge_op.specs.declared.fault.MergeFault.TheVariants.{Memory as MergeMemory, TooManyRows}
-use Rattle.merge_op.specs.Merged.{Merger}
+use Rattle.std.{specs.Prelude.{◌≡◌, ℕ, ◌≤◌, List, length, replicate, slice_index}, specs.List.{AllByRecursion, range_with_len}}
+use Rattle.tick_model.{specs.declared.plan.Op.Op, specs.declared.plan.Op.TheVariants.Merge, specs.declared.table.NodeFault.TheVariants.TooManyRows as ManyRows, specs.declared.table.PlainTable.PlainTable, specs.Merge.merge_table, specs.Tables.keys}
+use Rattle.table_operator.{specs.declared.fault.StepFault.StepFault, specs.declared.fault.StepFault.TheVariants.{Memory, Node}, specs.Made.Made}
+use Rattle.merge_op.{specs.declared.fault.MergeFault.MergeFault, specs.declared.fault.MergeFault.TheVariants.{Memory as MergeMemory, TooManyRows}, specs.Merged.Merger}
 
 abbrev pub merge_made : Merger → Made
 merge_made merge = record { op = Merge (range_with_len 0 merge.count); widths = replicate merge.count merge.width }

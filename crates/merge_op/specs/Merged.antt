@@ -3,10 +3,8 @@
 --     rows_in inputs      how many rows they have together
 --     Merger      how many inputs a merge has, of what width, and the keys of the merged rows
 use Rattle.std.specs.Prelude.{ℕ, List, length, map, sum_by}
-use Rattle.tick_model.specs.Merge.{merge_pairs, merge_table}
-use Rattle.tick_model.specs.Updates.{Tick}
-use Rattle.tick_table.specs.Exact.{tick_of}
-use Rattle.tick_table.specs.Ticking.{Ticking}
+use Rattle.tick_model.{specs.Merge.{merge_pairs, merge_table}, specs.Updates.Tick}
+use Rattle.tick_table.{specs.Exact.tick_of, specs.Ticking.Ticking}
 use Rattle.table_operator.specs.Inputs.{news, olds}
 
 pub record Merger : Type 0 where

@@ -5,8 +5,7 @@
 --     moves before now inputs key      by how much a key of the rows before moves: with its input, and with the input's region
 use Rattle.std.specs.Prelude.{ℕ, ◌+◌, ◌-◌, ◌^◌, ◌≤◌, List, [], ◌∷◌, ◌++◌, ℤ, pos, ◌+ℤ◌, ◌-ℤ◌, map, nat_lt, if◌then◌else◌}
 use Rattle.merge_op.specs.declared.starts.Start.{Start}
-use Rattle.tick_model.specs.Merge.{region}
-use Rattle.tick_model.specs.Shifts.{delta_at}
+use Rattle.tick_model.{specs.Merge.region, specs.Shifts.delta_at}
 use Rattle.tick_table.specs.Ticking.{Ticking}
 
 abbrev pub room_before : Ticking → ℕ

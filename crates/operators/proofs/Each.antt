@@ -1,36 +1,12 @@
 -- What holds of each operator: it can be made where its columns fit, makes a table without rows of such ones, and may go to another thread.
 use denote.Param.Send.{IsSend, sendable}
 use Rattle.std.proofs.Common.{◌≡◌, refl, sym, ◌∙◌, subst, true, false, true≢false, ◌&&◌, ℕ, ◌+◌, ◌<◌, ◌≤◌, arith, List, [], ◌∷◌, ◌++◌, length, map, length-append, ap, ap₂, zero, suc, ◌-◌, take, drop}
-use Rattle.std.specs.Prelude.{nat_le, is_some, slice_index}
-use Rattle.std.specs.List.{AllByRecursion, list_all}
-use Rattle.std.proofs.lemmas.Bool.{and_parts, leb-true}
-use Rattle.std.proofs.lemmas.List.{length-map}
+use Rattle.std.{specs.Prelude.{nat_le, is_some, slice_index}, specs.List.{AllByRecursion, list_all}, proofs.lemmas.Bool.{and_parts, leb-true}, proofs.lemmas.List.length-map}
 use Rattle.key_lists.proofs.Every.{every_weaker, every-map, every_unmapped}
-use Rattle.tick_model.specs.declared.plan.Agg.{Agg}
-use Rattle.tick_model.specs.declared.plan.Agg.TheVariants.{Count, Sum, Min, Max, First, Last}
-use Rattle.tick_model.specs.declared.plan.ColumnSpec.{ColumnSpec}
-use Rattle.tick_model.specs.declared.plan.Expr.{Cell}
-use Rattle.tick_model.specs.declared.plan.Kind.TheVariants.{Long}
-use Rattle.tick_model.specs.declared.plan.Op.{Op}
-use Rattle.tick_model.specs.declared.plan.Op.TheVariants.{Source, Keep, View, Join, Agg as AggOp, Merge, Sort, Head, Tail, AsOf}
-use Rattle.tick_model.specs.Operators.{inputs_of, result, columns_fit, result_width}
-use Rattle.tick_model.specs.Formulas.{IsTestWithin, IsWithin}
-use Rattle.tick_model.specs.Columns.{agg_kind, follow, has_kind, have_kinds, keep_names, is_bound, is_test_bound, kind_at, kind_of, kinds_of, same_columns, same_kind_at, some_of, test_fits}
-use Rattle.tick_model.proofs.Results.{IsOperator}
-use Rattle.tick_model.proofs.Widths.{all_within, follow_some, follow_width, have_some, kinds_width, same_width, test_within, within, long_some}
+use Rattle.tick_model.{specs.declared.plan.Agg.Agg, specs.declared.plan.Agg.TheVariants.{Count, Sum, Min, Max, First, Last}, specs.declared.plan.ColumnSpec.ColumnSpec, specs.declared.plan.Expr.Cell, specs.declared.plan.Kind.TheVariants.Long, specs.declared.plan.Op.Op, specs.declared.plan.Op.TheVariants.{Source, Keep, View, Join, Agg as AggOp, Merge, Sort, Head, Tail, AsOf}, specs.Operators.{inputs_of, result, columns_fit, result_width}, specs.Formulas.{IsTestWithin, IsWithin}, specs.Columns.{agg_kind, follow, has_kind, have_kinds, keep_names, is_bound, is_test_bound, kind_at, kind_of, kinds_of, same_columns, same_kind_at, some_of, test_fits}, proofs.Results.IsOperator, proofs.Widths.{all_within, follow_some, follow_width, have_some, kinds_width, same_width, test_within, within, long_some}, specs.declared.table.PlainRow.PlainRow, specs.declared.table.PlainTable.PlainTable, specs.Agg.agg_table, specs.AsOf.asof_table, specs.HeadTail.{head_table, tail_table}, specs.Join.join_table, specs.Merge.{merge_table, width_of}, specs.Sort.sort_table, specs.View.view_table, specs.Where.where_table}
 use Rattle.agg_by.specs.Aggregator.{IsColumn}
 use Rattle.operators.specs.Operating.{CanBeMade}
 use Rattle.tick_laws.proofs.EvalNodes.{all_pass}
-use Rattle.tick_model.specs.declared.table.PlainRow.{PlainRow}
-use Rattle.tick_model.specs.declared.table.PlainTable.{PlainTable}
-use Rattle.tick_model.specs.Agg.{agg_table}
-use Rattle.tick_model.specs.AsOf.{asof_table}
-use Rattle.tick_model.specs.HeadTail.{head_table, tail_table}
-use Rattle.tick_model.specs.Join.{join_table}
-use Rattle.tick_model.specs.Merge.{merge_table, width_of}
-use Rattle.tick_model.specs.Sort.{sort_table}
-use Rattle.tick_model.specs.View.{view_table}
-use Rattle.tick_model.specs.Where.{where_table}
 use Rattle.tick_table.specs.Ticking.{no_rows}
 use Rattle.merge_op.proofs.Planned.{none_merged}
 use Rattle.boxcar.proofs.Sent.{tag_send}

@@ -1,18 +1,11 @@
 -- The operators of a lawful plan can be made, and before the first step no node has rows.
 use Rattle.std.proofs.Common.{◌≡◌, refl, sym, ◌∙◌, subst, true, false, ℕ, ◌<◌, arith, List, [], ◌∷◌, length, map, get_or, zero, suc}
-use Rattle.std.specs.List.{AllByRecursion}
-use Rattle.std.proofs.lemmas.List.{get_or_default}
+use Rattle.std.{specs.List.AllByRecursion, proofs.lemmas.List.get_or_default}
 use Rattle.key_lists.proofs.Every.{every_weaker, map_map, map_same}
-use Rattle.tick_model.specs.declared.plan.Node.{Node}
-use Rattle.tick_model.specs.declared.plan.Plan.{Plan}
-use Rattle.tick_model.specs.Evaluation.{is_source}
-use Rattle.tick_model.specs.Plans.{columns_at, is_lawful}
-use Rattle.tick_model.proofs.LawfulNodes.{IsLawfulNode, lawful_node}
-use Rattle.operators.specs.Planned.{input_widths, op_at}
+use Rattle.tick_model.{specs.declared.plan.Node.Node, specs.declared.plan.Plan.Plan, specs.Evaluation.is_source, specs.Plans.{columns_at, is_lawful}, proofs.LawfulNodes.{IsLawfulNode, lawful_node}, specs.States.empty_at}
+use Rattle.operators.{specs.Planned.{input_widths, op_at}, proofs.Each.{IsPlanned, planned}}
 use Rattle.tick_laws.proofs.LawfulPlans.{columns_at-node}
-use Rattle.tick_model.specs.States.{empty_at}
 use Rattle.tick_table.specs.Ticking.{no_rows}
-use Rattle.operators.proofs.Each.{IsPlanned, planned}
 
 pub lawful_at : (plan : Plan) (n : ℕ) (d : Node) → is_lawful plan ≡ true → n < length plan.nodes → IsLawfulNode plan.nodes n (get_or plan.nodes n d)
 lawful_at plan n d lawful less = lawful_node plan n (get_or plan.nodes n d) lawful less (get_or_default plan.nodes n d (get_or plan.nodes n d) less)

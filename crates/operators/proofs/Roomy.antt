@@ -1,25 +1,9 @@
 -- In a lawful plan a merge has keys enough.
 use Rattle.std.proofs.Common.{◌≡◌, subst, ℕ, ◌+◌, ◌^◌, ◌<◌, ◌≤◌, arith, true, List, [], ◌∷◌, length, map, sum}
-use Rattle.std.specs.Prelude.{slice_index}
-use Rattle.std.specs.List.{AllByRecursion}
-use Rattle.std.proofs.lemmas.List.Elements.{recursion_from_All}
+use Rattle.std.{specs.Prelude.slice_index, specs.List.AllByRecursion, proofs.lemmas.List.Elements.recursion_from_All}
 use Rattle.key_lists.proofs.Every.{every_both, every_weaker, every-append, every-map}
-use Rattle.tick_model.specs.declared.plan.Node.{Node}
-use Rattle.tick_model.specs.declared.plan.Op.{Op}
-use Rattle.tick_model.specs.declared.plan.Op.TheVariants.{Merge}
-use Rattle.tick_model.specs.declared.plan.Plan.{Plan}
-use Rattle.tick_model.specs.declared.table.PlainRow.{PlainRow}
-use Rattle.tick_model.specs.declared.table.PlainTable.{PlainTable}
-use Rattle.tick_model.specs.Operators.{inputs_of, bound_of}
-use Rattle.tick_model.specs.Merge.{merged_rows, region, row_from}
-use Rattle.tick_model.specs.Plans.{columns_at, is_lawful, key_bounds}
-use Rattle.tick_model.specs.Ready.{HaveRoom}
-use Rattle.tick_model.specs.Tables.{keys}
-use Rattle.tick_model.proofs.Results.{AreResults, IsResult, merged_room}
-use Rattle.tick_laws.specs.Bounded.{IsNodeTable}
-use Rattle.tick_laws.specs.Operated.{EachInput}
-use Rattle.tick_laws.proofs.LawfulPlans.{IsLawfulPlan, bound_is, bound_room, each_bound, lawful_plan}
-use Rattle.tick_laws.proofs.NodeTables.{node_result}
+use Rattle.tick_model.{specs.declared.plan.Node.Node, specs.declared.plan.Op.Op, specs.declared.plan.Op.TheVariants.Merge, specs.declared.plan.Plan.Plan, specs.declared.table.PlainRow.PlainRow, specs.declared.table.PlainTable.PlainTable, specs.Operators.{inputs_of, bound_of}, specs.Merge.{merged_rows, region, row_from}, specs.Plans.{columns_at, is_lawful, key_bounds}, specs.Ready.HaveRoom, specs.Tables.keys, proofs.Results.{AreResults, IsResult, merged_room}}
+use Rattle.tick_laws.{specs.Bounded.IsNodeTable, specs.Operated.EachInput, proofs.LawfulPlans.{IsLawfulPlan, bound_is, bound_room, each_bound, lawful_plan}, proofs.NodeTables.node_result}
 use Rattle.table_operator.specs.Made.{HasKeys}
 use Rattle.operators.specs.Planned.{op_at}
 

@@ -1,20 +1,11 @@
 -- A step of what runs is one of the plan's operator that it is made of.
 use Rattle.std.proofs.Common.{◌≡◌, ap, ap₂, sym, ◌∙◌, subst, ℕ, ◌+◌, ◌*◌, ◌≤◌, List}
 use Rattle.std.specs.Prelude.{sum}
-use Rattle.tick_model.specs.declared.plan.Op.{Op}
-use Rattle.tick_model.specs.declared.table.PlainTable.{PlainTable}
-use Rattle.tick_model.specs.Changes.{Change, change_of}
-use Rattle.tick_model.specs.Operators.{fault_of, result_width}
-use Rattle.tick_model.specs.Ready.{table_in}
-use Rattle.tick_model.specs.Updates.{Tick}
+use Rattle.tick_model.{specs.declared.plan.Op.Op, specs.declared.table.PlainTable.PlainTable, specs.Changes.{Change, change_of}, specs.Operators.{fault_of, result_width}, specs.Ready.table_in, specs.Updates.Tick}
 use Rattle.tick_laws.specs.Operated.{operated}
-use Rattle.tick_table.specs.Exact.{counted}
-use Rattle.tick_table.specs.Ticking.{Ticking}
-use Rattle.table_operator.specs.Inputs.{counted_in, tick_in}
-use Rattle.table_operator.specs.Made.{IsMadeOf, Made, own_fault, own_tick, room_for}
-use Rattle.operators.specs.declared.running.Running.{Running}
-use Rattle.operators.specs.Inputs.{AreTables, AreTicks}
-use Rattle.operators.specs.Operating.{made_of}
+use Rattle.tick_table.{specs.Exact.counted, specs.Ticking.Ticking}
+use Rattle.table_operator.{specs.Inputs.{counted_in, tick_in}, specs.Made.{IsMadeOf, Made, own_fault, own_tick, room_for}}
+use Rattle.operators.{specs.declared.running.Running.Running, specs.Inputs.{AreTables, AreTicks}, specs.Operating.made_of}
 
 module _ (op : Op) (made : Made) (is : IsMadeOf op made) (inputs : List Ticking) where
   pub own_tick_is : (tick : ℕ → Tick) → AreTicks op tick inputs → own_tick made inputs ≡ operated op tick

@@ -2,12 +2,8 @@
 --     AreTables op table inputs      the tables of the nodes that it reads are those of these inputs, now
 --     AreTicks op tick inputs      their ticks are those of these inputs
 use Rattle.std.specs.Prelude.{◌≡◌, ℕ, List, map}
-use Rattle.tick_model.specs.declared.plan.Op.{Op}
-use Rattle.tick_model.specs.declared.table.PlainTable.{PlainTable}
-use Rattle.tick_model.specs.Operators.{inputs_of}
-use Rattle.tick_model.specs.Updates.{Tick}
-use Rattle.tick_table.specs.Exact.{tick_of}
-use Rattle.tick_table.specs.Ticking.{Ticking}
+use Rattle.tick_model.{specs.declared.plan.Op.Op, specs.declared.table.PlainTable.PlainTable, specs.Operators.inputs_of, specs.Updates.Tick}
+use Rattle.tick_table.{specs.Exact.tick_of, specs.Ticking.Ticking}
 use Rattle.table_operator.specs.Inputs.{news}
 
 abbrev pub AreTables : Op → (ℕ → PlainTable) → List Ticking → Type 0

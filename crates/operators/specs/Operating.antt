@@ -5,19 +5,15 @@
 --     StandsFor operator tables      what it keeps is that of these tables, one for each input
 --     CanBeMade op widths      its formulas and columns are those of inputs of these widths, and its table has few columns
 use Rattle.std.specs.Prelude.{ℕ, List, [], ◌∷◌, ◌++◌}
-use Rattle.tick_model.specs.declared.plan.Op.{Op}
-use Rattle.tick_model.specs.declared.plan.Op.TheVariants.{Source, Keep, View as Viewing, Join as Joining, Agg as Aggregating, Merge as Merging, Sort as Sorting, Head as Heading, Tail as Tailing, AsOf as Matching}
-use Rattle.tick_model.specs.declared.table.PlainTable.{PlainTable}
+use Rattle.tick_model.{specs.declared.plan.Op.Op, specs.declared.plan.Op.TheVariants.{Source, Keep, View as Viewing, Join as Joining, Agg as Aggregating, Merge as Merging, Sort as Sorting, Head as Heading, Tail as Tailing, AsOf as Matching}, specs.declared.table.PlainTable.PlainTable}
 use Rattle.table_operator.specs.Made.{Made}
 use Rattle.agg_by.specs.Made.{CanAggregate, StandsForFirst, agg_made}
-use Rattle.head_tail.specs.declared.end.End.TheVariants.{First, Last}
-use Rattle.head_tail.specs.Made.{IsAt, StandsAt, made_at}
+use Rattle.head_tail.{specs.declared.end.End.TheVariants.{First, Last}, specs.Made.{IsAt, StandsAt, made_at}}
 use Rattle.lookup_join.specs.Made.{CanJoin, CanMatch, MatchesBoth, StandsForBoth, as_of_made, join_made}
 use Rattle.merge_op.specs.Made.{CanMerge, ShowsMerged, merge_made}
 use Rattle.row_ops.specs.Made.{CanFilter, CanView, ShowsPassing, filter_made, view_made}
 use Rattle.sort_op.specs.Made.{CanSort, HasEntries, sort_made}
-use Rattle.operators.specs.declared.running.Running.{Running}
-use Rattle.operators.specs.declared.running.Running.TheVariants.{Where, View, Join, Agg, Merge, Sort, Head, Tail, AsOf}
+use Rattle.operators.{specs.declared.running.Running.Running, specs.declared.running.Running.TheVariants.{Where, View, Join, Agg, Merge, Sort, Head, Tail, AsOf}}
 
 pub record Operating : Type 0 where
   pub op : Op

@@ -2,11 +2,7 @@
 --     op_at plan node      the operator of a node
 --     input_widths plan op      the widths of the nodes that an operator reads
 use Rattle.std.specs.Prelude.{ℕ, List, length, map, slice_index_or}
-use Rattle.tick_model.specs.declared.plan.Node.{Node}
-use Rattle.tick_model.specs.declared.plan.Op.{Op}
-use Rattle.tick_model.specs.declared.plan.Plan.{Plan}
-use Rattle.tick_model.specs.Operators.{inputs_of}
-use Rattle.tick_model.specs.Plans.{columns_at}
+use Rattle.tick_model.{specs.declared.plan.Node.Node, specs.declared.plan.Op.Op, specs.declared.plan.Plan.Plan, specs.Operators.inputs_of, specs.Plans.columns_at}
 
 abbrev pub op_at : Plan → ℕ → Node → Op
 op_at plan node default = (slice_index_or plan.nodes node default).op

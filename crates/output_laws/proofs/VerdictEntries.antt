@@ -1,30 +1,14 @@
 -- What the program writes of a verdict is the text of its entries.
 use Rattle.std.proofs.Common.{◌≡◌, refl, ap, sym, ◌∙◌, subst, ℕ, arith, List, [], ◌∷◌, ◌++◌, drop, Some}
-use Rattle.std.specs.Prelude.{codes}
-use Rattle.std.specs.List.{AllByRecursion}
-use Rattle.std.proofs.lemmas.Grind.{flat_map-append}
-use Rattle.std.proofs.lemmas.List.{append-nil}
-use Rattle.feed_run.specs.declared.refusal.Refusal.{Refusal}
-use Rattle.feed_run.specs.declared.refusal.Refusal.TheVariants.{Usage, Script, Table, Feed}
-use Rattle.feed_run.specs.Verdicts.{Verdict, Refused, Summary, Kept, Spoiled, Done, Unnamed, WatchSpoiled, WatchDone}
-use Rattle.feed_run.specs.Wholes.{IsLawful, cause_record, kept_record, refusal_record, unnamed_record, whole}
+use Rattle.std.{specs.Prelude.codes, specs.List.AllByRecursion, proofs.lemmas.Grind.flat_map-append, proofs.lemmas.List.append-nil}
+use Rattle.feed_run.{specs.declared.refusal.Refusal.Refusal, specs.declared.refusal.Refusal.TheVariants.{Usage, Script, Table, Feed}, specs.Verdicts.{Verdict, Refused, Summary, Kept, Spoiled, Done, Unnamed, WatchSpoiled, WatchDone}, specs.Wholes.{IsLawful, cause_record, kept_record, refusal_record, unnamed_record, whole}}
 use Rattle.key_lists.proofs.Every.{every-append}
 use Rattle.replay.specs.Outcomes.{text_until}
-use Rattle.tick_model.specs.declared.feed.Run.{Run}
-use Rattle.tick_model.specs.Spoiled.{Cause, ByBatch, ByNode, ByPublication, good}
-use Rattle.tick_model.specs.Texts.{done_record, record_text}
+use Rattle.tick_model.{specs.declared.feed.Run.Run, specs.Spoiled.{Cause, ByBatch, ByNode, ByPublication, good}, specs.Texts.{done_record, record_text}}
 use Rattle.update_text.specs.declared.shown.Shown.{Shown}
-use Rattle.watched_run.specs.Messages.{watch_text}
-use Rattle.watched_run.specs.ToCome.{watch_until}
-use Rattle.run_output.specs.declared.entry.Entry.{Entry}
-use Rattle.run_output.specs.declared.entry.Entry.TheVariants.{Done as End, Fault}
-use Rattle.run_output.specs.Entries.{IsEntry, entry_text, output_text}
-use Rattle.run_output.specs.Runs.{tables_of}
-use Rattle.run_output.proofs.RunTold.{step_small}
-use Rattle.output_laws.specs.Wholes.{AreOf, IsRun, IsShownTo, fault_of, verdict_entries}
-use Rattle.output_laws.specs.Written.{messages, run_entries, watch_entries}
-use Rattle.output_laws.proofs.WatchedEntries.{messages_are, messages_told, watch_are, watch_told}
-use Rattle.output_laws.proofs.WrittenEntries.{text_is, until}
+use Rattle.watched_run.{specs.Messages.watch_text, specs.ToCome.watch_until}
+use Rattle.run_output.{specs.declared.entry.Entry.Entry, specs.declared.entry.Entry.TheVariants.{Done as End, Fault}, specs.Entries.{IsEntry, entry_text, output_text}, specs.Runs.tables_of, proofs.RunTold.step_small}
+use Rattle.output_laws.{specs.Wholes.{AreOf, IsRun, IsShownTo, fault_of, verdict_entries}, specs.Written.{messages, run_entries, watch_entries}, proofs.WatchedEntries.{messages_are, messages_told, watch_are, watch_told}, proofs.WrittenEntries.{text_is, until}}
 
 -- the records of faults
 refusal_is : (refusal : Refusal) → refusal_record refusal ≡ codes "fault" ∷ drop 1 (refusal_record refusal)

@@ -1,37 +1,13 @@
 -- The messages of a watched run are the text of their entries, and make the watched rows.
 use Rattle.std.proofs.Common.{◌≡◌, refl, ap, sym, ◌∙◌, true, false, cond, ℕ, zero, suc, ◌+◌, ◌≤◌, arith, List, [], ◌∷◌, ◌++◌, length, Option, Some, None, ◌==◌, eqb-true}
-use Rattle.std.specs.List.{AllByRecursion}
-use Rattle.std.proofs.lemmas.List.{append-nil}
-use Rattle.std.proofs.lemmas.Grind.{flat_map-append}
+use Rattle.std.{specs.List.AllByRecursion, proofs.lemmas.List.append-nil, proofs.lemmas.Grind.flat_map-append}
 use Rattle.key_lists.proofs.Every.{every-append}
-use Rattle.tick_laws.specs.Reached.{IsReached}
-use Rattle.tick_laws.proofs.GoodSteps.{good_reached}
-use Rattle.tick_laws.proofs.PrintedChanges.{change_printable}
-use Rattle.tick_laws.proofs.RunTicks.{reached_before}
-use Rattle.tick_laws.proofs.SliceTicks.{slice_first_tick, slice_is_tick}
-use Rattle.tick_model.specs.declared.feed.Run.{Run}
-use Rattle.tick_model.specs.declared.table.PlainTable.{PlainTable}
-use Rattle.tick_model.specs.Changes.{change_of}
-use Rattle.tick_model.specs.Evaluation.{table_at}
-use Rattle.tick_model.specs.LawfulRuns.{IsLawfulRun}
-use Rattle.tick_model.specs.Slices.{first_tick, slice_tick}
-use Rattle.tick_model.specs.Spoiled.{good}
-use Rattle.tick_model.specs.States.{state}
-use Rattle.tick_model.specs.Texts.{columns_at, record_text, records_text}
-use Rattle.tick_model.specs.Updates.{IsTick}
+use Rattle.tick_laws.{specs.Reached.IsReached, proofs.GoodSteps.good_reached, proofs.PrintedChanges.change_printable, proofs.RunTicks.reached_before, proofs.SliceTicks.{slice_first_tick, slice_is_tick}}
+use Rattle.tick_model.{specs.declared.feed.Run.Run, specs.declared.table.PlainTable.PlainTable, specs.Changes.change_of, specs.Evaluation.table_at, specs.LawfulRuns.IsLawfulRun, specs.Slices.{first_tick, slice_tick}, specs.Spoiled.good, specs.States.state, specs.Texts.{columns_at, record_text, records_text}, specs.Updates.IsTick}
 use Rattle.tick_table.specs.Ticking.{no_rows}
-use Rattle.viewport.specs.declared.slice.Slice.{Slice}
-use Rattle.viewport.specs.Slices.{cut}
-use Rattle.watched_run.specs.declared.watch.Watch.{Watch}
-use Rattle.watched_run.specs.Messages.{IsWatch, first_records, gaps, later_records, message_records, slice_of, watch_text}
-use Rattle.watched_run.specs.ToCome.{watch_until}
-use Rattle.watched_run.proofs.WatchedRows.{column_count, fits}
-use Rattle.run_output.specs.declared.entry.Entry.{Entry}
-use Rattle.run_output.specs.Entries.{IsEntry, entry_text, output_text}
-use Rattle.run_output.specs.Runs.{applied, copy_after, tables_of, told_update}
-use Rattle.run_output.proofs.RunTables.{fold-append, told_moves}
-use Rattle.run_output.proofs.RunTexts.{told_is}
-use Rattle.run_output.proofs.RunTold.{change_told, step_small}
+use Rattle.viewport.{specs.declared.slice.Slice.Slice, specs.Slices.cut}
+use Rattle.watched_run.{specs.declared.watch.Watch.Watch, specs.Messages.{IsWatch, first_records, gaps, later_records, message_records, slice_of, watch_text}, specs.ToCome.watch_until, proofs.WatchedRows.{column_count, fits}}
+use Rattle.run_output.{specs.declared.entry.Entry.Entry, specs.Entries.{IsEntry, entry_text, output_text}, specs.Runs.{applied, copy_after, tables_of, told_update}, proofs.RunTables.{fold-append, told_moves}, proofs.RunTexts.told_is, proofs.RunTold.{change_told, step_small}}
 use Rattle.output_laws.specs.Written.{later_entries, message_entry, messages, watch_entries}
 
 module _ (run : Run) (watch : Watch) where

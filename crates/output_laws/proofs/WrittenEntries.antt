@@ -1,21 +1,10 @@
 -- What is written of a run is the text of its entries.
 use Rattle.std.proofs.Common.{◌≡◌, refl, ap, sym, ◌∙◌, true, false, cond, ℕ, ◌≤◌, arith, List, ◌++◌, Option, Some, None}
-use Rattle.std.specs.Prelude.{nat_lt}
-use Rattle.std.specs.List.{AllByRecursion}
-use Rattle.std.proofs.lemmas.Grind.{flat_map-append}
+use Rattle.std.{specs.Prelude.nat_lt, specs.List.AllByRecursion, proofs.lemmas.Grind.flat_map-append}
 use Rattle.key_lists.proofs.Every.{every-append}
-use Rattle.replay.specs.declared.outcome.Knobs.{Knobs}
-use Rattle.replay.specs.Kept.{kept_words, most_words}
-use Rattle.replay.specs.Outcomes.{IsLawfulChoice, last_written, text_until}
-use Rattle.tick_model.specs.declared.feed.Run.{Run}
-use Rattle.tick_model.specs.LawfulRuns.{IsLawfulRun}
-use Rattle.tick_model.specs.Spoiled.{good}
-use Rattle.tick_model.specs.Texts.{snapshots_text}
-use Rattle.run_output.specs.declared.entry.Entry.{Entry}
-use Rattle.run_output.specs.Entries.{IsEntry, entry_text, output_text}
-use Rattle.run_output.specs.Runs.{snapshot_entries, tables_of, update_entries}
-use Rattle.run_output.proofs.RunTexts.{snapshots_told, updates_told}
-use Rattle.run_output.proofs.RunTold.{snapshots_are, updates_are}
+use Rattle.replay.{specs.declared.outcome.Knobs.Knobs, specs.Kept.{kept_words, most_words}, specs.Outcomes.{IsLawfulChoice, last_written, text_until}}
+use Rattle.tick_model.{specs.declared.feed.Run.Run, specs.LawfulRuns.IsLawfulRun, specs.Spoiled.good, specs.Texts.snapshots_text}
+use Rattle.run_output.{specs.declared.entry.Entry.Entry, specs.Entries.{IsEntry, entry_text, output_text}, specs.Runs.{snapshot_entries, tables_of, update_entries}, proofs.RunTexts.{snapshots_told, updates_told}, proofs.RunTold.{snapshots_are, updates_are}}
 use Rattle.output_laws.specs.Written.{run_entries}
 
 pub text_is : (run : Run) (last : Option ℕ) (choice : List (List ℕ)) → text_until run last choice ≡ output_text (tables_of run) run.texts (run_entries run last choice)

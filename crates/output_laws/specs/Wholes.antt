@@ -3,17 +3,12 @@
 --     IsShownTo verdict tables texts      the output of the verdict is read with these tables and texts: with those of its run, where it has one
 --     IsRun verdict      its run is lawful, and its last good step is the one that it ends with
 use Rattle.std.specs.Prelude.{◌≡◌, ℕ, ◌≤◌, List, [], ◌∷◌, ◌++◌, drop, Some}
-use Rattle.feed_run.specs.Verdicts.{Verdict, Refused, Summary, Kept, Spoiled, Done, Unnamed, WatchSpoiled, WatchDone}
-use Rattle.feed_run.specs.Wholes.{cause_record, kept_record, refusal_record, unnamed_record}
+use Rattle.feed_run.{specs.Verdicts.{Verdict, Refused, Summary, Kept, Spoiled, Done, Unnamed, WatchSpoiled, WatchDone}, specs.Wholes.{cause_record, kept_record, refusal_record, unnamed_record}}
 use Rattle.replay.specs.declared.outcome.Knobs.{Knobs}
-use Rattle.tick_model.specs.declared.feed.Run.{Run}
-use Rattle.tick_model.specs.LawfulRuns.{IsLawfulRun}
-use Rattle.tick_model.specs.Spoiled.{good}
+use Rattle.tick_model.{specs.declared.feed.Run.Run, specs.LawfulRuns.IsLawfulRun, specs.Spoiled.good}
 use Rattle.update_text.specs.declared.shown.Shown.{Shown}
 use Rattle.watched_run.specs.Messages.{IsWatch}
-use Rattle.run_output.specs.declared.entry.Entry.{Entry}
-use Rattle.run_output.specs.declared.entry.Entry.TheVariants.{Done as End, Fault}
-use Rattle.run_output.specs.Runs.{tables_of}
+use Rattle.run_output.{specs.declared.entry.Entry.Entry, specs.declared.entry.Entry.TheVariants.{Done as End, Fault}, specs.Runs.tables_of}
 use Rattle.output_laws.specs.Written.{messages, run_entries, watch_entries}
 
 -- the end by the fault of a record

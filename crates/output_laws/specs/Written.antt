@@ -2,14 +2,10 @@
 --     run_entries run last choice      of what `run_feed` writes: the updates up to a step, and the snapshots of a choice
 --     watch_entries run watch last      of what `watch_feed` writes: the messages up to a step that are not empty
 use Rattle.std.specs.Prelude.{ℕ, ◌+◌, List, [], ◌∷◌, ◌++◌, Option, Some, None}
-use Rattle.tick_model.specs.declared.feed.Run.{Run}
-use Rattle.tick_model.specs.Changes.{change_of}
-use Rattle.tick_model.specs.Slices.{first_tick, slice_tick}
+use Rattle.tick_model.{specs.declared.feed.Run.Run, specs.Changes.change_of, specs.Slices.{first_tick, slice_tick}}
 use Rattle.viewport.specs.Slices.{cut}
-use Rattle.watched_run.specs.declared.watch.Watch.{Watch}
-use Rattle.watched_run.specs.Messages.{gaps, slice_of}
-use Rattle.run_output.specs.declared.entry.Entry.{Entry}
-use Rattle.run_output.specs.Runs.{snapshot_entries, told_update, update_entries}
+use Rattle.watched_run.{specs.declared.watch.Watch.Watch, specs.Messages.{gaps, slice_of}}
+use Rattle.run_output.{specs.declared.entry.Entry.Entry, specs.Runs.{snapshot_entries, told_update, update_entries}}
 
 abbrev pub run_entries : Run → Option ℕ → List (List ℕ) → List Entry
 run_entries run None choice = []

@@ -1,11 +1,7 @@
 -- What aggregates say of a column, cell by cell.
 use Rattle.std.proofs.Common.{◌≡◌, refl, ap, ◌∙◌, ℕ, ◌-◌, arith, true, false, cond, not, List, [], ◌∷◌, length, ℤ, Some, None, unwrap_or}
-use Rattle.std.specs.Prelude.{fold, slice_get}
-use Rattle.std.specs.Option.{option_map_or}
-use Rattle.tick_model.specs.declared.table.PlainRow.{PlainRow}
-use Rattle.tick_model.specs.Tables.{null, is_null, cell}
-use Rattle.tick_model.specs.Agg.{present, over, column_of}
-use Rattle.tick_model.specs.Extremes.{with_present}
+use Rattle.std.{specs.Prelude.{fold, slice_get}, specs.Option.option_map_or}
+use Rattle.tick_model.{specs.declared.table.PlainRow.PlainRow, specs.Tables.{null, is_null, cell}, specs.Agg.{present, over, column_of}, specs.Extremes.with_present}
 
 -- from a value on
 over_from : (f : ℤ → ℤ → ℤ) (xs : List ℤ) (a : ℤ) → fold (with_present f) (Some a) xs ≡ Some (fold f a (present xs))

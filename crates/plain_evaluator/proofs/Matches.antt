@@ -1,11 +1,7 @@
 -- The last of several matches, and the latest, with one row more.
 use Rattle.std.proofs.Common.{◌≡◌, refl, ap, sym, ◌∙◌, ℕ, ◌+◌, ◌<◌, true, false, cond, List, [], ◌∷◌, ◌++◌, take, length, get_or, Option, Some, None}
-use Rattle.std.proofs.lemmas.List.{append-nil}
-use Rattle.std.proofs.lemmas.List.Elements.{filter_more}
-use Rattle.std.specs.List.{last_or}
-use Rattle.tick_model.specs.declared.table.PlainRow.{PlainRow}
-use Rattle.tick_model.specs.declared.plan.OnPair.{OnPair}
-use Rattle.tick_model.specs.Join.{agree, matches}
+use Rattle.std.{proofs.lemmas.List.append-nil, proofs.lemmas.List.Elements.filter_more, specs.List.last_or}
+use Rattle.tick_model.{specs.declared.table.PlainRow.PlainRow, specs.declared.plan.OnPair.OnPair, specs.Join.{agree, matches}}
 
 pub last_or_push : {X : Type 0} (o : Option X) (xs : List X) (x : X) → last_or o (xs ++ x ∷ []) ≡ Some x
 last_or_push o [] x = refl

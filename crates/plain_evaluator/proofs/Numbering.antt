@@ -1,7 +1,6 @@
 -- Rows that get the keys 0, 1, 2 and so on, one after the other.
 use Rattle.std.proofs.Common.{◌≡◌, ap, ◌∙◌, ℕ, zero, suc, ◌+◌, ◌<◌, arith, List, [], ◌∷◌, ◌++◌, take, drop, length, get_or, set}
-use Rattle.tick_model.specs.declared.table.PlainRow.{PlainRow}
-use Rattle.tick_model.specs.Sort.{numbered}
+use Rattle.tick_model.{specs.declared.table.PlainRow.PlainRow, specs.Sort.numbered}
 
 abbrev keyed : ℕ → PlainRow → PlainRow
 keyed key row = record { key = key; cells = row.cells }

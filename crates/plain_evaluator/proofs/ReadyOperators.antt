@@ -1,27 +1,8 @@
 -- A lawful operator may be applied to its inputs' tables, and what comes of it is its outcome.
 use Rattle.std.proofs.Common.{true≢false, if◌then◌else◌, ◌≡◌, refl, ap, ap₂, sym, ◌∙◌, subst, Bool, true, false, ◌&&◌, ℕ, ◌+◌, ◌^◌, ◌<◌, ◌≤◌, arith, List, [], ◌∷◌, ◌++◌, length, map, sum, length-append, Option}
-use Rattle.std.specs.Prelude.{nat_le}
-use Rattle.std.specs.List.{All, AllByRecursion, list_all}
-use Rattle.std.proofs.lemmas.Bool.{and_parts, leb-true}
-use Rattle.std.proofs.lemmas.List.{length-map, get_or-map}
-use Rattle.std.proofs.lemmas.List.Elements.{recursion_from_All}
+use Rattle.std.{specs.Prelude.nat_le, specs.List.{All, AllByRecursion, list_all}, proofs.lemmas.Bool.{and_parts, leb-true}, proofs.lemmas.List.{length-map, get_or-map}, proofs.lemmas.List.Elements.recursion_from_All}
 use Rattle.key_lists.proofs.Every.{every_weaker, all_from, map_same}
-use Rattle.tick_model.specs.declared.plan.ColumnSpec.{ColumnSpec}
-use Rattle.tick_model.specs.declared.plan.Kind.{Kind}
-use Rattle.tick_model.specs.declared.plan.Op.{Op}
-use Rattle.tick_model.specs.declared.plan.Op.TheVariants.{Source, Keep, View, Join, Agg as AggOp, Merge, AsOf}
-use Rattle.tick_model.specs.declared.table.PlainTable.{PlainTable}
-use Rattle.tick_model.specs.Formulas.{IsWithin, IsTestWithin}
-use Rattle.tick_model.specs.Join.{join_table, join_fault}
-use Rattle.tick_model.specs.AsOf.{asof_table}
-use Rattle.tick_model.specs.Merge.{merge_table, merge_fault}
-use Rattle.tick_model.specs.Columns.{kinds_of, kind_of, kind_at, agg_kind, test_fits, is_bound, is_test_bound, same_columns, have_kinds, keep_names, follow, some_of}
-use Rattle.tick_model.specs.Operators.{columns_fit, bound_of, inputs_of, result, fault_of, IsReady, IsNodeReady}
-use Rattle.tick_model.specs.Evaluation.{Outcome, Table, NoInput, has_table, outcome_at, table_at, table_of, or_fault, applied, outcome_of}
-use Rattle.tick_model.specs.Tables.{no_table}
-use Rattle.tick_model.specs.Ready.{table_in, IsWhole}
-use Rattle.tick_model.proofs.Widths.{kinds_width, follow_width, follow_some, test_within, all_within}
-use Rattle.tick_model.proofs.Results.{IsResult, AreResults, IsOperator, merged_room}
+use Rattle.tick_model.{specs.declared.plan.ColumnSpec.ColumnSpec, specs.declared.plan.Kind.Kind, specs.declared.plan.Op.Op, specs.declared.plan.Op.TheVariants.{Source, Keep, View, Join, Agg as AggOp, Merge, AsOf}, specs.declared.table.PlainTable.PlainTable, specs.Formulas.{IsWithin, IsTestWithin}, specs.Join.{join_table, join_fault}, specs.AsOf.asof_table, specs.Merge.{merge_table, merge_fault}, specs.Columns.{kinds_of, kind_of, kind_at, agg_kind, test_fits, is_bound, is_test_bound, same_columns, have_kinds, keep_names, follow, some_of}, specs.Operators.{columns_fit, bound_of, inputs_of, result, fault_of, IsReady, IsNodeReady}, specs.Evaluation.{Outcome, Table, NoInput, has_table, outcome_at, table_at, table_of, or_fault, applied, outcome_of}, specs.Tables.no_table, specs.Ready.{table_in, IsWhole}, proofs.Widths.{kinds_width, follow_width, follow_some, test_within, all_within}, proofs.Results.{IsResult, AreResults, IsOperator, merged_room}}
 
 whole_of : (width bound : ℕ) (table : PlainTable) → IsResult width bound table → IsWhole table
 whole_of width bound table h =

@@ -1,35 +1,9 @@
 -- How far an evaluation has come, and what its next step adds.
 use Rattle.std.proofs.Common.{◌≡◌, refl, ap, ap₂, cond, length-append, true≢false, sym, ◌∙◌, subst, ℕ, zero, suc, ◌+◌, ◌^◌, ◌<◌, arith, true, inl, inr, List, [], ◌∷◌, ◌++◌, map, take, length, get_or, Option, Some, None, Err, append_assoc}
-use Rattle.std.specs.Prelude.{fold}
-use Rattle.std.specs.List.{AllByRecursion}
-use Rattle.std.proofs.lemmas.List.{length-map, map-append, get_or-map, get_or_append_left, append-nil}
-use Rattle.std.proofs.Math.Seq.{get_or-append_seam}
-use Rattle.std.proofs.lemmas.Bool.{cases_lt}
-use Rattle.std.proofs.lemmas.List.Sums.{fold_more}
+use Rattle.std.{specs.Prelude.fold, specs.List.AllByRecursion, proofs.lemmas.List.{length-map, map-append, get_or-map, get_or_append_left, append-nil}, proofs.Math.Seq.get_or-append_seam, proofs.lemmas.Bool.cases_lt, proofs.lemmas.List.Sums.fold_more}
 use Rattle.key_lists.proofs.Every.{every_weaker}
-use Rattle.tick_model.specs.declared.plan.ColumnSpec.{ColumnSpec}
-use Rattle.tick_model.specs.declared.plan.Node.{Node}
-use Rattle.tick_model.specs.declared.plan.Op.{Op}
-use Rattle.tick_model.specs.declared.plan.Op.TheVariants.{Source}
-use Rattle.tick_model.specs.declared.plan.Plan.{Plan}
-use Rattle.plain_evaluator.specs.declared.operators.NoTable.{NoTable}
-use Rattle.plain_evaluator.specs.declared.operators.NoTable.TheVariants.{Memory as NoMemory, Fault as NoTableFault}
-use Rattle.tick_model.specs.declared.table.NodeFault.{NodeFault}
-use Rattle.tick_model.specs.declared.table.PlainTable.{PlainTable}
-use Rattle.tick_model.specs.Evaluation.{Outcome, Table, Fault, table_of, source_number, eval, eval_node, outcome_of, is_source, or_fault}
-use Rattle.tick_model.specs.Tables.{no_table}
-use Rattle.tick_model.specs.Operators.{inputs_of, is_source_op, fault_of, result, bound_of, IsReady, IsNodeReady}
-use Rattle.tick_model.specs.Fits.{fit_sources}
-use Rattle.tick_model.specs.Plans.{is_lawful, columns_at}
-use Rattle.tick_model.specs.Ready.{table_in}
-use Rattle.plain_evaluator.specs.Gives.{Gives}
-use Rattle.tick_model.specs.Spoiled.{node_fault, ByNode}
-use Rattle.plain_evaluator.specs.Stops.{IsCause, stop_at}
-use Rattle.tick_model.proofs.KeyBounds.{key_bound, bound_here}
-use Rattle.tick_model.proofs.LawfulNodes.{IsLawfulNode, lawful_node}
-use Rattle.plain_evaluator.proofs.ReadyOperators.{ready_is, operator_outcome}
-use Rattle.tick_model.proofs.Results.{IsResult, AreResults, IsOperator, result_is}
-use Rattle.tick_model.proofs.SourceTables.{IsSourceAt, source_at, source_result}
+use Rattle.tick_model.{specs.declared.plan.ColumnSpec.ColumnSpec, specs.declared.plan.Node.Node, specs.declared.plan.Op.Op, specs.declared.plan.Op.TheVariants.Source, specs.declared.plan.Plan.Plan, specs.declared.table.NodeFault.NodeFault, specs.declared.table.PlainTable.PlainTable, specs.Evaluation.{Outcome, Table, Fault, table_of, source_number, eval, eval_node, outcome_of, is_source, or_fault}, specs.Tables.no_table, specs.Operators.{inputs_of, is_source_op, fault_of, result, bound_of, IsReady, IsNodeReady}, specs.Fits.fit_sources, specs.Plans.{is_lawful, columns_at}, specs.Ready.table_in, specs.Spoiled.{node_fault, ByNode}, proofs.KeyBounds.{key_bound, bound_here}, proofs.LawfulNodes.{IsLawfulNode, lawful_node}, proofs.Results.{IsResult, AreResults, IsOperator, result_is}, proofs.SourceTables.{IsSourceAt, source_at, source_result}}
+use Rattle.plain_evaluator.{specs.declared.operators.NoTable.NoTable, specs.declared.operators.NoTable.TheVariants.{Memory as NoMemory, Fault as NoTableFault}, specs.Gives.Gives, specs.Stops.{IsCause, stop_at}, proofs.ReadyOperators.{ready_is, operator_outcome}}
 
 -- the first nodes' tables are made and keep to their nodes, and so many sources were used
 pub record IsEvaluated (nodes : List Node) (sources tables : List PlainTable) (count next : ℕ) : Type 0 where

@@ -1,11 +1,7 @@
 -- Why an evaluation has stopped.
 use Rattle.std.specs.Prelude.{◌≡◌, ℕ, List, Some}
-use Rattle.plain_evaluator.specs.declared.evaluation.EvalStop.{EvalStop}
-use Rattle.plain_evaluator.specs.declared.evaluation.EvalStop.TheVariants.{Memory, Node}
-use Rattle.plain_evaluator.specs.declared.operators.NoTable.{NoTable}
-use Rattle.plain_evaluator.specs.declared.operators.NoTable.TheVariants.{Memory as NoMemory, Fault}
-use Rattle.tick_model.specs.Evaluation.{Outcome}
-use Rattle.tick_model.specs.Spoiled.{node_fault, ByNode}
+use Rattle.plain_evaluator.{specs.declared.evaluation.EvalStop.EvalStop, specs.declared.evaluation.EvalStop.TheVariants.{Memory, Node}, specs.declared.operators.NoTable.NoTable, specs.declared.operators.NoTable.TheVariants.{Memory as NoMemory, Fault}}
+use Rattle.tick_model.{specs.Evaluation.Outcome, specs.Spoiled.{node_fault, ByNode}}
 
 -- the least node that has no table although its inputs have theirs, and its fault; or want of memory, whatever the outcomes
 abbrev pub IsCause : List Outcome → EvalStop → Type 0

@@ -1,16 +1,10 @@
 -- The text of snapshots, one call and one caller after the other.
 use Rattle.std.proofs.Common.{◌≡◌, refl, sym, ap, ◌∙◌, subst, ℕ, zero, suc, ◌+◌, ◌<◌, ◌≤◌, ◌++◌, append_assoc, arith, length, List, [], ◌∷◌, drop, get_or}
-use Rattle.std.specs.Prelude.{map, flat_map, slice_index, slice_index_or}
-use Rattle.std.specs.List.{AllByRecursion}
-use Rattle.std.proofs.lemmas.Grind.{flat_map-append}
-use Rattle.std.proofs.lemmas.List.{at_drop_all, at_drop_more, get_or-map, length-map}
+use Rattle.std.{specs.Prelude.{map, flat_map, slice_index, slice_index_or}, specs.List.AllByRecursion, proofs.lemmas.Grind.flat_map-append, proofs.lemmas.List.{at_drop_all, at_drop_more, get_or-map, length-map}}
 use Rattle.key_lists.proofs.Parts.{every_at}
 use Rattle.tick_laws.specs.Reached.{IsReached}
-use Rattle.tick_model.specs.declared.feed.Run.{Run}
-use Rattle.tick_model.specs.Texts.{calls_records, callers_records, record_text, records_text, snapshot_records}
-use Rattle.tick_model.specs.Words.{line}
-use Rattle.replay.specs.declared.readers.KeptSnapshot.{KeptSnapshot}
-use Rattle.replay.specs.Snapshots.{AreLast, AreTaken, IsLastOf, all_steps, steps_of, table_number}
+use Rattle.tick_model.{specs.declared.feed.Run.Run, specs.Texts.{calls_records, callers_records, record_text, records_text, snapshot_records}, specs.Words.line}
+use Rattle.replay.{specs.declared.readers.KeptSnapshot.KeptSnapshot, specs.Snapshots.{AreLast, AreTaken, IsLastOf, all_steps, steps_of, table_number}}
 
 module _ (run : Run) where
   -- what a caller's calls from one on print

@@ -1,12 +1,8 @@
 -- Choices that callers may make: each call at the last step, and what they have kept in the end.
 use Rattle.std.proofs.Common.{◌≡◌, refl, sym, ap, ◌∙◌, subst, ℕ, zero, suc, ◌+◌, ◌<◌, ◌≤◌, arith, length, List, [], ◌∷◌, get_or, replicate}
-use Rattle.std.specs.Prelude.{map}
-use Rattle.std.specs.List.{AllByRecursion}
-use Rattle.std.proofs.lemmas.List.{get_or-replicate, length-map, length-replicate}
-use Rattle.tick_model.specs.declared.feed.Run.{Run}
-use Rattle.tick_model.specs.Choices.{IsCalls, IsChoice, NeverFalls}
-use Rattle.replay.specs.declared.readers.KeptSnapshot.{KeptSnapshot}
-use Rattle.replay.specs.Snapshots.{AreLast, all_steps, steps_of}
+use Rattle.std.{specs.Prelude.map, specs.List.AllByRecursion, proofs.lemmas.List.{get_or-replicate, length-map, length-replicate}}
+use Rattle.tick_model.{specs.declared.feed.Run.Run, specs.Choices.{IsCalls, IsChoice, NeverFalls}}
+use Rattle.replay.{specs.declared.readers.KeptSnapshot.KeptSnapshot, specs.Snapshots.{AreLast, all_steps, steps_of}}
 
 all_same : {X : Type 0} (P : X → Type 0) (n : ℕ) (x : X) → P x → AllByRecursion P (replicate n x)
 all_same P zero x here = tt

@@ -1,16 +1,9 @@
 -- What was written where a run ends before its last step.
 use Rattle.std.proofs.Common.{◌≡◌, refl, sym, ap, ◌∙◌, subst, ℕ, ◌+◌, ◌≤◌, ◌++◌, arith, append_assoc, length, List, [], Option, Some, None}
-use Rattle.std.specs.Io.KnownBytes.{append_known}
-use Rattle.std.proofs.lemmas.List.{append-nil, take_all}
-use Rattle.tick_io.specs.Written.{AppendsPrefix}
-use Rattle.tick_io.proofs.Prefixes.{append_known-append_known, prefix_after, prefix_longer}
-use Rattle.tick_model.specs.declared.feed.Run.{Run}
-use Rattle.tick_model.specs.Texts.{records_text, step_records}
-use Rattle.replay.specs.declared.outcome.Outcome.{Outcome}
-use Rattle.replay.specs.Causes.{IsCause}
-use Rattle.replay.specs.ToCome.{text_from}
-use Rattle.replay.proofs.Spoils.{AreGoodBefore, cause_spoils}
-use Rattle.replay.proofs.TextsToCome.{good_before, text_ends, text_ends_after, text_next}
+use Rattle.std.{specs.Io.KnownBytes.append_known, proofs.lemmas.List.{append-nil, take_all}}
+use Rattle.tick_io.{specs.Written.AppendsPrefix, proofs.Prefixes.{append_known-append_known, prefix_after, prefix_longer}}
+use Rattle.tick_model.{specs.declared.feed.Run.Run, specs.Texts.{records_text, step_records}}
+use Rattle.replay.{specs.declared.outcome.Outcome.Outcome, specs.Causes.IsCause, specs.ToCome.text_from, proofs.Spoils.{AreGoodBefore, cause_spoils}, proofs.TextsToCome.{good_before, text_ends, text_ends_after, text_next}}
 
 -- nothing was written
 pub nothing_appended : (bytes : Option (List ℕ)) → append_known bytes [] ≡ bytes

@@ -1,19 +1,10 @@
 -- A caller keeps one snapshot more.
 use Rattle.std.proofs.Common.{◌≡◌, refl, sym, ap, ◌∙◌, subst, ℕ, zero, suc, ◌+◌, ◌<◌, ◌≤◌, ◌++◌, arith, append_assoc, length, length-append, List, [], ◌∷◌, get_or, Result, Ok, Err}
-use Rattle.std.specs.Prelude.{OnOk, map, slice_index}
-use Rattle.std.specs.List.{AllByRecursion}
-use Rattle.std.proofs.lemmas.List.{append-nil, get_or_push, length-map, map_push}
+use Rattle.std.{specs.Prelude.{OnOk, map, slice_index}, specs.List.AllByRecursion, proofs.lemmas.List.{append-nil, get_or_push, length-map, map_push}}
 use Rattle.key_lists.proofs.Every.{every_weaker}
-use Rattle.snapshot_store.specs.Answers.{IsSnapshot}
-use Rattle.snapshot_store.specs.declared.answers.Taken.{Taken}
-use Rattle.snapshot_store.specs.Looks.{NeverFalls as LooksNeverFall, last_or, latest, looks_of}
-use Rattle.snapshot_store.specs.Models.{CallerModel}
-use Rattle.tick_model.specs.Clock.{completed}
-use Rattle.tick_model.specs.declared.feed.Run.{Run}
-use Rattle.tick_model.specs.Choices.{NeverFalls}
-use Rattle.tick_model.specs.Words.{line}
-use Rattle.replay.specs.declared.readers.KeptSnapshot.{KeptSnapshot}
-use Rattle.replay.specs.Snapshots.{AreTaken, AreTried, HasKept, steps_of, table_number}
+use Rattle.snapshot_store.{specs.Answers.IsSnapshot, specs.declared.answers.Taken.Taken, specs.Looks.{NeverFalls as LooksNeverFall, last_or, latest, looks_of}, specs.Models.CallerModel}
+use Rattle.tick_model.{specs.Clock.completed, specs.declared.feed.Run.Run, specs.Choices.NeverFalls, specs.Words.line}
+use Rattle.replay.{specs.declared.readers.KeptSnapshot.KeptSnapshot, specs.Snapshots.{AreTaken, AreTried, HasKept, steps_of, table_number}}
 
 pub all_more : {X : Type 0} (P : X → Type 0) (xs : List X) (y : X) → AllByRecursion P xs → P y → AllByRecursion P (xs ++ y ∷ [])
 all_more P [] y all here = (here, tt)

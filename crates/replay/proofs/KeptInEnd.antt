@@ -1,21 +1,11 @@
 -- The callers and what they have kept, as lists.
 use Rattle.std.proofs.Common.{◌≡◌, refl, sym, ap, ◌∙◌, subst, Bool, true, false, ℕ, zero, suc, ◌+◌, ◌<◌, ◌≤◌, ◌++◌, arith, length, List, [], ◌∷◌, take, drop, get_or}
-use Rattle.std.specs.Prelude.{map, slice_index}
-use Rattle.std.specs.List.{All, AllByRecursion}
-use Rattle.std.proofs.lemmas.List.{append-nil, drop_all, take_all}
-use Rattle.key_lists.proofs.Every.{every_weaker}
-use Rattle.key_lists.proofs.Parts.{every_at}
-use Rattle.snapshot_store.specs.Answers.{IsSnapshot}
-use Rattle.snapshot_store.specs.declared.answers.Taken.{Taken}
-use Rattle.snapshot_store.specs.Looks.{latest}
-use Rattle.snapshot_store.specs.Models.{CallerModel, IsNewCaller, IsOf, StoreModel}
-use Rattle.tick_laws.specs.Reached.{IsReached}
-use Rattle.tick_laws.proofs.RunTicks.{reached_before}
-use Rattle.tick_model.specs.declared.feed.Run.{Run}
-use Rattle.tick_model.specs.Choices.{IsCalls}
-use Rattle.replay.specs.declared.readers.KeptSnapshot.{KeptSnapshot}
-use Rattle.replay.specs.declared.readers.Reader.{Reader}
-use Rattle.replay.specs.Snapshots.{AreLast, AreTaking, AreTried, EachReader, HasEnded, HasKept, IsLastOf, IsReader, IsTaking, steps_of, table_number}
+use Rattle.std.{specs.Prelude.{map, slice_index}, specs.List.{All, AllByRecursion}, proofs.lemmas.List.{append-nil, drop_all, take_all}}
+use Rattle.key_lists.{proofs.Every.every_weaker, proofs.Parts.every_at}
+use Rattle.snapshot_store.{specs.Answers.IsSnapshot, specs.declared.answers.Taken.Taken, specs.Looks.latest, specs.Models.{CallerModel, IsNewCaller, IsOf, StoreModel}}
+use Rattle.tick_laws.{specs.Reached.IsReached, proofs.RunTicks.reached_before}
+use Rattle.tick_model.{specs.declared.feed.Run.Run, specs.Choices.IsCalls}
+use Rattle.replay.{specs.declared.readers.KeptSnapshot.KeptSnapshot, specs.declared.readers.Reader.Reader, specs.Snapshots.{AreLast, AreTaking, AreTried, EachReader, HasEnded, HasKept, IsLastOf, IsReader, IsTaking, steps_of, table_number}}
 
 -- a caller that has kept nothing
 pub record IsNewReader (store : StoreModel) (reader : Reader) : Type 0 where

@@ -1,13 +1,8 @@
 -- The least published table with more rows than its limit, found one table after the other.
 use Rattle.std.proofs.Common.{◌≡◌, sym, ap, ◌∙◌, subst, ℕ, zero, suc, ◌+◌, ◌<◌, ◌≤◌, arith, lt-ltb, le-ltb, true, false, List, [], ◌∷◌, drop, length, get_or, Option, Some, None}
-use Rattle.std.specs.Prelude.{map, nat_lt}
-use Rattle.std.specs.List.{AllByRecursion}
-use Rattle.std.proofs.lemmas.Bool.{cond-true, cond-false}
-use Rattle.std.proofs.lemmas.List.{at_drop_more, at_drop_all, get_or-map}
+use Rattle.std.{specs.Prelude.{map, nat_lt}, specs.List.AllByRecursion, proofs.lemmas.Bool.{cond-true, cond-false}, proofs.lemmas.List.{at_drop_more, at_drop_all, get_or-map}}
 use Rattle.snapshot_store.specs.Lines.{limit_in, node_in}
-use Rattle.tick_model.specs.declared.plan.Published.{Published}
-use Rattle.tick_model.specs.Evaluation.{Outcome, table_at}
-use Rattle.tick_model.specs.Spoiled.{ByPublication, Cause, publication_fault}
+use Rattle.tick_model.{specs.declared.plan.Published.Published, specs.Evaluation.{Outcome, table_at}, specs.Spoiled.{ByPublication, Cause, publication_fault}}
 
 module _ (outcomes : List Outcome) (tables : List Published) where
   -- what is found among the tables from one on

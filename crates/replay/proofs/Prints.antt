@@ -1,28 +1,13 @@
 -- What the printed nodes print at a step.
 use Rattle.std.proofs.Common.{◌≡◌, sym, ap, ◌∙◌, subst, ℕ, ◌+◌, ◌<◌, ◌^◌, ◌++◌, arith, length, length-append, List, [], ◌∷◌, map, take, drop, get_or, Result, Ok, Err, Option}
-use Rattle.std.specs.Prelude.{flat_map, OnErr}
-use Rattle.std.specs.Io.KnownBytes.{append_known}
-use Rattle.std.proofs.lemmas.List.{append-nil, get_or-map, length-map, take-append-drop, take_more}
-use Rattle.std.proofs.lemmas.Grind.{flat_map-append}
+use Rattle.std.{specs.Prelude.{flat_map, OnErr}, specs.Io.KnownBytes.append_known, proofs.lemmas.List.{append-nil, get_or-map, length-map, take-append-drop, take_more}, proofs.lemmas.Grind.flat_map-append}
 use Rattle.key_lists.proofs.Parts.{every_at}
 use Rattle.tick_io.proofs.Prefixes.{append_known-append_known}
-use Rattle.tick_laws.specs.Reached.{IsReached}
-use Rattle.tick_laws.proofs.FittingNodes.{node_printable}
-use Rattle.tick_laws.proofs.ReachedTables.{bounded_at, reached_tables}
-use Rattle.tick_laws.proofs.RunTicks.{lawful_ticks}
-use Rattle.tick_model.specs.declared.feed.Run.{Run}
-use Rattle.tick_model.specs.declared.table.PlainTable.{PlainTable}
-use Rattle.tick_model.specs.LawfulRuns.{IsLawfulRun}
-use Rattle.tick_model.specs.Printable.{IsPrintable}
-use Rattle.tick_model.specs.States.{tick}
-use Rattle.tick_model.specs.Texts.{columns_at, node_records, record_text, records_text, step_records}
-use Rattle.tick_table.specs.Exact.{ticking}
-use Rattle.tick_table.specs.Ticking.{Ticking}
-use Rattle.update_text.specs.declared.shown.Shown.{Shown}
-use Rattle.update_text.specs.Told.{told_change, update_shown}
-use Rattle.replay.specs.declared.printed.PrintedNode.{PrintedNode}
-use Rattle.replay.specs.Printed.{printed_of}
-use Rattle.replay.proofs.RecordCounts.{flat_take_le, lawful_printed, step_few}
+use Rattle.tick_laws.{specs.Reached.IsReached, proofs.FittingNodes.node_printable, proofs.ReachedTables.{bounded_at, reached_tables}, proofs.RunTicks.lawful_ticks}
+use Rattle.tick_model.{specs.declared.feed.Run.Run, specs.declared.table.PlainTable.PlainTable, specs.LawfulRuns.IsLawfulRun, specs.Printable.IsPrintable, specs.States.tick, specs.Texts.{columns_at, node_records, record_text, records_text, step_records}}
+use Rattle.tick_table.{specs.Exact.ticking, specs.Ticking.Ticking}
+use Rattle.update_text.{specs.declared.shown.Shown.Shown, specs.Told.{told_change, update_shown}}
+use Rattle.replay.{specs.declared.printed.PrintedNode.PrintedNode, specs.Printed.printed_of, proofs.RecordCounts.{flat_take_le, lawful_printed, step_few}}
 
 pub on_err : {T E Q : Type 0} (r : Result T E) → Q → OnErr r Q
 on_err (Ok x) q = tt

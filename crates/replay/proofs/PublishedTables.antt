@@ -1,38 +1,12 @@
 -- The published tables of a lawful run.
 use Rattle.std.proofs.Common.{◌≡◌, refl, sym, ap, ◌∙◌, subst, ℕ, zero, suc, ◌+◌, ◌*◌, ◌^◌, ◌<◌, ◌≤◌, mul-le-mul_right, arith, Bool, true, false, cond, length, List, [], ◌∷◌, get_or, Option, Some, None, ltb-false}
-use Rattle.std.specs.Prelude.{FitsSigned, map, max, nat_le, nat_lt, sum_by, ◌==◌}
-use Rattle.std.specs.Int.{w64}
-use Rattle.std.specs.List.{AllByRecursion, list_all}
-use Rattle.std.proofs.lemmas.Bool.{and_parts, leb-true, ltb-true}
-use Rattle.std.proofs.lemmas.List.{get_or-map, length-map}
-use Rattle.std.proofs.lemmas.List.Sums.{sum_by-cons}
-use Rattle.key_lists.proofs.Every.{every_weaker}
-use Rattle.key_lists.proofs.Parts.{every_at}
-use Rattle.snapshot_store.specs.Lines.{count, limit, limit_in, node_in, published_table}
-use Rattle.snapshot_store.specs.Opening.{AreFirst}
-use Rattle.tick_laws.specs.Fitting.{FitsColumns}
-use Rattle.tick_laws.specs.Reached.{IsReached}
-use Rattle.tick_laws.proofs.FittingNodes.{node_fits}
-use Rattle.tick_laws.proofs.LawfulSources.{length-fit_columns}
-use Rattle.tick_laws.proofs.ReachedTables.{reached_tables}
-use Rattle.tick_model.specs.declared.feed.Run.{Run}
-use Rattle.tick_model.specs.declared.plan.Node.{Node}
-use Rattle.tick_model.specs.declared.plan.Plan.{Plan}
-use Rattle.tick_model.specs.declared.plan.Published.{Published}
-use Rattle.tick_model.specs.declared.table.PlainRow.{PlainRow}
-use Rattle.tick_model.specs.declared.table.PlainTable.{PlainTable}
-use Rattle.tick_model.specs.Evaluation.{Outcome, table_at}
-use Rattle.tick_model.specs.Tables.{no_table}
-use Rattle.tick_model.specs.LawfulRuns.{IsLawfulRun}
-use Rattle.tick_model.specs.Plans.{columns_at as planned_columns, is_lawful, publication_lawful, published_words, table_words}
-use Rattle.tick_model.specs.Spoiled.{ByPublication, Cause, publication_fault}
-use Rattle.tick_model.specs.States.{state}
-use Rattle.tick_model.specs.Texts.{columns_at}
-use Rattle.tick_model.specs.Words.{words}
-use Rattle.update_text.specs.declared.shown.Shown.{Shown}
-use Rattle.update_text.specs.Snapshots.{AreWordsOf}
-use Rattle.replay.specs.Kept.{largest_words}
-use Rattle.replay.specs.Standing.{IsWithin}
+use Rattle.std.{specs.Prelude.{FitsSigned, map, max, nat_le, nat_lt, sum_by, ◌==◌}, specs.Int.w64, specs.List.{AllByRecursion, list_all}, proofs.lemmas.Bool.{and_parts, leb-true, ltb-true}, proofs.lemmas.List.{get_or-map, length-map}, proofs.lemmas.List.Sums.sum_by-cons}
+use Rattle.key_lists.{proofs.Every.every_weaker, proofs.Parts.every_at}
+use Rattle.snapshot_store.{specs.Lines.{count, limit, limit_in, node_in, published_table}, specs.Opening.AreFirst}
+use Rattle.tick_laws.{specs.Fitting.FitsColumns, specs.Reached.IsReached, proofs.FittingNodes.node_fits, proofs.LawfulSources.length-fit_columns, proofs.ReachedTables.reached_tables}
+use Rattle.tick_model.{specs.declared.feed.Run.Run, specs.declared.plan.Node.Node, specs.declared.plan.Plan.Plan, specs.declared.plan.Published.Published, specs.declared.table.PlainRow.PlainRow, specs.declared.table.PlainTable.PlainTable, specs.Evaluation.{Outcome, table_at}, specs.Tables.no_table, specs.LawfulRuns.IsLawfulRun, specs.Plans.{columns_at as planned_columns, is_lawful, publication_lawful, published_words, table_words}, specs.Spoiled.{ByPublication, Cause, publication_fault}, specs.States.state, specs.Texts.columns_at, specs.Words.words}
+use Rattle.update_text.{specs.declared.shown.Shown.Shown, specs.Snapshots.AreWordsOf}
+use Rattle.replay.{specs.Kept.largest_words, specs.Standing.IsWithin}
 
 -- what the test of a plan says of the published tables
 there : (nodes : List Node) (tables : List Published) → list_all (publication_lawful nodes) tables ≡ true → AllByRecursion (λ table. table.node < length nodes) tables

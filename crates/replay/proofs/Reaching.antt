@@ -1,10 +1,7 @@
 -- A run reaches a step after the others, and it is good.
 use Rattle.std.proofs.Common.{◌≡◌, refl, subst, ℕ, zero, suc, ◌+◌, ◌≤◌, arith, inl, inr, None}
 use Rattle.std.proofs.lemmas.Bool.{cases_lt}
-use Rattle.tick_model.specs.declared.feed.Run.{Run}
-use Rattle.tick_model.specs.Sources.{batch_fault}
-use Rattle.tick_model.specs.Spoiled.{node_fault}
-use Rattle.tick_model.specs.States.{state}
+use Rattle.tick_model.{specs.declared.feed.Run.Run, specs.Sources.batch_fault, specs.Spoiled.node_fault, specs.States.state}
 use Rattle.tick_laws.specs.Reached.{IsReached}
 use Rattle.replay.specs.Standing.{IsGood, IsWithin}
 

@@ -1,39 +1,10 @@
 -- How many records a run prints at most.
 use Rattle.std.proofs.Common.{◌≡◌, refl, sym, ap, ◌∙◌, subst, ℕ, zero, suc, ◌+◌, ◌*◌, ◌^◌, ◌<◌, ◌≤◌, ◌++◌, arith, Bool, true, false, cond, length, length-append, List, [], ◌∷◌, not, pos, take}
-use Rattle.std.specs.Prelude.{filter, flat_map, nat_le, nat_lt, ◌==◌}
-use Rattle.std.specs.List.{AllByRecursion, list_all, range_with_len}
-use Rattle.std.specs.Ordering.{int_eq}
-use Rattle.std.proofs.lemmas.Bool.{and_parts, ltb-true, leb-true}
-use Rattle.std.proofs.lemmas.List.{append-nil, length-map}
-use Rattle.std.proofs.lemmas.List.FromFn.{length-range_with_len}
-use Rattle.std.proofs.lemmas.Grind.{flat_map-append}
-use Rattle.key_lists.specs.Keys.{is_among, IsRising, run_with, runs}
-use Rattle.key_lists.proofs.Every.{every_weaker}
-use Rattle.key_lists.proofs.Rising.{as_filter}
-use Rattle.key_lists.proofs.Ranges.{range_last, range_below}
-use Rattle.tick_model.specs.declared.feed.Run.{Run}
-use Rattle.tick_model.specs.declared.plan.ColumnSpec.{ColumnSpec}
-use Rattle.tick_model.specs.declared.plan.Plan.{Plan}
-use Rattle.tick_model.specs.declared.table.PlainRow.{PlainRow}
-use Rattle.tick_model.specs.declared.table.PlainTable.{PlainTable}
-use Rattle.tick_model.specs.declared.update.KeyPair.{KeyPair}
-use Rattle.tick_model.specs.declared.update.ShiftRange.{ShiftRange}
-use Rattle.tick_model.specs.Changes.{Change, change_of, is_empty, is_none}
-use Rattle.tick_model.specs.Evaluation.{table_at}
-use Rattle.tick_model.specs.LawfulRuns.{IsLawfulRun}
-use Rattle.tick_model.specs.Plans.{is_lawful, rises}
-use Rattle.tick_model.specs.Shifts.{delta, extend, one, stretches}
-use Rattle.tick_model.specs.States.{state, tick}
-use Rattle.tick_model.specs.Tables.{keys}
-use Rattle.tick_model.specs.Texts.{change_records, columns_at, name_at, told_records, node_records, step_records, updates_records}
-use Rattle.tick_model.specs.Updates.{IsTick, Tick, between, differs, new_keys, old_keys}
-use Rattle.tick_laws.specs.Reached.{IsReached, table_before}
-use Rattle.tick_laws.proofs.EvalNodes.{all_pass}
-use Rattle.tick_laws.proofs.ReachedTables.{bounded_at, reached_tables}
-use Rattle.tick_laws.proofs.RunTicks.{lawful_ticks, reached_before}
-use Rattle.tick_laws.proofs.ResultCells.{length-filter_most}
-use Rattle.update_text.specs.Told.{records_of}
-use Rattle.update_text.proofs.ChangeRecords.{first_and_parts, length-parts}
+use Rattle.std.{specs.Prelude.{filter, flat_map, nat_le, nat_lt, ◌==◌}, specs.List.{AllByRecursion, list_all, range_with_len}, specs.Ordering.int_eq, proofs.lemmas.Bool.{and_parts, ltb-true, leb-true}, proofs.lemmas.List.{append-nil, length-map}, proofs.lemmas.List.FromFn.length-range_with_len, proofs.lemmas.Grind.flat_map-append}
+use Rattle.key_lists.{specs.Keys.{is_among, IsRising, run_with, runs}, proofs.Every.every_weaker, proofs.Rising.as_filter, proofs.Ranges.{range_last, range_below}}
+use Rattle.tick_model.{specs.declared.feed.Run.Run, specs.declared.plan.ColumnSpec.ColumnSpec, specs.declared.plan.Plan.Plan, specs.declared.table.PlainRow.PlainRow, specs.declared.table.PlainTable.PlainTable, specs.declared.update.KeyPair.KeyPair, specs.declared.update.ShiftRange.ShiftRange, specs.Changes.{Change, change_of, is_empty, is_none}, specs.Evaluation.table_at, specs.LawfulRuns.IsLawfulRun, specs.Plans.{is_lawful, rises}, specs.Shifts.{delta, extend, one, stretches}, specs.States.{state, tick}, specs.Tables.keys, specs.Texts.{change_records, columns_at, name_at, told_records, node_records, step_records, updates_records}, specs.Updates.{IsTick, Tick, between, differs, new_keys, old_keys}}
+use Rattle.tick_laws.{specs.Reached.{IsReached, table_before}, proofs.EvalNodes.all_pass, proofs.ReachedTables.{bounded_at, reached_tables}, proofs.RunTicks.{lawful_ticks, reached_before}, proofs.ResultCells.length-filter_most}
+use Rattle.update_text.{specs.Told.records_of, proofs.ChangeRecords.{first_and_parts, length-parts}}
 
 -- runs and stretches are at most as many as what they are made of
 run_with_le : (key : ℕ) (others : List (ℕ × ℕ)) → length (run_with key others) ≤ length others + 1

@@ -1,20 +1,9 @@
 -- How many rows the nodes have at a step that a run reaches.
 use Rattle.std.proofs.Common.{◌≡◌, sym, ap, ◌∙◌, subst, ℕ, ◌+◌, ◌<◌, ◌++◌, length, List, [], ◌∷◌, take, get_or}
 use Rattle.std.proofs.lemmas.List.{get_or-map, length-map, take_more}
-use Rattle.tick_laws.specs.Reached.{IsReached}
-use Rattle.tick_laws.proofs.EvalNodes.{length_outcomes}
-use Rattle.tick_laws.proofs.Paired.{no_node}
-use Rattle.tick_laws.proofs.RunTicks.{lawful_ticks}
-use Rattle.tick_model.specs.declared.feed.Run.{Run}
-use Rattle.tick_model.specs.declared.table.PlainRow.{PlainRow}
-use Rattle.tick_model.specs.declared.table.PlainTable.{PlainTable}
-use Rattle.tick_model.specs.Evaluation.{NoInput, Outcome, table_of}
-use Rattle.tick_model.specs.LawfulRuns.{IsLawfulRun}
-use Rattle.tick_model.specs.Sources.{sources}
-use Rattle.tick_model.specs.States.{state, tick}
-use Rattle.tick_model.specs.Tables.{keys}
-use Rattle.tick_table.specs.Exact.{ticking}
-use Rattle.tick_table.specs.Ticking.{Ticking}
+use Rattle.tick_laws.{specs.Reached.IsReached, proofs.EvalNodes.length_outcomes, proofs.Paired.no_node, proofs.RunTicks.lawful_ticks}
+use Rattle.tick_model.{specs.declared.feed.Run.Run, specs.declared.table.PlainRow.PlainRow, specs.declared.table.PlainTable.PlainTable, specs.Evaluation.{NoInput, Outcome, table_of}, specs.LawfulRuns.IsLawfulRun, specs.Sources.sources, specs.States.{state, tick}, specs.Tables.keys}
+use Rattle.tick_table.{specs.Exact.ticking, specs.Ticking.Ticking}
 use Rattle.replay.specs.Outcomes.{row_counts}
 
 abbrev rows_of : Outcome → ℕ

@@ -1,19 +1,9 @@
 -- The snapshots that are written after the updates are those of a choice.
 use Rattle.std.proofs.Common.{◌≡◌, refl, sym, ap, ◌∙◌, subst, ℕ, zero, suc, ◌+◌, ◌<◌, ◌≤◌, arith, length, List, [], ◌∷◌, Option, replicate}
-use Rattle.std.specs.Io.KnownBytes.{append_known}
-use Rattle.std.proofs.lemmas.List.{nil_from_length}
+use Rattle.std.{specs.Io.KnownBytes.append_known, proofs.lemmas.List.nil_from_length}
 use Rattle.tick_io.specs.Written.{AppendsPrefix}
-use Rattle.tick_model.specs.declared.feed.Run.{Run}
-use Rattle.tick_model.specs.declared.plan.Published.{Published}
-use Rattle.tick_model.specs.Choices.{IsChoice}
-use Rattle.tick_model.specs.Texts.{callers_records, records_text, snapshots_text, some_published}
-use Rattle.replay.specs.declared.outcome.Knobs.{Knobs}
-use Rattle.replay.specs.declared.readers.KeptSnapshot.{KeptSnapshot}
-use Rattle.replay.specs.Snapshots.{AreLast, all_steps, callers_of}
-use Rattle.replay.specs.Wholes.{AddsPrefix, AddsWhole}
-use Rattle.replay.proofs.CallTexts.{callers_text}
-use Rattle.replay.proofs.ChoicesMade.{choice_kept, may_be_last}
-use Rattle.replay.proofs.Exits.{none_written}
+use Rattle.tick_model.{specs.declared.feed.Run.Run, specs.declared.plan.Published.Published, specs.Choices.IsChoice, specs.Texts.{callers_records, records_text, snapshots_text, some_published}}
+use Rattle.replay.{specs.declared.outcome.Knobs.Knobs, specs.declared.readers.KeptSnapshot.KeptSnapshot, specs.Snapshots.{AreLast, all_steps, callers_of}, specs.Wholes.{AddsPrefix, AddsWhole}, proofs.CallTexts.callers_text, proofs.ChoicesMade.{choice_kept, may_be_last}, proofs.Exits.none_written}
 
 -- how many callers there are
 pub callers_few : (tables : List Published) (callers : ℕ) → callers_of tables callers ≤ callers

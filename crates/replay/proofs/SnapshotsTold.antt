@@ -1,23 +1,11 @@
 -- The records of a snapshot, from the words that a caller has kept.
 use Rattle.std.proofs.Common.{◌≡◌, refl, sym, ap, ◌∙◌, subst, ℕ, ◌+◌, ◌%◌, ◌<◌, arith, length, List, [], get_or}
-use Rattle.std.specs.Prelude.{map, slice_index_or}
-use Rattle.std.proofs.lemmas.List.{get_or-map, length-map}
+use Rattle.std.{specs.Prelude.{map, slice_index_or}, proofs.lemmas.List.{get_or-map, length-map}}
 use Rattle.snapshot_store.specs.Lines.{count, node_in}
 use Rattle.tick_laws.specs.Reached.{IsReached}
-use Rattle.tick_model.specs.declared.feed.Run.{Run}
-use Rattle.tick_model.specs.declared.plan.Published.{Published}
-use Rattle.tick_model.specs.declared.table.PlainTable.{PlainTable}
-use Rattle.tick_model.specs.Evaluation.{table_at}
-use Rattle.tick_model.specs.LawfulRuns.{IsLawfulRun}
-use Rattle.tick_model.specs.States.{state}
-use Rattle.tick_model.specs.Texts.{published_node, records_text, snapshot_records}
-use Rattle.tick_model.specs.Words.{line}
-use Rattle.update_text.specs.declared.shown.Shown.{Shown}
-use Rattle.update_text.specs.Snapshots.{AreWordsOf, snapshot_shown}
-use Rattle.replay.specs.declared.printed.PrintedNode.{PrintedNode}
-use Rattle.replay.specs.Printed.{printed_of, published_of}
-use Rattle.replay.specs.Snapshots.{table_number}
-use Rattle.replay.proofs.PublishedTables.{no_publication, node_there, words_told}
+use Rattle.tick_model.{specs.declared.feed.Run.Run, specs.declared.plan.Published.Published, specs.declared.table.PlainTable.PlainTable, specs.Evaluation.table_at, specs.LawfulRuns.IsLawfulRun, specs.States.state, specs.Texts.{published_node, records_text, snapshot_records}, specs.Words.line}
+use Rattle.update_text.{specs.declared.shown.Shown.Shown, specs.Snapshots.{AreWordsOf, snapshot_shown}}
+use Rattle.replay.{specs.declared.printed.PrintedNode.PrintedNode, specs.Printed.{printed_of, published_of}, specs.Snapshots.table_number, proofs.PublishedTables.{no_publication, node_there, words_told}}
 
 module _ (run : Run) (published : List PrintedNode) (all : published ≡ map (published_of run) run.plan.published) (caller call number : ℕ) (is : number ≡ (caller + call) % length published) (less : number < length published) (d : PrintedNode) where
   abbrev node : PrintedNode

@@ -1,24 +1,9 @@
 -- Which step is the first that is spoiled, and which is the last good one.
 use Rattle.std.proofs.Common.{add-one, ◌≡◌, refl, sym, ap, ◌∙◌, subst, ℕ, zero, suc, ◌+◌, ◌<◌, ◌≤◌, arith, inl, inr, Bool, true, false, length, [], Option, Some, None}
-use Rattle.std.specs.Prelude.{find, is_some, option_map}
-use Rattle.std.specs.List.{range_with_len}
-use Rattle.std.specs.Option.{option_or}
-use Rattle.std.proofs.lemmas.Bool.{cases_lt, cond-true, cond-false}
-use Rattle.tick_model.specs.declared.feed.Run.{Run}
-use Rattle.tick_model.specs.declared.table.NodeFault.{NodeFault}
-use Rattle.tick_model.specs.declared.update.FeedRule.{FeedRule}
-use Rattle.tick_model.specs.Sources.{batch_fault}
-use Rattle.tick_model.specs.Spoiled.{Cause, ByBatch, ByNode, ByPublication, first_spoiled, good, node_fault, publication_fault, spoiled_by, step_before}
-use Rattle.tick_model.specs.States.{state}
-use Rattle.update_graph.specs.declared.stop.Stop.{Stop}
-use Rattle.update_graph.specs.declared.stop.Stop.TheVariants.{Memory, Feed, Node}
-use Rattle.update_graph.specs.Stops.{IsStop}
-use Rattle.replay.specs.declared.outcome.Outcome.{Outcome}
-use Rattle.replay.specs.declared.outcome.Outcome.TheVariants.{Done, Memory as OutOfMemory, Kept, Feed as BadFeed, Node as BadNode, Publish, Write}
-use Rattle.replay.specs.Causes.{IsCause, IsPast}
-use Rattle.replay.specs.Outcomes.{IsEnd, IsFirstSpoiled, IsTold}
-use Rattle.replay.specs.Standing.{IsGood, IsWithin}
-use Rattle.replay.specs.Stopped.{outcome_of_stop}
+use Rattle.std.{specs.Prelude.{find, is_some, option_map}, specs.List.range_with_len, specs.Option.option_or, proofs.lemmas.Bool.{cases_lt, cond-true, cond-false}}
+use Rattle.tick_model.{specs.declared.feed.Run.Run, specs.declared.table.NodeFault.NodeFault, specs.declared.update.FeedRule.FeedRule, specs.Sources.batch_fault, specs.Spoiled.{Cause, ByBatch, ByNode, ByPublication, first_spoiled, good, node_fault, publication_fault, spoiled_by, step_before}, specs.States.state}
+use Rattle.update_graph.{specs.declared.stop.Stop.Stop, specs.declared.stop.Stop.TheVariants.{Memory, Feed, Node}, specs.Stops.IsStop}
+use Rattle.replay.{specs.declared.outcome.Outcome.Outcome, specs.declared.outcome.Outcome.TheVariants.{Done, Memory as OutOfMemory, Kept, Feed as BadFeed, Node as BadNode, Publish, Write}, specs.Causes.{IsCause, IsPast}, specs.Outcomes.{IsEnd, IsFirstSpoiled, IsTold}, specs.Standing.{IsGood, IsWithin}, specs.Stopped.outcome_of_stop}
 
 -- a search for the first number that passes
 find_first : (p : ℕ → Bool) (a n m : ℕ) → ((k : ℕ) → a ≤ k → k < m → p k ≡ false) → a ≤ m → m < a + n → p m ≡ true → find p (range_with_len a n) ≡ Some m

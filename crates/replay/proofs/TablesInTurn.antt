@@ -1,26 +1,12 @@
 -- The published tables at a step that is reached, one after the other.
 use Rattle.std.proofs.Common.{◌≡◌, refl, sym, ap, ◌∙◌, subst, ℕ, ◌+◌, ◌<◌, ◌≤◌, ◌++◌, arith, length, List, [], ◌∷◌, take, get_or, Some, None}
-use Rattle.std.specs.Prelude.{map, slice_index_or}
-use Rattle.std.proofs.lemmas.List.{get_or-map, length-map, map_more}
+use Rattle.std.{specs.Prelude.{map, slice_index_or}, proofs.lemmas.List.{get_or-map, length-map, map_more}}
 use Rattle.key_lists.proofs.Parts.{every_at}
 use Rattle.snapshot_store.specs.Lines.{count, limit, limit_in, node_in, published_table}
-use Rattle.tick_laws.specs.Reached.{IsReached, KeepsRules}
-use Rattle.tick_laws.proofs.RunTicks.{lawful_ticks}
-use Rattle.tick_model.specs.declared.feed.Run.{Run}
-use Rattle.tick_model.specs.declared.plan.Published.{Published}
-use Rattle.tick_model.specs.declared.table.PlainRow.{PlainRow}
-use Rattle.tick_model.specs.declared.table.PlainTable.{PlainTable}
-use Rattle.tick_model.specs.Evaluation.{table_at}
-use Rattle.tick_model.specs.LawfulRuns.{IsLawfulRun}
-use Rattle.tick_model.specs.Spoiled.{ByPublication, publication_fault}
-use Rattle.tick_model.specs.States.{state, tick}
-use Rattle.tick_model.specs.Tables.{keys}
-use Rattle.tick_table.specs.Exact.{ticking}
-use Rattle.tick_table.specs.Ticking.{Ticking}
-use Rattle.replay.specs.Outcomes.{limit_at}
-use Rattle.replay.specs.Standing.{IsWithin}
-use Rattle.replay.proofs.PastLimits.{fault_from, fault_here, fault_next, fault_none, limit_is, node_is}
-use Rattle.replay.proofs.PublishedTables.{published_there}
+use Rattle.tick_laws.{specs.Reached.{IsReached, KeepsRules}, proofs.RunTicks.lawful_ticks}
+use Rattle.tick_model.{specs.declared.feed.Run.Run, specs.declared.plan.Published.Published, specs.declared.table.PlainRow.PlainRow, specs.declared.table.PlainTable.PlainTable, specs.Evaluation.table_at, specs.LawfulRuns.IsLawfulRun, specs.Spoiled.{ByPublication, publication_fault}, specs.States.{state, tick}, specs.Tables.keys}
+use Rattle.tick_table.{specs.Exact.ticking, specs.Ticking.Ticking}
+use Rattle.replay.{specs.Outcomes.limit_at, specs.Standing.IsWithin, proofs.PastLimits.{fault_from, fault_here, fault_next, fault_none, limit_is, node_is}, proofs.PublishedTables.published_there}
 
 -- a node's table at a step, from its tick
 pub table_now : (run : Run) → IsLawfulRun run → (step : ℕ) → IsReached run step → (node : ℕ) → node < length run.plan.nodes → (table : Ticking) → table ≡ ticking (tick run step node) → table.new ≡ table_at (state run step) node

@@ -1,16 +1,10 @@
 -- The text that is still to come, step by step.
 use Rattle.std.proofs.Common.{◌≡◌, refl, sym, ap, ◌∙◌, ℕ, zero, suc, ◌+◌, ◌-◌, ◌<◌, ◌≤◌, ◌++◌, arith, inl, inr, true, false, true≢false, length, List, [], Option, Some, None}
-use Rattle.std.specs.Prelude.{is_some, flat_map, unwrap_or}
-use Rattle.std.specs.List.{range_with_len}
-use Rattle.std.proofs.lemmas.Bool.{cases_lt}
-use Rattle.std.proofs.lemmas.Grind.{flat_map-append}
+use Rattle.std.{specs.Prelude.{is_some, flat_map, unwrap_or}, specs.List.range_with_len, proofs.lemmas.Bool.cases_lt, proofs.lemmas.Grind.flat_map-append}
 use Rattle.key_lists.proofs.Every.{found_passes}
 use Rattle.tick_laws.proofs.GoodSteps.{first_within}
-use Rattle.tick_model.specs.declared.feed.Run.{Run}
-use Rattle.tick_model.specs.Spoiled.{first_spoiled, spoiled_by, step_before}
-use Rattle.tick_model.specs.Texts.{record_text, records_text, step_records}
-use Rattle.replay.specs.ToCome.{good_steps, good_updates, text_from, updates_until}
-use Rattle.replay.proofs.Spoils.{AreGoodBefore}
+use Rattle.tick_model.{specs.declared.feed.Run.Run, specs.Spoiled.{first_spoiled, spoiled_by, step_before}, specs.Texts.{record_text, records_text, step_records}}
+use Rattle.replay.{specs.ToCome.{good_steps, good_updates, text_from, updates_until}, proofs.Spoils.AreGoodBefore}
 
 module _ (run : Run) where
   abbrev steps_text : ℕ → ℕ → List ℕ

@@ -1,27 +1,9 @@
 -- The whole text of a run: the updates of the good steps, and the snapshots of a choice.
 use Rattle.std.proofs.Common.{◌≡◌, refl, sym, ap, ◌∙◌, subst, ℕ, zero, suc, ◌+◌, ◌<◌, ◌≤◌, ◌++◌, append_assoc, arith, length, le-ltb, lt-ltb, List, [], ◌∷◌, Option, Some, None, replicate}
-use Rattle.std.specs.Prelude.{nat_lt, unwrap_or}
-use Rattle.std.specs.Io.KnownBytes.{append_known}
-use Rattle.std.proofs.lemmas.Bool.{cond-true, cond-false}
-use Rattle.tick_io.specs.Written.{AppendsPrefix}
-use Rattle.tick_io.proofs.Prefixes.{append_known-append_known, prefix_after, prefix_longer}
-use Rattle.tick_model.specs.declared.feed.Run.{Run}
-use Rattle.tick_model.specs.Choices.{IsChoice}
-use Rattle.tick_model.specs.Spoiled.{first_spoiled, good, step_before}
-use Rattle.tick_model.specs.Texts.{records_text, snapshots_text, step_records, updates_text}
-use Rattle.replay.specs.declared.outcome.Knobs.{Knobs}
-use Rattle.replay.specs.declared.outcome.Outcome.{Outcome}
-use Rattle.replay.specs.declared.outcome.Outcome.TheVariants.{Done, Memory, Kept, Feed, Node, Publish, Write}
-use Rattle.replay.specs.Causes.{IsCause}
-use Rattle.replay.specs.Kept.{kept_words, most_words}
-use Rattle.replay.specs.Outcomes.{IsComplete, IsEnd, IsLawfulChoice, IsTold, IsVerdict, WritesPrefix, WritesWhole, last_written, text_until}
-use Rattle.replay.specs.Standing.{IsGood, IsLast}
-use Rattle.replay.specs.ToCome.{good_steps, text_from, updates_until}
-use Rattle.replay.specs.Wholes.{AddsPrefix, AddsWhole, WritesRest, WritesSome, rest_from}
-use Rattle.replay.proofs.ChoicesMade.{may_be_last}
-use Rattle.replay.proofs.Exits.{none_written, nothing_appended, step_comes}
-use Rattle.replay.proofs.Spoils.{AreGoodBefore, cause_spoils, good_before_next, none_good}
-use Rattle.replay.proofs.TextsToCome.{good_before, text_past, text_whole}
+use Rattle.std.{specs.Prelude.{nat_lt, unwrap_or}, specs.Io.KnownBytes.append_known, proofs.lemmas.Bool.{cond-true, cond-false}}
+use Rattle.tick_io.{specs.Written.AppendsPrefix, proofs.Prefixes.{append_known-append_known, prefix_after, prefix_longer}}
+use Rattle.tick_model.{specs.declared.feed.Run.Run, specs.Choices.IsChoice, specs.Spoiled.{first_spoiled, good, step_before}, specs.Texts.{records_text, snapshots_text, step_records, updates_text}}
+use Rattle.replay.{specs.declared.outcome.Knobs.Knobs, specs.declared.outcome.Outcome.Outcome, specs.declared.outcome.Outcome.TheVariants.{Done, Memory, Kept, Feed, Node, Publish, Write}, specs.Causes.IsCause, specs.Kept.{kept_words, most_words}, specs.Outcomes.{IsComplete, IsEnd, IsLawfulChoice, IsTold, IsVerdict, WritesPrefix, WritesWhole, last_written, text_until}, specs.Standing.{IsGood, IsLast}, specs.ToCome.{good_steps, text_from, updates_until}, specs.Wholes.{AddsPrefix, AddsWhole, WritesRest, WritesSome, rest_from}, proofs.ChoicesMade.may_be_last, proofs.Exits.{none_written, nothing_appended, step_comes}, proofs.Spoils.{AreGoodBefore, cause_spoils, good_before_next, none_good}, proofs.TextsToCome.{good_before, text_past, text_whole}}
 
 -- an outcome of the steps is the verdict where the words are few
 pub end_is_verdict : (run : Run) (knobs : Knobs) (outcome : Outcome) → kept_words run knobs ≤ most_words → IsEnd run outcome → IsVerdict run knobs outcome

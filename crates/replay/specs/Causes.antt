@@ -3,15 +3,9 @@
 --     IsPast run step outcome      a published table has more rows than its limit at the step, and this is the least one
 --     IsCause run step outcome      this is what spoils the step
 use Rattle.std.specs.Prelude.{◌≡◌, ℕ, Some, length}
-use Rattle.tick_model.specs.declared.feed.Run.{Run}
-use Rattle.tick_model.specs.declared.plan.Published.{Published}
-use Rattle.tick_model.specs.Evaluation.{table_at}
-use Rattle.tick_model.specs.Spoiled.{ByBatch, ByNode, ByPublication, publication_fault, spoiled_by}
-use Rattle.tick_model.specs.States.{state}
+use Rattle.tick_model.{specs.declared.feed.Run.Run, specs.declared.plan.Published.Published, specs.Evaluation.table_at, specs.Spoiled.{ByBatch, ByNode, ByPublication, publication_fault, spoiled_by}, specs.States.state}
 use Rattle.update_graph.specs.Graphs.{GraphView}
-use Rattle.replay.specs.declared.outcome.Outcome.{Outcome}
-use Rattle.replay.specs.declared.outcome.Outcome.TheVariants.{Done, Memory, Kept, Feed, Node, Publish, Write}
-use Rattle.replay.specs.Outcomes.{limit_at}
+use Rattle.replay.{specs.declared.outcome.Outcome.Outcome, specs.declared.outcome.Outcome.TheVariants.{Done, Memory, Kept, Feed, Node, Publish, Write}, specs.Outcomes.limit_at}
 
 abbrev pub rows_in : GraphView → Published → ℕ
 rows_in graph table = length (table_at (state graph.run graph.step) table.node).rows

@@ -3,9 +3,7 @@
 --     kept_words run knobs      so many words for each call of each caller
 --     most_words      more than these are not kept
 use Rattle.std.specs.Prelude.{ℕ, ◌+◌, ◌*◌, List, [], ◌∷◌, max}
-use Rattle.tick_model.specs.declared.feed.Run.{Run}
-use Rattle.tick_model.specs.declared.plan.Published.{Published}
-use Rattle.tick_model.specs.Plans.{table_words}
+use Rattle.tick_model.{specs.declared.feed.Run.Run, specs.declared.plan.Published.Published, specs.Plans.table_words}
 use Rattle.replay.specs.declared.outcome.Knobs.{Knobs}
 
 abbrev pub largest_words : List Published → ℕ

@@ -3,11 +3,7 @@
 --     IsOpened run knobs opened      the opening is printed and published
 use Rattle.std.specs.Prelude.{◌≡◌, ℕ, length}
 use Rattle.tick_model.specs.declared.feed.Run.{Run}
-use Rattle.replay.specs.declared.opening.Opened.{Opened}
-use Rattle.replay.specs.declared.opening.Publication.{Publication}
-use Rattle.replay.specs.declared.outcome.Knobs.{Knobs}
-use Rattle.replay.specs.Snapshots.{EachReader, IsReader, callers_of}
-use Rattle.replay.specs.Standing.{IsAt, IsWriterAt}
+use Rattle.replay.{specs.declared.opening.Opened.Opened, specs.declared.opening.Publication.Publication, specs.declared.outcome.Knobs.Knobs, specs.Snapshots.{EachReader, IsReader, callers_of}, specs.Standing.{IsAt, IsWriterAt}}
 
 pub record IsStarted (run : Run) (callers : ℕ) (publication : Publication) : Type 0 where
   pub run_is : publication.store.run ≡ run

@@ -5,19 +5,10 @@
 --     IsComplete run knobs outcome      memory ran out, or the outcome is that of the run
 --     WritesWhole run knobs old new      the whole text was written, with the snapshots of a choice that callers may make
 --     WritesPrefix run knobs old new      a prefix of such a text was written
-use Rattle.std.specs.Prelude.{◌≡◌, ℕ, ◌<◌, ◌≤◌, ◌++◌, List, [], Option, Some, None, Result, Ok, Err, length, map, nat_lt, slice_index_or, if◌then◌else◌}
-use Rattle.std.specs.Io.KnownBytes.{append_known}
+use Rattle.std.{specs.Prelude.{◌≡◌, ℕ, ◌<◌, ◌≤◌, ◌++◌, List, [], Option, Some, None, Result, Ok, Err, length, map, nat_lt, slice_index_or, if◌then◌else◌}, specs.Io.KnownBytes.append_known}
 use Rattle.tick_io.specs.Written.{AppendsPrefix}
-use Rattle.tick_model.specs.declared.feed.Run.{Run}
-use Rattle.tick_model.specs.Choices.{IsChoice}
-use Rattle.tick_model.specs.Evaluation.{table_of}
-use Rattle.tick_model.specs.Spoiled.{Cause, ByBatch, ByNode, ByPublication, first_spoiled, good, spoiled_by}
-use Rattle.tick_model.specs.States.{state}
-use Rattle.tick_model.specs.Texts.{snapshots_text, updates_records, updates_text}
-use Rattle.replay.specs.declared.outcome.Knobs.{Knobs}
-use Rattle.replay.specs.declared.outcome.Outcome.{Outcome}
-use Rattle.replay.specs.declared.outcome.Outcome.TheVariants.{Done, Memory, Kept, Feed, Node, Publish, Write}
-use Rattle.replay.specs.Kept.{kept_words, most_words}
+use Rattle.tick_model.{specs.declared.feed.Run.Run, specs.Choices.IsChoice, specs.Evaluation.table_of, specs.Spoiled.{Cause, ByBatch, ByNode, ByPublication, first_spoiled, good, spoiled_by}, specs.States.state, specs.Texts.{snapshots_text, updates_records, updates_text}}
+use Rattle.replay.{specs.declared.outcome.Knobs.Knobs, specs.declared.outcome.Outcome.Outcome, specs.declared.outcome.Outcome.TheVariants.{Done, Memory, Kept, Feed, Node, Publish, Write}, specs.Kept.{kept_words, most_words}}
 
 -- how many rows each node has at a step
 abbrev pub row_counts : Run → ℕ → List ℕ

@@ -2,9 +2,7 @@
 --     printed_of run node      a node with its name and its columns
 --     published_of run table      the node of a published table
 use Rattle.std.specs.Prelude.{ℕ}
-use Rattle.tick_model.specs.declared.feed.Run.{Run}
-use Rattle.tick_model.specs.declared.plan.Published.{Published}
-use Rattle.tick_model.specs.Texts.{columns_at, name_at}
+use Rattle.tick_model.{specs.declared.feed.Run.Run, specs.declared.plan.Published.Published, specs.Texts.{columns_at, name_at}}
 use Rattle.replay.specs.declared.printed.PrintedNode.{PrintedNode}
 
 abbrev pub printed_of : Run → ℕ → PrintedNode

@@ -8,20 +8,11 @@
 --     IsTaking attempts taken      no more attempts were made than may be, and the turn was taken only after all of them
 --     AreTaking attempts all      so each snapshot was taken that is kept
 --     EachReader P readers      what holds of each, with its number
-use Rattle.std.specs.Prelude.{◌≡◌, ℕ, ◌+◌, ◌%◌, ◌<◌, ◌≤◌, ◌++◌, List, [], ◌∷◌, true, false, length, map, slice_index, slice_index_or}
-use Rattle.std.specs.List.{AllByRecursion}
-use Rattle.snapshot_store.specs.Answers.{IsSnapshot}
-use Rattle.snapshot_store.specs.Lines.{count}
-use Rattle.snapshot_store.specs.Looks.{latest}
-use Rattle.snapshot_store.specs.declared.answers.Taken.{Taken}
-use Rattle.snapshot_store.specs.Models.{CallerModel, IsOf, StoreModel}
+use Rattle.std.{specs.Prelude.{◌≡◌, ℕ, ◌+◌, ◌%◌, ◌<◌, ◌≤◌, ◌++◌, List, [], ◌∷◌, true, false, length, map, slice_index, slice_index_or}, specs.List.AllByRecursion}
+use Rattle.snapshot_store.{specs.Answers.IsSnapshot, specs.Lines.count, specs.Looks.latest, specs.declared.answers.Taken.Taken, specs.Models.{CallerModel, IsOf, StoreModel}}
 use Rattle.tick_laws.specs.Reached.{IsReached}
-use Rattle.tick_model.specs.declared.feed.Run.{Run}
-use Rattle.tick_model.specs.declared.plan.Published.{Published}
-use Rattle.tick_model.specs.Choices.{IsCalls, NeverFalls}
-use Rattle.tick_model.specs.Words.{line}
-use Rattle.replay.specs.declared.readers.KeptSnapshot.{KeptSnapshot}
-use Rattle.replay.specs.declared.readers.Reader.{Reader}
+use Rattle.tick_model.{specs.declared.feed.Run.Run, specs.declared.plan.Published.Published, specs.Choices.{IsCalls, NeverFalls}, specs.Words.line}
+use Rattle.replay.{specs.declared.readers.KeptSnapshot.KeptSnapshot, specs.declared.readers.Reader.Reader}
 
 -- the calls go through the published tables in turn
 abbrev pub table_number : Run → ℕ → ℕ → ℕ

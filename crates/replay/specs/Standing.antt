@@ -6,15 +6,10 @@
 --     IsWriterAt store step writer      the store's writer, which has completed this step and begun no other
 --     IsLast run step      this is the last good step
 use Rattle.std.specs.Prelude.{◌≡◌, ℕ, ◌≤◌, Option, None, Some, length, map}
-use Rattle.snapshot_store.specs.Models.{IsOf, StoreModel, WriterModel}
-use Rattle.snapshot_store.specs.declared.writers.Phase.TheVariants.{Idle}
-use Rattle.tick_model.specs.declared.feed.Run.{Run}
-use Rattle.tick_model.specs.Spoiled.{good, publication_fault}
-use Rattle.tick_model.specs.States.{state}
-use Rattle.tick_model.specs.Texts.{updates_records}
+use Rattle.snapshot_store.{specs.Models.{IsOf, StoreModel, WriterModel}, specs.declared.writers.Phase.TheVariants.Idle}
+use Rattle.tick_model.{specs.declared.feed.Run.Run, specs.Spoiled.{good, publication_fault}, specs.States.state, specs.Texts.updates_records}
 use Rattle.tick_laws.specs.Reached.{IsReached}
-use Rattle.replay.specs.declared.progress.Progress.{Progress}
-use Rattle.replay.specs.Printed.{printed_of}
+use Rattle.replay.{specs.declared.progress.Progress.Progress, specs.Printed.printed_of}
 
 abbrev pub IsWithin : Run → ℕ → Type 0
 IsWithin run step = publication_fault 0 (state run step) run.plan.published ≡ None

@@ -1,15 +1,9 @@
 -- What the steps of a run come to.
 --     HasRun run outcome last old new before after      after the opening, they end so, with this last good step, and the updates up to it are written
-use Rattle.std.specs.Prelude.{◌≡◌, ℕ, ◌≤◌, List, Option}
-use Rattle.std.specs.Io.KnownBytes.{append_known}
-use Rattle.tick_io.specs.Counts.{Rose}
-use Rattle.tick_io.specs.Written.{AppendsPrefix}
+use Rattle.std.{specs.Prelude.{◌≡◌, ℕ, ◌≤◌, List, Option}, specs.Io.KnownBytes.append_known}
+use Rattle.tick_io.{specs.Counts.Rose, specs.Written.AppendsPrefix}
 use Rattle.tick_model.specs.declared.feed.Run.{Run}
-use Rattle.replay.specs.declared.outcome.Outcome.{Outcome}
-use Rattle.replay.specs.declared.outcome.Outcome.TheVariants.{Write}
-use Rattle.replay.specs.Outcomes.{IsEnd, IsTold}
-use Rattle.replay.specs.Standing.{IsLast}
-use Rattle.replay.specs.ToCome.{text_from}
+use Rattle.replay.{specs.declared.outcome.Outcome.Outcome, specs.declared.outcome.Outcome.TheVariants.Write, specs.Outcomes.{IsEnd, IsTold}, specs.Standing.IsLast, specs.ToCome.text_from}
 
 pub record HasRun (run : Run) (outcome : Outcome) (last : ℕ) (old new : Option (List ℕ)) (before after : ℕ) : Type 0 where
   pub end : IsTold outcome → IsEnd run outcome

@@ -1,11 +1,8 @@
 -- What is still to be printed of a run.
 --     good_updates run      the updates of the printed nodes up to the last good step
 --     text_from run step      those of this step and of all good steps after it
-use Rattle.std.specs.Prelude.{ℕ, ◌+◌, ◌-◌, List, [], Option, Some, None, flat_map, length, unwrap_or}
-use Rattle.std.specs.List.{range_with_len}
-use Rattle.tick_model.specs.declared.feed.Run.{Run}
-use Rattle.tick_model.specs.Spoiled.{first_spoiled, good}
-use Rattle.tick_model.specs.Texts.{records_text, step_records, updates_text}
+use Rattle.std.{specs.Prelude.{ℕ, ◌+◌, ◌-◌, List, [], Option, Some, None, flat_map, length, unwrap_or}, specs.List.range_with_len}
+use Rattle.tick_model.{specs.declared.feed.Run.Run, specs.Spoiled.{first_spoiled, good}, specs.Texts.{records_text, step_records, updates_text}}
 
 -- where step 0 is spoiled there is no good step, and nothing is written
 abbrev pub updates_until : Run → Option ℕ → List ℕ

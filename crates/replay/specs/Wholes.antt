@@ -2,19 +2,10 @@
 --     AddsWhole run knobs last old new      the snapshots of a choice up to the last good step were written
 --     AddsPrefix run knobs last old new      a prefix of such a text was written
 --     HasEndedFrom run knobs step outcome old new before after      the steps end with this outcome, and their text from this one on was written
-use Rattle.std.specs.Prelude.{◌≡◌, ℕ, ◌≤◌, ◌++◌, List, [], Option, Some, None}
-use Rattle.std.specs.Io.KnownBytes.{append_known}
-use Rattle.tick_io.specs.Counts.{Rose}
-use Rattle.tick_io.specs.Written.{AppendsPrefix}
-use Rattle.tick_model.specs.declared.feed.Run.{Run}
-use Rattle.tick_model.specs.Choices.{IsChoice}
-use Rattle.tick_model.specs.Spoiled.{good}
-use Rattle.tick_model.specs.Texts.{snapshots_text}
-use Rattle.replay.specs.declared.outcome.Knobs.{Knobs}
-use Rattle.replay.specs.declared.outcome.Outcome.{Outcome}
-use Rattle.replay.specs.declared.outcome.Outcome.TheVariants.{Write}
-use Rattle.replay.specs.Outcomes.{IsEnd, IsLawfulChoice, IsTold}
-use Rattle.replay.specs.ToCome.{text_from}
+use Rattle.std.{specs.Prelude.{◌≡◌, ℕ, ◌≤◌, ◌++◌, List, [], Option, Some, None}, specs.Io.KnownBytes.append_known}
+use Rattle.tick_io.{specs.Counts.Rose, specs.Written.AppendsPrefix}
+use Rattle.tick_model.{specs.declared.feed.Run.Run, specs.Choices.IsChoice, specs.Spoiled.good, specs.Texts.snapshots_text}
+use Rattle.replay.{specs.declared.outcome.Knobs.Knobs, specs.declared.outcome.Outcome.Outcome, specs.declared.outcome.Outcome.TheVariants.Write, specs.Outcomes.{IsEnd, IsLawfulChoice, IsTold}, specs.ToCome.text_from}
 
 pub record AddsWhole (run : Run) (knobs : Knobs) (last : ℕ) (old new : Option (List ℕ)) : Type 0 where
   pub choice : List (List ℕ)

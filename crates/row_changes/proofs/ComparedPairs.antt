@@ -1,21 +1,12 @@
 -- Which rows an operator compares: those under some keys of its input's rows that stay.
 use Rattle.std.proofs.Common.{◌≡◌, refl, ap, ap₂, sym, ◌∙◌, subst, Bool, true, false, cond, ◌||◌, ◌==◌, ℕ, List, [], ◌∷◌, filter, length, true≢false}
 use Rattle.std.specs.List.{AllByRecursion}
-use Rattle.key_lists.specs.Keys.{is_among, IsRising, without}
-use Rattle.key_lists.proofs.Among.{among_own, each_among}
-use Rattle.key_lists.proofs.Every.{every_weaker, every_both, every-map, every_unmapped, every-filter, filter-map, map_map, map_own, every}
-use Rattle.key_lists.proofs.Rising.{as_filter, rising-filter}
+use Rattle.key_lists.{specs.Keys.{is_among, IsRising, without}, proofs.Among.{among_own, each_among}, proofs.Every.{every_weaker, every_both, every-map, every_unmapped, every-filter, filter-map, map_map, map_own, every}, proofs.Rising.{as_filter, rising-filter}}
 use Rattle.shift_data.specs.Moves.{pairs_of, unapplied}
 use Rattle.table_update.specs.Kept.{old_modified}
-use Rattle.tick_model.specs.declared.table.PlainTable.{PlainTable}
-use Rattle.tick_model.specs.declared.update.KeyPair.{KeyPair}
-use Rattle.tick_model.specs.Tables.{keys}
-use Rattle.tick_model.specs.Updates.{Update, differs, kept_pair, new_keys, old_keys, pairs}
-use Rattle.tick_table.specs.Exact.{IsExact}
-use Rattle.tick_table.specs.Ticking.{Ticking}
-use Rattle.tick_table.proofs.TableColumns.{length-mapped}
-use Rattle.row_changes.specs.Parts.{AreCompared}
-use Rattle.row_changes.proofs.Comparing.{pairs_of-keys}
+use Rattle.tick_model.{specs.declared.table.PlainTable.PlainTable, specs.declared.update.KeyPair.KeyPair, specs.Tables.keys, specs.Updates.{Update, differs, kept_pair, new_keys, old_keys, pairs}}
+use Rattle.tick_table.{specs.Exact.IsExact, specs.Ticking.Ticking, proofs.TableColumns.length-mapped}
+use Rattle.row_changes.{specs.Parts.AreCompared, proofs.Comparing.pairs_of-keys}
 
 -- what one choice of pairs leaves out and another does not
 pub compared_carried : (old new old' new' : PlainTable) (kept : List KeyPair) (before now : List ℕ) → AreCompared old new kept before now → AllByRecursion (λ pair. differs old new pair ≡ false → differs old' new' pair ≡ false) kept → AreCompared old' new' kept before now

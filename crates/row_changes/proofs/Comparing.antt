@@ -1,23 +1,10 @@
 -- Rows that are compared, pair by pair.
 use Rattle.std.proofs.Common.{◌≡◌, refl, ap, sym, ◌∙◌, subst, Bool, true, false, not, ℕ, suc, ◌+◌, ◌<◌, arith, ◌-◌, ◌*◌, ◌≤◌, List, [], ◌∷◌, ◌++◌, filter, length, drop, cond, ◌&&◌, ◌||◌, ◌==◌, ap₂, append_assoc, append-nil, ℤ, inl, inr, length-append, Result, Ok, Err, OnErr}
-use Rattle.std.specs.Cmp.{signed_Decides}
-use Rattle.std.specs.Cmp.Rules.{signed_items}
-use Rattle.std.specs.List.{AllByRecursion, range_with_len}
-use Rattle.std.specs.Ordering.{int_eq}
-use Rattle.std.specs.Prelude.{nat_lt, ◌⊎◌}
-use Rattle.std.proofs.Math.Seq.{drop-append_seam}
-use Rattle.std.proofs.lemmas.Bool.{and_right, le-ltb, ne_eqb, not-false}
-use Rattle.std.proofs.lemmas.Grind.{flat_map-append}
-use Rattle.key_lists.specs.Keys.{IsRising}
-use Rattle.key_lists.proofs.Booleans.{or_false}
-use Rattle.row_set.specs.Ranges.{keys_from}
-use Rattle.row_set.specs.Sets.{united, with_key}
-use Rattle.row_set.proofs.Windows.{rising_left_out}
+use Rattle.std.{specs.Cmp.signed_Decides, specs.Cmp.Rules.signed_items, specs.List.{AllByRecursion, range_with_len}, specs.Ordering.int_eq, specs.Prelude.{nat_lt, ◌⊎◌}, proofs.Math.Seq.drop-append_seam, proofs.lemmas.Bool.{and_right, le-ltb, ne_eqb, not-false}, proofs.lemmas.Grind.flat_map-append}
+use Rattle.key_lists.{specs.Keys.IsRising, proofs.Booleans.or_false}
+use Rattle.row_set.{specs.Ranges.keys_from, specs.Sets.{united, with_key}, proofs.Windows.rising_left_out}
 use Rattle.shift_data.specs.Moves.{pairs_of}
-use Rattle.tick_model.specs.declared.table.PlainTable.{PlainTable}
-use Rattle.tick_model.specs.declared.update.KeyPair.{KeyPair}
-use Rattle.tick_model.specs.Tables.{cell, cells_at, same_cells}
-use Rattle.tick_model.specs.Updates.{differs, differs_in, old_keys, new_keys}
+use Rattle.tick_model.{specs.declared.table.PlainTable.PlainTable, specs.declared.update.KeyPair.KeyPair, specs.Tables.{cell, cells_at, same_cells}, specs.Updates.{differs, differs_in, old_keys, new_keys}}
 use Rattle.row_changes.specs.Parts.{cells_under}
 
 -- the old and the new keys of pairs, place by place

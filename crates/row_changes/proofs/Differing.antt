@@ -1,10 +1,8 @@
 -- The columns in which rows differ, one after the other.
 use Rattle.std.proofs.Common.{◌≡◌, refl, ap, sym, ◌∙◌, Bool, true, false, ◌&&◌, ◌||◌, ◌==◌, ℕ, ◌+◌, arith, List, inl, inr}
-use Rattle.std.specs.Prelude.{nat_lt}
-use Rattle.std.proofs.lemmas.Bool.{and_right, cases_eq, cases_lt, eq-eqb, eqb-true, lt-ltb, le-ltb, ne_eqb}
+use Rattle.std.{specs.Prelude.nat_lt, proofs.lemmas.Bool.{and_right, cases_eq, cases_lt, eq-eqb, eqb-true, lt-ltb, le-ltb, ne_eqb}}
 use Rattle.key_lists.specs.Keys.{is_among}
-use Rattle.row_set.specs.Sets.{with_key}
-use Rattle.row_set.proofs.United.{among-with_key}
+use Rattle.row_set.{specs.Sets.with_key, proofs.United.among-with_key}
 
 lt_more : (c i : ℕ) → nat_lt c (i + 1) ≡ ((i == c) || nat_lt c i)
 lt_more c i =

@@ -1,24 +1,11 @@
 -- The change that the parts of a tick make.
 use Rattle.std.proofs.Common.{◌≡◌, ap, ap₂, sym, ◌∙◌, subst, true, false, not, ◌&&◌, ℕ, zero, suc, ◌+◌, ◌-◌, arith, List, ◌++◌, filter, ℤ, inl, inr, lt-ltb, le-ltb}
-use Rattle.std.specs.Prelude.{nat_lt}
-use Rattle.std.specs.List.{list_any, range_with_len}
-use Rattle.std.proofs.lemmas.Bool.{cases_lt}
-use Rattle.std.proofs.lemmas.Grind.{flat_map-append}
-use Rattle.key_lists.specs.Keys.{is_among, IsRising}
-use Rattle.key_lists.proofs.Among.{among-filter, each_among}
-use Rattle.key_lists.proofs.Every.{every_weaker, every-map, every_unmapped, every-filter, filter_in, any_in, and_swap}
-use Rattle.key_lists.proofs.Rising.{rising_same, rising_some}
-use Rattle.row_set.specs.declared.ranges.Range.{Range}
-use Rattle.row_set.proofs.Held.{range_rises, among-in, holds-true, holds_after}
+use Rattle.std.{specs.Prelude.nat_lt, specs.List.{list_any, range_with_len}, proofs.lemmas.Bool.cases_lt, proofs.lemmas.Grind.flat_map-append}
+use Rattle.key_lists.{specs.Keys.{is_among, IsRising}, proofs.Among.{among-filter, each_among}, proofs.Every.{every_weaker, every-map, every_unmapped, every-filter, filter_in, any_in, and_swap}, proofs.Rising.{rising_same, rising_some}}
+use Rattle.row_set.{specs.declared.ranges.Range.Range, proofs.Held.{range_rises, among-in, holds-true, holds_after}}
 use Rattle.shift_data.specs.Moves.{pairs_of}
-use Rattle.tick_model.specs.declared.table.PlainTable.{PlainTable}
-use Rattle.tick_model.specs.declared.update.KeyPair.{KeyPair}
-use Rattle.tick_model.specs.declared.update.ShiftRange.{ShiftRange}
-use Rattle.tick_model.specs.Changes.{Change, change_of}
-use Rattle.tick_model.specs.Tables.{cells_at, keys}
-use Rattle.tick_model.specs.Updates.{between, differs, differs_in, new_keys, old_keys}
-use Rattle.row_changes.specs.Parts.{Parts, AreThere, AreParts, cells_under, tick_along}
-use Rattle.row_changes.proofs.Comparing.{old_keys-pairs_of, new_keys-pairs_of, same_column}
+use Rattle.tick_model.{specs.declared.table.PlainTable.PlainTable, specs.declared.update.KeyPair.KeyPair, specs.declared.update.ShiftRange.ShiftRange, specs.Changes.{Change, change_of}, specs.Tables.{cells_at, keys}, specs.Updates.{between, differs, differs_in, new_keys, old_keys}}
+use Rattle.row_changes.{specs.Parts.{Parts, AreThere, AreParts, cells_under, tick_along}, proofs.Comparing.{old_keys-pairs_of, new_keys-pairs_of, same_column}}
 
 -- the columns of a table
 among_columns : (column width : ℕ) → is_among column (range_with_len 0 width) ≡ nat_lt column width

@@ -1,20 +1,11 @@
 -- Rows that are made of the rows of an exact table, under their keys.
 use Rattle.std.proofs.Common.{◌≡◌, refl, ap, sym, ◌∙◌, true, false, cond, not, ◌||◌, ℕ, ◌==◌, List, [], ◌∷◌, map, Some, true≢false, ℤ}
-use Rattle.std.specs.Prelude.{option_map, unwrap_or}
-use Rattle.std.specs.Cmp.Rules.{signed_items}
-use Rattle.std.proofs.lemmas.Bool.{not-false}
-use Rattle.key_lists.specs.Keys.{is_among}
-use Rattle.key_lists.proofs.Every.{every_both, every_unmapped}
+use Rattle.std.{specs.Prelude.{option_map, unwrap_or}, specs.Cmp.Rules.signed_items, proofs.lemmas.Bool.not-false}
+use Rattle.key_lists.{specs.Keys.is_among, proofs.Every.{every_both, every_unmapped}}
 use Rattle.table_update.specs.Kept.{old_modified}
-use Rattle.tick_model.specs.declared.table.PlainRow.{PlainRow}
-use Rattle.tick_model.specs.declared.table.PlainTable.{PlainTable}
-use Rattle.tick_model.specs.declared.update.KeyPair.{KeyPair}
-use Rattle.tick_model.specs.Tables.{cells_at, keys, row_at, same_cells}
-use Rattle.tick_model.specs.Updates.{differs, pairs}
-use Rattle.tick_table.specs.Exact.{IsExact}
-use Rattle.tick_table.specs.Ticking.{Ticking}
-use Rattle.row_changes.specs.Parts.{AreCompared}
-use Rattle.row_changes.proofs.ComparedPairs.{compared_carried, modified_compared}
+use Rattle.tick_model.{specs.declared.table.PlainRow.PlainRow, specs.declared.table.PlainTable.PlainTable, specs.declared.update.KeyPair.KeyPair, specs.Tables.{cells_at, keys, row_at, same_cells}, specs.Updates.{differs, pairs}}
+use Rattle.tick_table.{specs.Exact.IsExact, specs.Ticking.Ticking}
+use Rattle.row_changes.{specs.Parts.AreCompared, proofs.ComparedPairs.{compared_carried, modified_compared}}
 
 module _ (made : List ℤ → List ℤ) where
   abbrev pub made_row : PlainRow → PlainRow

@@ -2,12 +2,9 @@
 use Rattle.std.proofs.Common.{◌≡◌, ap, sym, ◌∙◌, subst, true, ℕ, List}
 use Rattle.std.specs.List.{AllByRecursion}
 use Rattle.key_lists.specs.Keys.{is_among, without}
-use Rattle.tick_model.specs.declared.table.PlainTable.{PlainTable}
-use Rattle.tick_model.specs.Updates.{IsTick, Update, old_keys, new_keys, pairs}
-use Rattle.tick_table.specs.Exact.{IsExact, tick_of}
-use Rattle.tick_table.specs.Ticking.{Ticking}
-use Rattle.row_changes.specs.Mapped.{IsMapped, mapped_tick}
-use Rattle.row_changes.specs.Parts.{Parts, AreCompared, AreParts}
+use Rattle.tick_model.{specs.declared.table.PlainTable.PlainTable, specs.Updates.{IsTick, Update, old_keys, new_keys, pairs}}
+use Rattle.tick_table.{specs.Exact.{IsExact, tick_of}, specs.Ticking.Ticking}
+use Rattle.row_changes.{specs.Mapped.{IsMapped, mapped_tick}, specs.Parts.{Parts, AreCompared, AreParts}}
 
 module _ (t : Ticking) (e : IsExact t) (old new : PlainTable) (m : IsMapped (tick_of t) old new) where
   pub mapped_is_tick : IsTick (mapped_tick old new (tick_of t))

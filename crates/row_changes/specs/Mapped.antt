@@ -2,9 +2,7 @@
 --     IsMapped input old new      tables of one width under the keys of the input's tables
 --     mapped_tick old new input      the tick between the two, along the input's pairs
 use Rattle.std.specs.Prelude.{◌≡◌}
-use Rattle.tick_model.specs.declared.table.PlainTable.{PlainTable}
-use Rattle.tick_model.specs.Tables.{keys, IsTable}
-use Rattle.tick_model.specs.Updates.{Tick}
+use Rattle.tick_model.{specs.declared.table.PlainTable.PlainTable, specs.Tables.{keys, IsTable}, specs.Updates.Tick}
 use Rattle.row_changes.specs.Parts.{tick_along}
 
 pub record IsMapped (input : Tick) (old new : PlainTable) : Type 0 where

@@ -4,15 +4,10 @@
 --     tick_along old new kept      the tick from one table to another along the pairs of the rows that stay
 --     AreCompared old new kept before now      the rows that stay and have one of these keys before, and the one at its place now, are all that may differ
 --     AreParts old new parts kept      these are the parts of the change from one table to the other
-use Rattle.std.specs.Prelude.{◌≡◌, ℕ, false, List, filter, flat_map, length, IsTrue, ℤ}
-use Rattle.std.specs.List.{AllByRecursion}
+use Rattle.std.{specs.Prelude.{◌≡◌, ℕ, false, List, filter, flat_map, length, IsTrue, ℤ}, specs.List.AllByRecursion}
 use Rattle.key_lists.specs.Keys.{is_among}
 use Rattle.shift_data.specs.Moves.{pairs_of}
-use Rattle.tick_model.specs.declared.table.PlainTable.{PlainTable}
-use Rattle.tick_model.specs.declared.update.KeyPair.{KeyPair}
-use Rattle.tick_model.specs.declared.update.ShiftRange.{ShiftRange}
-use Rattle.tick_model.specs.Tables.{cells_at, keys}
-use Rattle.tick_model.specs.Updates.{Tick, IsTick, between, differs}
+use Rattle.tick_model.{specs.declared.table.PlainTable.PlainTable, specs.declared.update.KeyPair.KeyPair, specs.declared.update.ShiftRange.ShiftRange, specs.Tables.{cells_at, keys}, specs.Updates.{Tick, IsTick, between, differs}}
 
 -- the keys of the rows that go and of those that come, the ranges of those that move, and the keys before and now of those that stay and may differ
 pub record Parts : Type 0 where

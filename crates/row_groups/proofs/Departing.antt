@@ -1,22 +1,9 @@
 -- A row that leaves its group.
 use Rattle.std.proofs.Common.{◌≡◌, ◌≢◌, refl, ap, ap₂, sym, ◌∙◌, subst, arith, false, ℕ, suc, ◌+◌, ◌<◌, List, [], ◌∷◌, ◌++◌, get_or, length, length-append, Option, Some, None, IsSome, option_map, unwrap_or, ℤ}
-use Rattle.std.specs.List.{AllZip}
-use Rattle.std.proofs.lemmas.List.{get_or_at}
-use Rattle.std.proofs.lemmas.List.Elements.{AllZip-get_or, length_all_zip}
-use Rattle.std.proofs.lemmas.Option.{same_Some}
+use Rattle.std.{specs.List.AllZip, proofs.lemmas.List.get_or_at, proofs.lemmas.List.Elements.{AllZip-get_or, length_all_zip}, proofs.lemmas.Option.same_Some}
 use Rattle.key_lists.specs.Keys.{is_among}
 use Rattle.row_handles.specs.Entries.{handle_under}
-use Rattle.row_groups.specs.declared.index.Index.{Index}
-use Rattle.row_groups.specs.declared.lists.Lists.{Lists}
-use Rattle.row_groups.specs.declared.table.Kept.{Kept}
-use Rattle.row_groups.specs.Members.{IsNumberUnder, Member, member_under}
-use Rattle.row_groups.specs.Rows.{AreNumbered, Becomes, IsKept, at_in, cells_in, cells_with, kept_in, slots_numbered, slots_under}
-use Rattle.row_groups.specs.Slots.{IsGroup, slots_without}
-use Rattle.row_groups.specs.Indexes.{IsIndex, grouped_of, numbered_of}
-use Rattle.row_groups.proofs.Keys.{some_of, under_has}
-use Rattle.row_groups.proofs.Groupings.{there_under, under_same}
-use Rattle.row_groups.proofs.Indexed.{AreGone, group_there, kept_of, some_cells, step_less}
-use Rattle.row_groups.proofs.Named.{name_is}
+use Rattle.row_groups.{specs.declared.index.Index.Index, specs.declared.lists.Lists.Lists, specs.declared.table.Kept.Kept, specs.Members.{IsNumberUnder, Member, member_under}, specs.Rows.{AreNumbered, Becomes, IsKept, at_in, cells_in, cells_with, kept_in, slots_numbered, slots_under}, specs.Slots.{IsGroup, slots_without}, specs.Indexes.{IsIndex, grouped_of, numbered_of}, proofs.Keys.{some_of, under_has}, proofs.Groupings.{there_under, under_same}, proofs.Indexed.{AreGone, group_there, kept_of, some_cells, step_less}, proofs.Named.name_is}
 
 -- two lists that are walked together: the item at the place of the next one
 module _ (R : ℕ → ℕ → Type 0) (keys yielded others numbers : List ℕ) (key place : ℕ) (next : keys ≡ yielded ++ key ∷ others) (count : place ≡ length yielded) (all : AllZip R keys numbers) where

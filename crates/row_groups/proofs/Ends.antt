@@ -1,12 +1,7 @@
 -- Lists of which a look at the last element or the first shows what passes, and lists that go on behind their last.
 use Rattle.std.proofs.Common.{◌≡◌, refl, ap, sym, ◌∙◌, subst, Bool, true, false, ℕ, zero, suc, ◌-◌, ◌<◌, arith, List, [], ◌∷◌, ◌++◌, length, take, drop, get_or, set, append_assoc, Some}
-use Rattle.std.specs.Prelude.{slice_get}
-use Rattle.std.specs.List.{AllByRecursion}
-use Rattle.std.specs.Global.{Vec}
-use Rattle.std.proofs.lemmas.List.{append-nil, drop_all}
-use Rattle.row_groups.specs.declared.place.Slot.{Slot}
-use Rattle.row_groups.specs.Slots.{IsParted, joined}
-use Rattle.row_groups.proofs.Parts.{failed_from, from_got, joined-append, joined_around, joined_instead, passed_to}
+use Rattle.std.{specs.Prelude.slice_get, specs.List.AllByRecursion, specs.Global.Vec, proofs.lemmas.List.{append-nil, drop_all}}
+use Rattle.row_groups.{specs.declared.place.Slot.Slot, specs.Slots.{IsParted, joined}, proofs.Parts.{failed_from, from_got, joined-append, joined_around, joined_instead, passed_to}}
 
 -- where the last passes, all do
 pub passed_all : {X : Type 0} (p : X → Bool) (xs : List X) (n : ℕ) (x : X) → n ≡ length xs → slice_get xs (length xs - 1) ≡ Some x → IsParted p xs → p x ≡ true → AllByRecursion (λ y. p y ≡ true) (take n xs)

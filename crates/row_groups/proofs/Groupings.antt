@@ -1,28 +1,11 @@
 -- Rows and their members, and the lists of slots that stand for groups.
 use Rattle.std.proofs.Common.{◌≡◌, ◌≢◌, refl, ap, sym, ◌∙◌, subst, Bool, true, false, not, cond, ltb, eqb, ℕ, suc, ◌+◌, ◌-◌, ◌^◌, ◌<◌, ◌≤◌, zero, arith, zero-add, List, [], ◌∷◌, map, filter, length, take, drop, Option, Some, None, option_map, unwrap_or, IsSome, ℤ, int_lt, int_le, count_by, if◌then◌else◌}
-use Rattle.std.specs.List.{AllByRecursion}
-use Rattle.std.specs.Prelude.{slice_get}
-use Rattle.std.proofs.lemmas.List.{drop_all}
-use Rattle.std.proofs.lemmas.List.Sums.{sum_by-cons}
-use Rattle.std.proofs.lemmas.Bool.{false_from_ne_true}
-use Rattle.std.specs.Cmp.Rules.{signed_items}
-use Rattle.key_lists.specs.Keys.{is_among}
-use Rattle.key_lists.proofs.Every.{every_both, every_weaker, every-map, filter-map, filter_passes}
+use Rattle.std.{specs.List.AllByRecursion, specs.Prelude.slice_get, proofs.lemmas.List.drop_all, proofs.lemmas.List.Sums.sum_by-cons, proofs.lemmas.Bool.false_from_ne_true, specs.Cmp.Rules.signed_items}
+use Rattle.key_lists.{specs.Keys.is_among, proofs.Every.{every_both, every_weaker, every-map, filter-map, filter_passes}}
 use Rattle.row_set.specs.Sets.{IsKeySet}
-use Rattle.tick_model.specs.Tables.{same_cells}
-use Rattle.tick_model.specs.declared.update.ShiftRange.{ShiftRange}
+use Rattle.tick_model.{specs.Tables.same_cells, specs.declared.update.ShiftRange.ShiftRange}
 use Rattle.row_handles.specs.Entries.{AreHandled, Ascend, Entry, entry_of, handle_under, key_with, keys_of as entry_keys, left_rows, moved_rows, with_row as entries_with}
-use Rattle.row_groups.specs.declared.place.Slot.{Slot}
-use Rattle.row_groups.specs.declared.lists.Lists.{Lists}
-use Rattle.row_groups.specs.declared.table.Table.{Table}
-use Rattle.row_groups.specs.Members.{AreGrouped, Member, by_at, group_of, keys_of, left_members, member_of, member_under, moved_member, moved_members, placed, with_member}
-use Rattle.row_groups.specs.Slots.{AreKnown, AreRanked, IsGroup, IsParted, is_before, key_in, member_at, slots_with, slots_without}
-use Rattle.row_groups.specs.Rows.{AreListed, Becomes, ByNumber, IsKept, IsSame, Row, at_in, cells_in, group_rows, members_of, row_of, row_placed, rows_by_at, rows_of, slot_of, slots_under}
-use Rattle.row_groups.proofs.Order.{at_most, less, less_above, less_below, less_itself, less_through}
-use Rattle.row_groups.proofs.Ranks.{Ascends, Ranked, before, every-by_at, every-group, group_ranked, group_with, group_without, put_in, with_row}
-use Rattle.row_groups.proofs.Ends.{failed_all, passed_all}
-use Rattle.row_groups.proofs.Keys.{known_all, small_key}
-use Rattle.row_groups.proofs.Parts.{unlike}
+use Rattle.row_groups.{specs.declared.place.Slot.Slot, specs.declared.lists.Lists.Lists, specs.declared.table.Table.Table, specs.Members.{AreGrouped, Member, by_at, group_of, keys_of, left_members, member_of, member_under, moved_member, moved_members, placed, with_member}, specs.Slots.{AreKnown, AreRanked, IsGroup, IsParted, is_before, key_in, member_at, slots_with, slots_without}, specs.Rows.{AreListed, Becomes, ByNumber, IsKept, IsSame, Row, at_in, cells_in, group_rows, members_of, row_of, row_placed, rows_by_at, rows_of, slot_of, slots_under}, proofs.Order.{at_most, less, less_above, less_below, less_itself, less_through}, proofs.Ranks.{Ascends, Ranked, before, every-by_at, every-group, group_ranked, group_with, group_without, put_in, with_row}, proofs.Ends.{failed_all, passed_all}, proofs.Keys.{known_all, small_key}, proofs.Parts.unlike}
 
 -- a group of rows has the members of the group
 placed_members : (row : Row) (rows : List Row) → members_of (row_placed row rows) ≡ placed row.member (members_of rows)

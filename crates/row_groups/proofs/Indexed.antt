@@ -1,30 +1,10 @@
 -- The index as a whole: rows that move, come and leave.
 use Rattle.std.proofs.Common.{◌≡◌, ◌≢◌, refl, ap, sym, ◌∙◌, subst, Bool, true, false, not, cond, ◌||◌, ℕ, ◌^◌, ◌<◌, List, [], ◌∷◌, ◌++◌, map, filter, length, Option, Some, None, Result, Ok, Err, OnOk, OnErr, IsSome, unwrap_or, inl, inr, ℤ, int_lt, if◌then◌else◌}
-use Rattle.std.specs.List.{AllByRecursion}
-use Rattle.std.proofs.lemmas.Bool.{cases_eq, eq-eqb}
-use Rattle.std.proofs.lemmas.Option.{same_Some}
-use Rattle.std.specs.Cmp.Rules.{signed_items}
-use Rattle.key_lists.specs.Keys.{is_among}
-use Rattle.key_lists.proofs.Every.{every, every_both, every_weaker, every_unmapped, every-filter, every-map, filter-map, filter_passes}
-use Rattle.tick_model.specs.Tables.{same_cells}
-use Rattle.tick_model.specs.declared.update.ShiftRange.{ShiftRange}
-use Rattle.tick_model.specs.Shifts.{moved, as_key}
-use Rattle.tick_model.specs.Rules.{shift_fault}
-use Rattle.row_handles.specs.Entries.{AreHandled, Entry, entry_of, handle_under, key_with, keys_of, left_rows, moved_row, moved_rows, with_row}
-use Rattle.row_handles.proofs.EntryLists.{ascend-filter}
-use Rattle.row_handles.proofs.Laws.{handle_under-left, key_under_handle}
-use Rattle.row_groups.specs.declared.table.Table.{Table}
-use Rattle.row_groups.specs.declared.index.Index.{Index}
-use Rattle.row_groups.specs.declared.lists.Lists.{Lists}
-use Rattle.row_groups.specs.declared.place.Slot.{Slot}
-use Rattle.row_groups.specs.Members.{Grouped, Member, left_members, member_of, moved_members, with_member}
-use Rattle.row_groups.specs.Slots.{IsGroup, slots_with, slots_without}
-use Rattle.row_groups.specs.Rows.{AreListed, AreNumbered, Becomes, ByNumber, IsKept, IsSame, Row, at_in, cells_in, group_rows, members_of, row_of, row_placed, rows_by_at, rows_of, slot_of, slots_numbered, slots_under, cells_with, kept_in}
-use Rattle.row_groups.specs.Indexes.{Holds, IsIndex}
-use Rattle.row_groups.proofs.Ranks.{with_row as row_among}
-use Rattle.row_groups.proofs.Keys.{ascending, every-with_row, handled_left, handled_moved, handled_with, known_all, left_again, left_missing, left_more, left_none, restored, under_has}
-use Rattle.row_groups.proofs.Listed.{under_number}
-use Rattle.row_groups.proofs.Groupings.{listed_group, listed_with, listed_without, members_left, members_moved, members_with, rows_ascend, rows_known, rows_same, rows_with}
+use Rattle.std.{specs.List.AllByRecursion, proofs.lemmas.Bool.{cases_eq, eq-eqb}, proofs.lemmas.Option.same_Some, specs.Cmp.Rules.signed_items}
+use Rattle.key_lists.{specs.Keys.is_among, proofs.Every.{every, every_both, every_weaker, every_unmapped, every-filter, every-map, filter-map, filter_passes}}
+use Rattle.tick_model.{specs.Tables.same_cells, specs.declared.update.ShiftRange.ShiftRange, specs.Shifts.{moved, as_key}, specs.Rules.shift_fault}
+use Rattle.row_handles.{specs.Entries.{AreHandled, Entry, entry_of, handle_under, key_with, keys_of, left_rows, moved_row, moved_rows, with_row}, proofs.EntryLists.ascend-filter, proofs.Laws.{handle_under-left, key_under_handle}}
+use Rattle.row_groups.{specs.declared.table.Table.Table, specs.declared.index.Index.Index, specs.declared.lists.Lists.Lists, specs.declared.place.Slot.Slot, specs.Members.{Grouped, Member, left_members, member_of, moved_members, with_member}, specs.Slots.{IsGroup, slots_with, slots_without}, specs.Rows.{AreListed, AreNumbered, Becomes, ByNumber, IsKept, IsSame, Row, at_in, cells_in, group_rows, members_of, row_of, row_placed, rows_by_at, rows_of, slot_of, slots_numbered, slots_under, cells_with, kept_in}, specs.Indexes.{Holds, IsIndex}, proofs.Ranks.with_row as row_among, proofs.Keys.{ascending, every-with_row, handled_left, handled_moved, handled_with, known_all, left_again, left_missing, left_more, left_none, restored, under_has}, proofs.Listed.under_number, proofs.Groupings.{listed_group, listed_with, listed_without, members_left, members_moved, members_with, rows_ascend, rows_known, rows_same, rows_with}}
 
 -- rows under other keys
 abbrev move : (ℕ → ℕ) → Row → Row

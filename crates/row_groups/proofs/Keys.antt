@@ -1,19 +1,10 @@
 -- Rows by their keys: what handles show of them, and one that comes back.
 use Rattle.std.proofs.Common.{◌≡◌, ◌≢◌, refl, ap, sym, ◌∙◌, subst, Bool, true, false, not, cond, ◌&&◌, ◌||◌, ltb, eqb, ℕ, ◌^◌, ◌<◌, arith, List, [], ◌∷◌, ◌++◌, filter, Option, Some, None, is_some, option_map, unwrap_or, if◌then◌else◌}
-use Rattle.std.specs.List.{AllByRecursion}
-use Rattle.std.proofs.lemmas.Bool.{eq-eqb, ne_eqb, eqb-true, ltb-true, ltb-false, lt-ltb}
-use Rattle.std.proofs.lemmas.Option.{none-some, same_Some}
-use Rattle.key_lists.specs.Keys.{is_among}
-use Rattle.key_lists.proofs.Every.{every, every_weaker, every_both, every-filter, every-map, every_unmapped, filter_filter, filter_same, filter_all, map_map}
-use Rattle.key_lists.proofs.Among.{among-append}
-use Rattle.key_lists.proofs.Booleans.{neither}
+use Rattle.std.{specs.List.AllByRecursion, proofs.lemmas.Bool.{eq-eqb, ne_eqb, eqb-true, ltb-true, ltb-false, lt-ltb}, proofs.lemmas.Option.{none-some, same_Some}}
+use Rattle.key_lists.{specs.Keys.is_among, proofs.Every.{every, every_weaker, every_both, every-filter, every-map, every_unmapped, filter_filter, filter_same, filter_all, map_map}, proofs.Among.among-append, proofs.Booleans.neither}
 use Rattle.row_set.specs.Sets.{IsKeySet}
-use Rattle.row_handles.specs.Entries.{AreDistinct, AreHandled, Ascend, Entry, entry_of, handle_under, handles_of, key_with, keys_of, left_rows, moved_row, moved_rows, with_row}
-use Rattle.row_handles.proofs.Moving.{moved_ascend, moved_small}
-use Rattle.tick_model.specs.declared.update.ShiftRange.{ShiftRange}
-use Rattle.tick_model.specs.Rules.{shift_fault}
-use Rattle.row_handles.proofs.EntryLists.{absent_all, ascend_by_keys, ascend-filter, rising_keys, with_row-between}
-use Rattle.row_handles.proofs.Laws.{handle_under-with_row}
+use Rattle.row_handles.{specs.Entries.{AreDistinct, AreHandled, Ascend, Entry, entry_of, handle_under, handles_of, key_with, keys_of, left_rows, moved_row, moved_rows, with_row}, proofs.Moving.{moved_ascend, moved_small}, proofs.EntryLists.{absent_all, ascend_by_keys, ascend-filter, rising_keys, with_row-between}, proofs.Laws.handle_under-with_row}
+use Rattle.tick_model.{specs.declared.update.ShiftRange.ShiftRange, specs.Rules.shift_fault}
 
 -- where there is something of it, it is there
 pub some_of : {X Y : Type 0} (f : X → Y) (o : Option X) (y : Y) → option_map f o ≡ Some y → is_some o ≡ true

@@ -1,20 +1,8 @@
 -- The number to which key cells lead, where one of them changes.
 use Rattle.std.proofs.Common.{◌≡◌, refl, ap, sym, ◌∙◌, subst, Bool, true, false, List, [], ◌∷◌, length, ◌++◌, ◌+◌, get_or, arith, ℕ, ◌<◌, ℤ, pos, negsuc, Option, Some, None, if◌then◌else◌}
-use Rattle.std.specs.Prelude.{nat_lt}
-use Rattle.std.specs.Option.{option_map_or}
-use Rattle.std.specs.Map.{KeepsOthers}
-use Rattle.std.specs.HashMap.{UpdatesBy, get_by}
-use Rattle.std.specs.Ordering.{int_eq}
-use Rattle.std.specs.Cmp.Lexicographic.{pointwise}
-use Rattle.std.specs.Cmp.Rules.{signed_items}
-use Rattle.std.specs.Global.{Vec}
-use Rattle.std.proofs.lemmas.Bool.{false_from_ne_true, lt-ltb, ltb-false, ltb-true}
-use Rattle.std.proofs.lemmas.List.{get_or_append_left, get_or_push, length_push}
-use Rattle.std.proofs.lemmas.Option.{none-some, same_Some}
+use Rattle.std.{specs.Prelude.nat_lt, specs.Option.option_map_or, specs.Map.KeepsOthers, specs.HashMap.{UpdatesBy, get_by}, specs.Ordering.int_eq, specs.Cmp.Lexicographic.pointwise, specs.Cmp.Rules.signed_items, specs.Global.Vec, proofs.lemmas.Bool.{false_from_ne_true, lt-ltb, ltb-false, ltb-true}, proofs.lemmas.List.{get_or_append_left, get_or_push, length_push}, proofs.lemmas.Option.{none-some, same_Some}}
 use Rattle.tick_model.specs.Tables.{same_cells}
-use Rattle.row_groups.specs.declared.numbers.Numbers.{Numbers}
-use Rattle.row_groups.specs.Rows.{Leads, number_below, number_under, place_in, single_cell}
-use Rattle.row_groups.proofs.Parts.{unlike}
+use Rattle.row_groups.{specs.declared.numbers.Numbers.Numbers, specs.Rows.{Leads, number_below, number_under, place_in, single_cell}, proofs.Parts.unlike}
 
 abbrev pub same_key : Vec ℤ → Vec ℤ → Bool
 same_key x y = pointwise int_eq x.items y.items

@@ -1,24 +1,10 @@
 -- The lists of rows by their cells, where one of them becomes another.
 use Rattle.std.proofs.Common.{◌≡◌, ◌≢◌, refl, ap, sym, ◌∙◌, subst, Bool, true, false, List, [], ◌∷◌, ◌++◌, ℕ, zero, suc, ◌-◌, ◌≤◌, ◌<◌, length, take, drop, arith, ℤ, Option, Some, None, option_map, IsSome, inl, inr, if◌then◌else◌}
-use Rattle.std.specs.Option.{option_map_or}
-use Rattle.std.specs.Prelude.{slice_get}
-use Rattle.std.specs.List.{AllByRecursion}
-use Rattle.std.proofs.lemmas.List.{drop_all}
-use Rattle.std.specs.Cmp.Rules.{signed_items}
-use Rattle.std.proofs.lemmas.Bool.{cases_eq}
-use Rattle.std.proofs.lemmas.Option.{none-some, same_Some}
-use Rattle.slab.specs.Slab.{get, with_value}
-use Rattle.slab.proofs.SlabLemmas.{Updates-with_value}
+use Rattle.std.{specs.Option.option_map_or, specs.Prelude.slice_get, specs.List.AllByRecursion, proofs.lemmas.List.drop_all, specs.Cmp.Rules.signed_items, proofs.lemmas.Bool.cases_eq, proofs.lemmas.Option.{none-some, same_Some}}
+use Rattle.slab.{specs.Slab.{get, with_value}, proofs.SlabLemmas.Updates-with_value}
 use Rattle.tick_model.specs.Tables.{same_cells}
 use Rattle.row_handles.specs.Entries.{Entry}
-use Rattle.row_groups.specs.declared.lists.KeyedRows.{KeyedRows}
-use Rattle.row_groups.specs.declared.lists.Lists.{Lists}
-use Rattle.row_groups.specs.declared.place.Slot.{Slot}
-use Rattle.row_groups.specs.Slots.{is_before, IsParted, slots_with, slots_without}
-use Rattle.row_groups.proofs.Ends.{passed_all, put_last}
-use Rattle.row_groups.specs.Rows.{AreNumbered, Becomes, ByNumber, Leads, cells_with, number_under, slots_numbered, slots_under}
-use Rattle.row_groups.proofs.Leading.{numbered_as, renumbered}
-use Rattle.row_groups.proofs.Parts.{unlike}
+use Rattle.row_groups.{specs.declared.lists.KeyedRows.KeyedRows, specs.declared.lists.Lists.Lists, specs.declared.place.Slot.Slot, specs.Slots.{is_before, IsParted, slots_with, slots_without}, proofs.Ends.{passed_all, put_last}, specs.Rows.{AreNumbered, Becomes, ByNumber, Leads, cells_with, number_under, slots_numbered, slots_under}, proofs.Leading.{numbered_as, renumbered}, proofs.Parts.unlike}
 
 -- the group with a number changes, which has these cells or is new
 pub record IsChange (cells : List ℤ) (number : ℕ) (old new : Lists) : Type 0 where

@@ -1,18 +1,8 @@
 -- The numbers of the groups, as they are shown.
 use Rattle.std.proofs.Common.{◌≡◌, ◌≢◌, refl, ap, sym, ◌∙◌, subst, ℕ, zero, suc, ◌+◌, List, [], ◌∷◌, length, map, get_or, Option, Some, None, IfSome, IsSome, option_map, arith, ℤ}
 use Rattle.std.proofs.lemmas.Option.{none-some, same_Some}
-use Rattle.slab.specs.Slab.{entries_from, get, slab_len}
-use Rattle.slab.proofs.SlabLemmas.{length-entries}
-use Rattle.row_groups.specs.declared.index.Index.{Index}
-use Rattle.row_groups.specs.declared.lists.KeyedRows.{KeyedRows}
-use Rattle.row_groups.specs.Members.{IsNumberOf, IsPart, group_of, name_at}
-use Rattle.row_groups.specs.Rows.{ByNumber, cells_with, group_rows, members_of, number_under, rows_of, slots_under}
-use Rattle.row_groups.specs.Slots.{IsGroup, member_at}
-use Rattle.row_groups.specs.Indexes.{IsIndex, names_of, numbered_of}
-use Rattle.row_groups.proofs.Keys.{ascending, known_all}
-use Rattle.row_groups.proofs.Listed.{numbered_under, under_none, with_group, with_rows}
-use Rattle.row_groups.proofs.Groupings.{group_members, listed_group, listed_members}
-use Rattle.row_groups.proofs.Indexed.{no_slots}
+use Rattle.slab.{specs.Slab.{entries_from, get, slab_len}, proofs.SlabLemmas.length-entries}
+use Rattle.row_groups.{specs.declared.index.Index.Index, specs.declared.lists.KeyedRows.KeyedRows, specs.Members.{IsNumberOf, IsPart, group_of, name_at}, specs.Rows.{ByNumber, cells_with, group_rows, members_of, number_under, rows_of, slots_under}, specs.Slots.{IsGroup, member_at}, specs.Indexes.{IsIndex, names_of, numbered_of}, proofs.Keys.{ascending, known_all}, proofs.Listed.{numbered_under, under_none, with_group, with_rows}, proofs.Groupings.{group_members, listed_group, listed_members}, proofs.Indexed.no_slots}
 
 names_at : (slots : List (Option KeyedRows)) (n : ℕ) → get_or (map (option_map (λ (group : KeyedRows). group.cells.items)) slots) n None ≡ option_map (λ (group : KeyedRows). group.cells.items) (get_or slots n None)
 names_at [] n = refl

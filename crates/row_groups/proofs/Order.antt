@@ -1,10 +1,6 @@
 -- The order of the rows of a group: by `at`, and then by key.
 use Rattle.std.proofs.Common.{◌≡◌, refl, ap, sym, ◌∙◌, subst, Bool, true, false, not, cond, ◌&&◌, ◌||◌, ◌⊎◌, inl, inr, ℕ, ◌<◌, ◌≤◌, ltb, arith, ℤ, ◌<ℤ◌, ◌≤ℤ◌, int_lt, int_le}
-use Rattle.std.specs.Ordering.{int_eq, is_eq}
-use Rattle.std.specs.declared.cmp.Ordering.TheVariants.{Less, Equal, Greater}
-use Rattle.std.specs.Cmp.{signed_Decides}
-use Rattle.std.proofs.lemmas.Int.{ints}
-use Rattle.std.proofs.lemmas.Bool.{ltb-true, lt-ltb, le-ltb, or_right, or_left, or_cases, and_parts}
+use Rattle.std.{specs.Ordering.{int_eq, is_eq}, specs.declared.cmp.Ordering.TheVariants.{Less, Equal, Greater}, specs.Cmp.signed_Decides, proofs.lemmas.Int.ints, proofs.lemmas.Bool.{ltb-true, lt-ltb, le-ltb, or_right, or_left, or_cases, and_parts}}
 
 -- whether a row stands before another
 abbrev pub less : ℤ → ℕ → ℤ → ℕ → Bool

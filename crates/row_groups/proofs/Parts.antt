@@ -1,17 +1,9 @@
 -- Lists of which a first part true_from_ne_false a test, and lists in chunks.
 use Rattle.std.proofs.Common.{◌≡◌, refl, ap, sym, ◌∙◌, subst, Bool, true, false, ℕ, zero, suc, ◌+◌, ◌-◌, ◌<◌, ◌≤◌, arith, List, [], ◌∷◌, ◌++◌, length, take, drop, take_all, get_or, set, append_assoc, length-append, length-take, length-drop, Some, IsSome}
-use Rattle.std.specs.Prelude.{slice_get}
-use Rattle.std.specs.List.{AllByRecursion}
-use Rattle.std.specs.Global.{Vec}
-use Rattle.std.proofs.lemmas.Grind.{flat_map-append}
-use Rattle.std.proofs.lemmas.Bool.{true_from_ne_false}
-use Rattle.std.proofs.lemmas.List.{take-append-drop}
-use Rattle.row_groups.specs.declared.chunks.Spot.{Spot}
-use Rattle.row_groups.specs.declared.place.Slot.{Slot}
-use Rattle.key_lists.proofs.Every.{every-append}
-use Rattle.key_lists.proofs.Parts.{every_front, every_back, every_at, some_at, around, split_list, set_around, put_among, taken_among, drop_among, got_among}
+use Rattle.std.{specs.Prelude.slice_get, specs.List.AllByRecursion, specs.Global.Vec, proofs.lemmas.Grind.flat_map-append, proofs.lemmas.Bool.true_from_ne_false, proofs.lemmas.List.take-append-drop}
+use Rattle.row_groups.{specs.declared.chunks.Spot.Spot, specs.declared.place.Slot.Slot, specs.Slots.{AreFilled, AreKnown, AtChunk, IsParted, joined, position_in}}
+use Rattle.key_lists.{proofs.Every.every-append, proofs.Parts.{every_front, every_back, every_at, some_at, around, split_list, set_around, put_among, taken_among, drop_among, got_among}}
 use Rattle.row_handles.specs.Entries.{Entry, key_with}
-use Rattle.row_groups.specs.Slots.{AreFilled, AreKnown, AtChunk, IsParted, joined, position_in}
 
 pub unlike : (b : Bool) → b ≡ true → b ≡ false → ⊥
 unlike b e f = cc

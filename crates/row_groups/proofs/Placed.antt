@@ -1,7 +1,6 @@
 -- What holds of each member holds of each where they stand by their times.
 use Rattle.std.proofs.Common.{true, false, cond, List, [], ◌∷◌}
-use Rattle.std.specs.Prelude.{int_lt}
-use Rattle.std.specs.List.{AllByRecursion}
+use Rattle.std.{specs.Prelude.int_lt, specs.List.AllByRecursion}
 use Rattle.row_groups.specs.Members.{Member, by_at, placed}
 
 pub every-placed : (P : Member → Type 0) (member : Member) (members : List Member) → P member → AllByRecursion P members → AllByRecursion P (placed member members)

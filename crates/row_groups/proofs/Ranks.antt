@@ -1,11 +1,9 @@
 -- The rows of a group in order, where one comes or leaves.
 use Rattle.std.proofs.Common.{◌≡◌, refl, ap, sym, ◌∙◌, Bool, true, false, not, cond, ℕ, ◌<◌, ◌≤◌, ltb, arith, List, [], ◌∷◌, filter, ℤ, int_lt, if◌then◌else◌, true≢false}
-use Rattle.std.specs.List.{AllByRecursion}
-use Rattle.std.proofs.lemmas.Bool.{ltb-true, ltb-false}
+use Rattle.std.{specs.List.AllByRecursion, proofs.lemmas.Bool.{ltb-true, ltb-false}}
 use Rattle.key_lists.proofs.Every.{every_weaker, every-filter}
 use Rattle.tick_model.specs.Tables.{same_cells}
-use Rattle.row_groups.specs.Rows.{Row, group_rows, row_placed, rows_by_at}
-use Rattle.row_groups.proofs.Order.{less, less_above, less_below, less_by_at, less_through, later_too, not_earlier, not_later}
+use Rattle.row_groups.{specs.Rows.{Row, group_rows, row_placed, rows_by_at}, proofs.Order.{less, less_above, less_below, less_by_at, less_through, later_too, not_earlier, not_later}}
 
 abbrev pub before : Row → Row → Bool
 before other row = less other.member.at other.member.key row.member.at row.member.key

@@ -1,11 +1,7 @@
 -- The rows by their handles and by their groups.
-use Rattle.std.specs.Prelude.{List, map, option_map}
-use Rattle.std.specs.List.{AllByRecursion}
+use Rattle.std.{specs.Prelude.{List, map, option_map}, specs.List.AllByRecursion}
 use Rattle.row_handles.specs.Entries.{Entry, AreHandled}
-use Rattle.row_groups.specs.declared.index.Index.{Index}
-use Rattle.row_groups.specs.declared.lists.KeyedRows.{KeyedRows}
-use Rattle.row_groups.specs.Members.{Grouped, Names, Numbered, with_names}
-use Rattle.row_groups.specs.Rows.{AreListed, AreNumbered, ByNumber, IsKept, members_of, rows_of}
+use Rattle.row_groups.{specs.declared.index.Index.Index, specs.declared.lists.KeyedRows.KeyedRows, specs.Members.{Grouped, Names, Numbered, with_names}, specs.Rows.{AreListed, AreNumbered, ByNumber, IsKept, members_of, rows_of}}
 
 -- the groups are those of these rows, which are among those that have handles
 pub record Holds (entries : List Entry) (index : Index) : Type 0 where

@@ -10,13 +10,10 @@
 --     IsNumberOf number cells names      it is the number of the group with these key cells, and no other is
 --     IsNumberUnder groups key number      it is the number of the group of the member under a key, if there is one
 --     IsPart part whole      each group of the part has its number in the whole
-use Rattle.std.specs.Prelude.{ℕ, ◌≡◌, ◌≢◌, ◌==◌, not, nat_lt, int_lt, List, [], ◌∷◌, Option, None, Some, filter, find, length, map, option_map, slice_index_or, ℤ, if◌then◌else◌}
-use Rattle.std.specs.List.{AllByRecursion}
+use Rattle.std.{specs.Prelude.{ℕ, ◌≡◌, ◌≢◌, ◌==◌, not, nat_lt, int_lt, List, [], ◌∷◌, Option, None, Some, filter, find, length, map, option_map, slice_index_or, ℤ, if◌then◌else◌}, specs.List.AllByRecursion}
 use Rattle.key_lists.specs.Keys.{is_among}
 use Rattle.row_set.specs.Sets.{IsKeySet}
-use Rattle.tick_model.specs.declared.update.ShiftRange.{ShiftRange}
-use Rattle.tick_model.specs.Shifts.{moved, as_key}
-use Rattle.tick_model.specs.Tables.{same_cells}
+use Rattle.tick_model.{specs.declared.update.ShiftRange.ShiftRange, specs.Shifts.{moved, as_key}, specs.Tables.same_cells}
 
 -- a row, by its key, its key cells and its place among the rows with the same cells
 pub record Member : Type 0 where

@@ -6,19 +6,11 @@
 --     rows_of table groups entries      the rows, each with what is kept of it
 --     group_rows cells rows      the rows of a group in order
 --     slots_under cells lists      the list that is kept of a group
-use Rattle.std.specs.Prelude.{ℕ, ◌-◌, ◌<◌, ◌≤◌, ◌≡◌, ◌==◌, false, int_lt, nat_lt, List, [], ◌∷◌, Option, None, Some, IsSome, filter, length, map, option_map, slice_index_or, unwrap_or, ℤ, pos, if◌then◌else◌}
-use Rattle.std.specs.Option.{option_map_or}
-use Rattle.std.specs.HashMap.{get_by}
+use Rattle.std.{specs.Prelude.{ℕ, ◌-◌, ◌<◌, ◌≤◌, ◌≡◌, ◌==◌, false, int_lt, nat_lt, List, [], ◌∷◌, Option, None, Some, IsSome, filter, length, map, option_map, slice_index_or, unwrap_or, ℤ, pos, if◌then◌else◌}, specs.Option.option_map_or, specs.HashMap.get_by}
 use Rattle.slab.specs.Slab.{Slab, get}
 use Rattle.tick_model.specs.Tables.{same_cells}
 use Rattle.row_handles.specs.Entries.{Entry}
-use Rattle.row_groups.specs.declared.lists.KeyedRows.{KeyedRows}
-use Rattle.row_groups.specs.declared.lists.Lists.{Lists}
-use Rattle.row_groups.specs.declared.numbers.Numbers.{Numbers}
-use Rattle.row_groups.specs.declared.place.Slot.{Slot}
-use Rattle.row_groups.specs.declared.table.Kept.{Kept}
-use Rattle.row_groups.specs.declared.table.Table.{Table}
-use Rattle.row_groups.specs.Members.{Member, member_of}
+use Rattle.row_groups.{specs.declared.lists.KeyedRows.KeyedRows, specs.declared.lists.Lists.Lists, specs.declared.numbers.Numbers.Numbers, specs.declared.place.Slot.Slot, specs.declared.table.Kept.Kept, specs.declared.table.Table.Table, specs.Members.{Member, member_of}}
 
 abbrev pub ByNumber : Type 0
 ByNumber = Slab KeyedRows

@@ -5,14 +5,9 @@
 --     slots_without entries at key slots      the rows without the one at a place
 --     joined chunks      the rows of all chunks
 --     position_in chunks spot      the position of a spot among all rows
-use Rattle.std.specs.Prelude.{ℕ, ◌+◌, ◌^◌, ◌<◌, ◌≡◌, ◌&&◌, ◌||◌, Bool, true, false, nat_lt, int_lt, List, [], ◌∷◌, length, take, slice_index_or, unwrap_or, IsSome, ℤ, if◌then◌else◌}
-use Rattle.std.specs.List.{AllByRecursion, flat_map}
-use Rattle.std.specs.Ordering.{int_eq}
-use Rattle.std.specs.Global.{Vec}
+use Rattle.std.{specs.Prelude.{ℕ, ◌+◌, ◌^◌, ◌<◌, ◌≡◌, ◌&&◌, ◌||◌, Bool, true, false, nat_lt, int_lt, List, [], ◌∷◌, length, take, slice_index_or, unwrap_or, IsSome, ℤ, if◌then◌else◌}, specs.List.{AllByRecursion, flat_map}, specs.Ordering.int_eq, specs.Global.Vec}
 use Rattle.row_handles.specs.Entries.{Entry, AreHandled, key_with}
-use Rattle.row_groups.specs.declared.chunks.Spot.{Spot}
-use Rattle.row_groups.specs.declared.place.Slot.{Slot}
-use Rattle.row_groups.specs.Members.{Member, member_of}
+use Rattle.row_groups.{specs.declared.chunks.Spot.Spot, specs.declared.place.Slot.Slot, specs.Members.{Member, member_of}}
 
 abbrev pub key_in : List Entry → ℕ → ℕ
 key_in entries handle = unwrap_or (key_with handle entries) 0

@@ -1,21 +1,9 @@
 -- Some rows of a block: the places of all others, when these alone change theirs.
 use Rattle.std.proofs.Common.{◌≡◌, ◌≢◌, refl, ap, sym, ◌∙◌, subst, true, false, ◌||◌, ℕ, suc, ◌<◌, List, [], ◌∷◌, ◌++◌, map, length, take, drop, get_or, Some, ◌==◌, append_assoc}
-use Rattle.std.specs.List.{AllByRecursion}
-use Rattle.std.proofs.lemmas.Bool.{ne_eqb, eq-eqb, or_right}
-use Rattle.std.proofs.lemmas.List.{map-append}
-use Rattle.key_lists.proofs.Every.{every_weaker, every_both, every_unmapped, turned}
-use Rattle.key_lists.proofs.Parts.{every_front, every_back}
+use Rattle.std.{specs.List.AllByRecursion, proofs.lemmas.Bool.{ne_eqb, eq-eqb, or_right}, proofs.lemmas.List.map-append}
+use Rattle.key_lists.{proofs.Every.{every_weaker, every_both, every_unmapped, turned}, proofs.Parts.{every_front, every_back}}
 use Rattle.slab.specs.Slab.{Slab, get}
-use Rattle.row_handles.specs.declared.block.Block.{Block}
-use Rattle.row_handles.specs.declared.block.Row.{Row}
-use Rattle.row_handles.specs.declared.index.Place.{Place}
-use Rattle.row_handles.specs.declared.index.Index.{Index}
-use Rattle.row_handles.specs.Entries.{Entry, Ascend}
-use Rattle.row_handles.specs.Blocks.{IsIndex, IsPlaced, entry_at, place_in, rows_of, rows}
-use Rattle.row_handles.specs.Moves.{has_handle}
-use Rattle.row_handles.proofs.EntryLists.{ascend_back}
-use Rattle.row_handles.proofs.Places.{IsAt, located, apart_lists}
-use Rattle.row_handles.proofs.Inserting.{rows_around}
+use Rattle.row_handles.{specs.declared.block.Block.Block, specs.declared.block.Row.Row, specs.declared.index.Place.Place, specs.declared.index.Index.Index, specs.Entries.{Entry, Ascend}, specs.Blocks.{IsIndex, IsPlaced, entry_at, place_in, rows_of, rows}, specs.Moves.has_handle, proofs.EntryLists.ascend_back, proofs.Places.{IsAt, located, apart_lists}, proofs.Inserting.rows_around}
 
 no_handle : (handle ceiling : ℕ) (xs : List Row) → AllByRecursion (λ x. x.handle ≢ handle) (map (entry_at ceiling) xs) → has_handle handle xs ≡ false
 no_handle handle ceiling [] h = refl

@@ -1,24 +1,10 @@
 -- Blocks that are split where a key falls between their rows.
 use Rattle.std.proofs.Common.{◌≡◌, ◌≢◌, ap, sym, ◌∙◌, subst, true, ℕ, zero, suc, ◌+◌, ◌-◌, ◌^◌, ◌<◌, ◌≤◌, arith, List, [], ◌∷◌, ◌++◌, map, length, take, drop, get_or, Some, None, inl, inr, append_assoc, append-nil, take-append-drop, option_map}
-use Rattle.std.specs.List.{AllByRecursion}
-use Rattle.std.proofs.lemmas.List.{map-append}
-use Rattle.std.proofs.lemmas.Grind.{flat_map-append}
-use Rattle.key_lists.proofs.Every.{every_weaker, every_both, every-append, every-map}
-use Rattle.key_lists.proofs.Parts.{every-take, every-drop, every_front, every_back, around}
+use Rattle.std.{specs.List.AllByRecursion, proofs.lemmas.List.map-append, proofs.lemmas.Grind.flat_map-append}
+use Rattle.key_lists.{proofs.Every.{every_weaker, every_both, every-append, every-map}, proofs.Parts.{every-take, every-drop, every_front, every_back, around}}
 use Rattle.slab.specs.Slab.{get}
 use Rattle.tick_model.specs.declared.update.ShiftRange.{ShiftRange}
-use Rattle.row_handles.specs.declared.block.Block.{Block}
-use Rattle.row_handles.specs.declared.block.Row.{Row}
-use Rattle.row_handles.specs.declared.index.Index.{Index}
-use Rattle.row_handles.specs.Entries.{Ascend, AreDistinct}
-use Rattle.row_handles.specs.Blocks.{BeginAt, IsBlock, IsIndex, IsPlaced, entry_at, place_in, rows_of, rows, number_of}
-use Rattle.row_handles.specs.Moves.{AreRenamed, IsBeside, IsBesideRange, IsSplit, IsCut, has_handle}
-use Rattle.row_handles.proofs.EntryLists.{begin_has, from_begin}
-use Rattle.row_handles.proofs.Listings.{parts, own_block, own_ascend}
-use Rattle.row_handles.proofs.Places.{Keeps, fresh_number}
-use Rattle.row_handles.proofs.Inserting.{rows_around}
-use Rattle.row_handles.proofs.Moving.{below_next}
-use Rattle.row_handles.proofs.Apart.{own_handles, apart_front, apart_lower, apart_back, rows_stay, blocks_stay}
+use Rattle.row_handles.{specs.declared.block.Block.Block, specs.declared.block.Row.Row, specs.declared.index.Index.Index, specs.Entries.{Ascend, AreDistinct}, specs.Blocks.{BeginAt, IsBlock, IsIndex, IsPlaced, entry_at, place_in, rows_of, rows, number_of}, specs.Moves.{AreRenamed, IsBeside, IsBesideRange, IsSplit, IsCut, has_handle}, proofs.EntryLists.{begin_has, from_begin}, proofs.Listings.{parts, own_block, own_ascend}, proofs.Places.{Keeps, fresh_number}, proofs.Inserting.rows_around, proofs.Moving.below_next, proofs.Apart.{own_handles, apart_front, apart_lower, apart_back, rows_stay, blocks_stay}}
 
 -- a block in two
 pub record Splits (from at : ℕ) (block left right : Block) (old new : Index) : Type 0 where

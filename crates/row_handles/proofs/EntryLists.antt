@@ -1,14 +1,8 @@
 -- Lists of rows: the handles under keys, what `with_row` makes of them, and where they begin.
 use Rattle.std.proofs.Common.{◌≡◌, ◌≢◌, refl, ap, sym, ◌∙◌, subst, Bool, true, false, cond, ℕ, ◌<◌, ◌≤◌, arith, List, [], ◌∷◌, ◌++◌, inl, inr, ◌==◌, Some, None, filter}
-use Rattle.std.specs.Option.{option_or}
-use Rattle.std.specs.List.{AllByRecursion}
-use Rattle.std.proofs.lemmas.Bool.{ne_eqb, eq-eqb, lt-ltb, cases_eq, le-ltb}
-use Rattle.key_lists.specs.Keys.{IsRising}
-use Rattle.key_lists.proofs.Every.{every_weaker, every_unmapped, every-map, every-filter, every-append}
-use Rattle.key_lists.proofs.Parts.{every_front, every_back}
-use Rattle.row_handles.specs.Entries.{Entry, entry_of, keys_of, handle_under, key_with, with_row, Ascend}
-use Rattle.row_handles.specs.Blocks.{BeginAt}
-use Rattle.row_handles.proofs.Lists.{none_some}
+use Rattle.std.{specs.Option.option_or, specs.List.AllByRecursion, proofs.lemmas.Bool.{ne_eqb, eq-eqb, lt-ltb, cases_eq, le-ltb}}
+use Rattle.key_lists.{specs.Keys.IsRising, proofs.Every.{every_weaker, every_unmapped, every-map, every-filter, every-append}, proofs.Parts.{every_front, every_back}}
+use Rattle.row_handles.{specs.Entries.{Entry, entry_of, keys_of, handle_under, key_with, with_row, Ascend}, specs.Blocks.BeginAt, proofs.Lists.none_some}
 
 -- two lists one after the other
 pub handle_under-append : (key : ℕ) (xs ys : List Entry) → handle_under key (xs ++ ys) ≡ option_or (handle_under key xs) (handle_under key ys)

@@ -1,11 +1,7 @@
 -- What callers may rely on.
 use Rattle.std.proofs.Common.{◌^◌, ◌<◌}
 use Rattle.key_lists.proofs.Every.{every-map}
-use Rattle.row_handles.specs.declared.index.Index.{Index}
-use Rattle.row_handles.specs.Entries.{AreHandled}
-use Rattle.row_handles.specs.Blocks.{IsIndex, rows}
-use Rattle.row_handles.proofs.EntryLists.{rising_keys}
-use Rattle.row_handles.proofs.Places.{located, distinct}
+use Rattle.row_handles.{specs.declared.index.Index.Index, specs.Entries.AreHandled, specs.Blocks.{IsIndex, rows}, proofs.EntryLists.rising_keys, proofs.Places.{located, distinct}}
 
 pub handled : (index : Index) → IsIndex index → AreHandled (rows index.blocks.items)
 handled index sound = record {

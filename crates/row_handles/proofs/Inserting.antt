@@ -1,23 +1,9 @@
 -- A row that comes: what the rows, the blocks and the places are afterwards.
 use Rattle.std.proofs.Common.{◌≡◌, ◌≢◌, ap, sym, ◌∙◌, subst, ℕ, suc, ◌+◌, ◌-◌, ◌^◌, ◌<◌, ◌≤◌, arith, List, [], ◌∷◌, ◌++◌, map, length, take, drop, get_or, set, min, Some, None, inl, inr, append_assoc, take-append-drop, Result, Ok, Err}
-use Rattle.std.specs.Prelude.{OnErr}
-use Rattle.std.specs.List.{AllByRecursion}
-use Rattle.std.proofs.lemmas.List.{map-append}
-use Rattle.std.proofs.lemmas.Grind.{flat_map-append}
-use Rattle.std.proofs.Math.Seq.{map-set_same}
-use Rattle.key_lists.proofs.Every.{every-append, every-map}
-use Rattle.key_lists.proofs.Parts.{every-take, every-drop, every_front, every_back, around, set_around, every_set}
+use Rattle.std.{specs.Prelude.OnErr, specs.List.AllByRecursion, proofs.lemmas.List.map-append, proofs.lemmas.Grind.flat_map-append, proofs.Math.Seq.map-set_same}
+use Rattle.key_lists.{proofs.Every.{every-append, every-map}, proofs.Parts.{every-take, every-drop, every_front, every_back, around, set_around, every_set}}
 use Rattle.slab.specs.Slab.{get}
-use Rattle.row_handles.specs.declared.block.Block.{Block}
-use Rattle.row_handles.specs.declared.block.Row.{Row}
-use Rattle.row_handles.specs.declared.index.Index.{Index}
-use Rattle.row_handles.specs.Entries.{Entry, entry_of, with_row, handle_under, Ascend, AreDistinct}
-use Rattle.row_handles.specs.Blocks.{BeginAt, IsBlock, IsIndex, IsPlaced, entry_at, place_in, rows_of, rows, number_of}
-use Rattle.row_handles.specs.Moves.{IsBeside}
-use Rattle.row_handles.proofs.Lists.{distinct_more}
-use Rattle.row_handles.proofs.EntryLists.{absent_all, with_row-between, ascend_between, begin_has, ascend_back}
-use Rattle.row_handles.proofs.Listings.{parts, rows_above, own_block}
-use Rattle.row_handles.proofs.Places.{Keeps, placed_kept, fresh_number}
+use Rattle.row_handles.{specs.declared.block.Block.Block, specs.declared.block.Row.Row, specs.declared.index.Index.Index, specs.Entries.{Entry, entry_of, with_row, handle_under, Ascend, AreDistinct}, specs.Blocks.{BeginAt, IsBlock, IsIndex, IsPlaced, entry_at, place_in, rows_of, rows, number_of}, specs.Moves.IsBeside, proofs.Lists.distinct_more, proofs.EntryLists.{absent_all, with_row-between, ascend_between, begin_has, ascend_back}, proofs.Listings.{parts, rows_above, own_block}, proofs.Places.{Keeps, placed_kept, fresh_number}}
 
 -- one row more between those of smaller keys and those of greater ones
 pub record IsOneMore (key handle : ℕ) (old new : List Entry) : Type 0 where

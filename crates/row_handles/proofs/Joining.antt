@@ -1,27 +1,9 @@
 -- Two blocks that become one.
 use Rattle.std.proofs.Common.{◌≡◌, ◌≢◌, refl, ap, sym, ◌∙◌, subst, false, ◌||◌, ℕ, zero, suc, ◌+◌, ◌^◌, ◌<◌, ◌≤◌, arith, List, [], ◌∷◌, ◌++◌, map, length, take, drop, get_or, set, Some, None, IsSome, ◌==◌, append_assoc, append-nil}
-use Rattle.std.specs.List.{AllByRecursion, remove}
-use Rattle.std.proofs.lemmas.Bool.{ne_eqb}
-use Rattle.std.proofs.lemmas.List.{map-append}
-use Rattle.std.proofs.lemmas.Grind.{flat_map-append}
-use Rattle.std.proofs.Math.Seq.{take-suc}
-use Rattle.key_lists.specs.Keys.{is_among}
-use Rattle.key_lists.proofs.Every.{every_weaker, every_both, every-append, every-map, every_unmapped}
-use Rattle.key_lists.proofs.Parts.{every-take, every-drop, every_front, every_back, every_at, around, every_next}
+use Rattle.std.{specs.List.{AllByRecursion, remove}, proofs.lemmas.Bool.ne_eqb, proofs.lemmas.List.map-append, proofs.lemmas.Grind.flat_map-append, proofs.Math.Seq.take-suc}
+use Rattle.key_lists.{specs.Keys.is_among, proofs.Every.{every_weaker, every_both, every-append, every-map, every_unmapped}, proofs.Parts.{every-take, every-drop, every_front, every_back, every_at, around, every_next}}
 use Rattle.slab.specs.Slab.{Slab, ContainsKey, get, Updates}
-use Rattle.row_handles.specs.declared.block.Block.{Block}
-use Rattle.row_handles.specs.declared.block.Row.{Row}
-use Rattle.row_handles.specs.declared.index.Place.{Place}
-use Rattle.row_handles.specs.declared.index.Index.{Index}
-use Rattle.row_handles.specs.Entries.{Entry, handles_of, Ascend, AreDistinct}
-use Rattle.row_handles.specs.Blocks.{AreRowsUnder, BeginAt, IsBlock, IsIndex, IsPlaced, entry_at, place_in, rows_of, rows, number_of}
-use Rattle.row_handles.specs.Moves.{handle_in, has_handle}
-use Rattle.row_handles.proofs.Lists.{distinct_less}
-use Rattle.row_handles.proofs.Listings.{own_block, own_ascend}
-use Rattle.row_handles.proofs.Places.{located_rows, distinct}
-use Rattle.row_handles.proofs.Inserting.{rows_around}
-use Rattle.row_handles.proofs.Apart.{apart_front, apart_back, blocks_stay}
-use Rattle.row_handles.proofs.Leaving.{all_held, held_less}
+use Rattle.row_handles.{specs.declared.block.Block.Block, specs.declared.block.Row.Row, specs.declared.index.Place.Place, specs.declared.index.Index.Index, specs.Entries.{Entry, handles_of, Ascend, AreDistinct}, specs.Blocks.{AreRowsUnder, BeginAt, IsBlock, IsIndex, IsPlaced, entry_at, place_in, rows_of, rows, number_of}, specs.Moves.{handle_in, has_handle}, proofs.Lists.distinct_less, proofs.Listings.{own_block, own_ascend}, proofs.Places.{located_rows, distinct}, proofs.Inserting.rows_around, proofs.Apart.{apart_front, apart_back, blocks_stay}, proofs.Leaving.{all_held, held_less}}
 
 -- rows of distinct handles that are put into a block one by one
 ne_before : (xs : List Row) (i : ℕ) (d : Row) → i < length xs → AreDistinct (map handle_in xs) → AllByRecursion (λ row. row.handle ≢ (get_or xs i d).handle) (take i xs)

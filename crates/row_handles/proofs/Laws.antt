@@ -1,13 +1,8 @@
 -- Keys and handles after rows came, left and moved, for those who keep lists of handles.
 use Rattle.std.proofs.Common.{◌≡◌, ◌≢◌, refl, ap, sym, ◌∙◌, Bool, true, false, cond, not, ℕ, ◌<◌, arith, List, [], ◌∷◌, inl, inr, ltb, ltb-true, ◌==◌, Option, Some, None}
-use Rattle.std.specs.List.{AllByRecursion}
-use Rattle.std.proofs.lemmas.Bool.{ne_eqb, eq-eqb, eqb-true, cases_eq}
-use Rattle.std.proofs.lemmas.Option.{same_Some}
-use Rattle.key_lists.specs.Keys.{is_among}
-use Rattle.key_lists.proofs.Every.{every_weaker, every_unmapped}
-use Rattle.row_handles.specs.Entries.{Entry, entry_of, handles_of, handle_under, key_with, with_row, left_rows, AreDistinct, AreHandled}
-use Rattle.row_handles.proofs.Lists.{none_some}
-use Rattle.row_handles.proofs.EntryLists.{none_with}
+use Rattle.std.{specs.List.AllByRecursion, proofs.lemmas.Bool.{ne_eqb, eq-eqb, eqb-true, cases_eq}, proofs.lemmas.Option.same_Some}
+use Rattle.key_lists.{specs.Keys.is_among, proofs.Every.{every_weaker, every_unmapped}}
+use Rattle.row_handles.{specs.Entries.{Entry, entry_of, handles_of, handle_under, key_with, with_row, left_rows, AreDistinct, AreHandled}, proofs.Lists.none_some, proofs.EntryLists.none_with}
 
 -- the handle of a row that came, and those of the others
 pub handle_under-with_row : (other key handle : ℕ) (xs : List Entry) → handle_under other (with_row key handle xs) ≡ cond (key == other) (Some handle) (handle_under other xs)

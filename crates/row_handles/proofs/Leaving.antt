@@ -1,33 +1,10 @@
 -- Rows that leave.
 use Rattle.std.proofs.Common.{◌≡◌, ◌≢◌, refl, ap, sym, ◌∙◌, subst, true, false, not, ◌&&◌, ◌||◌, ℕ, zero, suc, ◌+◌, ◌-◌, ◌^◌, ◌<◌, ◌≤◌, arith, List, [], ◌∷◌, ◌++◌, map, length, take, drop, get_or, set, leb, Some, None, append_assoc, take-append-drop}
-use Rattle.std.specs.Prelude.{slice_range}
-use Rattle.std.specs.List.{AllByRecursion, remove}
-use Rattle.std.proofs.lemmas.Bool.{lt-leb, le-leb}
-use Rattle.std.proofs.lemmas.List.{map-append, drop-take, take-set, drop-set-lt}
-use Rattle.std.proofs.lemmas.List.Elements.{filter-append}
-use Rattle.std.proofs.lemmas.List.Folds.{drop_split}
-use Rattle.std.proofs.lemmas.Grind.{flat_map-append}
-use Rattle.key_lists.proofs.Every.{every, every_weaker, every_both, every-append, every-map, every_unmapped, filter_none, filter_same, filter_all, filter_filter}
-use Rattle.key_lists.proofs.Among.{among-append}
-use Rattle.key_lists.proofs.Booleans.{and_false, neither}
-use Rattle.key_lists.proofs.Parts.{every-take, every-drop, every_front, every_back, around}
-use Rattle.key_lists.specs.Keys.{is_among}
-use Rattle.row_set.specs.declared.ranges.Range.{Range}
-use Rattle.row_set.specs.Ranges.{keys_in, keys_of, IsRangeFrom, AreApart}
-use Rattle.row_set.proofs.Held.{among-in}
-use Rattle.row_set.proofs.Apart.{each_range}
+use Rattle.std.{specs.Prelude.slice_range, specs.List.{AllByRecursion, remove}, proofs.lemmas.Bool.{lt-leb, le-leb}, proofs.lemmas.List.{map-append, drop-take, take-set, drop-set-lt}, proofs.lemmas.List.Elements.filter-append, proofs.lemmas.List.Folds.drop_split, proofs.lemmas.Grind.flat_map-append}
+use Rattle.key_lists.{proofs.Every.{every, every_weaker, every_both, every-append, every-map, every_unmapped, filter_none, filter_same, filter_all, filter_filter}, proofs.Among.among-append, proofs.Booleans.{and_false, neither}, proofs.Parts.{every-take, every-drop, every_front, every_back, around}, specs.Keys.is_among}
+use Rattle.row_set.{specs.declared.ranges.Range.Range, specs.Ranges.{keys_in, keys_of, IsRangeFrom, AreApart}, proofs.Held.among-in, proofs.Apart.each_range}
 use Rattle.slab.specs.Slab.{Slab, get, Updates}
-use Rattle.row_handles.specs.declared.block.Block.{Block}
-use Rattle.row_handles.specs.declared.block.Row.{Row}
-use Rattle.row_handles.specs.declared.index.Index.{Index}
-use Rattle.row_handles.specs.Entries.{Entry, left_rows, Ascend, AreDistinct}
-use Rattle.row_handles.specs.Blocks.{IsBlock, IsIndex, IsPlaced, entry_at, place_in, rows_of, rows, number_of}
-use Rattle.row_handles.specs.Moves.{has_handle}
-use Rattle.row_handles.specs.Drops.{is_between, outside, left_by, AreOutside}
-use Rattle.row_handles.proofs.Lists.{distinct_less, others_of}
-use Rattle.row_handles.proofs.EntryLists.{ascend_back}
-use Rattle.row_handles.proofs.Listings.{rows_above, own_block, later_firsts}
-use Rattle.row_handles.proofs.Apart.{all_parts, apart_front, apart_lower, apart_upper, apart_back, rows_stay, blocks_stay}
+use Rattle.row_handles.{specs.declared.block.Block.Block, specs.declared.block.Row.Row, specs.declared.index.Index.Index, specs.Entries.{Entry, left_rows, Ascend, AreDistinct}, specs.Blocks.{IsBlock, IsIndex, IsPlaced, entry_at, place_in, rows_of, rows, number_of}, specs.Moves.has_handle, specs.Drops.{is_between, outside, left_by, AreOutside}, proofs.Lists.{distinct_less, others_of}, proofs.EntryLists.ascend_back, proofs.Listings.{rows_above, own_block, later_firsts}, proofs.Apart.{all_parts, apart_front, apart_lower, apart_upper, apart_back, rows_stay, blocks_stay}}
 
 -- keys that are no keys from first to last, and keys that are
 between_not : (first last key : ℕ) → key < first → is_between first last key ≡ false

@@ -1,22 +1,8 @@
 -- Lists of blocks: where a key is found in them.
 use Rattle.std.proofs.Common.{◌≡◌, ◌≢◌, refl, ap, sym, ◌∙◌, subst, true, false, cond, ℕ, zero, suc, ◌-◌, ◌<◌, ◌≤◌, arith, List, [], ◌∷◌, ◌++◌, map, length, take, drop, get_or, Option, Some, None, leb, leb-true, leb-false, ltb, ltb-true, ltb-false, take-append-drop, take_all}
-use Rattle.std.specs.Option.{option_or}
-use Rattle.std.specs.Prelude.{slice_get}
-use Rattle.std.specs.List.{AllByRecursion}
-use Rattle.std.specs.List.Sorted.{IsPartitionPoint, IsPartitionedBy, IsNonDecreasingBy}
-use Rattle.std.proofs.lemmas.Bool.{eq-eqb}
-use Rattle.std.proofs.lemmas.List.Sorted.{IsPartitionedBy-leb, IsPartitionedBy-ltb}
-use Rattle.std.proofs.lemmas.List.{map-append}
-use Rattle.std.proofs.lemmas.List.Elements.{recursion_from_All}
-use Rattle.std.proofs.lemmas.Option.{get_or_from_slice_get}
-use Rattle.std.proofs.lemmas.Grind.{flat_map-append}
-use Rattle.key_lists.proofs.Every.{every_weaker, every-append, every-map, every_unmapped}
-use Rattle.key_lists.proofs.Parts.{every_front, every_back, front_part, back_part, every_at, around, last_taken}
-use Rattle.row_handles.specs.declared.block.Block.{Block}
-use Rattle.row_handles.specs.declared.block.Row.{Row}
-use Rattle.row_handles.specs.Entries.{handle_under, Ascend}
-use Rattle.row_handles.specs.Blocks.{IsBlock, entry_at, rows_of, rows}
-use Rattle.row_handles.proofs.EntryLists.{handle_under-append, handle_under-above, handle_under-below, ascend_front, ascend_back, begin_has, from_begin, begin_below, below_begin}
+use Rattle.std.{specs.Option.option_or, specs.Prelude.slice_get, specs.List.AllByRecursion, specs.List.Sorted.{IsPartitionPoint, IsPartitionedBy, IsNonDecreasingBy}, proofs.lemmas.Bool.eq-eqb, proofs.lemmas.List.Sorted.{IsPartitionedBy-leb, IsPartitionedBy-ltb}, proofs.lemmas.List.map-append, proofs.lemmas.List.Elements.recursion_from_All, proofs.lemmas.Option.get_or_from_slice_get, proofs.lemmas.Grind.flat_map-append}
+use Rattle.key_lists.{proofs.Every.{every_weaker, every-append, every-map, every_unmapped}, proofs.Parts.{every_front, every_back, front_part, back_part, every_at, around, last_taken}}
+use Rattle.row_handles.{specs.declared.block.Block.Block, specs.declared.block.Row.Row, specs.Entries.{handle_under, Ascend}, specs.Blocks.{IsBlock, entry_at, rows_of, rows}, proofs.EntryLists.{handle_under-append, handle_under-above, handle_under-below, ascend_front, ascend_back, begin_has, from_begin, begin_below, below_begin}}
 
 -- what holds of the last holds of those that are no greater
 pub until_last : {X : Type 0} (f : X → ℕ) (P : X → Type 0) → ((x y : X) → f x ≤ f y → P y → P x) → (xs : List X) (last : X) → IsNonDecreasingBy f xs → slice_get xs (length xs - 1) ≡ Some last → P last → AllByRecursion P xs

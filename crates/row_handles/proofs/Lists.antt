@@ -1,8 +1,7 @@
 -- Lists of any kind: their parts, and what holds of them.
 use Rattle.std.proofs.Common.{◌≡◌, ◌≢◌, sym, ℕ, zero, suc, ◌<◌, arith, List, [], ◌∷◌, ◌++◌, length, take, drop, get_or, Option, Some, None}
 use Rattle.std.specs.List.{AllByRecursion}
-use Rattle.key_lists.proofs.Every.{every-append, every_weaker}
-use Rattle.key_lists.proofs.Parts.{every_front, every_back}
+use Rattle.key_lists.{proofs.Every.{every-append, every_weaker}, proofs.Parts.{every_front, every_back}}
 use Rattle.row_handles.specs.Entries.{AreDistinct}
 
 -- numbers, no two of which are one

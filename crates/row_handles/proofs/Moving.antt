@@ -1,29 +1,11 @@
 -- Whole blocks that move.
 use Rattle.std.proofs.Common.{◌≡◌, ◌≢◌, refl, ap, sym, ◌∙◌, subst, ℕ, zero, suc, ◌+◌, ◌-◌, length, take, drop, get_or, set, take-append-drop, ◌^◌, ◌<◌, ◌≤◌, arith, List, [], ◌∷◌, ◌++◌, map, Some, None, ℤ, inl, inr, false, ◌&&◌, leb, pos, ◌+ℤ◌, option_map, unwrap_or}
-use Rattle.std.proofs.lemmas.List.{map-append}
-use Rattle.std.specs.List.{AllByRecursion}
-use Rattle.std.proofs.lemmas.Int.{ints}
-use Rattle.std.proofs.lemmas.Bool.{lt-leb, le-leb}
-use Rattle.key_lists.specs.Keys.{IsRising}
-use Rattle.key_lists.proofs.Every.{every_weaker, every_both, every-map, every_unmapped, every-append, map_map, map_own, find_none, find_same, turned}
-use Rattle.key_lists.proofs.Booleans.{and_false}
-use Rattle.key_lists.proofs.Parts.{every-take, every-drop, every_front, every_back, around, last_taken, set_around, take_nil}
-use Rattle.tick_model.specs.declared.update.ShiftRange.{ShiftRange}
-use Rattle.tick_model.specs.Shifts.{moved, as_key, delta_at, holds}
-use Rattle.tick_model.specs.Rules.{is_past, shift_fault}
-use Rattle.tick_model.specs.Printable.{IsShift}
+use Rattle.std.{proofs.lemmas.List.map-append, specs.List.AllByRecursion, proofs.lemmas.Int.ints, proofs.lemmas.Bool.{lt-leb, le-leb}}
+use Rattle.key_lists.{specs.Keys.IsRising, proofs.Every.{every_weaker, every_both, every-map, every_unmapped, every-append, map_map, map_own, find_none, find_same, turned}, proofs.Booleans.and_false, proofs.Parts.{every-take, every-drop, every_front, every_back, around, last_taken, set_around, take_nil}}
+use Rattle.tick_model.{specs.declared.update.ShiftRange.ShiftRange, specs.Shifts.{moved, as_key, delta_at, holds}, specs.Rules.{is_past, shift_fault}, specs.Printable.IsShift}
 use Rattle.shift_data.proofs.Lawful.{lawful, not_past}
 use Rattle.slab.specs.Slab.{Slab, get, Updates}
-use Rattle.row_handles.specs.declared.block.Block.{Block}
-use Rattle.row_handles.specs.declared.block.Row.{Row}
-use Rattle.row_handles.specs.declared.index.Place.{Place}
-use Rattle.row_handles.specs.declared.index.Index.{Index}
-use Rattle.row_handles.specs.Entries.{Entry, entry_of, keys_of, moved_row, moved_rows, Ascend, AreDistinct}
-use Rattle.row_handles.specs.Blocks.{BeginAt, IsBlock, IsIndex, IsPlaced, entry_at, rows_of, rows, number_of}
-use Rattle.row_handles.specs.Moves.{IsBeside, IsBesideRange, IsMovable, moved_block}
-use Rattle.row_handles.proofs.Lists.{others_of}
-use Rattle.row_handles.proofs.EntryLists.{ascend_by_keys, ascend_front, ascend_back, begin_has, from_begin}
-use Rattle.row_handles.proofs.Listings.{rows_before, own_block}
+use Rattle.row_handles.{specs.declared.block.Block.Block, specs.declared.block.Row.Row, specs.declared.index.Place.Place, specs.declared.index.Index.Index, specs.Entries.{Entry, entry_of, keys_of, moved_row, moved_rows, Ascend, AreDistinct}, specs.Blocks.{BeginAt, IsBlock, IsIndex, IsPlaced, entry_at, rows_of, rows, number_of}, specs.Moves.{IsBeside, IsBesideRange, IsMovable, moved_block}, proofs.Lists.others_of, proofs.EntryLists.{ascend_by_keys, ascend_front, ascend_back, begin_has, from_begin}, proofs.Listings.{rows_before, own_block}}
 
 -- the first key of a block, and that it is below the ceiling
 own_first : (P : ℕ → Type 0) (block : Block) → IsBlock block → AllByRecursion (λ x. P x.key) (rows_of block) → P block.first

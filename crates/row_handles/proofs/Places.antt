@@ -1,18 +1,9 @@
 -- Where the rows with handles stand.
 use Rattle.std.proofs.Common.{◌≡◌, ◌≢◌, refl, ap, sym, ◌∙◌, subst, cond, ℕ, ◌-◌, ◌<◌, arith, List, [], ◌∷◌, ◌++◌, map, Option, Some, None, IsSome, inl, inr, true≢false}
-use Rattle.std.specs.List.{AllByRecursion}
-use Rattle.std.proofs.lemmas.Bool.{ne_eqb, eq-eqb, cases_eq}
-use Rattle.std.proofs.lemmas.Option.{same_Some}
-use Rattle.key_lists.proofs.Every.{every_weaker, every-append, every-map, every_both}
-use Rattle.key_lists.proofs.Parts.{every_back}
+use Rattle.std.{specs.List.AllByRecursion, proofs.lemmas.Bool.{ne_eqb, eq-eqb, cases_eq}, proofs.lemmas.Option.same_Some}
+use Rattle.key_lists.{proofs.Every.{every_weaker, every-append, every-map, every_both}, proofs.Parts.every_back}
 use Rattle.slab.specs.Slab.{Slab, get, Updates}
-use Rattle.row_handles.specs.declared.block.Block.{Block}
-use Rattle.row_handles.specs.declared.block.Row.{Row}
-use Rattle.row_handles.specs.declared.index.Place.{Place}
-use Rattle.row_handles.specs.Entries.{Entry, handles_of, key_with, Ascend, AreDistinct}
-use Rattle.row_handles.specs.Blocks.{IsPlaced, entry_at, place_in, rows_of, rows, number_of}
-use Rattle.row_handles.proofs.Lists.{none_some}
-use Rattle.row_handles.proofs.EntryLists.{none_with}
+use Rattle.row_handles.{specs.declared.block.Block.Block, specs.declared.block.Row.Row, specs.declared.index.Place.Place, specs.Entries.{Entry, handles_of, key_with, Ascend, AreDistinct}, specs.Blocks.{IsPlaced, entry_at, place_in, rows_of, rows, number_of}, proofs.Lists.none_some, proofs.EntryLists.none_with}
 
 -- the places lead from the handle to the key
 pub record IsAt (ceilings : Slab ℕ) (places : Slab Place) (handle key : ℕ) : Type 0 where

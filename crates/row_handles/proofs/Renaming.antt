@@ -1,14 +1,8 @@
 -- Places of rows that are given another block, or given back.
 use Rattle.std.proofs.Common.{◌≡◌, ◌≢◌, refl, ap, sym, ◌∙◌, subst, true, false, ◌||◌, ℕ, ◌+◌, ◌<◌, List, [], ◌∷◌, length, take, get_or, Option, Some, None, IsSome, inl, inr, ◌==◌, option_map}
-use Rattle.std.proofs.lemmas.Bool.{ne_eqb, eqb-false, or_parts, cases_eq, cases_Bool, true≢false}
-use Rattle.std.proofs.lemmas.List.Folds.{list_any-append}
-use Rattle.std.proofs.lemmas.List.{take_more}
-use Rattle.slab.specs.Slab.{Slab, get, with_value, Updates}
-use Rattle.slab.proofs.SlabLemmas.{Updates-with_value}
-use Rattle.row_handles.specs.declared.block.Row.{Row}
-use Rattle.row_handles.specs.declared.index.Place.{Place}
-use Rattle.row_handles.specs.Blocks.{place_in}
-use Rattle.row_handles.specs.Moves.{AreRenamed, has_handle}
+use Rattle.std.{proofs.lemmas.Bool.{ne_eqb, eqb-false, or_parts, cases_eq, cases_Bool, true≢false}, proofs.lemmas.List.Folds.list_any-append, proofs.lemmas.List.take_more}
+use Rattle.slab.{specs.Slab.{Slab, get, with_value, Updates}, proofs.SlabLemmas.Updates-with_value}
+use Rattle.row_handles.{specs.declared.block.Row.Row, specs.declared.index.Place.Place, specs.Blocks.place_in, specs.Moves.{AreRenamed, has_handle}}
 
 has_more : (handle : ℕ) (rows : List Row) (i : ℕ) (d : Row) → i < length rows → has_handle handle (take (i + 1) rows) ≡ (has_handle handle (take i rows) || ((get_or rows i d).handle == handle || false))
 has_more handle rows i d lt = ap (has_handle handle) (take_more rows i d lt) ∙ list_any-append (λ row. row.handle == handle) (take i rows) (get_or rows i d ∷ [])

@@ -2,14 +2,9 @@
 --     rows_of block      the rows of a block
 --     rows blocks      those of all blocks
 --     place_in number depth      the place of a row
-use Rattle.std.specs.Prelude.{ℕ, ◌-◌, ◌^◌, ◌<◌, ◌≤◌, ◌≡◌, List, [], ◌∷◌, Some, map, slice_index_or}
-use Rattle.std.specs.List.{AllByRecursion, flat_map}
+use Rattle.std.{specs.Prelude.{ℕ, ◌-◌, ◌^◌, ◌<◌, ◌≤◌, ◌≡◌, List, [], ◌∷◌, Some, map, slice_index_or}, specs.List.{AllByRecursion, flat_map}}
 use Rattle.slab.specs.Slab.{Slab, get}
-use Rattle.row_handles.specs.declared.block.Block.{Block}
-use Rattle.row_handles.specs.declared.block.Row.{Row}
-use Rattle.row_handles.specs.declared.index.Place.{Place}
-use Rattle.row_handles.specs.declared.index.Index.{Index}
-use Rattle.row_handles.specs.Entries.{Entry, entry_of, Ascend, AreDistinct}
+use Rattle.row_handles.{specs.declared.block.Block.Block, specs.declared.block.Row.Row, specs.declared.index.Place.Place, specs.declared.index.Index.Index, specs.Entries.{Entry, entry_of, Ascend, AreDistinct}}
 
 abbrev pub entry_at : ℕ → Row → Entry
 entry_at ceiling row = entry_of (ceiling - row.depth) row.handle

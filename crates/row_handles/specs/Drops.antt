@@ -2,8 +2,7 @@
 --     is_between first last key      whether the key is one of those from first to last
 --     outside first last entries      the rows under none of these keys
 --     left_by ranges entries      the rows of no range, left out range by range
-use Rattle.std.specs.Prelude.{ℕ, ◌≡◌, ◌&&◌, Bool, false, not, nat_le, List, [], ◌∷◌, filter}
-use Rattle.std.specs.List.{AllByRecursion}
+use Rattle.std.{specs.Prelude.{ℕ, ◌≡◌, ◌&&◌, Bool, false, not, nat_le, List, [], ◌∷◌, filter}, specs.List.AllByRecursion}
 use Rattle.row_set.specs.declared.ranges.Range.{Range}
 use Rattle.row_handles.specs.Entries.{Entry}
 

@@ -4,12 +4,10 @@
 --     with_row key handle entries      one row more, in its place
 --     left_rows gone entries      the rows under none of the keys that are gone
 --     moved_rows shifts entries      each under the key to which its row moves
-use Rattle.std.specs.Prelude.{ℕ, ◌<◌, ◌≢◌, ◌==◌, not, nat_lt, List, [], ◌∷◌, Option, Some, None, filter, map, if◌then◌else◌}
-use Rattle.std.specs.List.{AllByRecursion}
+use Rattle.std.{specs.Prelude.{ℕ, ◌<◌, ◌≢◌, ◌==◌, not, nat_lt, List, [], ◌∷◌, Option, Some, None, filter, map, if◌then◌else◌}, specs.List.AllByRecursion}
 use Rattle.key_lists.specs.Keys.{is_among}
 use Rattle.row_set.specs.Sets.{IsKeySet}
-use Rattle.tick_model.specs.declared.update.ShiftRange.{ShiftRange}
-use Rattle.tick_model.specs.Shifts.{moved, as_key}
+use Rattle.tick_model.{specs.declared.update.ShiftRange.ShiftRange, specs.Shifts.{moved, as_key}}
 
 -- the key of a row, with its handle
 pub record Entry : Type 0 where

@@ -2,16 +2,10 @@
 --     handle_in row      the handle of a row
 --     has_handle handle rows      whether one of the rows has the handle
 --     moved_block shifts block      the block where its rows move to
-use Rattle.std.specs.Prelude.{ℕ, suc, ◌+◌, ◌-◌, ◌^◌, ◌<◌, ◌≤◌, ◌≡◌, ◌⊎◌, ◌==◌, Bool, true, false, List, ◌∷◌, ◌++◌, map, take, drop, option_map}
-use Rattle.std.specs.List.{AllByRecursion, list_any}
-use Rattle.tick_model.specs.declared.update.ShiftRange.{ShiftRange}
-use Rattle.tick_model.specs.Shifts.{moved, as_key}
-use Rattle.tick_model.specs.Rules.{is_past}
+use Rattle.std.{specs.Prelude.{ℕ, suc, ◌+◌, ◌-◌, ◌^◌, ◌<◌, ◌≤◌, ◌≡◌, ◌⊎◌, ◌==◌, Bool, true, false, List, ◌∷◌, ◌++◌, map, take, drop, option_map}, specs.List.{AllByRecursion, list_any}}
+use Rattle.tick_model.{specs.declared.update.ShiftRange.ShiftRange, specs.Shifts.{moved, as_key}, specs.Rules.is_past}
 use Rattle.slab.specs.Slab.{Slab, get}
-use Rattle.row_handles.specs.declared.block.Block.{Block}
-use Rattle.row_handles.specs.declared.block.Row.{Row}
-use Rattle.row_handles.specs.declared.index.Place.{Place}
-use Rattle.row_handles.specs.Blocks.{BeginAt, entry_at, place_in, rows_of}
+use Rattle.row_handles.{specs.declared.block.Block.Block, specs.declared.block.Row.Row, specs.declared.index.Place.Place, specs.Blocks.{BeginAt, entry_at, place_in, rows_of}}
 
 abbrev pub handle_in : Row → ℕ
 handle_in row = row.handle

@@ -1,7 +1,6 @@
 -- A copy of a formula is made of copies of its parts.
 use Rattle.std.proofs.Common.{◌≡◌, sym, subst, List, [], ◌∷◌, ◌++◌}
-use Rattle.tick_model.specs.declared.plan.Expr.{Expr}
-use Rattle.tick_model.specs.declared.plan.Pred.{Pred}
+use Rattle.tick_model.{specs.declared.plan.Expr.Expr, specs.declared.plan.Pred.Pred}
 use Rattle.row_ops.specs.Copies.{AreCopies, IsCopy, IsTestCopy}
 
 -- what lies in a box, and what was copied

@@ -1,27 +1,11 @@
 -- The rows that cross a test in a step of an exact input are those that the filter removes and adds.
 use Rattle.std.proofs.Common.{◌≡◌, refl, ap, ap₂, sym, ◌∙◌, subst, Bool, true, false, not, ◌&&◌, ◌||◌, ℕ, List, [], filter, Option, Some, true≢false, ℤ}
-use Rattle.std.specs.Prelude.{option_map, unwrap_or}
-use Rattle.std.specs.List.{AllByRecursion}
-use Rattle.std.specs.Cmp.Rules.{signed_items}
-use Rattle.std.proofs.lemmas.Bool.{not-false}
-use Rattle.key_lists.specs.Keys.{is_among, without}
-use Rattle.key_lists.proofs.Among.{among-filter, each_among, of_among, absent-filter}
-use Rattle.key_lists.proofs.Every.{every_both, every_weaker, every_unmapped, every-map, every-filter, filter_filter, filter_same, filter-map}
-use Rattle.key_lists.proofs.Rising.{rising-filter, rising_same, rising_some}
-use Rattle.row_set.specs.Sets.{common, united}
-use Rattle.row_set.proofs.United.{among-united, united_rises}
-use Rattle.tick_model.specs.declared.table.PlainRow.{PlainRow}
-use Rattle.tick_model.specs.declared.table.PlainTable.{PlainTable}
-use Rattle.tick_model.specs.declared.update.KeyPair.{KeyPair}
-use Rattle.tick_model.specs.Tables.{cells_at, keys, row_at, IsTable}
-use Rattle.tick_model.specs.Updates.{Tick, Update, between, differs, kept_pair, new_keys, old_keys}
-use Rattle.tick_model.proofs.Among.{each_found}
-use Rattle.tick_table.specs.Exact.{IsExact, tick_of}
-use Rattle.tick_table.specs.Ticking.{Ticking}
-use Rattle.shown_rows.specs.Shown.{IsPart, through}
-use Rattle.shown_rows.proofs.Named.{named_by, of_named}
-use Rattle.shown_rows.proofs.Parts.{keys_there, passing_part}
-use Rattle.shown_rows.proofs.Restricted.{is_modified, kept, modified_by, old_some}
+use Rattle.std.{specs.Prelude.{option_map, unwrap_or}, specs.List.AllByRecursion, specs.Cmp.Rules.signed_items, proofs.lemmas.Bool.not-false}
+use Rattle.key_lists.{specs.Keys.{is_among, without}, proofs.Among.{among-filter, each_among, of_among, absent-filter}, proofs.Every.{every_both, every_weaker, every_unmapped, every-map, every-filter, filter_filter, filter_same, filter-map}, proofs.Rising.{rising-filter, rising_same, rising_some}}
+use Rattle.row_set.{specs.Sets.{common, united}, proofs.United.{among-united, united_rises}}
+use Rattle.tick_model.{specs.declared.table.PlainRow.PlainRow, specs.declared.table.PlainTable.PlainTable, specs.declared.update.KeyPair.KeyPair, specs.Tables.{cells_at, keys, row_at, IsTable}, specs.Updates.{Tick, Update, between, differs, kept_pair, new_keys, old_keys}, proofs.Among.each_found}
+use Rattle.tick_table.{specs.Exact.{IsExact, tick_of}, specs.Ticking.Ticking}
+use Rattle.shown_rows.{specs.Shown.{IsPart, through}, proofs.Named.{named_by, of_named}, proofs.Parts.{keys_there, passing_part}, proofs.Restricted.{is_modified, kept, modified_by, old_some}}
 
 -- the rows whose cells pass a test
 abbrev pub passing : (List ℤ → Bool) → PlainTable → PlainTable

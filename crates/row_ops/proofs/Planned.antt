@@ -2,20 +2,9 @@
 use Rattle.std.proofs.Common.{◌≡◌, refl, ap, ap₂, sym, ℕ, suc, ◌+◌, List, [], ◌∷◌, ◌++◌, map, length, ℤ}
 use Rattle.std.specs.List.{AllByRecursion}
 use Rattle.key_lists.proofs.Every.{every, filter_same, map_same}
-use Rattle.tick_model.specs.declared.plan.Expr.{Expr}
-use Rattle.tick_model.specs.declared.plan.Op.TheVariants.{Keep, View}
-use Rattle.tick_model.specs.declared.plan.Pred.{Pred}
-use Rattle.tick_model.specs.declared.table.PlainRow.{PlainRow}
-use Rattle.tick_model.specs.declared.table.PlainTable.{PlainTable}
-use Rattle.tick_model.specs.Formulas.{IsWithin, truth, value}
-use Rattle.tick_model.specs.Updates.{Tick, both_in}
-use Rattle.tick_model.specs.View.{view_row, view_table}
-use Rattle.tick_model.specs.Where.{where_table}
+use Rattle.tick_model.{specs.declared.plan.Expr.Expr, specs.declared.plan.Op.TheVariants.{Keep, View}, specs.declared.plan.Pred.Pred, specs.declared.table.PlainRow.PlainRow, specs.declared.table.PlainTable.PlainTable, specs.Formulas.{IsWithin, truth, value}, specs.Updates.{Tick, both_in}, specs.View.{view_row, view_table}, specs.Where.where_table}
 use Rattle.table_operator.specs.Made.{IsMadeOf}
-use Rattle.row_ops.specs.Copies.{AreCopies, IsTestCopy}
-use Rattle.row_ops.specs.Filter.{Filter}
-use Rattle.row_ops.specs.Made.{filter_made, view_made}
-use Rattle.row_ops.specs.Viewer.{Viewer}
+use Rattle.row_ops.{specs.Copies.{AreCopies, IsTestCopy}, specs.Filter.Filter, specs.Made.{filter_made, view_made}, specs.Viewer.Viewer}
 
 -- a copy of a test lets the same rows pass
 same_where : (copy test : Pred) (table : PlainTable) → IsTestCopy copy test → where_table test table ≡ where_table copy table

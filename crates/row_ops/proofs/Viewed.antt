@@ -1,21 +1,11 @@
 -- The rows of a view are made of those of its input.
 use Rattle.std.proofs.Common.{◌≡◌, refl, ap, ap₂, sym, ◌∙◌, subst, ℕ, ◌+◌, List, ◌++◌, map, length, drop, ℤ, true, append_assoc}
 use Rattle.key_lists.specs.Keys.{is_among}
-use Rattle.tick_model.specs.declared.plan.Expr.{Expr}
-use Rattle.tick_model.specs.declared.plan.Op.TheVariants.{View}
-use Rattle.tick_model.specs.declared.table.PlainTable.{PlainTable}
-use Rattle.tick_model.specs.Formulas.{value}
-use Rattle.tick_model.specs.Tables.{IsTable, cells_at, keys}
-use Rattle.tick_model.specs.Updates.{IsTick, Tick, pairs}
-use Rattle.tick_model.specs.View.{view_table}
+use Rattle.tick_model.{specs.declared.plan.Expr.Expr, specs.declared.plan.Op.TheVariants.View, specs.declared.table.PlainTable.PlainTable, specs.Formulas.value, specs.Tables.{IsTable, cells_at, keys}, specs.Updates.{IsTick, Tick, pairs}, specs.View.view_table}
 use Rattle.table_update.specs.Kept.{old_modified}
 use Rattle.tick_laws.proofs.ResultTables.{result_table}
-use Rattle.row_changes.specs.Mapped.{IsMapped}
-use Rattle.row_changes.specs.Parts.{AreCompared}
-use Rattle.row_changes.proofs.Comparing.{behind}
-use Rattle.row_changes.proofs.MadeRows.{cells-made, keys-made, made_compared}
-use Rattle.tick_table.specs.Exact.{IsExact}
-use Rattle.tick_table.specs.Ticking.{Ticking}
+use Rattle.row_changes.{specs.Mapped.IsMapped, specs.Parts.AreCompared, proofs.Comparing.behind, proofs.MadeRows.{cells-made, keys-made, made_compared}}
+use Rattle.tick_table.{specs.Exact.IsExact, specs.Ticking.Ticking}
 
 -- a row, followed by the values of formulas
 abbrev pub with_values : List Expr → List ℤ → List ℤ

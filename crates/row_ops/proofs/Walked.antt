@@ -1,11 +1,8 @@
 -- What a walk over keys or pairs has found so far.
 use Rattle.std.proofs.Common.{◌≡◌, refl, ap, ap₂, sym, ◌∙◌, subst, Bool, true, false, cond, ℕ, ◌+◌, ◌<◌, ◌≤◌, ◌*◌, arith, List, [], ◌∷◌, ◌++◌, map, filter, take, Some, length}
-use Rattle.std.specs.Prelude.{slice_get}
-use Rattle.std.specs.List.{AllByRecursion}
-use Rattle.std.proofs.lemmas.Option.{none-some}
+use Rattle.std.{specs.Prelude.slice_get, specs.List.AllByRecursion, proofs.lemmas.Option.none-some}
 use Rattle.key_lists.specs.Keys.{IsRising}
-use Rattle.tick_model.specs.declared.update.KeyPair.{KeyPair}
-use Rattle.tick_model.specs.Updates.{Update, new_keys}
+use Rattle.tick_model.{specs.declared.update.KeyPair.KeyPair, specs.Updates.{Update, new_keys}}
 use Rattle.tick_table.specs.Exact.{counted}
 use Rattle.shown_rows.proofs.Walks.{below_some, filter_next, of_place}
 

@@ -2,9 +2,7 @@
 --     IsCopy copy expr, IsTestCopy copy test      of a formula, and of a test
 --     AreCopies copies exprs      of formulas, one by one
 use Rattle.std.specs.Prelude.{◌≡◌, ℕ, List, [], ◌∷◌, ℤ}
-use Rattle.tick_model.specs.declared.plan.Expr.{Expr}
-use Rattle.tick_model.specs.declared.plan.Pred.{Pred}
-use Rattle.tick_model.specs.Formulas.{IsWithin, IsTestWithin, truth, value}
+use Rattle.tick_model.{specs.declared.plan.Expr.Expr, specs.declared.plan.Pred.Pred, specs.Formulas.{IsWithin, IsTestWithin, truth, value}}
 
 pub record IsCopy (copy expr : Expr) : Type 0 where
   pub same : (cells : List ℤ) → value copy cells ≡ value expr cells

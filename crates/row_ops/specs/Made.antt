@@ -2,18 +2,10 @@
 --     filter_made filter, view_made view      what it is made of
 --     ShowsPassing filter tables      it shows the rows that pass
 --     CanFilter op widths, CanView op widths      it can be made of this operator of a plan, for inputs of these widths
-use Rattle.std.specs.Prelude.{◌≡◌, ℕ, ◌+◌, ◌≤◌, List, [], ◌∷◌, length, slice_index}
-use Rattle.std.specs.List.{AllByRecursion}
-use Rattle.tick_model.specs.declared.plan.Op.{Op}
-use Rattle.tick_model.specs.declared.plan.Op.TheVariants.{Keep, View}
-use Rattle.tick_model.specs.declared.table.PlainTable.{PlainTable}
-use Rattle.tick_model.specs.Formulas.{IsTestWithin, IsWithin}
-use Rattle.tick_model.specs.Ready.{table_in}
-use Rattle.tick_model.specs.Tables.{keys}
-use Rattle.tick_model.specs.Where.{where_table}
+use Rattle.std.{specs.Prelude.{◌≡◌, ℕ, ◌+◌, ◌≤◌, List, [], ◌∷◌, length, slice_index}, specs.List.AllByRecursion}
+use Rattle.tick_model.{specs.declared.plan.Op.Op, specs.declared.plan.Op.TheVariants.{Keep, View}, specs.declared.table.PlainTable.PlainTable, specs.Formulas.{IsTestWithin, IsWithin}, specs.Ready.table_in, specs.Tables.keys, specs.Where.where_table}
 use Rattle.table_operator.specs.Made.{Made}
-use Rattle.row_ops.specs.Filter.{Filter}
-use Rattle.row_ops.specs.Viewer.{Viewer}
+use Rattle.row_ops.{specs.Filter.Filter, specs.Viewer.Viewer}
 
 abbrev pub filter_made : Filter → Made
 filter_made filter = record { op = Keep 0 filter.test; widths = filter.width ∷ [] }

@@ -2,12 +2,8 @@
 --     Viewer      its formulas and the width of its input
 --     IsViewer exprs width      the formulas are within the input's rows, and the result has few columns
 --     viewed exprs tick      the tick of a view, from that of its input
-use Rattle.std.specs.Prelude.{ℕ, ◌+◌, ◌≤◌, List, length}
-use Rattle.std.specs.List.{AllByRecursion}
-use Rattle.tick_model.specs.declared.plan.Expr.{Expr}
-use Rattle.tick_model.specs.declared.plan.Op.TheVariants.{View}
-use Rattle.tick_model.specs.Formulas.{IsWithin}
-use Rattle.tick_model.specs.Updates.{Tick}
+use Rattle.std.{specs.Prelude.{ℕ, ◌+◌, ◌≤◌, List, length}, specs.List.AllByRecursion}
+use Rattle.tick_model.{specs.declared.plan.Expr.Expr, specs.declared.plan.Op.TheVariants.View, specs.Formulas.IsWithin, specs.Updates.Tick}
 use Rattle.tick_laws.specs.Operated.{operated}
 
 pub record Viewer : Type 0 where

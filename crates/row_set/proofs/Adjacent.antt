@@ -1,16 +1,8 @@
 -- Runs of keys that follow one another.
 use Rattle.std.proofs.Common.{◌≡◌, ap, sym, ◌∙◌, Bool, ◌==◌, ◌||◌, ℕ, ◌+◌, ◌-◌, ◌<◌, ◌≤◌, arith, List, [], ◌∷◌, get_or, length, take, inl, inr}
-use Rattle.std.specs.List.{range_with_len}
-use Rattle.std.proofs.lemmas.Bool.{cases_eq}
-use Rattle.std.proofs.lemmas.List.Folds.{list_any_more}
-use Rattle.std.proofs.lemmas.List.FromFn.{length-range_with_len}
-use Rattle.key_lists.specs.Keys.{is_among}
-use Rattle.key_lists.proofs.Among.{among-append}
-use Rattle.key_lists.proofs.Booleans.{or_assoc, or_false, or_turned, or_twice}
-use Rattle.key_lists.proofs.Ranges.{range_last}
-use Rattle.row_set.specs.Ranges.{keys_from}
-use Rattle.row_set.specs.Sets.{united}
-use Rattle.row_set.proofs.United.{among-united, among-with_key, length-united, one_key}
+use Rattle.std.{specs.List.range_with_len, proofs.lemmas.Bool.cases_eq, proofs.lemmas.List.Folds.list_any_more, proofs.lemmas.List.FromFn.length-range_with_len}
+use Rattle.key_lists.{specs.Keys.is_among, proofs.Among.among-append, proofs.Booleans.{or_assoc, or_false, or_turned, or_twice}, proofs.Ranges.range_last}
+use Rattle.row_set.{specs.Ranges.keys_from, specs.Sets.united, proofs.United.{among-united, among-with_key, length-united, one_key}}
 
 -- the keys of a list up to the next one
 among_next : (other : ℕ) (keys : List ℕ) (n key : ℕ) (b : Bool) → n < length keys → key ≡ get_or keys n 0 → b ≡ is_among other (take n keys) → ((key == other) || b) ≡ is_among other (take (n + 1) keys)

@@ -1,15 +1,8 @@
 -- Ranges that ascend with a gap between any two.
 use Rattle.std.proofs.Common.{◌≡◌, subst, ℕ, zero, suc, ◌+◌, ◌-◌, ◌^◌, ◌<◌, ◌≤◌, arith, List, [], ◌∷◌, ◌++◌, length, take, drop, length-append}
 use Rattle.std.specs.List.{AllByRecursion}
-use Rattle.key_lists.specs.Keys.{IsRising}
-use Rattle.key_lists.proofs.Every.{every_weaker}
-use Rattle.key_lists.proofs.Rising.{rising-append}
-use Rattle.row_set.specs.declared.ranges.Range.{Range}
-use Rattle.row_set.specs.Ranges.{keys_in, keys_of, IsRangeFrom, AreApart}
-use Rattle.row_set.specs.declared.runs.Runs.{Runs}
-use Rattle.row_set.specs.Runs.{IsStored, lying}
-use Rattle.row_set.specs.Sets.{IsKeySet}
-use Rattle.row_set.proofs.Held.{each_between, each_key, range_rises, length-keys_in}
+use Rattle.key_lists.{specs.Keys.IsRising, proofs.Every.every_weaker, proofs.Rising.rising-append}
+use Rattle.row_set.{specs.declared.ranges.Range.Range, specs.Ranges.{keys_in, keys_of, IsRangeFrom, AreApart}, specs.declared.runs.Runs.Runs, specs.Runs.{IsStored, lying}, specs.Sets.IsKeySet, proofs.Held.{each_between, each_key, range_rises, length-keys_in}}
 
 pub apart_weaker : (low bound : ℕ) (ranges : List Range) → low ≤ bound → AreApart bound ranges → AreApart low ranges
 apart_weaker low bound [] le h = tt

@@ -1,17 +1,8 @@
 -- The keys of several ranges, added and removed one range after another.
 use Rattle.std.proofs.Common.{◌≡◌, refl, ap, sym, ◌∙◌, Bool, true, false, not, ◌&&◌, ◌||◌, ◌==◌, ℕ, ◌+◌, ◌<◌, arith, List, [], ◌∷◌, ◌++◌, length, take, drop, get_or, take-append-drop, append-nil, eqb-true}
 use Rattle.std.proofs.lemmas.List.{take_more}
-use Rattle.key_lists.specs.Keys.{is_among, IsRising, without}
-use Rattle.key_lists.proofs.Every.{filter_filter, filter_same, every, filter_all}
-use Rattle.key_lists.proofs.Among.{among-append}
-use Rattle.key_lists.proofs.Rising.{rising_same}
-use Rattle.key_lists.proofs.Booleans.{neither}
-use Rattle.row_set.specs.declared.ranges.Range.{Range}
-use Rattle.row_set.specs.Ranges.{keys_from, keys_in, keys_of}
-use Rattle.row_set.specs.Sets.{united}
-use Rattle.row_set.proofs.Held.{keys_of-append}
-use Rattle.row_set.proofs.Counts.{blank}
-use Rattle.row_set.proofs.United.{among-united, united_rises}
+use Rattle.key_lists.{specs.Keys.{is_among, IsRising, without}, proofs.Every.{filter_filter, filter_same, every, filter_all}, proofs.Among.among-append, proofs.Rising.rising_same, proofs.Booleans.neither}
+use Rattle.row_set.{specs.declared.ranges.Range.Range, specs.Ranges.{keys_from, keys_in, keys_of}, specs.Sets.united, proofs.Held.keys_of-append, proofs.Counts.blank, proofs.United.{among-united, united_rises}}
 
 or_turned : (b a o : Bool) → (b || (a || o)) ≡ ((a || b) || o)
 or_turned true true o = refl

@@ -1,16 +1,8 @@
 -- Keys put behind all others.
 use Rattle.std.proofs.Common.{◌≡◌, refl, ap, ap₂, sym, ◌∙◌, subst, true, false, ℕ, ◌+◌, ◌-◌, ◌^◌, ◌<◌, ◌≤◌, min, max, arith, List, [], ◌∷◌, ◌++◌, length, take, drop, get_or, take_all, ltb, ltb-true}
-use Rattle.std.specs.Bool.{OnTrue}
-use Rattle.std.specs.List.{AllByRecursion}
-use Rattle.std.proofs.lemmas.List.{drop_all, drop_more}
-use Rattle.key_lists.proofs.Every.{every_weaker}
-use Rattle.key_lists.proofs.Parts.{every-take}
-use Rattle.row_set.specs.declared.ranges.Range.{Range}
-use Rattle.row_set.specs.Ranges.{keys_from, keys_of, AreApart, Meets}
-use Rattle.row_set.specs.Sets.{united}
-use Rattle.row_set.proofs.Counts.{blank}
-use Rattle.row_set.proofs.Middles.{alone_apart, alone_keys, before_head, joined_apart, joined_keys, span}
-use Rattle.row_set.proofs.Places.{all_ended, range_at}
+use Rattle.std.{specs.Bool.OnTrue, specs.List.AllByRecursion, proofs.lemmas.List.{drop_all, drop_more}}
+use Rattle.key_lists.{proofs.Every.every_weaker, proofs.Parts.every-take}
+use Rattle.row_set.{specs.declared.ranges.Range.Range, specs.Ranges.{keys_from, keys_of, AreApart, Meets}, specs.Sets.united, proofs.Counts.blank, proofs.Middles.{alone_apart, alone_keys, before_head, joined_apart, joined_keys, span}, proofs.Places.{all_ended, range_at}}
 
 -- all ranges end before a key, where the last one does
 all_before : (key : ℕ) (ranges : List Range) → AreApart 0 ranges → 0 < length ranges → (get_or ranges (length ranges - 1) blank).last < key → AllByRecursion (λ range. range.last < key) ranges

@@ -1,8 +1,7 @@
 -- The keys that are still to come: those that are left of the range at hand, and then those of the other ranges.
 use Rattle.std.proofs.Common.{◌≡◌, ap, ◌∙◌, ℕ, suc, ◌+◌, ◌-◌, ◌<◌, ◌≤◌, arith, List, ◌∷◌, ◌++◌}
 use Rattle.std.specs.List.{range_with_len}
-use Rattle.row_set.specs.declared.ranges.Range.{Range}
-use Rattle.row_set.specs.Ranges.{keys_of}
+use Rattle.row_set.{specs.declared.ranges.Range.Range, specs.Ranges.keys_of}
 
 pub next_in_range : (next end : ℕ) (ranges : List Range) → next < end → range_with_len next (end - next) ++ keys_of ranges ≡ next ∷ (range_with_len (next + 1) (end - (next + 1)) ++ keys_of ranges)
 next_in_range next end ranges h = let more : end - next ≡ suc (end - (next + 1)) = omega arith in ap (λ n. range_with_len next n ++ keys_of ranges) more

@@ -1,14 +1,8 @@
 -- How many keys come before a range, and how many there are.
 use Rattle.std.proofs.Common.{◌≡◌, ap, ap₂, Bool, false, true≢false, ◌==◌, sym, ◌∙◌, subst, ℕ, zero, suc, ◌+◌, ◌-◌, ◌^◌, ◌<◌, ◌≤◌, arith, List, [], ◌∷◌, ◌++◌, length, take, drop, slice_range, get_or, take-take, append_assoc, length-append, length-take-le, take-append-drop, take_all}
-use Rattle.std.specs.List.{AllByRecursion}
-use Rattle.std.proofs.Math.Seq.{take-append-add}
-use Rattle.std.proofs.lemmas.List.{take_more}
-use Rattle.key_lists.proofs.Every.{all_from}
-use Rattle.key_lists.proofs.Parts.{every_front, every_back, take_nil}
-use Rattle.row_set.specs.declared.ranges.Range.{Range}
-use Rattle.row_set.specs.Ranges.{keys_before, keys_in, keys_of, AreApart, AreRanges, IsRangeFrom}
-use Rattle.row_set.proofs.Held.{keys_of-append, length-keys_in}
-use Rattle.row_set.proofs.Apart.{each_range, length_below}
+use Rattle.std.{specs.List.AllByRecursion, proofs.Math.Seq.take-append-add, proofs.lemmas.List.take_more}
+use Rattle.key_lists.{proofs.Every.all_from, proofs.Parts.{every_front, every_back, take_nil}}
+use Rattle.row_set.{specs.declared.ranges.Range.Range, specs.Ranges.{keys_before, keys_in, keys_of, AreApart, AreRanges, IsRangeFrom}, proofs.Held.{keys_of-append, length-keys_in}, proofs.Apart.{each_range, length_below}}
 
 -- one range more
 pub length-keys_more : (i : ℕ) (d : Range) (ranges : List Range) → AllByRecursion (IsRangeFrom 0) ranges → i < length ranges → length (keys_of (take (i + 1) ranges)) ≡ length (keys_of (take i ranges)) + ((get_or ranges i d).last - (get_or ranges i d).first + 1)

@@ -1,21 +1,9 @@
 -- What is left of ranges when the keys of one range are removed.
 use Rattle.std.proofs.Common.{◌≡◌, refl, ap, ap₂, sym, ◌∙◌, subst, Bool, true, false, cond, not, ◌&&◌, ◌||◌, ℕ, ◌+◌, ◌-◌, ◌^◌, ◌<◌, ◌≤◌, arith, List, [], ◌∷◌, ◌++◌, length, take, drop, slice_range, get_or, leb, leb-true, le-leb, lt-ltb, le-ltb, append_assoc, take-append-drop, inl, inr}
-use Rattle.std.specs.List.{AllByRecursion, list_any}
-use Rattle.std.proofs.lemmas.Bool.{cases_lt, and_parts, lt-leb, true≢false, not-false}
-use Rattle.std.proofs.lemmas.List.{get_or_default}
-use Rattle.std.proofs.lemmas.List.Folds.{list_any-append}
-use Rattle.key_lists.specs.Keys.{is_among, without}
-use Rattle.key_lists.proofs.Among.{among-filter}
-use Rattle.key_lists.proofs.Every.{every_weaker}
-use Rattle.key_lists.proofs.Rising.{rising_same, rising_some}
-use Rattle.key_lists.proofs.Booleans.{or_false, and_false}
-use Rattle.row_set.specs.declared.ranges.Range.{Range}
-use Rattle.row_set.specs.Ranges.{keys_from, keys_of, holds, AreApart, Meets}
+use Rattle.std.{specs.List.{AllByRecursion, list_any}, proofs.lemmas.Bool.{cases_lt, and_parts, lt-leb, true≢false, not-false}, proofs.lemmas.List.get_or_default, proofs.lemmas.List.Folds.list_any-append}
+use Rattle.key_lists.{specs.Keys.{is_among, without}, proofs.Among.among-filter, proofs.Every.every_weaker, proofs.Rising.{rising_same, rising_some}, proofs.Booleans.{or_false, and_false}}
+use Rattle.row_set.{specs.declared.ranges.Range.Range, specs.Ranges.{keys_from, keys_of, holds, AreApart, Meets}, proofs.Held.{among-in, among-keys, holds-true, holds_before, holds_after, none_before, none_after}, proofs.Apart.{apart-take, apart_raised, apart-append, keys_rise}, proofs.Counts.blank, proofs.Middles.{span, IsMet, met, any_parts, before_head, after_tail}}
 pub use Rattle.row_set.specs.Ranges.{left_edge, right_edge}
-use Rattle.row_set.proofs.Held.{among-in, among-keys, holds-true, holds_before, holds_after, none_before, none_after}
-use Rattle.row_set.proofs.Apart.{apart-take, apart_raised, apart-append, keys_rise}
-use Rattle.row_set.proofs.Counts.{blank}
-use Rattle.row_set.proofs.Middles.{span, IsMet, met, any_parts, before_head, after_tail}
 
 abbrev outside : ℕ → ℕ → ℕ → Bool
 outside first last key = not (holds key (span first last))

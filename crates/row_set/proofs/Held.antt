@@ -1,15 +1,8 @@
 -- The keys that ranges hold.
 use Rattle.std.proofs.Common.{◌≡◌, refl, ap, sym, ◌∙◌, true, false, ◌||◌, ◌==◌, ℕ, zero, suc, ◌+◌, ◌-◌, ◌<◌, ◌≤◌, arith, List, [], ◌∷◌, ◌++◌, length, leb, ne_eqb, le-leb, inl, inr}
-use Rattle.std.specs.List.{AllByRecursion, list_any, range_with_len}
-use Rattle.std.proofs.lemmas.Bool.{cases_lt, or_from, and_from, and_left, and_right, lt-leb}
-use Rattle.std.proofs.lemmas.Grind.{flat_map-append}
-use Rattle.std.proofs.lemmas.List.FromFn.{length-range_with_len}
-use Rattle.key_lists.specs.Keys.{is_among, IsRising}
-use Rattle.key_lists.proofs.Every.{every-append}
-use Rattle.key_lists.proofs.Among.{among-append}
-use Rattle.key_lists.proofs.Ranges.{among_range, each_from}
-use Rattle.row_set.specs.declared.ranges.Range.{Range}
-use Rattle.row_set.specs.Ranges.{keys_from, keys_in, keys_of, holds}
+use Rattle.std.{specs.List.{AllByRecursion, list_any, range_with_len}, proofs.lemmas.Bool.{cases_lt, or_from, and_from, and_left, and_right, lt-leb}, proofs.lemmas.Grind.flat_map-append, proofs.lemmas.List.FromFn.length-range_with_len}
+use Rattle.key_lists.{specs.Keys.{is_among, IsRising}, proofs.Every.every-append, proofs.Among.among-append, proofs.Ranges.{among_range, each_from}}
+use Rattle.row_set.{specs.declared.ranges.Range.Range, specs.Ranges.{keys_from, keys_in, keys_of, holds}}
 
 -- what holds of the numbers from first on
 pub each_between : (P : ℕ → Type 0) (first last : ℕ) → ((key : ℕ) → first ≤ key → key ≤ last → P key) → AllByRecursion P (keys_from first last)

@@ -1,18 +1,8 @@
 -- Two neighbouring ranges that touch, made one.
 use Rattle.std.proofs.Common.{◌≡◌, ap, ap₂, sym, ◌∙◌, subst, true, ℕ, zero, suc, ◌+◌, ◌-◌, ◌<◌, ◌≤◌, arith, List, [], ◌∷◌, ◌++◌, length, take, drop, slice_range, get_or, length-take-le, take-append-drop}
-use Rattle.std.specs.List.{AllByRecursion, list_any, range_with_len}
-use Rattle.std.proofs.lemmas.Bool.{or_left}
-use Rattle.std.proofs.lemmas.List.{drop_more, drop-drop, drop-take, drop-append-le}
-use Rattle.key_lists.specs.Keys.{is_among, IsRising}
-use Rattle.key_lists.proofs.Every.{every_weaker, every-append}
-use Rattle.key_lists.proofs.Among.{of_among}
-use Rattle.row_set.specs.declared.ranges.Range.{Range}
-use Rattle.row_set.specs.Ranges.{keys_in, keys_of, holds, IsRangeFrom, AreApart}
-use Rattle.row_set.proofs.Held.{among-in, among-keys, holds-true, keys_of-append}
-use Rattle.row_set.proofs.Apart.{apart_back, apart_front, apart_seam, apart-append}
-use Rattle.row_set.proofs.Counts.{blank}
-use Rattle.row_set.proofs.Middles.{span, middle_last}
-use Rattle.row_set.proofs.Windows.{rising_back}
+use Rattle.std.{specs.List.{AllByRecursion, list_any, range_with_len}, proofs.lemmas.Bool.or_left, proofs.lemmas.List.{drop_more, drop-drop, drop-take, drop-append-le}}
+use Rattle.key_lists.{specs.Keys.{is_among, IsRising}, proofs.Every.{every_weaker, every-append}, proofs.Among.of_among}
+use Rattle.row_set.{specs.declared.ranges.Range.Range, specs.Ranges.{keys_in, keys_of, holds, IsRangeFrom, AreApart}, proofs.Held.{among-in, among-keys, holds-true, keys_of-append}, proofs.Apart.{apart_back, apart_front, apart_seam, apart-append}, proofs.Counts.blank, proofs.Middles.{span, middle_last}, proofs.Windows.rising_back}
 
 -- numbers in a row, and those after them
 pub range_with_len-append : (first count more : ℕ) (rest : List ℕ) → range_with_len first count ++ (range_with_len (first + count) more ++ rest) ≡ range_with_len first (count + more) ++ rest

@@ -1,14 +1,9 @@
 -- The longest ranges of the keys of ranges that are apart are these ranges, and the keys of the longest ranges of a set
 -- of keys are this set.
 use Rattle.std.proofs.Common.{◌≡◌, refl, ap, sym, ◌∙◌, subst, cond, ℕ, zero, suc, ◌+◌, ◌-◌, ◌^◌, ◌<◌, ◌≤◌, arith, List, [], ◌∷◌, ◌++◌, eq-eqb, ne_eqb, inl, inr}
-use Rattle.std.specs.List.{AllByRecursion, range_with_len}
-use Rattle.std.proofs.lemmas.Bool.{cases_eq}
-use Rattle.key_lists.specs.Keys.{IsRising}
-use Rattle.key_lists.proofs.Every.{every, every_weaker}
-use Rattle.row_set.specs.declared.ranges.Range.{Range}
-use Rattle.row_set.specs.Ranges.{keys_of, ranges_of, preceded, AreApart}
-use Rattle.row_set.specs.Sets.{IsKeySet}
-use Rattle.row_set.proofs.Apart.{apart_weaker}
+use Rattle.std.{specs.List.{AllByRecursion, range_with_len}, proofs.lemmas.Bool.cases_eq}
+use Rattle.key_lists.{specs.Keys.IsRising, proofs.Every.{every, every_weaker}}
+use Rattle.row_set.{specs.declared.ranges.Range.Range, specs.Ranges.{keys_of, ranges_of, preceded, AreApart}, specs.Sets.IsKeySet, proofs.Apart.apart_weaker}
 
 abbrev span : ℕ → ℕ → Range
 span first last = record { first = first; last = last }

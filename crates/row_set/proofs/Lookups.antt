@@ -1,23 +1,8 @@
 -- What a search finds in ranges that are apart.
 use Rattle.std.proofs.Common.{◌≡◌, refl, ap, sym, ◌∙◌, subst, Bool, true, false, cond, ◌||◌, ℕ, zero, suc, ◌+◌, ◌-◌, ◌*◌, ◌<◌, ◌≤◌, max, arith, List, [], ◌∷◌, ◌++◌, length, take, drop, get_or, take_all, take-append-drop, leb, ltb, le-leb, lt-ltb, le-ltb, Some, None, Ok, Err, is_some, find, filter, slice_get, inl, inr, true≢false}
-use Rattle.std.specs.List.{AllByRecursion, list_any, range_with_len}
-use Rattle.std.proofs.lemmas.Bool.{cases_lt, lt-leb, cases_eq, ne_eqb}
-use Rattle.std.proofs.lemmas.List.{drop_more, get_or_default}
-use Rattle.std.specs.Prelude.{nat_lt}
-use Rattle.std.specs.List.Sorted.{IsPartitionPoint, IsNonDecreasing}
-use Rattle.key_lists.specs.Keys.{is_among, IsRising}
-use Rattle.key_lists.proofs.Every.{every_weaker, find_none}
-use Rattle.key_lists.proofs.Parts.{get-append}
-use Rattle.key_lists.proofs.Ranges.{each_from}
-use Rattle.key_lists.proofs.Among.{of_among}
-use Rattle.row_set.specs.declared.ranges.Range.{Range}
-use Rattle.row_set.specs.Ranges.{keys_before, keys_in, keys_of, holds, AreApart}
-use Rattle.row_set.specs.Runs.{AreStarts, start_of}
-use Rattle.row_set.specs.Sets.{count_below, found, last_key}
-use Rattle.row_set.proofs.Held.{each_key, holds-true, holds_before, holds_after, among-keys, keys_of-append}
-use Rattle.row_set.proofs.Apart.{apart-drop, each_above, keys_above}
-use Rattle.row_set.proofs.Counts.{blank, keys_before_rise, length-keys_all}
-use Rattle.row_set.proofs.Places.{range_at}
+use Rattle.std.{specs.List.{AllByRecursion, list_any, range_with_len}, proofs.lemmas.Bool.{cases_lt, lt-leb, cases_eq, ne_eqb}, proofs.lemmas.List.{drop_more, get_or_default}, specs.Prelude.nat_lt, specs.List.Sorted.{IsPartitionPoint, IsNonDecreasing}}
+use Rattle.key_lists.{specs.Keys.{is_among, IsRising}, proofs.Every.{every_weaker, find_none}, proofs.Parts.get-append, proofs.Ranges.each_from, proofs.Among.of_among}
+use Rattle.row_set.{specs.declared.ranges.Range.Range, specs.Ranges.{keys_before, keys_in, keys_of, holds, AreApart}, specs.Runs.{AreStarts, start_of}, specs.Sets.{count_below, found, last_key}, proofs.Held.{each_key, holds-true, holds_before, holds_after, among-keys, keys_of-append}, proofs.Apart.{apart-drop, each_above, keys_above}, proofs.Counts.{blank, keys_before_rise, length-keys_all}, proofs.Places.range_at}
 
 -- searches in two lists, one after the other
 pub find-append_none : {X : Type 0} (p : X → Bool) (xs ys : List X) → AllByRecursion (λ x. p x ≡ false) xs → find p (xs ++ ys) ≡ find p ys

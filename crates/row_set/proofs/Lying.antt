@@ -1,16 +1,7 @@
 -- Ranges behind places that are free, as they are edited.
 use Rattle.std.proofs.Common.{◌≡◌, ap, ap₂, sym, ◌∙◌, ℕ, suc, ◌+◌, ◌-◌, ◌*◌, ◌^◌, ◌<◌, ◌≤◌, arith, List, [], ◌∷◌, ◌++◌, length, length-drop, length-take-le, take, take_at, drop, append_assoc, slice_range, get_or, get_or-drop, set}
-use Rattle.std.proofs.Math.Seq.{paste}
-use Rattle.std.proofs.lemmas.List.Edits.{drop-paste, take-paste}
-use Rattle.std.proofs.lemmas.List.{drop_at, drop-append-le, drop-drop, drop-take, get_or_default, length-set, set_split}
-use Rattle.row_set.specs.declared.ranges.Range.{Range}
-use Rattle.row_set.specs.declared.runs.Runs.{Runs}
-use Rattle.row_set.specs.Ranges.{AreApart, keys_before, keys_from, keys_of}
-use Rattle.row_set.specs.Runs.{AreCounted, AreStarts, IsRoom, start_of}
-use Rattle.row_set.specs.Sets.{united}
-use Rattle.row_set.proofs.Behind.{stretched_last}
-use Rattle.row_set.proofs.Counts.{blank, keys_after, keys_before_kept}
-use Rattle.row_set.proofs.Middles.{span}
+use Rattle.std.{proofs.Math.Seq.paste, proofs.lemmas.List.Edits.{drop-paste, take-paste}, proofs.lemmas.List.{drop_at, drop-append-le, drop-drop, drop-take, get_or_default, length-set, set_split}}
+use Rattle.row_set.{specs.declared.ranges.Range.Range, specs.declared.runs.Runs.Runs, specs.Ranges.{AreApart, keys_before, keys_from, keys_of}, specs.Runs.{AreCounted, AreStarts, IsRoom, start_of}, specs.Sets.united, proofs.Behind.stretched_last, proofs.Counts.{blank, keys_after, keys_before_kept}, proofs.Middles.span}
 
 pub length-lying : (front : ℕ) (all : List Range) → front ≤ length all → front + length (drop front all) ≡ length all
 length-lying front all le = omega (arith, length-drop front all, le)

@@ -1,25 +1,8 @@
 -- Two lists of ranges, merged.
 use Rattle.std.proofs.Common.{◌≡◌, refl, ap, ap₂, sym, ◌∙◌, subst, Bool, true, false, cond, not, ◌||◌, ℕ, ◌+◌, ◌-◌, ◌^◌, ◌<◌, ◌≤◌, arith, List, [], ◌∷◌, length, take, drop, get_or, slice_get, take-append-drop, ◌⊎◌, Some, inl, inr}
-use Rattle.std.specs.List.{AllByRecursion, list_any}
-use Rattle.std.proofs.lemmas.Bool.{cases_Bool, cases_lt, or_left, or_from}
-use Rattle.std.proofs.lemmas.List.{take_rest}
-use Rattle.std.proofs.lemmas.List.Folds.{list_any-append}
-use Rattle.std.proofs.lemmas.Option.{same_Some}
-use Rattle.key_lists.specs.Keys.{is_among, IsRising}
-use Rattle.key_lists.proofs.Every.{every_weaker, and_swap}
-use Rattle.key_lists.proofs.Among.{among-filter, of_among}
-use Rattle.key_lists.proofs.Rising.{rising_same, rising_some}
-use Rattle.row_set.specs.declared.ranges.Range.{Range}
-use Rattle.row_set.specs.declared.algebra.Choice.{Choice}
-use Rattle.row_set.specs.declared.algebra.Choice.TheVariants.{Either, FirstAlone, Both}
-use Rattle.row_set.specs.Ranges.{keys_from, keys_of, holds, AreApart}
-use Rattle.row_set.specs.Sets.{IsKeySet, united}
-use Rattle.row_set.specs.Choice.{takes, chosen, AreAhead}
-use Rattle.row_set.proofs.Held.{among-in, among-keys, holds-true, holds_before, holds_after, none_before, none_after}
-use Rattle.row_set.proofs.Apart.{apart-drop, each_above}
-use Rattle.row_set.proofs.Counts.{blank}
-use Rattle.row_set.proofs.Middles.{span}
-use Rattle.row_set.proofs.United.{among-united, united_rises}
+use Rattle.std.{specs.List.{AllByRecursion, list_any}, proofs.lemmas.Bool.{cases_Bool, cases_lt, or_left, or_from}, proofs.lemmas.List.take_rest, proofs.lemmas.List.Folds.list_any-append, proofs.lemmas.Option.same_Some}
+use Rattle.key_lists.{specs.Keys.{is_among, IsRising}, proofs.Every.{every_weaker, and_swap}, proofs.Among.{among-filter, of_among}, proofs.Rising.{rising_same, rising_some}}
+use Rattle.row_set.{specs.declared.ranges.Range.Range, specs.declared.algebra.Choice.Choice, specs.declared.algebra.Choice.TheVariants.{Either, FirstAlone, Both}, specs.Ranges.{keys_from, keys_of, holds, AreApart}, specs.Sets.{IsKeySet, united}, specs.Choice.{takes, chosen, AreAhead}, proofs.Held.{among-in, among-keys, holds-true, holds_before, holds_after, none_before, none_after}, proofs.Apart.{apart-drop, each_above}, proofs.Counts.blank, proofs.Middles.span, proofs.United.{among-united, united_rises}}
 
 -- the first range holds the keys up to its end, and none holds one before it
 pub stretch_held : (at key : ℕ) (ranges : List Range) (range : Range) → Some range ≡ slice_get ranges 0 → range.first ≤ at → at ≤ key → key < range.last + 1 → is_among key (keys_of ranges) ≡ true

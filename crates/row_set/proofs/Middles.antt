@@ -1,21 +1,8 @@
 -- Ranges before some, these, and those after them; and what stands in their place.
 use Rattle.std.proofs.Common.{◌≡◌, refl, ap, sym, ◌∙◌, subst, Bool, true, false, ◌&&◌, ◌||◌, ℕ, suc, ◌+◌, ◌-◌, ◌^◌, ◌<◌, ◌≤◌, min, max, arith, List, [], ◌∷◌, ◌++◌, length, take, drop, slice_range, get_or, leb, le-leb, length-drop, get_or-drop, take-append-drop, inl, inr}
-use Rattle.std.specs.List.{AllByRecursion, list_any}
-use Rattle.std.proofs.lemmas.Bool.{cases_lt, or_from, or_left, or_right, lt-leb}
-use Rattle.std.proofs.lemmas.List.{take_more, drop_more, drop-drop}
-use Rattle.std.proofs.lemmas.List.Folds.{list_any-append}
-use Rattle.key_lists.proofs.Every.{every_both, every_weaker}
-use Rattle.key_lists.proofs.Rising.{rising_same}
-use Rattle.key_lists.proofs.Booleans.{or_false, and_true}
-use Rattle.key_lists.specs.Keys.{is_among}
-use Rattle.row_set.specs.declared.ranges.Range.{Range}
-use Rattle.row_set.specs.Ranges.{keys_from, keys_of, holds, IsRangeFrom, AreApart, Meets}
-use Rattle.row_set.specs.Sets.{united}
-use Rattle.row_set.proofs.Held.{among-in, among-keys, holds-true, holds_before, holds_after, none_before, none_after}
-use Rattle.row_set.proofs.Apart.{apart-take, apart-drop, keys_rise, apart_raised, apart_front, apart_back, apart_seam, apart-append, each_above}
-use Rattle.row_set.proofs.Counts.{blank}
-use Rattle.row_set.proofs.Lookups.{apart_at, split_at}
-use Rattle.row_set.proofs.United.{among-united, united_rises}
+use Rattle.std.{specs.List.{AllByRecursion, list_any}, proofs.lemmas.Bool.{cases_lt, or_from, or_left, or_right, lt-leb}, proofs.lemmas.List.{take_more, drop_more, drop-drop}, proofs.lemmas.List.Folds.list_any-append}
+use Rattle.key_lists.{proofs.Every.{every_both, every_weaker}, proofs.Rising.rising_same, proofs.Booleans.{or_false, and_true}, specs.Keys.is_among}
+use Rattle.row_set.{specs.declared.ranges.Range.Range, specs.Ranges.{keys_from, keys_of, holds, IsRangeFrom, AreApart, Meets}, specs.Sets.united, proofs.Held.{among-in, among-keys, holds-true, holds_before, holds_after, none_before, none_after}, proofs.Apart.{apart-take, apart-drop, keys_rise, apart_raised, apart_front, apart_back, apart_seam, apart-append, each_above}, proofs.Counts.blank, proofs.Lookups.{apart_at, split_at}, proofs.United.{among-united, united_rises}}
 
 abbrev middle : ℕ → ℕ → List Range → List Range
 middle from to ranges = slice_range ranges from to

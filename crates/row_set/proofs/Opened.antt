@@ -1,11 +1,7 @@
 -- What stands around a gap.
 use Rattle.std.proofs.Common.{◌≡◌, ap, ap₂, sym, ◌∙◌, ℕ, ◌+◌, ◌-◌, ◌≤◌, arith, List, ◌++◌, length, take, drop, length-drop, length-take-le, append_assoc, take-append-drop}
-use Rattle.std.proofs.Math.Seq.{paste}
-use Rattle.std.proofs.lemmas.List.{take_at, drop_at, drop-drop}
-use Rattle.std.proofs.lemmas.List.Edits.{take-paste, drop-paste}
-use Rattle.std.specs.Prelude.{Option, None, Some}
-use Rattle.row_set.specs.declared.ranges.Range.{Range}
-use Rattle.row_set.specs.Gaps.{listed}
+use Rattle.std.{proofs.Math.Seq.paste, proofs.lemmas.List.{take_at, drop_at, drop-drop}, proofs.lemmas.List.Edits.{take-paste, drop-paste}, specs.Prelude.{Option, None, Some}}
+use Rattle.row_set.{specs.declared.ranges.Range.Range, specs.Gaps.listed}
 
 -- the parts of a list on both sides of a gap
 pub front_of : {X : Type 0} (start end : ℕ) (xs : List X) → start ≤ length xs → take start (take start xs ++ drop end xs) ≡ take start xs

@@ -1,19 +1,8 @@
 -- Ranges that are parted at a key.
 use Rattle.std.proofs.Common.{◌≡◌, refl, ap, ap₂, sym, ◌∙◌, subst, ℕ, ◌+◌, ◌-◌, ◌<◌, ◌≤◌, arith, List, [], ◌∷◌, ◌++◌, length, take, drop, slice_range, get_or, length-append, length-drop, length-take-le, append_assoc, take_at, take-take, take-append-drop}
-use Rattle.std.specs.List.{AllByRecursion}
-use Rattle.std.proofs.lemmas.List.{drop_at, drop-drop, drop_more, take-append-le}
-use Rattle.key_lists.proofs.Every.{every-append}
-use Rattle.key_lists.proofs.Parts.{every-take, every-drop}
-use Rattle.row_set.specs.declared.ranges.Range.{Range}
-use Rattle.row_set.specs.Ranges.{keys_of, AreApart, AreRanges, IsPart, IsRangeFrom}
-use Rattle.row_set.proofs.Apart.{apart-append, apart-drop, apart-take, apart_back, apart_front, apart_seam}
-use Rattle.row_set.proofs.Counts.{blank}
-use Rattle.row_set.proofs.Held.{keys_of-append}
-use Rattle.row_set.proofs.Joined.{touching_keys}
-use Rattle.row_set.proofs.Lookups.{every_at, split_at}
-use Rattle.row_set.proofs.Lying.{lying_spliced}
-use Rattle.row_set.proofs.Middles.{span}
-use Rattle.row_set.proofs.Places.{range_at}
+use Rattle.std.{specs.List.AllByRecursion, proofs.lemmas.List.{drop_at, drop-drop, drop_more, take-append-le}}
+use Rattle.key_lists.{proofs.Every.every-append, proofs.Parts.{every-take, every-drop}}
+use Rattle.row_set.{specs.declared.ranges.Range.Range, specs.Ranges.{keys_of, AreApart, AreRanges, IsPart, IsRangeFrom}, proofs.Apart.{apart-append, apart-drop, apart-take, apart_back, apart_front, apart_seam}, proofs.Counts.blank, proofs.Held.keys_of-append, proofs.Joined.touching_keys, proofs.Lookups.{every_at, split_at}, proofs.Lying.lying_spliced, proofs.Middles.span, proofs.Places.range_at}
 
 -- no range stands across the key
 pub unsplit : (start key count : ℕ) (ranges : List Range) → start ≤ length ranges → count ≤ length (drop start ranges) → AllByRecursion (λ range. range.last < key) (take count (drop start ranges)) → AreApart key (drop count (drop start ranges)) → IsPart start key ranges ranges (start + count)

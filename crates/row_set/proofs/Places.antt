@@ -1,14 +1,8 @@
 -- Where a search cuts a list of ranges.
 use Rattle.std.proofs.Common.{◌≡◌, sym, subst, true, false, ℕ, zero, suc, ◌+◌, ◌-◌, ◌<◌, ◌≤◌, arith, List, [], ◌∷◌, length, length-drop, take, drop, get_or, leb, ltb, leb-true, leb-false, ltb-true, ltb-false}
-use Rattle.std.specs.List.{AllByRecursion}
-use Rattle.std.specs.List.Sorted.{IsPartitionPoint, IsPartitionedBy, IsNonDecreasingBy}
-use Rattle.std.proofs.lemmas.List.{drop-drop, drop_more}
-use Rattle.std.proofs.lemmas.List.Sorted.{IsPartitionedBy-ltb, IsPartitionedBy-leb}
-use Rattle.key_lists.proofs.Every.{every_weaker, all_from}
-use Rattle.key_lists.proofs.Parts.{every-take, front_part, back_part}
-use Rattle.row_set.specs.declared.ranges.Range.{Range}
-use Rattle.row_set.specs.Ranges.{IsRangeFrom, AreApart, Meets}
-use Rattle.row_set.proofs.Apart.{apart-drop, each_above, each_range}
+use Rattle.std.{specs.List.AllByRecursion, specs.List.Sorted.{IsPartitionPoint, IsPartitionedBy, IsNonDecreasingBy}, proofs.lemmas.List.{drop-drop, drop_more}, proofs.lemmas.List.Sorted.{IsPartitionedBy-ltb, IsPartitionedBy-leb}}
+use Rattle.key_lists.{proofs.Every.{every_weaker, all_from}, proofs.Parts.{every-take, front_part, back_part}}
+use Rattle.row_set.{specs.declared.ranges.Range.Range, specs.Ranges.{IsRangeFrom, AreApart, Meets}, proofs.Apart.{apart-drop, each_above, each_range}}
 
 pub range_at : (low : ℕ) (ranges : List Range) → AreApart low ranges → (k : ℕ) (d : Range) → k < length ranges → IsRangeFrom low (get_or ranges k d)
 range_at low ranges h = all_from (IsRangeFrom low) ranges (each_range low ranges h)

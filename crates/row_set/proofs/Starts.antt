@@ -1,12 +1,7 @@
 -- How many keys come before each block.
 use Rattle.std.proofs.Common.{◌≡◌, refl, ap, ap₂, sym, ◌∙◌, subst, ℕ, zero, suc, ◌+◌, ◌-◌, ◌*◌, ◌<◌, ◌≤◌, max, arith, List, [], ◌∷◌, ◌++◌, length, take, drop, slice_range, set, get_or, length-append, inl, inr}
-use Rattle.std.proofs.lemmas.Bool.{cases_lt}
-use Rattle.std.proofs.lemmas.List.{drop-drop, get_or-take, get_or-set_same, get_or-set_other, get_or_append_left, length-set, length-take}
-use Rattle.std.proofs.Math.Seq.{get_or-append_seam}
-use Rattle.row_set.specs.declared.ranges.Range.{Range}
-use Rattle.row_set.specs.Ranges.{keys_before, keys_of}
-use Rattle.row_set.specs.Runs.{AreStarts, start_of}
-use Rattle.row_set.proofs.Counts.{keys_before_to}
+use Rattle.std.{proofs.lemmas.Bool.cases_lt, proofs.lemmas.List.{drop-drop, get_or-take, get_or-set_same, get_or-set_other, get_or_append_left, length-set, length-take}, proofs.Math.Seq.get_or-append_seam}
+use Rattle.row_set.{specs.declared.ranges.Range.Range, specs.Ranges.{keys_before, keys_of}, specs.Runs.{AreStarts, start_of}, proofs.Counts.keys_before_to}
 
 -- the ranges between two places
 pub part_of : (front from to : ℕ) (all : List Range) → slice_range all (front + from) (front + to) ≡ slice_range (drop front all) from to

@@ -1,20 +1,8 @@
 -- Ranges that are edited at a gap.
 use Rattle.std.proofs.Common.{◌≡◌, ap, ap₂, sym, ◌∙◌, subst, ℕ, ◌+◌, ◌-◌, ◌^◌, ◌<◌, ◌≤◌, min, max, cond, lt-ltb, le-ltb, arith, List, [], ◌∷◌, ◌++◌, length, take, drop, slice_range, get_or, length-append, length-drop, length-take-le, append_assoc, get_or-drop, take-take, inl, inr}
-use Rattle.std.specs.List.{AllByRecursion}
-use Rattle.std.proofs.Math.Seq.{take-append-add, drop-append-add}
-use Rattle.std.proofs.lemmas.Bool.{cases_lt}
-use Rattle.std.proofs.lemmas.List.{get_or_default, get_or-take, drop_at}
-use Rattle.key_lists.specs.Keys.{without}
-use Rattle.key_lists.proofs.Every.{every_weaker, every-append}
-use Rattle.row_set.specs.declared.ranges.Range.{Range}
-use Rattle.row_set.specs.Gaps.{ArePassed}
-use Rattle.row_set.specs.Ranges.{AreApart, Meets, keys_from, keys_of, left_edge, right_edge, stretched}
-use Rattle.row_set.specs.Sets.{united}
-use Rattle.row_set.proofs.Counts.{blank}
-use Rattle.row_set.proofs.Edges.{removed}
-use Rattle.row_set.proofs.Lookups.{apart_at}
-use Rattle.row_set.proofs.Middles.{alone_apart, alone_keys, joined_apart, joined_keys, middle_first, span}
-use Rattle.row_set.proofs.Opened.{back_of, front_of}
+use Rattle.std.{specs.List.AllByRecursion, proofs.Math.Seq.{take-append-add, drop-append-add}, proofs.lemmas.Bool.cases_lt, proofs.lemmas.List.{get_or_default, get_or-take, drop_at}}
+use Rattle.key_lists.{specs.Keys.without, proofs.Every.{every_weaker, every-append}}
+use Rattle.row_set.{specs.declared.ranges.Range.Range, specs.Gaps.ArePassed, specs.Ranges.{AreApart, Meets, keys_from, keys_of, left_edge, right_edge, stretched}, specs.Sets.united, proofs.Counts.blank, proofs.Edges.removed, proofs.Lookups.apart_at, proofs.Middles.{alone_apart, alone_keys, joined_apart, joined_keys, middle_first, span}, proofs.Opened.{back_of, front_of}}
 
 stretched_first : (first last : ℕ) (ranges rest : List Range) (head : Range) → ranges ≡ head ∷ rest → stretched first last ranges ≡ span (min first head.first) (max last (get_or (head ∷ rest) (length rest) head).last)
 stretched_first first last ranges rest head is = ap (stretched first last) is

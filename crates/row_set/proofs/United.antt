@@ -1,12 +1,8 @@
 -- The keys of two lists.
 use Rattle.std.proofs.Common.{◌≡◌, refl, ap, sym, ◌∙◌, true, false, cond, ◌==◌, ◌||◌, ℕ, ◌+◌, ◌-◌, ◌<◌, ◌≤◌, arith, List, [], ◌∷◌, length, ltb, ltb-true, ltb-false, eqb-true}
-use Rattle.std.specs.List.{AllByRecursion, range_with_len}
-use Rattle.std.proofs.lemmas.Bool.{eqb-false as neq-from}
-use Rattle.key_lists.specs.Keys.{is_among, IsRising}
-use Rattle.key_lists.proofs.Every.{every_weaker}
-use Rattle.key_lists.proofs.Booleans.{or_assoc, or_swap, or_twice}
-use Rattle.row_set.specs.Ranges.{keys_from}
-use Rattle.row_set.specs.Sets.{with_key, united}
+use Rattle.std.{specs.List.{AllByRecursion, range_with_len}, proofs.lemmas.Bool.eqb-false as neq-from}
+use Rattle.key_lists.{specs.Keys.{is_among, IsRising}, proofs.Every.every_weaker, proofs.Booleans.{or_assoc, or_swap, or_twice}}
+use Rattle.row_set.{specs.Ranges.keys_from, specs.Sets.{with_key, united}}
 
 pub among-with_key : (key other : ℕ) (keys : List ℕ) → is_among key (with_key other keys) ≡ ((other == key) || is_among key keys)
 among-with_key key other [] = refl

@@ -1,20 +1,8 @@
 -- The keys at neighbouring positions of a rising list.
 use Rattle.std.proofs.Common.{◌≡◌, ap, sym, ◌∙◌, subst, Bool, true, false, ◌&&◌, ◌||◌, ℕ, zero, suc, ◌+◌, ◌-◌, ◌<◌, ◌≤◌, min, arith, List, [], ◌∷◌, ◌++◌, length, take, drop, slice_get, take-append-drop, take_all, length-drop, Some, inl, inr}
-use Rattle.std.specs.List.{AllByRecursion}
-use Rattle.std.proofs.lemmas.Bool.{cases_Bool, cases_lt}
-use Rattle.std.proofs.lemmas.List.{drop-take, drop-drop, drop_all}
-use Rattle.std.proofs.lemmas.Option.{same_Some}
-use Rattle.key_lists.specs.Keys.{is_among, IsRising}
-use Rattle.key_lists.proofs.Every.{every_weaker, every-append}
-use Rattle.key_lists.proofs.Among.{among-append, among-filter, of_among}
-use Rattle.key_lists.proofs.Rising.{rising_same, rising_some}
-use Rattle.key_lists.proofs.Booleans.{or_false, and_true, and_false}
-use Rattle.key_lists.proofs.Parts.{every-take, every-drop, every_front, every_back, take_nil}
-use Rattle.row_set.specs.Ranges.{keys_from, holds}
-use Rattle.row_set.specs.Sets.{united, common}
-use Rattle.row_set.proofs.Held.{among-in, holds-true, holds_before, holds_after}
-use Rattle.row_set.proofs.Middles.{span}
-use Rattle.row_set.proofs.United.{among-united, united_rises}
+use Rattle.std.{specs.List.AllByRecursion, proofs.lemmas.Bool.{cases_Bool, cases_lt}, proofs.lemmas.List.{drop-take, drop-drop, drop_all}, proofs.lemmas.Option.same_Some}
+use Rattle.key_lists.{specs.Keys.{is_among, IsRising}, proofs.Every.{every_weaker, every-append}, proofs.Among.{among-append, among-filter, of_among}, proofs.Rising.{rising_same, rising_some}, proofs.Booleans.{or_false, and_true, and_false}, proofs.Parts.{every-take, every-drop, every_front, every_back, take_nil}}
+use Rattle.row_set.{specs.Ranges.{keys_from, holds}, specs.Sets.{united, common}, proofs.Held.{among-in, holds-true, holds_before, holds_after}, proofs.Middles.span, proofs.United.{among-united, united_rises}}
 
 drop_get : (n x : ℕ) (xs : List ℕ) → slice_get xs n ≡ Some x → drop n xs ≡ x ∷ drop (suc n) xs
 drop_get zero x [] e = cc

@@ -1,11 +1,8 @@
 -- The keys that a `for` over a set has been given, of all of them.
 use Rattle.std.proofs.Common.{◌≡◌, refl, ap, ap₂, sym, ◌∙◌, subst, false, ◌||◌, ℕ, ◌^◌, ◌<◌, arith, List, [], ◌∷◌, ◌++◌, append-nil}
-use Rattle.std.specs.Iterator.{Yields, YieldsFirst}
-use Rattle.std.specs.List.{AllByRecursion}
-use Rattle.std.proofs.lemmas.Bool.{ne_eqb}
+use Rattle.std.{specs.Iterator.{Yields, YieldsFirst}, specs.List.AllByRecursion, proofs.lemmas.Bool.ne_eqb}
 use Rattle.key_lists.specs.Keys.{IsRising, is_among}
-use Rattle.row_set.specs.Sets.{IsKeySet}
-use Rattle.row_set.proofs.Windows.{rising_before}
+use Rattle.row_set.{specs.Sets.IsKeySet, proofs.Windows.rising_before}
 
 -- an iterator over some keys has yielded these, and has others left
 abbrev HasYielded : List ℕ → List ℕ → List ℕ → Type 0

@@ -4,11 +4,7 @@
 --     AreAhead at ranges      the ranges are apart, and none ends before at
 use Rattle.std.specs.Prelude.{ℕ, ◌≤◌, Bool, ◌&&◌, ◌||◌, not, List, [], ◌∷◌}
 use Rattle.key_lists.specs.Keys.{without}
-use Rattle.row_set.specs.declared.ranges.Range.{Range}
-use Rattle.row_set.specs.declared.algebra.Choice.{Choice}
-use Rattle.row_set.specs.declared.algebra.Choice.TheVariants.{Either, FirstAlone, Both}
-use Rattle.row_set.specs.Ranges.{AreApart}
-use Rattle.row_set.specs.Sets.{united, common}
+use Rattle.row_set.{specs.declared.ranges.Range.Range, specs.declared.algebra.Choice.Choice, specs.declared.algebra.Choice.TheVariants.{Either, FirstAlone, Both}, specs.Ranges.AreApart, specs.Sets.{united, common}}
 
 abbrev pub takes : Choice → Bool → Bool → Bool
 takes Either in_first in_second = in_first || in_second

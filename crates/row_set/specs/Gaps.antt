@@ -3,10 +3,8 @@
 --     around gap ranges      the ranges before the gap, and then those after it
 --     listed range      the range, if there is one
 --     ArePassed ranges others      the ranges end, with a key to spare, before the first of the others begins
-use Rattle.std.specs.Prelude.{◌+◌, ◌≤◌, List, [], ◌∷◌, ◌++◌, length, take, drop, Option, None, Some}
-use Rattle.std.specs.List.{AllByRecursion}
-use Rattle.row_set.specs.declared.ranges.Range.{Range}
-use Rattle.row_set.specs.declared.gaps.Gap.{Gap}
+use Rattle.std.{specs.Prelude.{◌+◌, ◌≤◌, List, [], ◌∷◌, ◌++◌, length, take, drop, Option, None, Some}, specs.List.AllByRecursion}
+use Rattle.row_set.{specs.declared.ranges.Range.Range, specs.declared.gaps.Gap.Gap}
 
 pub record IsGap (gap : Gap) (ranges : List Range) : Type 0 where
   pub order : gap.start ≤ gap.end

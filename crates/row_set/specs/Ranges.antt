@@ -10,8 +10,7 @@
 --     stretched first last met      the range from first to last, stretched over those that it meets
 --     left_edge first range      what is left of the range before first, if anything
 --     right_edge last range      what is left of it after last, if anything
-use Rattle.std.specs.Prelude.{◌≡◌, ℕ, ◌+◌, ◌-◌, ◌^◌, ◌<◌, ◌≤◌, ◌==◌, ◌&&◌, Bool, List, [], ◌∷◌, length, take, drop, slice_range, slice_index_or, min, max, nat_le, nat_lt, if◌then◌else◌}
-use Rattle.std.specs.List.{AllByRecursion, flat_map, range_with_len}
+use Rattle.std.{specs.Prelude.{◌≡◌, ℕ, ◌+◌, ◌-◌, ◌^◌, ◌<◌, ◌≤◌, ◌==◌, ◌&&◌, Bool, List, [], ◌∷◌, length, take, drop, slice_range, slice_index_or, min, max, nat_le, nat_lt, if◌then◌else◌}, specs.List.{AllByRecursion, flat_map, range_with_len}}
 use Rattle.row_set.specs.declared.ranges.Range.{Range}
 
 abbrev pub keys_from : ℕ → ℕ → List ℕ

@@ -7,9 +7,7 @@
 --     IsStored runs      how a set is kept
 --     IsRoom more runs      there is room for some more ranges
 use Rattle.std.specs.Prelude.{◌≡◌, ℕ, ◌+◌, ◌-◌, ◌*◌, ◌≤◌, List, ◌∷◌, length, drop, slice_index_or, vec_capacity}
-use Rattle.row_set.specs.declared.ranges.Range.{Range}
-use Rattle.row_set.specs.declared.runs.Runs.{Runs}
-use Rattle.row_set.specs.Ranges.{AreApart, keys_before}
+use Rattle.row_set.{specs.declared.ranges.Range.Range, specs.declared.runs.Runs.Runs, specs.Ranges.{AreApart, keys_before}}
 
 -- none before the first block
 abbrev pub start_of : List ℕ → ℕ → ℕ

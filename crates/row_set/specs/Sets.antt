@@ -4,8 +4,7 @@
 --     common keys others      the keys that are among the others too
 --     count_below key keys      how many are smaller
 --     found key keys      the position of the key, or where it would stand
-use Rattle.std.specs.Prelude.{ℕ, ◌-◌, ◌^◌, ◌<◌, ◌==◌, List, [], ◌∷◌, length, filter, slice_get, nat_lt, if◌then◌else◌, Option, Result, Ok, Err}
-use Rattle.std.specs.List.{AllByRecursion}
+use Rattle.std.{specs.Prelude.{ℕ, ◌-◌, ◌^◌, ◌<◌, ◌==◌, List, [], ◌∷◌, length, filter, slice_get, nat_lt, if◌then◌else◌, Option, Result, Ok, Err}, specs.List.AllByRecursion}
 use Rattle.key_lists.specs.Keys.{is_among, IsRising}
 
 pub record IsKeySet (keys : List ℕ) : Type 0 where

@@ -1,9 +1,6 @@
 -- What stands behind the first record of a text.
 use Rattle.std.proofs.Common.{◌≡◌, refl, ap, sym, ◌∙◌, Bool, true, false, true≢false, cond, not, ◌&&◌, ◌||◌, ◌==◌, ℕ, ◌-◌, ◌<◌, arith, List, [], ◌∷◌, ◌++◌, length, length-append, take, drop, append_assoc, inl, inr}
-use Rattle.std.specs.Prelude.{flat_map}
-use Rattle.std.specs.List.{list_any, AllByRecursion}
-use Rattle.std.proofs.lemmas.Bool.{or_parts, ne_eqb}
-use Rattle.std.proofs.lemmas.List.{take_at, drop_at}
+use Rattle.std.{specs.Prelude.flat_map, specs.List.{list_any, AllByRecursion}, proofs.lemmas.Bool.{or_parts, ne_eqb}, proofs.lemmas.List.{take_at, drop_at}}
 use Rattle.tick_model.specs.Texts.{needs_quotes, doubled, field_text, comma_before, record_text, records_text}
 use Rattle.update_text.proofs.Quoting.{doubled_cases, inner, quoted, quoted_before, record_before}
 use Rattle.run_output.specs.Splitting.{IsPart, begins_part}

@@ -1,28 +1,10 @@
 -- The records of an entry: the one that begins it, and those that belong to it.
 use Rattle.std.proofs.Common.{◌≡◌, refl, ap, sym, ◌∙◌, true, false, true≢false, ℕ, List, [], ◌∷◌, ◌++◌, append_assoc, map, drop, length, ◌*◌, ◌<◌, ◌==◌, get_or, subst, eq-eqb}
-use Rattle.std.specs.Prelude.{codes, Result, Ok, Err}
-use Rattle.std.specs.List.{AllByRecursion}
-use Rattle.std.specs.Fmt.{decimal}
-use Rattle.std.proofs.lemmas.List.{append-nil, get_or_default}
-use Rattle.key_lists.specs.Keys.{runs}
-use Rattle.key_lists.proofs.Every.{every, every-map, every-append}
-use Rattle.key_lists.proofs.Parts.{every_at}
-use Rattle.tick_model.specs.declared.plan.ColumnSpec.{ColumnSpec}
-use Rattle.tick_model.specs.Changes.{Change, rows_under}
-use Rattle.tick_model.specs.Texts.{columns_record, fields_text, record_text, records_text, removed_record, row_record, shift_record}
-use Rattle.update_text.specs.declared.printed.PrintedFault.{PrintedFault}
-use Rattle.update_text.specs.declared.shown.Shown.{Shown}
-use Rattle.update_text.specs.OneToOne.{IsPrinted, change_text}
-use Rattle.update_text.specs.Reading.{Gives}
-use Rattle.update_text.specs.Told.{parts_shown}
-use Rattle.update_text.proofs.Backwards.{ended_is_none}
-use Rattle.update_text.proofs.ReadRows.{none_from_test}
-use Rattle.update_text.proofs.ChangeRecords.{first_and_parts}
-use Rattle.update_text.proofs.ChangesBack.{text_same}
-use Rattle.run_output.specs.declared.entry.Entry.{Entry}
-use Rattle.run_output.specs.declared.entry.Entry.TheVariants.{Update, Snapshot, Done, Fault}
-use Rattle.run_output.specs.Entries.{AreShown, IsEntry, IsShown, entry_records, entry_text, output_text, shown_at}
-use Rattle.run_output.specs.Splitting.{IsPart, begins_part}
+use Rattle.std.{specs.Prelude.{codes, Result, Ok, Err}, specs.List.AllByRecursion, specs.Fmt.decimal, proofs.lemmas.List.{append-nil, get_or_default}}
+use Rattle.key_lists.{specs.Keys.runs, proofs.Every.{every, every-map, every-append}, proofs.Parts.every_at}
+use Rattle.tick_model.{specs.declared.plan.ColumnSpec.ColumnSpec, specs.Changes.{Change, rows_under}, specs.Texts.{columns_record, fields_text, record_text, records_text, removed_record, row_record, shift_record}}
+use Rattle.update_text.{specs.declared.printed.PrintedFault.PrintedFault, specs.declared.shown.Shown.Shown, specs.OneToOne.{IsPrinted, change_text}, specs.Reading.Gives, specs.Told.parts_shown, proofs.Backwards.ended_is_none, proofs.ReadRows.none_from_test, proofs.ChangeRecords.first_and_parts, proofs.ChangesBack.text_same}
+use Rattle.run_output.{specs.declared.entry.Entry.Entry, specs.declared.entry.Entry.TheVariants.{Update, Snapshot, Done, Fault}, specs.Entries.{AreShown, IsEntry, IsShown, entry_records, entry_text, output_text, shown_at}, specs.Splitting.{IsPart, begins_part}}
 
 abbrev pub tag_of : Entry → List ℕ
 tag_of (Update table step change) = codes "step"

@@ -1,23 +1,11 @@
 -- The entries of a lawful run can be told.
 use Rattle.std.proofs.Common.{◌≡◌, ap, ◌∙◌, true, ℕ, ◌+◌, ◌<◌, List, [], ◌∷◌, map, length}
-use Rattle.std.specs.Prelude.{nat_le, nat_lt}
-use Rattle.std.specs.List.{AllByRecursion, enumerate_from, list_all}
-use Rattle.std.proofs.lemmas.Bool.{and_parts, leb-true, ltb-true}
-use Rattle.key_lists.specs.Keys.{is_among}
-use Rattle.key_lists.proofs.Among.{of_among}
-use Rattle.key_lists.proofs.Every.{every_weaker, map_map}
-use Rattle.tick_model.specs.declared.feed.Run.{Run}
-use Rattle.tick_model.specs.declared.plan.ColumnSpec.{ColumnSpec}
-use Rattle.tick_model.specs.declared.plan.Node.{Node}
-use Rattle.tick_model.specs.declared.plan.Plan.{Plan}
-use Rattle.tick_model.specs.Operators.{inputs_of, columns_fit}
-use Rattle.tick_model.specs.LawfulRuns.{IsLawfulRun}
-use Rattle.tick_model.specs.Names.{are_distinct}
-use Rattle.tick_model.specs.Plans.{is_lawful, node_lawful, publication_lawful, rises}
+use Rattle.std.{specs.Prelude.{nat_le, nat_lt}, specs.List.{AllByRecursion, enumerate_from, list_all}, proofs.lemmas.Bool.{and_parts, leb-true, ltb-true}}
+use Rattle.key_lists.{specs.Keys.is_among, proofs.Among.of_among, proofs.Every.{every_weaker, map_map}}
+use Rattle.tick_model.{specs.declared.feed.Run.Run, specs.declared.plan.ColumnSpec.ColumnSpec, specs.declared.plan.Node.Node, specs.declared.plan.Plan.Plan, specs.Operators.{inputs_of, columns_fit}, specs.LawfulRuns.IsLawfulRun, specs.Names.are_distinct, specs.Plans.{is_lawful, node_lawful, publication_lawful, rises}}
 use Rattle.tick_laws.proofs.EvalNodes.{all_pass}
 use Rattle.update_text.specs.declared.shown.Shown.{Shown}
-use Rattle.run_output.specs.Entries.{AreShown, IsShown}
-use Rattle.run_output.specs.Runs.{shown_node, tables_of}
+use Rattle.run_output.{specs.Entries.{AreShown, IsShown}, specs.Runs.{shown_node, tables_of}}
 
 -- what the test of a plan says of its names, its nodes, and those that are printed and published
 pub record HasPassed (plan : Plan) : Type 0 where

@@ -1,31 +1,10 @@
 -- What updates make of a copy.
 use Rattle.std.proofs.Common.{◌≡◌, refl, ap, sym, ◌∙◌, subst, true, false, true≢false, cond, ◌||◌, ◌==◌, ℕ, zero, suc, ◌+◌, ◌-◌, ◌<◌, ◌≤◌, add-one, arith, List, [], ◌∷◌, ◌++◌, eq-eqb, eqb-true}
-use Rattle.std.specs.Prelude.{flat_map, fold, nat_lt, Some}
-use Rattle.std.specs.List.{AllByRecursion, range_with_len}
-use Rattle.std.proofs.lemmas.Bool.{and_parts, ltb-true}
-use Rattle.std.proofs.lemmas.Grind.{flat_map-append}
-use Rattle.key_lists.specs.Keys.{is_among}
-use Rattle.key_lists.proofs.Among.{among_below}
-use Rattle.key_lists.proofs.Every.{every_weaker}
-use Rattle.key_lists.proofs.Ranges.{range-append}
-use Rattle.tick_model.specs.declared.feed.Run.{Run}
-use Rattle.tick_model.specs.declared.table.PlainTable.{PlainTable}
-use Rattle.tick_model.specs.Changes.{Change, change_of, changed, is_empty}
-use Rattle.tick_model.specs.Evaluation.{table_at}
-use Rattle.tick_model.specs.LawfulRuns.{IsLawfulRun}
-use Rattle.tick_model.specs.Plans.{rises}
-use Rattle.tick_model.specs.Spoiled.{good}
-use Rattle.tick_model.specs.States.{empty_at, state, tick}
-use Rattle.tick_model.specs.Updates.{Tick, between}
-use Rattle.tick_laws.specs.Reached.{IsReached, IsTickFrom, table_before}
-use Rattle.tick_laws.proofs.EmptyUpdates.{unchanged_by_empty}
-use Rattle.tick_laws.proofs.GoodSteps.{good_reached}
-use Rattle.tick_laws.proofs.RunTicks.{lawful_ticks, reached_before}
-use Rattle.tick_laws.proofs.ToldRows.{change-carries}
-use Rattle.run_output.specs.declared.entry.Entry.{Entry}
-use Rattle.run_output.specs.declared.entry.Entry.TheVariants.{Update}
-use Rattle.run_output.specs.Runs.{applied, copy_after, step_entries, told_update, update_entries, update_entry}
-use Rattle.run_output.proofs.RunEntries.{printed_there, printed_rise}
+use Rattle.std.{specs.Prelude.{flat_map, fold, nat_lt, Some}, specs.List.{AllByRecursion, range_with_len}, proofs.lemmas.Bool.{and_parts, ltb-true}, proofs.lemmas.Grind.flat_map-append}
+use Rattle.key_lists.{specs.Keys.is_among, proofs.Among.among_below, proofs.Every.every_weaker, proofs.Ranges.range-append}
+use Rattle.tick_model.{specs.declared.feed.Run.Run, specs.declared.table.PlainTable.PlainTable, specs.Changes.{Change, change_of, changed, is_empty}, specs.Evaluation.table_at, specs.LawfulRuns.IsLawfulRun, specs.Plans.rises, specs.Spoiled.good, specs.States.{empty_at, state, tick}, specs.Updates.{Tick, between}}
+use Rattle.tick_laws.{specs.Reached.{IsReached, IsTickFrom, table_before}, proofs.EmptyUpdates.unchanged_by_empty, proofs.GoodSteps.good_reached, proofs.RunTicks.{lawful_ticks, reached_before}, proofs.ToldRows.change-carries}
+use Rattle.run_output.{specs.declared.entry.Entry.Entry, specs.declared.entry.Entry.TheVariants.Update, specs.Runs.{applied, copy_after, step_entries, told_update, update_entries, update_entry}, proofs.RunEntries.{printed_there, printed_rise}}
 
 pub fold-append : {A B : Type 0} (f : B → A → B) (a : B) (xs ys : List A) → fold f a (xs ++ ys) ≡ fold f (fold f a xs) ys
 fold-append f a [] ys = refl

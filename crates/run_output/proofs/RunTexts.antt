@@ -1,21 +1,9 @@
 -- The texts of a run are those of its entries.
 use Rattle.std.proofs.Common.{◌≡◌, refl, ap, sym, ◌∙◌, true, false, cond, ℕ, zero, suc, ◌+◌, ◌%◌, List, [], ◌∷◌, ◌++◌, map, length, get_or}
-use Rattle.std.specs.Prelude.{flat_map}
-use Rattle.std.specs.List.{range_with_len}
-use Rattle.std.proofs.lemmas.Grind.{flat_map-append}
-use Rattle.std.proofs.lemmas.List.{append-nil}
-use Rattle.tick_model.specs.declared.feed.Run.{Run}
-use Rattle.tick_model.specs.declared.plan.Node.{Node}
-use Rattle.tick_model.specs.declared.plan.Published.{Published}
-use Rattle.tick_model.specs.Changes.{Change, change_of, is_empty}
-use Rattle.tick_model.specs.Evaluation.{table_at}
-use Rattle.tick_model.specs.States.{state, tick}
-use Rattle.tick_model.specs.Texts.{calls_records, callers_records, change_records, columns_at, name_at, node_records, published_node, records_text, record_text, snapshot_of, snapshot_records, snapshots_text, some_published, step_records, told_records, updates_text}
+use Rattle.std.{specs.Prelude.flat_map, specs.List.range_with_len, proofs.lemmas.Grind.flat_map-append, proofs.lemmas.List.append-nil}
+use Rattle.tick_model.{specs.declared.feed.Run.Run, specs.declared.plan.Node.Node, specs.declared.plan.Published.Published, specs.Changes.{Change, change_of, is_empty}, specs.Evaluation.table_at, specs.States.{state, tick}, specs.Texts.{calls_records, callers_records, change_records, columns_at, name_at, node_records, published_node, records_text, record_text, snapshot_of, snapshot_records, snapshots_text, some_published, step_records, told_records, updates_text}}
 use Rattle.update_text.specs.declared.shown.Shown.{Shown}
-use Rattle.run_output.specs.declared.entry.Entry.{Entry}
-use Rattle.run_output.specs.declared.entry.Entry.TheVariants.{Update}
-use Rattle.run_output.specs.Entries.{entry_text, output_text, shown_at}
-use Rattle.run_output.specs.Runs.{callers_entries, calls_entries, shown_node, snapshot_entries, snapshot_entry, step_entries, tables_of, told_update, update_entries, update_entry, where_published}
+use Rattle.run_output.{specs.declared.entry.Entry.Entry, specs.declared.entry.Entry.TheVariants.Update, specs.Entries.{entry_text, output_text, shown_at}, specs.Runs.{callers_entries, calls_entries, shown_node, snapshot_entries, snapshot_entry, step_entries, tables_of, told_update, update_entries, update_entry, where_published}}
 
 -- a node as it is shown
 pub shown_is : (nodes : List Node) (node : ℕ) →

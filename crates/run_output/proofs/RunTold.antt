@@ -1,42 +1,11 @@
 -- The entries of a lawful run, up to its last good step, can be told.
 use Rattle.std.proofs.Common.{◌≡◌, refl, ap, sym, subst, true, false, cond, ℕ, ◌+◌, ◌%◌, ◌^◌, ◌<◌, ◌≤◌, arith, List, [], ◌∷◌, map, length}
-use Rattle.std.specs.Prelude.{flat_map, nat_le, nat_lt, Some}
-use Rattle.std.specs.List.{AllByRecursion, list_all, range_with_len}
-use Rattle.std.proofs.lemmas.Bool.{and_parts, ltb-true}
-use Rattle.std.proofs.lemmas.List.{length-map}
-use Rattle.std.proofs.lemmas.Nat.{mod_below}
-use Rattle.key_lists.proofs.Every.{every-append, every_both}
-use Rattle.key_lists.proofs.Parts.{every_at}
-use Rattle.key_lists.proofs.Ranges.{range_below}
-use Rattle.tick_laws.specs.Fitting.{FitsColumns}
-use Rattle.tick_laws.specs.Reached.{IsReached}
-use Rattle.tick_laws.proofs.FittingNodes.{node_fits, node_printable}
-use Rattle.tick_laws.proofs.GoodSteps.{good_reached, good_within}
-use Rattle.tick_laws.proofs.ReachedTables.{reached_tables}
-use Rattle.tick_laws.proofs.RunTicks.{reached_before}
-use Rattle.tick_model.specs.declared.feed.Run.{Run}
-use Rattle.tick_model.specs.declared.plan.ColumnSpec.{ColumnSpec}
-use Rattle.tick_model.specs.declared.plan.Node.{Node}
-use Rattle.tick_model.specs.declared.plan.Published.{Published}
-use Rattle.tick_model.specs.declared.table.PlainRow.{PlainRow}
-use Rattle.tick_model.specs.Changes.{Change, change_of, is_empty}
-use Rattle.tick_model.specs.Choices.{IsCalls, IsChoice}
-use Rattle.tick_model.specs.Evaluation.{table_at}
-use Rattle.tick_model.specs.LawfulRuns.{IsLawfulRun}
-use Rattle.tick_model.specs.Plans.{publication_lawful}
-use Rattle.tick_model.specs.Printable.{IsPrintable}
-use Rattle.tick_model.specs.Spoiled.{good}
-use Rattle.tick_model.specs.States.{state, tick}
-use Rattle.tick_model.specs.Tables.{IsRow}
-use Rattle.tick_model.specs.Texts.{columns_at, published_node}
-use Rattle.update_text.specs.declared.shown.Shown.{Shown}
-use Rattle.update_text.specs.Reading.{IsToldRow}
-use Rattle.run_output.specs.declared.entry.Entry.{Entry}
-use Rattle.run_output.specs.declared.entry.Entry.TheVariants.{Update}
-use Rattle.run_output.specs.Entries.{IsEntry, shown_at}
-use Rattle.run_output.specs.Runs.{callers_entries, calls_entries, shown_node, snapshot_entries, snapshot_entry, step_entries, tables_of, told_update, update_entries, update_entry, where_published}
-use Rattle.run_output.proofs.RunEntries.{has_passed, printed_are}
-use Rattle.run_output.proofs.RunTexts.{shown_is}
+use Rattle.std.{specs.Prelude.{flat_map, nat_le, nat_lt, Some}, specs.List.{AllByRecursion, list_all, range_with_len}, proofs.lemmas.Bool.{and_parts, ltb-true}, proofs.lemmas.List.length-map, proofs.lemmas.Nat.mod_below}
+use Rattle.key_lists.{proofs.Every.{every-append, every_both}, proofs.Parts.every_at, proofs.Ranges.range_below}
+use Rattle.tick_laws.{specs.Fitting.FitsColumns, specs.Reached.IsReached, proofs.FittingNodes.{node_fits, node_printable}, proofs.GoodSteps.{good_reached, good_within}, proofs.ReachedTables.reached_tables, proofs.RunTicks.reached_before}
+use Rattle.tick_model.{specs.declared.feed.Run.Run, specs.declared.plan.ColumnSpec.ColumnSpec, specs.declared.plan.Node.Node, specs.declared.plan.Published.Published, specs.declared.table.PlainRow.PlainRow, specs.Changes.{Change, change_of, is_empty}, specs.Choices.{IsCalls, IsChoice}, specs.Evaluation.table_at, specs.LawfulRuns.IsLawfulRun, specs.Plans.publication_lawful, specs.Printable.IsPrintable, specs.Spoiled.good, specs.States.{state, tick}, specs.Tables.IsRow, specs.Texts.{columns_at, published_node}}
+use Rattle.update_text.{specs.declared.shown.Shown.Shown, specs.Reading.IsToldRow}
+use Rattle.run_output.{specs.declared.entry.Entry.Entry, specs.declared.entry.Entry.TheVariants.Update, specs.Entries.{IsEntry, shown_at}, specs.Runs.{callers_entries, calls_entries, shown_node, snapshot_entries, snapshot_entry, step_entries, tables_of, told_update, update_entries, update_entry, where_published}, proofs.RunEntries.{has_passed, printed_are}, proofs.RunTexts.shown_is}
 
 pub every_flat : {X Y : Type 0} (P : Y → Type 0) (Q : X → Type 0) (f : X → List Y) → ((x : X) → Q x → AllByRecursion P (f x)) → (xs : List X) → AllByRecursion Q xs → AllByRecursion P (flat_map f xs)
 every_flat P Q f each [] h = tt

@@ -4,17 +4,10 @@
 --     output_text tables texts entries      the text of entries, one after the other
 --     IsEntry tables texts entry      an entry that can be told
 --     AreShown tables texts      tables of distinct names, with 1 to 32 columns of distinct names each, and texts that rise
-use Rattle.std.specs.Prelude.{◌≡◌, ℕ, ◌^◌, ◌<◌, ◌≤◌, true, List, [], ◌∷◌, codes, flat_map, length, map, slice_index_or}
-use Rattle.std.specs.List.{AllByRecursion}
-use Rattle.tick_model.specs.LawfulRuns.{AreTexts}
-use Rattle.tick_model.specs.Names.{are_distinct}
-use Rattle.tick_model.specs.Texts.{done_record, records_text}
-use Rattle.update_text.specs.declared.shown.Shown.{Shown}
-use Rattle.update_text.specs.OneToOne.{IsPrinted}
-use Rattle.update_text.specs.Snapshots.{IsSnapshot, snapshot_shown}
-use Rattle.update_text.specs.Told.{change_shown}
-use Rattle.run_output.specs.declared.entry.Entry.{Entry}
-use Rattle.run_output.specs.declared.entry.Entry.TheVariants.{Update, Snapshot, Done, Fault}
+use Rattle.std.{specs.Prelude.{◌≡◌, ℕ, ◌^◌, ◌<◌, ◌≤◌, true, List, [], ◌∷◌, codes, flat_map, length, map, slice_index_or}, specs.List.AllByRecursion}
+use Rattle.tick_model.{specs.LawfulRuns.AreTexts, specs.Names.are_distinct, specs.Texts.{done_record, records_text}}
+use Rattle.update_text.{specs.declared.shown.Shown.Shown, specs.OneToOne.IsPrinted, specs.Snapshots.{IsSnapshot, snapshot_shown}, specs.Told.change_shown}
+use Rattle.run_output.{specs.declared.entry.Entry.Entry, specs.declared.entry.Entry.TheVariants.{Update, Snapshot, Done, Fault}}
 
 abbrev pub shown_at : List Shown → ℕ → Shown
 shown_at tables table = slice_index_or tables table (record { name = []; columns = [] })

@@ -3,19 +3,10 @@
 --     update_entries run last      the changes of the printed nodes that are not empty, up to a step
 --     snapshot_entries run choice      the snapshots at the steps that a choice gives
 --     copy_after node table entries      a copy of a node's table, after the updates among entries
-use Rattle.std.specs.Prelude.{ℕ, ◌+◌, ◌%◌, ◌==◌, List, [], ◌∷◌, ◌++◌, map, flat_map, fold, length, if◌then◌else◌}
-use Rattle.std.specs.List.{range_with_len}
-use Rattle.tick_model.specs.declared.feed.Run.{Run}
-use Rattle.tick_model.specs.declared.plan.Node.{Node}
-use Rattle.tick_model.specs.declared.plan.Published.{Published}
-use Rattle.tick_model.specs.declared.table.PlainTable.{PlainTable}
-use Rattle.tick_model.specs.Changes.{Change, change_of, changed, is_empty}
-use Rattle.tick_model.specs.Evaluation.{table_at}
-use Rattle.tick_model.specs.States.{state, tick}
-use Rattle.tick_model.specs.Texts.{published_node}
+use Rattle.std.{specs.Prelude.{ℕ, ◌+◌, ◌%◌, ◌==◌, List, [], ◌∷◌, ◌++◌, map, flat_map, fold, length, if◌then◌else◌}, specs.List.range_with_len}
+use Rattle.tick_model.{specs.declared.feed.Run.Run, specs.declared.plan.Node.Node, specs.declared.plan.Published.Published, specs.declared.table.PlainTable.PlainTable, specs.Changes.{Change, change_of, changed, is_empty}, specs.Evaluation.table_at, specs.States.{state, tick}, specs.Texts.published_node}
 use Rattle.update_text.specs.declared.shown.Shown.{Shown}
-use Rattle.run_output.specs.declared.entry.Entry.{Entry}
-use Rattle.run_output.specs.declared.entry.Entry.TheVariants.{Update, Snapshot, Done, Fault}
+use Rattle.run_output.{specs.declared.entry.Entry.Entry, specs.declared.entry.Entry.TheVariants.{Update, Snapshot, Done, Fault}}
 
 abbrev pub shown_node : Node → Shown
 shown_node node = record { name = node.name; columns = node.columns }

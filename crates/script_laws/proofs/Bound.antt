@@ -1,19 +1,9 @@
 -- Ranks in the place of literals change neither kinds, names, columns, inputs nor keys.
 use Rattle.std.proofs.Common.{◌≡◌, refl, ap, ◌∙◌, true, ◌&&◌, ◌||◌, ℕ, List, [], ◌∷◌, ◌++◌, map, get_or}
-use Rattle.std.specs.Prelude.{fold}
-use Rattle.std.specs.List.{list_all}
-use Rattle.std.proofs.lemmas.Bool.{and_from}
-use Rattle.tick_model.specs.declared.plan.Expr.{Expr, Cell, Number, Null, Literal, Rank, Neg', Add', Sub', Mul'}
-use Rattle.tick_model.specs.declared.plan.Kind.{Kind}
-use Rattle.tick_model.specs.declared.plan.Node.{Node}
-use Rattle.tick_model.specs.declared.plan.Op.{Op}
+use Rattle.std.{specs.Prelude.fold, specs.List.list_all, proofs.lemmas.Bool.and_from}
+use Rattle.tick_model.{specs.declared.plan.Expr.{Expr, Cell, Number, Null, Literal, Rank, Neg', Add', Sub', Mul'}, specs.declared.plan.Kind.Kind, specs.declared.plan.Node.Node, specs.declared.plan.Op.Op, specs.declared.plan.Pred.{Pred, Compare, And', Or', Not'}, specs.Operators.{inputs_of, bound_of}, specs.Plans.{with_bound, key_bounds}, specs.Columns.{long_alone, both_long, kind_of, kinds_meet, is_null_alone, test_fits, is_bound, is_test_bound}}
 use Rattle.tick_model.specs.declared.plan.Op.TheVariants as ops
-use Rattle.tick_model.specs.declared.plan.Pred.{Pred, Compare, And', Or', Not'}
-use Rattle.tick_model.specs.Operators.{inputs_of, bound_of}
-use Rattle.tick_model.specs.Plans.{with_bound, key_bounds}
-use Rattle.tick_model.specs.Columns.{long_alone, both_long, kind_of, kinds_meet, is_null_alone, test_fits, is_bound, is_test_bound}
-use Rattle.script_reader.specs.Binding.{bound_expr, bound_test, bound_op, bound_node}
-use Rattle.script_reader.specs.Checks.{names_of, tables_of}
+use Rattle.script_reader.{specs.Binding.{bound_expr, bound_test, bound_op, bound_node}, specs.Checks.{names_of, tables_of}}
 
 module _ (ranks : List ℕ) where
   kind_bound : (expr : Expr) (kinds : List Kind) → kind_of (bound_expr ranks expr) kinds ≡ kind_of expr kinds

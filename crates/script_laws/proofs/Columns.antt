@@ -1,14 +1,7 @@
 -- Columns that fit each other: what an operator's columns are made of, and the tests that they pass.
 use Rattle.std.proofs.Common.{◌≡◌, refl, sym, ◌∙◌, true, false, ◌&&◌, ℕ, zero, suc, ◌<◌, ◌≤◌, arith, List, [], ◌∷◌, ◌++◌, map, length, Option, Some, None, is_some}
-use Rattle.std.specs.Prelude.{ℤ, pos, negsuc, unwrap_or, nat_le, slice_get, slice_index}
-use Rattle.std.specs.List.{AllByRecursion}
-use Rattle.std.proofs.lemmas.Bool.{cond_both, and_parts, and_from, true≢false, false≢true, false_from_ne_true}
-use Rattle.std.proofs.lemmas.Slice.Eq.{bytes_eq-Decides}
-use Rattle.tick_model.specs.declared.plan.ColumnSpec.{ColumnSpec}
-use Rattle.tick_model.specs.declared.plan.Kind.{Kind}
-use Rattle.tick_model.specs.declared.plan.Kind.TheVariants.{Long, Text}
-use Rattle.tick_model.specs.Names.{is_name, same_name}
-use Rattle.tick_model.specs.Columns.{same_kind, kind_at, has_kind, same_columns, have_kinds, has_name, keep_names, follow, some_of}
+use Rattle.std.{specs.Prelude.{ℤ, pos, negsuc, unwrap_or, nat_le, slice_get, slice_index}, specs.List.AllByRecursion, proofs.lemmas.Bool.{cond_both, and_parts, and_from, true≢false, false≢true, false_from_ne_true}, proofs.lemmas.Slice.Eq.bytes_eq-Decides}
+use Rattle.tick_model.{specs.declared.plan.ColumnSpec.ColumnSpec, specs.declared.plan.Kind.Kind, specs.declared.plan.Kind.TheVariants.{Long, Text}, specs.Names.{is_name, same_name}, specs.Columns.{same_kind, kind_at, has_kind, same_columns, have_kinds, has_name, keep_names, follow, some_of}}
 use Rattle.script_lines.specs.Kept.{IsNamed}
 use Rattle.script_reader.specs.Checks.{named_columns, all_there, column_at, table_at, rows_of}
 

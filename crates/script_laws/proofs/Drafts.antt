@@ -1,42 +1,13 @@
 -- What a node would be, from the nodes before it, operator by operator: its inputs are among them, its columns have names and are those of
 -- its operator, and its formulas are written in the texts.
 use Rattle.std.proofs.Common.{◌≡◌, refl, ap, sym, ◌∙◌, subst, Bool, true, ◌&&◌, ℕ, ◌<◌, ◌≤◌, arith, List, [], ◌∷◌, ◌++◌, map, length, Option, is_some, Result}
-use Rattle.std.specs.Prelude.{ℤ, unwrap_or, nat_le, slice_index}
-use Rattle.std.specs.List.{AllByRecursion, list_all}
-use Rattle.std.proofs.lemmas.Bool.{and_parts, and_from}
-use Rattle.std.proofs.lemmas.List.{length-map}
+use Rattle.std.{specs.Prelude.{ℤ, unwrap_or, nat_le, slice_index}, specs.List.{AllByRecursion, list_all}, proofs.lemmas.Bool.{and_parts, and_from}, proofs.lemmas.List.length-map}
 use Rattle.key_lists.proofs.Every.{every_weaker, every-append, every-map}
-use Rattle.tick_model.specs.declared.plan.Agg.{Agg as Aggregate}
-use Rattle.tick_model.specs.declared.plan.Choice.{Choice}
-use Rattle.tick_model.specs.declared.plan.ColumnSpec.{ColumnSpec}
-use Rattle.tick_model.specs.declared.plan.Expr.{Expr}
-use Rattle.tick_model.specs.declared.plan.Kind.{Kind}
-use Rattle.tick_model.specs.declared.plan.Kind.TheVariants.{Long}
-use Rattle.tick_model.specs.declared.plan.SortBy.{SortBy}
-use Rattle.tick_model.specs.declared.plan.Op.{Op}
+use Rattle.tick_model.{specs.declared.plan.Agg.Agg as Aggregate, specs.declared.plan.Choice.Choice, specs.declared.plan.ColumnSpec.ColumnSpec, specs.declared.plan.Expr.Expr, specs.declared.plan.Kind.Kind, specs.declared.plan.Kind.TheVariants.Long, specs.declared.plan.SortBy.SortBy, specs.declared.plan.Op.Op, specs.Operators.{inputs_of, columns_fit}, specs.Names.is_name, specs.Columns.{kinds_of, kind_of, kind_at, has_kind, agg_kind, some_of, is_bound, is_test_bound, test_fits, same_columns, have_kinds, keep_names, follow, same_kind_at}}
 use Rattle.tick_model.specs.declared.plan.Op.TheVariants as ops
-use Rattle.tick_model.specs.Operators.{inputs_of, columns_fit}
-use Rattle.tick_model.specs.Names.{is_name}
-use Rattle.tick_model.specs.Columns.{kinds_of, kind_of, kind_at, has_kind, agg_kind, some_of, is_bound, is_test_bound, test_fits, same_columns, have_kinds, keep_names, follow, same_kind_at}
-use Rattle.script_lines.specs.declared.fault.ScriptKind.{ScriptKind}
-use Rattle.script_lines.specs.declared.line.Computed.{Computed}
-use Rattle.script_lines.specs.declared.line.Declared.{Declared}
-use Rattle.script_lines.specs.declared.line.Gathered.{Gathered}
-use Rattle.script_lines.specs.declared.making.Making.{Making}
-use Rattle.script_lines.specs.declared.making.Making.TheVariants.{Keep, View, Join, AsOf, Agg, Merge, Sort, Head, Tail}
-use Rattle.script_lines.specs.declared.line.Pair.{Pair}
-use Rattle.script_lines.specs.declared.line.Sorted.{Sorted}
-use Rattle.script_lines.specs.declared.line.Test.{Test}
-use Rattle.script_lines.specs.Answers.{◌>>=◌}
-use Rattle.script_lines.specs.Kept.{IsNamed, TestKeeps, DeclaredKeeps, ComputedKeeps, PairKeeps, GatheredKeeps, MembersKeep}
-use Rattle.script_lines.specs.Making.{MakingKeeps}
-use Rattle.script_reader.specs.Binding.{bound_expr, bound_test, bound_op}
-use Rattle.script_reader.specs.Checks.{source_column, source_draft, Before, Draft, table_at, taken_of, gathered_of, kept, viewed, joined, joined_as_of, grouped, merged, sorted, headed, tailed, drafted, named_columns, all_there, expr_kinds, viewed_columns, joined_columns, pairs_fit, gathered_columns, column_at, rows_of, node_named, each, pair_of, sort_of}
-use Rattle.script_laws.proofs.Reading.{Holds, done, then, whatever, each_read, each_long, node_found, column_found}
-use Rattle.script_laws.proofs.Bound.{kinds_bound, test_fits_bound, exprs_bound, test_bound}
-use Rattle.script_laws.proofs.Columns.{IsTable, table_within, some_alike, some_before, some_behind, same_columns-refl, follow-append, have_kinds-append, have_kinds-named, named-named, some-named, kind_there, kinds_there, kinds_of_columns, keep_names-append, names_of_columns, few_rows, first_within}
-use Rattle.script_laws.proofs.Texts.{AreWritten, Grow, not_grown, test_read, AreFormulas, exprs_read}
-use Rattle.script_laws.proofs.Written.{IsWrittenDraft}
+use Rattle.script_lines.{specs.declared.fault.ScriptKind.ScriptKind, specs.declared.line.Computed.Computed, specs.declared.line.Declared.Declared, specs.declared.line.Gathered.Gathered, specs.declared.making.Making.Making, specs.declared.making.Making.TheVariants.{Keep, View, Join, AsOf, Agg, Merge, Sort, Head, Tail}, specs.declared.line.Pair.Pair, specs.declared.line.Sorted.Sorted, specs.declared.line.Test.Test, specs.Answers.◌>>=◌, specs.Kept.{IsNamed, TestKeeps, DeclaredKeeps, ComputedKeeps, PairKeeps, GatheredKeeps, MembersKeep}, specs.Making.MakingKeeps}
+use Rattle.script_reader.{specs.Binding.{bound_expr, bound_test, bound_op}, specs.Checks.{source_column, source_draft, Before, Draft, table_at, taken_of, gathered_of, kept, viewed, joined, joined_as_of, grouped, merged, sorted, headed, tailed, drafted, named_columns, all_there, expr_kinds, viewed_columns, joined_columns, pairs_fit, gathered_columns, column_at, rows_of, node_named, each, pair_of, sort_of}}
+use Rattle.script_laws.{proofs.Reading.{Holds, done, then, whatever, each_read, each_long, node_found, column_found}, proofs.Bound.{kinds_bound, test_fits_bound, exprs_bound, test_bound}, proofs.Columns.{IsTable, table_within, some_alike, some_before, some_behind, same_columns-refl, follow-append, have_kinds-append, have_kinds-named, named-named, some-named, kind_there, kinds_there, kinds_of_columns, keep_names-append, names_of_columns, few_rows, first_within}, proofs.Texts.{AreWritten, Grow, not_grown, test_read, AreFormulas, exprs_read}, proofs.Written.IsWrittenDraft}
 
 -- a draft over the nodes before it
 pub record IsSound (ranks : List ℕ) (before : Before) (draft : Draft) : Type 0 where

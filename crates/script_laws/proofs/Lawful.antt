@@ -1,36 +1,12 @@
 -- A script so far keeps the rules of plans, with ranks in the place of its literals, and each line keeps it so.
 use Rattle.std.proofs.Common.{◌≡◌, refl, ap, sym, ◌∙◌, subst, Bool, true, false, ◌&&◌, ℕ, zero, suc, ◌+◌, ◌<◌, ◌≤◌, ◌^◌, arith, List, [], ◌∷◌, ◌++◌, map, length, length-append, Some, None, Ok, Err}
-use Rattle.std.specs.Prelude.{ℤ, pos, negsuc, nat_lt, nat_le, slice_index, nat_eq, unwrap_or}
-use Rattle.std.specs.List.{AllByRecursion, list_all, enumerate_from}
-use Rattle.std.proofs.lemmas.Bool.{cond_both, and_from, lt-ltb, le-leb, ltb-false, leb-true, eqb-false, eq-eqb, true≢false}
-use Rattle.std.proofs.lemmas.List.{length-map, map_push, get_or_append_left}
-use Rattle.std.proofs.lemmas.List.Folds.{list_all-append}
-use Rattle.std.proofs.lemmas.List.Sums.{fold-append}
+use Rattle.std.{specs.Prelude.{ℤ, pos, negsuc, nat_lt, nat_le, slice_index, nat_eq, unwrap_or}, specs.List.{AllByRecursion, list_all, enumerate_from}, proofs.lemmas.Bool.{cond_both, and_from, lt-ltb, le-leb, ltb-false, leb-true, eqb-false, eq-eqb, true≢false}, proofs.lemmas.List.{length-map, map_push, get_or_append_left}, proofs.lemmas.List.Folds.list_all-append, proofs.lemmas.List.Sums.fold-append}
 use Rattle.key_lists.proofs.Every.{every_weaker, every-append, pass_all}
-use Rattle.tick_model.specs.declared.plan.ColumnSpec.{ColumnSpec}
-use Rattle.tick_model.specs.declared.plan.Node.{Node}
-use Rattle.tick_model.specs.declared.plan.Published.{Published}
-use Rattle.tick_model.specs.Operators.{inputs_of, bound_of, columns_fit}
-use Rattle.tick_model.specs.Names.{is_name, are_distinct}
-use Rattle.tick_model.specs.Plans.{with_bound, key_bounds, columns_at, node_lawful, published_words, publication_lawful, rises, number_distinct, is_lawful}
-use Rattle.script_lines.specs.declared.fault.ScriptKind.TheVariants.{TakenName, NumberRange, TooWide}
-use Rattle.script_lines.specs.declared.line.Line.{Line}
+use Rattle.tick_model.{specs.declared.plan.ColumnSpec.ColumnSpec, specs.declared.plan.Node.Node, specs.declared.plan.Published.Published, specs.Operators.{inputs_of, bound_of, columns_fit}, specs.Names.{is_name, are_distinct}, specs.Plans.{with_bound, key_bounds, columns_at, node_lawful, published_words, publication_lawful, rises, number_distinct, is_lawful}, proofs.Results.columns_fit_same}
+use Rattle.script_lines.{specs.declared.fault.ScriptKind.TheVariants.{TakenName, NumberRange, TooWide}, specs.declared.line.Line.Line, specs.Grammar.KeepsRules, specs.Kept.IsNamed}
 use Rattle.script_lines.specs.declared.line.Line.TheVariants as lines
-use Rattle.script_lines.specs.Grammar.{KeepsRules}
-use Rattle.script_lines.specs.Kept.{IsNamed}
-use Rattle.script_reader.specs.declared.script.Script.{Script}
-use Rattle.script_reader.specs.declared.script.SourceFile.{SourceFile}
-use Rattle.script_reader.specs.Binding.{bound, ranks_of, bound_op, bound_node}
-use Rattle.script_reader.specs.Checks.{before_of, source_draft, broken, placed, printed, published, is_among, is_no_limit, publication_of, with_node, with_printed, with_published, said, Draft, names_of, tables_of, table_at, rows_of, node_named}
-use Rattle.script_reader.specs.Scripts.{nothing, script_of}
-use Rattle.script_laws.proofs.Reading.{Holds, done, then, node_found, script_read}
-use Rattle.script_laws.proofs.Unbroken.{IsUnbroken, unbroken, where_unbroken}
-use Rattle.script_laws.proofs.Bound.{inputs_bound, key_bounds_bound, names_bound, tables_bound}
-use Rattle.script_laws.proofs.Columns.{IsTable, one_or_more}
-use Rattle.script_laws.proofs.Drafts.{IsSound, draft_sound, source_sound}
-use Rattle.tick_model.proofs.Results.{columns_fit_same}
-use Rattle.script_laws.proofs.Written.{IsWrittenScript, nothing_written, one_written}
-use Rattle.script_laws.proofs.Ordered.{are_distinct-push, number_distinct-push, rises-in_order, every-in_order}
+use Rattle.script_reader.{specs.declared.script.Script.Script, specs.declared.script.SourceFile.SourceFile, specs.Binding.{bound, ranks_of, bound_op, bound_node}, specs.Checks.{before_of, source_draft, broken, placed, printed, published, is_among, is_no_limit, publication_of, with_node, with_printed, with_published, said, Draft, names_of, tables_of, table_at, rows_of, node_named}, specs.Scripts.{nothing, script_of}}
+use Rattle.script_laws.{proofs.Reading.{Holds, done, then, node_found, script_read}, proofs.Unbroken.{IsUnbroken, unbroken, where_unbroken}, proofs.Bound.{inputs_bound, key_bounds_bound, names_bound, tables_bound}, proofs.Columns.{IsTable, one_or_more}, proofs.Drafts.{IsSound, draft_sound, source_sound}, proofs.Written.{IsWrittenScript, nothing_written, one_written}, proofs.Ordered.{are_distinct-push, number_distinct-push, rises-in_order, every-in_order}}
 
 -- a node with a number among nodes with columns
 pub record IsNode (ranks : List ℕ) (tables : List (List ColumnSpec)) (number : ℕ) (node : Node) : Type 0 where

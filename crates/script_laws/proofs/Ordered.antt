@@ -1,10 +1,7 @@
 -- Lists that stay in order, and without a member twice, with one member more.
 use Rattle.std.proofs.Common.{◌≡◌, refl, sym, Bool, true, false, not, eqb, ℕ, ◌<◌, ◌≤◌, arith, List, [], ◌∷◌, ◌++◌, inl, inr}
-use Rattle.std.specs.Prelude.{nat_lt}
-use Rattle.std.specs.List.{AllByRecursion, list_all}
-use Rattle.std.proofs.lemmas.Bool.{cond_both, and_parts, and_from, or_parts, or_from, not-true, not_from_false, lt-ltb, ltb-false, eqb-false, ne_eqb, cases_lt}
-use Rattle.tick_model.specs.Names.{same_name, is_one_of, are_distinct}
-use Rattle.tick_model.specs.Plans.{rises, number_distinct}
+use Rattle.std.{specs.Prelude.nat_lt, specs.List.{AllByRecursion, list_all}, proofs.lemmas.Bool.{cond_both, and_parts, and_from, or_parts, or_from, not-true, not_from_false, lt-ltb, ltb-false, eqb-false, ne_eqb, cases_lt}}
+use Rattle.tick_model.{specs.Names.{same_name, is_one_of, are_distinct}, specs.Plans.{rises, number_distinct}}
 use Rattle.script_reader.specs.Checks.{in_order, is_among}
 use Rattle.script_laws.proofs.Columns.{other_names}
 

@@ -1,23 +1,9 @@
 -- What holds of what is read, where it holds of its parts.
 use Rattle.std.proofs.Common.{◌≡◌, refl, ap, subst, Bool, ℕ, suc, ◌+◌, ◌<◌, List, [], ◌∷◌, map, length, Option, Some, None, Result, Ok, Err}
-use Rattle.std.specs.Prelude.{IfOk, nat_lt, position}
-use Rattle.std.specs.List.{AllByRecursion}
-use Rattle.std.specs.Str.{bytes_eq}
-use Rattle.std.proofs.lemmas.Bool.{cond_both}
-use Rattle.std.proofs.lemmas.List.{length-map}
-use Rattle.std.proofs.lemmas.List.Quantifiers.{position-Some}
-use Rattle.std.proofs.lemmas.Result.{IfOk-at_ok}
-use Rattle.script_lines.specs.declared.fault.ScriptKind.{ScriptKind}
-use Rattle.script_lines.specs.declared.fault.ScriptKind.TheVariants.{TooLong, UnknownName, UnknownColumn}
-use Rattle.script_lines.specs.declared.line.Line.{Line}
-use Rattle.script_lines.specs.Answers.{◌>>=◌}
-use Rattle.script_lines.specs.Grammar.{KeepsRules}
-use Rattle.script_lines.specs.Lines.{line_of, lines_of}
-use Rattle.script_lines.proofs.LinesKept.{line_keeps_rules}
+use Rattle.std.{specs.Prelude.{IfOk, nat_lt, position}, specs.List.AllByRecursion, specs.Str.bytes_eq, proofs.lemmas.Bool.cond_both, proofs.lemmas.List.length-map, proofs.lemmas.List.Quantifiers.position-Some, proofs.lemmas.Result.IfOk-at_ok}
+use Rattle.script_lines.{specs.declared.fault.ScriptKind.ScriptKind, specs.declared.fault.ScriptKind.TheVariants.{TooLong, UnknownName, UnknownColumn}, specs.declared.line.Line.Line, specs.Answers.◌>>=◌, specs.Grammar.KeepsRules, specs.Lines.{line_of, lines_of}, proofs.LinesKept.line_keeps_rules}
 use Rattle.tick_model.specs.declared.plan.ColumnSpec.{ColumnSpec}
-use Rattle.script_reader.specs.declared.script.Script.{Script}
-use Rattle.script_reader.specs.Checks.{said, each, or_refused, node_named, column_named}
-use Rattle.script_reader.specs.Scripts.{nothing, after_line, after_lines, going_on, script_of}
+use Rattle.script_reader.{specs.declared.script.Script.Script, specs.Checks.{said, each, or_refused, node_named, column_named}, specs.Scripts.{nothing, after_line, after_lines, going_on, script_of}}
 
 pub record Holds {X : Type 0} (P : X → Type 0) (read : Result X ScriptKind) : Type 0 where
   pub holds : IfOk read P

@@ -1,26 +1,11 @@
 -- The formulas of a script that is read: their numbers are of 64 bits, and their literals are its texts, none of which is empty.
 use Rattle.std.proofs.Common.{◌≡◌, refl, ap, Bool, true, false, not, ◌||◌, ℕ, zero, suc, ◌+◌, ◌<◌, ◌≤◌, arith, List, [], ◌∷◌, ◌++◌, length, length-append, Result, Ok}
-use Rattle.std.specs.Prelude.{slice_index_or}
-use Rattle.std.specs.List.{AllByRecursion, list_all, list_any, position_or_len}
-use Rattle.std.specs.Str.{bytes_eq}
-use Rattle.std.proofs.lemmas.Bool.{cond_both, and_parts, and_from, lt-ltb, ltb-true}
-use Rattle.std.proofs.lemmas.List.Sums.{prefix_len-le-length}
+use Rattle.std.{specs.Prelude.slice_index_or, specs.List.{AllByRecursion, list_all, list_any, position_or_len}, specs.Str.bytes_eq, proofs.lemmas.Bool.{cond_both, and_parts, and_from, lt-ltb, ltb-true}, proofs.lemmas.List.Sums.prefix_len-le-length}
 use Rattle.key_lists.proofs.Every.{every-append}
-use Rattle.tick_model.specs.declared.plan.ColumnSpec.{ColumnSpec}
-use Rattle.tick_model.specs.declared.plan.Expr.{Expr, Cell, Number, Null, Literal, Rank, Neg', Add', Sub', Mul'}
-use Rattle.tick_model.specs.declared.plan.Pred.{Pred, Compare, And', Or', Not'}
-use Rattle.tick_model.specs.Changes.{is_none}
-use Rattle.tick_model.specs.Numbers.{HasNumbers}
-use Rattle.script_lines.specs.declared.line.Computed.{Computed}
-use Rattle.script_lines.specs.declared.line.Formula.{Formula, Column, Number as Digits, Text as Quoted, Null as Nothing, Neg' as Minus', Add' as Plus', Sub' as Less', Mul' as Times'}
-use Rattle.script_lines.specs.declared.line.Test.{Test, Compare as Compares, And' as Both', Or' as Either', Not' as Never'}
-use Rattle.script_lines.specs.declared.fault.ScriptKind.{ScriptKind}
-use Rattle.script_lines.specs.Answers.{◌>>=◌}
-use Rattle.script_lines.specs.Kept.{FormulaKeeps, TestKeeps, ComputedKeeps}
-use Rattle.script_reader.specs.Checks.{column_named, expr_of, pred_of, exprs_of, with_text, place_of}
-use Rattle.script_reader.specs.Plain.{add, sub, mul, both, either}
-use Rattle.script_laws.specs.Literals.{names_literal, has_literals, has_test_literals}
-use Rattle.script_laws.proofs.Reading.{Holds, done, then, whatever}
+use Rattle.tick_model.{specs.declared.plan.ColumnSpec.ColumnSpec, specs.declared.plan.Expr.{Expr, Cell, Number, Null, Literal, Rank, Neg', Add', Sub', Mul'}, specs.declared.plan.Pred.{Pred, Compare, And', Or', Not'}, specs.Changes.is_none, specs.Numbers.HasNumbers}
+use Rattle.script_lines.{specs.declared.line.Computed.Computed, specs.declared.line.Formula.{Formula, Column, Number as Digits, Text as Quoted, Null as Nothing, Neg' as Minus', Add' as Plus', Sub' as Less', Mul' as Times'}, specs.declared.line.Test.{Test, Compare as Compares, And' as Both', Or' as Either', Not' as Never'}, specs.declared.fault.ScriptKind.ScriptKind, specs.Answers.◌>>=◌, specs.Kept.{FormulaKeeps, TestKeeps, ComputedKeeps}}
+use Rattle.script_reader.{specs.Checks.{column_named, expr_of, pred_of, exprs_of, with_text, place_of}, specs.Plain.{add, sub, mul, both, either}}
+use Rattle.script_laws.{specs.Literals.{names_literal, has_literals, has_test_literals}, proofs.Reading.{Holds, done, then, whatever}}
 
 -- no text is empty
 abbrev pub AreWritten : List (List ℕ) → Type 0

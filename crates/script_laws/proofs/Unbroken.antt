@@ -1,14 +1,8 @@
 -- A node that breaks no rule.
 use Rattle.std.proofs.Common.{◌≡◌, refl, Bool, true, false, not, cond, ℕ, ◌^◌, ◌<◌, ◌≤◌, List, length, map, Option, Some, None}
-use Rattle.std.specs.Prelude.{nat_le, nat_lt, slice_index}
-use Rattle.std.proofs.lemmas.Bool.{leb-false, ltb-false}
-use Rattle.tick_model.specs.declared.plan.ColumnSpec.{ColumnSpec}
-use Rattle.tick_model.specs.declared.plan.Node.{Node}
-use Rattle.tick_model.specs.Names.{is_one_of, are_distinct}
-use Rattle.tick_model.specs.Plans.{key_bounds}
-use Rattle.tick_model.specs.Operators.{bound_of}
-use Rattle.script_lines.specs.declared.fault.ScriptKind.{ScriptKind}
-use Rattle.script_lines.specs.declared.fault.ScriptKind.TheVariants.{TakenName, TakenColumn, WrongKind, NumberRange, TooManyNodes, TooManyColumns, KeySpace}
+use Rattle.std.{specs.Prelude.{nat_le, nat_lt, slice_index}, proofs.lemmas.Bool.{leb-false, ltb-false}}
+use Rattle.tick_model.{specs.declared.plan.ColumnSpec.ColumnSpec, specs.declared.plan.Node.Node, specs.Names.{is_one_of, are_distinct}, specs.Plans.key_bounds, specs.Operators.bound_of}
+use Rattle.script_lines.{specs.declared.fault.ScriptKind.ScriptKind, specs.declared.fault.ScriptKind.TheVariants.{TakenName, TakenColumn, WrongKind, NumberRange, TooManyNodes, TooManyColumns, KeySpace}}
 use Rattle.script_reader.specs.Checks.{broken, or_broken, Draft, names_of}
 use Rattle.script_laws.proofs.Reading.{Holds, done}
 

@@ -2,16 +2,10 @@
 use Rattle.std.proofs.Common.{◌≡◌, refl, true, ℕ, ◌≤◌, List, [], ◌∷◌, length}
 use Rattle.std.specs.List.{AllByRecursion}
 use Rattle.key_lists.proofs.Every.{every_weaker, every-append}
-use Rattle.tick_model.specs.declared.plan.Node.{Node}
-use Rattle.tick_model.specs.declared.plan.Op.{Op}
+use Rattle.tick_model.{specs.declared.plan.Node.Node, specs.declared.plan.Op.Op, specs.Numbers.{HasOpNumbers, HasPlanNumbers}}
 use Rattle.tick_model.specs.declared.plan.Op.TheVariants as ops
-use Rattle.tick_model.specs.Numbers.{HasOpNumbers, HasPlanNumbers}
-use Rattle.script_reader.specs.declared.script.Script.{Script}
-use Rattle.script_reader.specs.declared.script.SourceFile.{SourceFile}
-use Rattle.script_reader.specs.Checks.{with_node, Draft}
-use Rattle.script_reader.specs.Scripts.{nothing}
-use Rattle.script_laws.specs.Literals.{has_op_literals, NamesLiterals}
-use Rattle.script_laws.proofs.Texts.{AreWritten, Grow, test_literals-grown, all_literals-grown}
+use Rattle.script_reader.{specs.declared.script.Script.Script, specs.declared.script.SourceFile.SourceFile, specs.Checks.{with_node, Draft}, specs.Scripts.nothing}
+use Rattle.script_laws.{specs.Literals.{has_op_literals, NamesLiterals}, proofs.Texts.{AreWritten, Grow, test_literals-grown, all_literals-grown}}
 
 -- a draft over texts
 pub record IsWrittenDraft (before : List (List ℕ)) (draft : Draft) : Type 0 where

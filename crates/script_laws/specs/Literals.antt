@@ -1,12 +1,7 @@
 -- The literals of a script's plan, which are numbers of its texts.
 --     NamesLiterals script      each literal of the script's plan is one of its texts, and not empty
-use Rattle.std.specs.Prelude.{◌≡◌, ℕ, ◌&&◌, Bool, true, false, not, List, [], length, nat_lt, slice_index_or}
-use Rattle.std.specs.List.{AllByRecursion, list_all}
-use Rattle.tick_model.specs.declared.plan.Expr.{Expr, Cell, Number, Null, Literal, Rank, Neg', Add', Sub', Mul'}
-use Rattle.tick_model.specs.declared.plan.Op.{Op}
-use Rattle.tick_model.specs.declared.plan.Op.TheVariants.{Keep, View}
-use Rattle.tick_model.specs.declared.plan.Pred.{Pred, Compare, And', Or', Not'}
-use Rattle.tick_model.specs.Changes.{is_none}
+use Rattle.std.{specs.Prelude.{◌≡◌, ℕ, ◌&&◌, Bool, true, false, not, List, [], length, nat_lt, slice_index_or}, specs.List.{AllByRecursion, list_all}}
+use Rattle.tick_model.{specs.declared.plan.Expr.{Expr, Cell, Number, Null, Literal, Rank, Neg', Add', Sub', Mul'}, specs.declared.plan.Op.Op, specs.declared.plan.Op.TheVariants.{Keep, View}, specs.declared.plan.Pred.{Pred, Compare, And', Or', Not'}, specs.Changes.is_none}
 use Rattle.script_reader.specs.declared.script.Script.{Script}
 
 abbrev pub names_literal : List (List ℕ) → ℕ → Bool

@@ -1,22 +1,8 @@
 -- What a text begins with, by the bytes at its front.
 use Rattle.std.proofs.Common.{◌≡◌, ℕ, zero, suc, ◌+◌, ◌^◌, ◌<◌, ◌≤◌, Bool, true, cond, ltb, List, [], ◌∷◌, length, get_or, take, drop, Option, Some, None, Ok, Err, pos, refl, ap, ◌∙◌, arith, add-one}
-use Rattle.std.specs.Prelude.{not, if◌then◌else◌, unwrap_or, position}
-use Rattle.std.specs.Int.{IsInRange}
-use Rattle.std.specs.List.{All}
-use Rattle.std.specs.Str.{IsUtf8, IsCharBoundary}
-use Rattle.std.specs.Str.Parse.{digits_value}
-use Rattle.std.proofs.Math.Numerals.{one-add}
-use Rattle.std.proofs.lemmas.Bool.{ltb-false, le-ltb, not-false, cond_both}
-use Rattle.std.proofs.lemmas.Bool.Decides.{nat_tests}
-use Rattle.std.proofs.lemmas.List.{get_or-take, length-take, length-take-le}
-use Rattle.std.proofs.lemmas.List.Sums.{fails_before_first, prefix_len-le-length}
-use Rattle.std.proofs.lemmas.Str.{IsCharBoundary-start, IsCharBoundary-after_ascii}
-use Rattle.std.proofs.lemmas.Str.Parse.{IsNumeralModel, numerals_by_value, tells_by_index}
+use Rattle.std.{specs.Prelude.{not, if◌then◌else◌, unwrap_or, position}, specs.Int.IsInRange, specs.List.All, specs.Str.{IsUtf8, IsCharBoundary}, specs.Str.Parse.digits_value, proofs.Math.Numerals.one-add, proofs.lemmas.Bool.{ltb-false, le-ltb, not-false, cond_both}, proofs.lemmas.Bool.Decides.nat_tests, proofs.lemmas.List.{get_or-take, length-take, length-take-le}, proofs.lemmas.List.Sums.{fails_before_first, prefix_len-le-length}, proofs.lemmas.Str.{IsCharBoundary-start, IsCharBoundary-after_ascii}, proofs.lemmas.Str.Parse.{IsNumeralModel, numerals_by_value, tells_by_index}}
 use Rattle.tick_model.specs.Names.{is_name_byte}
-use Rattle.script_lines.specs.declared.fault.ScriptKind.TheVariants.{NumberRange}
-use Rattle.script_lines.specs.declared.token.Token.TheVariants.{Number}
-use Rattle.script_lines.specs.Answers.{◌>>=◌}
-use Rattle.script_lines.specs.Tokens.{is_digit, run_len, front_by, number_at}
+use Rattle.script_lines.{specs.declared.fault.ScriptKind.TheVariants.NumberRange, specs.declared.token.Token.TheVariants.Number, specs.Answers.◌>>=◌, specs.Tokens.{is_digit, run_len, front_by, number_at}}
 
 -- bytes at the front that pass a test
 run_len-cons : (passes : ℕ → Bool) (first : ℕ) (others : List ℕ) → passes first ≡ true → run_len passes (first ∷ others) ≡ suc (run_len passes others)

@@ -1,27 +1,9 @@
 -- The first line of several.
 use Rattle.std.proofs.Common.{◌≡◌, ℕ, ◌+◌, ◌-◌, ◌<◌, ◌≤◌, Bool, true, false, cond, eqb, ltb, List, [], ◌∷◌, ◌++◌, length, take, drop, Option, Some, None, Result, Ok, Err, refl, subst, sym, ap, ◌∙◌, arith}
-use Rattle.std.specs.Prelude.{not, position, if◌then◌else◌}
-use Rattle.std.specs.List.{slice_split, onto_first, position_or_len, before_first, after_first, find}
-use Rattle.std.proofs.lemmas.Bool.{cond-false, false_from_ne_true, ltb-true, ltb-false}
-use Rattle.std.specs.Str.{IsUtf8, is_utf8}
-use Rattle.std.proofs.lemmas.Str.{IsUtf8-from_is_utf8, is_utf8-from_IsUtf8}
-use Rattle.std.proofs.lemmas.List.Splits.{slice_split_first, slice_split_none}
-use Rattle.std.proofs.lemmas.List.Sums.{fails_before_first, prefix_len-le-length}
-use Rattle.std.proofs.lemmas.List.{take_rest}
-use Rattle.std.proofs.lemmas.Option.{cond_some}
-use Rattle.script_lines.specs.declared.fault.LineFault.{LineFault}
+use Rattle.std.{specs.Prelude.{not, position, if◌then◌else◌}, specs.List.{slice_split, onto_first, position_or_len, before_first, after_first, find}, proofs.lemmas.Bool.{cond-false, false_from_ne_true, ltb-true, ltb-false}, specs.Str.{IsUtf8, is_utf8}, proofs.lemmas.Str.{IsUtf8-from_is_utf8, is_utf8-from_IsUtf8}, proofs.lemmas.List.Splits.{slice_split_first, slice_split_none}, proofs.lemmas.List.Sums.{fails_before_first, prefix_len-le-length}, proofs.lemmas.List.take_rest, proofs.lemmas.Option.cond_some}
+use Rattle.script_lines.{specs.declared.fault.LineFault.LineFault, specs.declared.fault.Misread.Misread, specs.declared.fault.ScriptKind.ScriptKind, specs.declared.fault.ScriptKind.TheVariants.NotUtf8, specs.declared.line.Line.Line, specs.declared.line.Line.TheVariants.Skipped, specs.declared.token.Token.Token, specs.Answers.{◌>>=◌, Fails, Misses, fault_of}, specs.Tokens.{is_blank, tokens_of}, specs.Grammar.line_at, specs.Lines.{without_return, ended, lines_of, is_skipped, line_of}}
 use Rattle.script_lines.specs.declared.fault.LineFault.TheVariants as faults
-use Rattle.script_lines.specs.declared.fault.Misread.{Misread}
 use Rattle.script_lines.specs.declared.fault.Misread.TheVariants as misses
-use Rattle.script_lines.specs.declared.fault.ScriptKind.{ScriptKind}
-use Rattle.script_lines.specs.declared.fault.ScriptKind.TheVariants.{NotUtf8}
-use Rattle.script_lines.specs.declared.line.Line.{Line}
-use Rattle.script_lines.specs.declared.line.Line.TheVariants.{Skipped}
-use Rattle.script_lines.specs.declared.token.Token.{Token}
-use Rattle.script_lines.specs.Answers.{◌>>=◌, Fails, Misses, fault_of}
-use Rattle.script_lines.specs.Tokens.{is_blank, tokens_of}
-use Rattle.script_lines.specs.Grammar.{line_at}
-use Rattle.script_lines.specs.Lines.{without_return, ended, lines_of, is_skipped, line_of}
 
 -- a carriage return at the end, and another byte
 pub without_return-return : (front : List ℕ) → without_return (front ++ 13 ∷ []) ≡ front

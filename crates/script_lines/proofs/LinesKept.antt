@@ -1,30 +1,9 @@
 -- What is read of a line keeps its rules.
 use Rattle.std.proofs.Common.{◌≡◌, ℕ, zero, suc, ◌^◌, cond, eqb, ltb, List, [], ◌∷◌, length, take, Option, Some, None, Result, Ok, Err, pos}
-use Rattle.std.specs.Prelude.{◌&&◌, ◌||◌, not, IfOk, IfSome}
-use Rattle.std.specs.List.{AllByRecursion, position_or_len}
-use Rattle.std.specs.Int.{w64}
-use Rattle.std.specs.Str.{is_utf8}
-use Rattle.std.specs.Str.Parse.{digits_value}
-use Rattle.std.proofs.lemmas.Bool.{cond_both, ltb-true}
-use Rattle.std.proofs.lemmas.Int.{fits_signed_from_abs}
-use Rattle.std.proofs.lemmas.Result.{IfOk-at_ok}
+use Rattle.std.{specs.Prelude.{◌&&◌, ◌||◌, not, IfOk, IfSome}, specs.List.{AllByRecursion, position_or_len}, specs.Int.w64, specs.Str.is_utf8, specs.Str.Parse.digits_value, proofs.lemmas.Bool.{cond_both, ltb-true}, proofs.lemmas.Int.fits_signed_from_abs, proofs.lemmas.Result.IfOk-at_ok}
 use Rattle.tick_model.specs.Names.{is_letter, is_name_byte}
-use Rattle.script_lines.specs.declared.fault.ScriptKind.{ScriptKind}
-use Rattle.script_lines.specs.declared.fault.ScriptKind.TheVariants.{BadLine, NumberRange, NotUtf8}
-use Rattle.script_lines.specs.declared.line.Line.{Line}
-use Rattle.script_lines.specs.declared.line.Line.TheVariants.{Skipped}
-use Rattle.script_lines.specs.declared.lists.Separator.TheVariants.{Nothing}
-use Rattle.script_lines.specs.declared.token.Token.{Token}
+use Rattle.script_lines.{specs.declared.fault.ScriptKind.ScriptKind, specs.declared.fault.ScriptKind.TheVariants.{BadLine, NumberRange, NotUtf8}, specs.declared.line.Line.Line, specs.declared.line.Line.TheVariants.Skipped, specs.declared.lists.Separator.TheVariants.Nothing, specs.declared.token.Token.Token, specs.Answers.◌>>=◌, specs.Formulas.Reading, specs.Grammar.{KeepsRules, node_at, file_name_at, file_at, source_at, print_at, publish_at, form_at, alone, line_at}, specs.Kept.DeclaredKeeps, specs.Lines.{is_skipped, line_of}, specs.Members.declared_at, specs.Tokens.{Lexeme, is_blank, is_digit, run_len, word_at, number_at, text_at, is_single_mark, is_order_mark, begins_with_equal, mark_of, mark_at, lexeme_at, onto, tokens_after, at_most_512, tokens_of}, proofs.MakingsKept.making-keeps, proofs.PartsKept.{TokenFits, Fit, Read, Keeps, Any, done, refused, then, behind, choose, later, word, mark_after, name-keeps, list-keeps, declared-keeps, digits-keep}}
 use Rattle.script_lines.specs.declared.token.Token.TheVariants as tokens
-use Rattle.script_lines.specs.Answers.{◌>>=◌}
-use Rattle.script_lines.specs.Formulas.{Reading}
-use Rattle.script_lines.specs.Grammar.{KeepsRules, node_at, file_name_at, file_at, source_at, print_at, publish_at, form_at, alone, line_at}
-use Rattle.script_lines.specs.Kept.{DeclaredKeeps}
-use Rattle.script_lines.specs.Lines.{is_skipped, line_of}
-use Rattle.script_lines.specs.Members.{declared_at}
-use Rattle.script_lines.specs.Tokens.{Lexeme, is_blank, is_digit, run_len, word_at, number_at, text_at, is_single_mark, is_order_mark, begins_with_equal, mark_of, mark_at, lexeme_at, onto, tokens_after, at_most_512, tokens_of}
-use Rattle.script_lines.proofs.MakingsKept.{making-keeps}
-use Rattle.script_lines.proofs.PartsKept.{TokenFits, Fit, Read, Keeps, Any, done, refused, then, behind, choose, later, word, mark_after, name-keeps, list-keeps, declared-keeps, digits-keep}
 
 -- lines
 node-keeps : Keeps KeepsRules node_at

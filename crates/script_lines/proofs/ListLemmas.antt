@@ -1,14 +1,7 @@
 -- Reading one member after another, as a loop does.
 use Rattle.std.proofs.Common.{◌≡◌, ℕ, suc, ◌-◌, ◌+◌, ◌≤◌, ◌<◌, List, [], ◌∷◌, ◌++◌, Some, None, Result, Ok, Err, refl, sym, ap, ◌∙◌, subst, arith}
-use Rattle.script_lines.specs.declared.fault.Misread.{Misread}
+use Rattle.script_lines.{specs.declared.fault.Misread.Misread, specs.declared.fault.ScriptKind.ScriptKind, specs.declared.fault.ScriptKind.TheVariants.BadLine, specs.declared.lists.Separator.Separator, specs.declared.token.Token.Token, specs.Answers.{◌>>=◌, Misses}, specs.Formulas.Reading, specs.Members.{next_at, more_at}}
 use Rattle.script_lines.specs.declared.fault.Misread.TheVariants as misses
-use Rattle.script_lines.specs.declared.fault.ScriptKind.{ScriptKind}
-use Rattle.script_lines.specs.declared.fault.ScriptKind.TheVariants.{BadLine}
-use Rattle.script_lines.specs.declared.lists.Separator.{Separator}
-use Rattle.script_lines.specs.declared.token.Token.{Token}
-use Rattle.script_lines.specs.Answers.{◌>>=◌, Misses}
-use Rattle.script_lines.specs.Formulas.{Reading}
-use Rattle.script_lines.specs.Members.{next_at, more_at}
 
 pub misses_bind : {X Y : Type 0} (miss : Misread) (r : Result X ScriptKind) (f : X → Result Y ScriptKind) → Misses miss r → Misses miss (r >>= f)
 misses_bind misses.Memory r f h = tt

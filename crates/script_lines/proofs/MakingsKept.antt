@@ -1,17 +1,8 @@
 -- What is read of how a node is made keeps its rules.
 use Rattle.std.proofs.Common.{ℕ, leb, List, length, Ok, Err}
-use Rattle.std.specs.Prelude.{ℤ, ◌&&◌}
-use Rattle.std.proofs.lemmas.Bool.{cond_both, and_parts, leb-true}
+use Rattle.std.{specs.Prelude.{ℤ, ◌&&◌}, proofs.lemmas.Bool.{cond_both, and_parts, leb-true}}
 use Rattle.tick_model.specs.declared.plan.Choice.{Choice}
-use Rattle.script_lines.specs.declared.fault.ScriptKind.TheVariants.{BadLine}
-use Rattle.script_lines.specs.declared.lists.Separator.TheVariants.{Comma, Nothing}
-use Rattle.script_lines.specs.declared.making.Making.{Making}
-use Rattle.script_lines.specs.declared.making.Making.TheVariants.{Merge}
-use Rattle.script_lines.specs.Formulas.{name_at}
-use Rattle.script_lines.specs.Kept.{IsNamed, ComputedKeeps, PairKeeps, GatheredKeeps, MembersKeep}
-use Rattle.script_lines.specs.Making.{MakingKeeps, keep_at, view_at, choice_at, pairs_after, join_at, as_of_at, agg_at, merge_at, sort_at, cut_at, other_making_at, making_at}
-use Rattle.script_lines.specs.Members.{computed_at, pair_at, gathered_at, sorted_at}
-use Rattle.script_lines.proofs.PartsKept.{Read, Keeps, Any, done, refused, then, behind, choose, word, word_after, name-keeps, test-keeps, list-keeps, option-keeps, computed-keeps, pair-keeps, gathered-keeps, sorted-keeps, digits-keep}
+use Rattle.script_lines.{specs.declared.fault.ScriptKind.TheVariants.BadLine, specs.declared.lists.Separator.TheVariants.{Comma, Nothing}, specs.declared.making.Making.Making, specs.declared.making.Making.TheVariants.Merge, specs.Formulas.name_at, specs.Kept.{IsNamed, ComputedKeeps, PairKeeps, GatheredKeeps, MembersKeep}, specs.Making.{MakingKeeps, keep_at, view_at, choice_at, pairs_after, join_at, as_of_at, agg_at, merge_at, sort_at, cut_at, other_making_at, making_at}, specs.Members.{computed_at, pair_at, gathered_at, sorted_at}, proofs.PartsKept.{Read, Keeps, Any, done, refused, then, behind, choose, word, word_after, name-keeps, test-keeps, list-keeps, option-keeps, computed-keeps, pair-keeps, gathered-keeps, sorted-keeps, digits-keep}}
 
 keep-keeps : Keeps MakingKeeps keep_at
 unfolding keep_at

@@ -1,30 +1,10 @@
 -- What is read of a line's parts keeps its rules, and so do the tokens after it.
 use Rattle.std.proofs.Common.{◌≡◌, ℕ, zero, suc, true, cond, List, [], ◌∷◌, ◌++◌, Option, Some, None, Result, Ok, Err, ℤ, refl}
-use Rattle.std.specs.Prelude.{IfOk, IfSome, FitsSigned, codes}
-use Rattle.std.specs.List.{AllByRecursion}
-use Rattle.std.specs.Int.{w64}
-use Rattle.std.specs.Str.{bytes_eq}
-use Rattle.std.proofs.lemmas.Bool.{cond_both}
+use Rattle.std.{specs.Prelude.{IfOk, IfSome, FitsSigned, codes}, specs.List.AllByRecursion, specs.Int.w64, specs.Str.bytes_eq, proofs.lemmas.Bool.cond_both}
 use Rattle.key_lists.proofs.Every.{every-append}
-use Rattle.tick_model.specs.declared.plan.Comparison.{Comparison}
-use Rattle.tick_model.specs.declared.plan.Kind.{Kind}
-use Rattle.tick_model.specs.Names.{is_name}
-use Rattle.tick_model.specs.Columns.{some_of}
-use Rattle.script_lines.specs.declared.fault.ScriptKind.{ScriptKind}
-use Rattle.script_lines.specs.declared.fault.ScriptKind.TheVariants.{BadLine}
-use Rattle.script_lines.specs.declared.line.Formula.{Formula, Column, Null}
-use Rattle.script_lines.specs.declared.line.Function.{Function}
-use Rattle.script_lines.specs.declared.line.Sorted.{Sorted}
-use Rattle.script_lines.specs.declared.line.Test.{Test}
-use Rattle.script_lines.specs.declared.lists.Separator.{Separator}
-use Rattle.script_lines.specs.declared.lists.Separator.TheVariants.{Comma, Nothing}
-use Rattle.script_lines.specs.declared.token.Token.{Token}
+use Rattle.tick_model.{specs.declared.plan.Comparison.Comparison, specs.declared.plan.Kind.Kind, specs.Names.is_name, specs.Columns.some_of}
+use Rattle.script_lines.{specs.declared.fault.ScriptKind.ScriptKind, specs.declared.fault.ScriptKind.TheVariants.BadLine, specs.declared.line.Formula.{Formula, Column, Null}, specs.declared.line.Function.Function, specs.declared.line.Sorted.Sorted, specs.declared.line.Test.Test, specs.declared.lists.Separator.Separator, specs.declared.lists.Separator.TheVariants.{Comma, Nothing}, specs.declared.token.Token.Token, specs.Answers.{◌>>=◌, when_some}, specs.Bare.{add_of, sub_of, mul_of, and_of, or_of}, specs.Formulas.{Reading, after_word, after_mark, or_bad, word_expected, mark_expected, name_at, text_of, atom_at, product_at, term_at, sum_at, sum_over, factor_at, expr_at, comparison_of, comparison_at, compare_at, both_at, all_at, either_at, any_over, fact_at, test_at}, specs.Kept.{IsNamed, FormulaKeeps, TestKeeps, DeclaredKeeps, ComputedKeeps, PairKeeps, GatheredKeeps, MembersKeep}, specs.Members.{ends_bare, next_at, more_at, list_at, option_at, kind_at, declared_at, computed_at, pair_at, over_at, function_at, gathered_at, sorted_at, digits_at}}
 use Rattle.script_lines.specs.declared.token.Token.TheVariants as tokens
-use Rattle.script_lines.specs.Answers.{◌>>=◌, when_some}
-use Rattle.script_lines.specs.Bare.{add_of, sub_of, mul_of, and_of, or_of}
-use Rattle.script_lines.specs.Formulas.{Reading, after_word, after_mark, or_bad, word_expected, mark_expected, name_at, text_of, atom_at, product_at, term_at, sum_at, sum_over, factor_at, expr_at, comparison_of, comparison_at, compare_at, both_at, all_at, either_at, any_over, fact_at, test_at}
-use Rattle.script_lines.specs.Kept.{IsNamed, FormulaKeeps, TestKeeps, DeclaredKeeps, ComputedKeeps, PairKeeps, GatheredKeeps, MembersKeep}
-use Rattle.script_lines.specs.Members.{ends_bare, next_at, more_at, list_at, option_at, kind_at, declared_at, computed_at, pair_at, over_at, function_at, gathered_at, sorted_at, digits_at}
 
 -- a number of a line is one of 64 bits
 abbrev pub TokenFits : Token → Type 0

@@ -1,10 +1,7 @@
 -- One more fact beside those so far, and one more conjunction in place of those so far.
 use Rattle.std.proofs.Common.{◌≡◌, ℕ, suc, ◌-◌, ◌<◌, List, Some, Ok, ap, arith}
 use Rattle.std.specs.Prelude.{codes}
-use Rattle.script_lines.specs.declared.line.Test.{Test}
-use Rattle.script_lines.specs.declared.token.Token.{Token}
-use Rattle.script_lines.specs.Formulas.{Reading, after_word, both_at, all_at, either_at}
-use Rattle.script_lines.specs.Bare.{and_of, or_of}
+use Rattle.script_lines.{specs.declared.line.Test.Test, specs.declared.token.Token.Token, specs.Formulas.{Reading, after_word, both_at, all_at, either_at}, specs.Bare.{and_of, or_of}}
 
 pub one_more_fact : (fact : List Token → Reading Test) (most : ℕ) (left right both : Test) (ts rest after : List Token) → 0 < most → Some rest ≡ after_word (codes "and") ts → fact rest ≡ Ok (right, after) → both ≡ and_of left right → both_at fact most left ts ≡ both_at fact (most - 1) both after
 unfolding both_at

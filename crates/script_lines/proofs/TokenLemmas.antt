@@ -1,10 +1,7 @@
 -- One token after another, as a loop reads them.
 use Rattle.std.proofs.Common.{◌≡◌, ℕ, zero, suc, ◌<◌, eqb, false, List, [], ◌∷◌, ◌++◌, length, drop, Option, Some, None, Result, Ok, Err, refl, sym, ap, ◌∙◌, arith}
 use Rattle.std.proofs.lemmas.List.{append_assoc, length-drop}
-use Rattle.script_lines.specs.declared.fault.ScriptKind.{ScriptKind}
-use Rattle.script_lines.specs.declared.token.Token.{Token}
-use Rattle.script_lines.specs.Answers.{◌>>=◌}
-use Rattle.script_lines.specs.Tokens.{front_by, lexeme_at, onto, tokens_after, at_most_512, tokens_of}
+use Rattle.script_lines.{specs.declared.fault.ScriptKind.ScriptKind, specs.declared.token.Token.Token, specs.Answers.◌>>=◌, specs.Tokens.{front_by, lexeme_at, onto, tokens_after, at_most_512, tokens_of}}
 
 tokens_after-drop : (n : ℕ) (text : List ℕ) → tokens_after n text ≡ tokens_after 0 (drop n text)
 tokens_after-drop zero text = refl

@@ -4,11 +4,9 @@
 --     Reads view result read      the same of a reading of the grammar, which refuses as a bad line alone
 --     Tells view result read      the same of a reading that needs no memory
 use Rattle.std.specs.Prelude.{◌≡◌, Option, Some, None, Result, Ok, Err}
-use Rattle.script_lines.specs.declared.fault.LineFault.{LineFault}
+use Rattle.script_lines.{specs.declared.fault.LineFault.LineFault, specs.declared.fault.Misread.Misread, specs.declared.fault.ScriptKind.ScriptKind}
 use Rattle.script_lines.specs.declared.fault.LineFault.TheVariants as faults
-use Rattle.script_lines.specs.declared.fault.Misread.{Misread}
 use Rattle.script_lines.specs.declared.fault.Misread.TheVariants as misses
-use Rattle.script_lines.specs.declared.fault.ScriptKind.{ScriptKind}
 use Rattle.script_lines.specs.declared.fault.ScriptKind.TheVariants as kinds
 
 infixl 10 ◌>>=◌

@@ -1,16 +1,8 @@
 -- What a line says, without where its parts lie in memory. Definitions make such lines, and contracts compare by them.
 --     bare f, bare_test t, bare_making m, bare_line l      a formula, a test, a node, a line that lie nowhere
 --     neg_of a, add_of a b, sub_of a b, mul_of a b, and_of a b, or_of a b, not_of a      formulas and tests that lie nowhere
-use Rattle.std.specs.Prelude.{map, Box}
-use Rattle.std.specs.Ptr.{null_ptr}
-use Rattle.std.specs.declared.alloc.Global.{Global}
-use Rattle.script_lines.specs.declared.line.Computed.{Computed}
-use Rattle.script_lines.specs.declared.line.Formula.{Formula, Column, Number as Digits, Text, Null as Nothing, Neg' as Minus', Add' as Plus', Sub' as Less', Mul' as Times'}
-use Rattle.script_lines.specs.declared.line.Line.{Line}
-use Rattle.script_lines.specs.declared.line.Line.TheVariants.{Node as NodeLine}
-use Rattle.script_lines.specs.declared.making.Making.{Making}
-use Rattle.script_lines.specs.declared.making.Making.TheVariants.{Keep as KeepBy, View as ViewBy}
-use Rattle.script_lines.specs.declared.line.Test.{Test, Compare as Compares, And' as Both', Or' as Either', Not' as Never'}
+use Rattle.std.{specs.Prelude.{map, Box}, specs.Ptr.null_ptr, specs.declared.alloc.Global.Global}
+use Rattle.script_lines.{specs.declared.line.Computed.Computed, specs.declared.line.Formula.{Formula, Column, Number as Digits, Text, Null as Nothing, Neg' as Minus', Add' as Plus', Sub' as Less', Mul' as Times'}, specs.declared.line.Line.Line, specs.declared.line.Line.TheVariants.Node as NodeLine, specs.declared.making.Making.Making, specs.declared.making.Making.TheVariants.{Keep as KeepBy, View as ViewBy}, specs.declared.line.Test.{Test, Compare as Compares, And' as Both', Or' as Either', Not' as Never'}}
 
 -- where nothing lies
 abbrev pub nowhere : Box (Unit {0}) Global

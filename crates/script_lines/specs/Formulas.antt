@@ -3,19 +3,10 @@
 --     name_at tokens      a name
 --     expr_at tokens      EXPR: TERM { (+ or -) TERM }, where TERM is FACTOR { * FACTOR }, grouped from the left
 --     test_at tokens      PRED: CONJ { or CONJ }, where CONJ is FACT { and FACT }, grouped from the left
-use Rattle.std.specs.Prelude.{ℕ, zero, suc, List, [], ◌∷◌, Option, Some, None, Result, Ok, Err, codes, if◌then◌else◌}
-use Rattle.std.specs.Str.{bytes_eq}
-use Rattle.tick_model.specs.declared.plan.Comparison.{Comparison}
-use Rattle.tick_model.specs.declared.plan.Comparison.TheVariants.{Eq, Ne, Lt, Le, Gt, Ge}
-use Rattle.tick_model.specs.Names.{is_name}
-use Rattle.script_lines.specs.declared.fault.ScriptKind.{ScriptKind}
-use Rattle.script_lines.specs.declared.fault.ScriptKind.TheVariants.{BadLine}
-use Rattle.script_lines.specs.declared.line.Formula.{Formula, Column, Number, Text, Null}
-use Rattle.script_lines.specs.declared.line.Test.{Test, Compare}
-use Rattle.script_lines.specs.declared.token.Token.{Token}
+use Rattle.std.{specs.Prelude.{ℕ, zero, suc, List, [], ◌∷◌, Option, Some, None, Result, Ok, Err, codes, if◌then◌else◌}, specs.Str.bytes_eq}
+use Rattle.tick_model.{specs.declared.plan.Comparison.Comparison, specs.declared.plan.Comparison.TheVariants.{Eq, Ne, Lt, Le, Gt, Ge}, specs.Names.is_name}
+use Rattle.script_lines.{specs.declared.fault.ScriptKind.ScriptKind, specs.declared.fault.ScriptKind.TheVariants.BadLine, specs.declared.line.Formula.{Formula, Column, Number, Text, Null}, specs.declared.line.Test.{Test, Compare}, specs.declared.token.Token.Token, specs.Answers.{◌>>=◌, when_some}, specs.Bare.{neg_of, add_of, sub_of, mul_of, and_of, or_of, not_of}}
 use Rattle.script_lines.specs.declared.token.Token.TheVariants as tokens
-use Rattle.script_lines.specs.Answers.{◌>>=◌, when_some}
-use Rattle.script_lines.specs.Bare.{neg_of, add_of, sub_of, mul_of, and_of, or_of, not_of}
 
 -- what is read, and the tokens after it
 abbrev pub Reading : Type 0 → Type 0

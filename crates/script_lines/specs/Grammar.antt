@@ -2,18 +2,8 @@
 --     line_at tokens      what the line says, where it is of the grammar
 --     KeepsRules line      what are to be names are names, numbers are of 64 bits, texts in formulas are not empty, and lists have members
 use Rattle.std.specs.Prelude.{ℕ, ◌==◌, List, [], ◌∷◌, length, Option, Some, None, Result, Ok, Err, codes, if◌then◌else◌}
-use Rattle.script_lines.specs.declared.fault.ScriptKind.{ScriptKind}
-use Rattle.script_lines.specs.declared.fault.ScriptKind.TheVariants.{BadLine}
-use Rattle.script_lines.specs.declared.line.Line.{Line}
-use Rattle.script_lines.specs.declared.line.Line.TheVariants.{Skipped, Source, Node, Print, Publish}
-use Rattle.script_lines.specs.declared.lists.Separator.TheVariants.{Nothing}
-use Rattle.script_lines.specs.declared.token.Token.{Token}
+use Rattle.script_lines.{specs.declared.fault.ScriptKind.ScriptKind, specs.declared.fault.ScriptKind.TheVariants.BadLine, specs.declared.line.Line.Line, specs.declared.line.Line.TheVariants.{Skipped, Source, Node, Print, Publish}, specs.declared.lists.Separator.TheVariants.Nothing, specs.declared.token.Token.Token, specs.Answers.{◌>>=◌, when_some}, specs.Formulas.{Reading, after_word, mark_expected, name_at}, specs.Kept.{IsNamed, DeclaredKeeps, MembersKeep}, specs.Making.{making_at, MakingKeeps}, specs.Members.{list_at, declared_at, digits_at}}
 use Rattle.script_lines.specs.declared.token.Token.TheVariants as tokens
-use Rattle.script_lines.specs.Answers.{◌>>=◌, when_some}
-use Rattle.script_lines.specs.Formulas.{Reading, after_word, mark_expected, name_at}
-use Rattle.script_lines.specs.Kept.{IsNamed, DeclaredKeeps, MembersKeep}
-use Rattle.script_lines.specs.Making.{making_at, MakingKeeps}
-use Rattle.script_lines.specs.Members.{list_at, declared_at, digits_at}
 
 -- NAME = MAKING
 unfoldable pub node_at : List Token → Reading Line

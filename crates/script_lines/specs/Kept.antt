@@ -1,18 +1,9 @@
 -- The rules that the parts of a line keep by themselves.
 --     FormulaKeeps formula, TestKeeps test      names are names, numbers are of 64 bits, and texts are not empty
 --     MembersKeep Keeps members      one member or more, and each keeps its rules
-use Rattle.std.specs.Prelude.{◌≡◌, ℕ, true, false, List, FitsSigned}
-use Rattle.std.specs.List.{AllByRecursion}
-use Rattle.std.specs.Int.{w64}
-use Rattle.tick_model.specs.Changes.{is_none}
-use Rattle.tick_model.specs.Names.{is_name}
-use Rattle.tick_model.specs.Columns.{some_of}
-use Rattle.script_lines.specs.declared.line.Computed.{Computed}
-use Rattle.script_lines.specs.declared.line.Declared.{Declared}
-use Rattle.script_lines.specs.declared.line.Formula.{Formula, Column, Number, Text, Null, Neg', Add', Sub', Mul'}
-use Rattle.script_lines.specs.declared.line.Gathered.{Gathered}
-use Rattle.script_lines.specs.declared.line.Pair.{Pair}
-use Rattle.script_lines.specs.declared.line.Test.{Test, Compare, And', Or', Not'}
+use Rattle.std.{specs.Prelude.{◌≡◌, ℕ, true, false, List, FitsSigned}, specs.List.AllByRecursion, specs.Int.w64}
+use Rattle.tick_model.{specs.Changes.is_none, specs.Names.is_name, specs.Columns.some_of}
+use Rattle.script_lines.{specs.declared.line.Computed.Computed, specs.declared.line.Declared.Declared, specs.declared.line.Formula.{Formula, Column, Number, Text, Null, Neg', Add', Sub', Mul'}, specs.declared.line.Gathered.Gathered, specs.declared.line.Pair.Pair, specs.declared.line.Test.{Test, Compare, And', Or', Not'}}
 
 abbrev pub IsNamed : List ℕ → Type 0
 IsNamed name = is_name name ≡ true

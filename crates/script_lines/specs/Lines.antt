@@ -1,16 +1,8 @@
 -- The lines of a script.
 --     lines_of bytes      the lines of a script, without their ends
 --     line_of bytes      what a line says, or why it is refused by itself
-use Rattle.std.specs.Prelude.{ℕ, ◌==◌, Bool, true, not, List, [], ◌∷◌, Result, Ok, Err, if◌then◌else◌}
-use Rattle.std.specs.List.{slice_split}
-use Rattle.std.specs.Str.{is_utf8}
-use Rattle.script_lines.specs.declared.fault.ScriptKind.{ScriptKind}
-use Rattle.script_lines.specs.declared.fault.ScriptKind.TheVariants.{NotUtf8}
-use Rattle.script_lines.specs.declared.line.Line.{Line}
-use Rattle.script_lines.specs.declared.line.Line.TheVariants.{Skipped}
-use Rattle.script_lines.specs.Answers.{◌>>=◌}
-use Rattle.script_lines.specs.Tokens.{is_blank, tokens_of}
-use Rattle.script_lines.specs.Grammar.{line_at}
+use Rattle.std.{specs.Prelude.{ℕ, ◌==◌, Bool, true, not, List, [], ◌∷◌, Result, Ok, Err, if◌then◌else◌}, specs.List.slice_split, specs.Str.is_utf8}
+use Rattle.script_lines.{specs.declared.fault.ScriptKind.ScriptKind, specs.declared.fault.ScriptKind.TheVariants.NotUtf8, specs.declared.line.Line.Line, specs.declared.line.Line.TheVariants.Skipped, specs.Answers.◌>>=◌, specs.Tokens.{is_blank, tokens_of}, specs.Grammar.line_at}
 
 -- a carriage return directly before a line feed is dropped
 abbrev pub without_return : List ℕ → List ℕ

@@ -1,21 +1,10 @@
 -- How nodes are made, over the tokens of a line: the form of each operator, and what it keeps.
 --     making_at tokens      a word, and the parts that go with it
 --     MakingKeeps making      what it says keeps the rules that need no other line
-use Rattle.std.specs.Prelude.{◌≡◌, ℕ, ◌≤◌, ◌&&◌, true, ℤ, List, length, Ok, Err, codes, nat_le, if◌then◌else◌}
-use Rattle.std.specs.List.{AllByRecursion}
-use Rattle.tick_model.specs.declared.plan.Choice.{Choice}
+use Rattle.std.{specs.Prelude.{◌≡◌, ℕ, ◌≤◌, ◌&&◌, true, ℤ, List, length, Ok, Err, codes, nat_le, if◌then◌else◌}, specs.List.AllByRecursion}
+use Rattle.tick_model.{specs.declared.plan.Choice.Choice, specs.Columns.some_of}
 use Rattle.tick_model.specs.declared.plan.Choice.TheVariants as choices
-use Rattle.tick_model.specs.Columns.{some_of}
-use Rattle.script_lines.specs.declared.fault.ScriptKind.TheVariants.{BadLine}
-use Rattle.script_lines.specs.declared.line.Pair.{Pair}
-use Rattle.script_lines.specs.declared.lists.Separator.TheVariants.{Comma, Nothing}
-use Rattle.script_lines.specs.declared.making.Making.{Making}
-use Rattle.script_lines.specs.declared.making.Making.TheVariants.{Keep, View, Join, AsOf, Agg, Merge, Sort, Head, Tail}
-use Rattle.script_lines.specs.declared.token.Token.{Token}
-use Rattle.script_lines.specs.Answers.{◌>>=◌, when_some}
-use Rattle.script_lines.specs.Formulas.{Reading, after_word, word_expected, name_at, test_at}
-use Rattle.script_lines.specs.Kept.{IsNamed, TestKeeps, ComputedKeeps, PairKeeps, GatheredKeeps, MembersKeep}
-use Rattle.script_lines.specs.Members.{list_at, option_at, computed_at, pair_at, gathered_at, sorted_at, digits_at}
+use Rattle.script_lines.{specs.declared.fault.ScriptKind.TheVariants.BadLine, specs.declared.line.Pair.Pair, specs.declared.lists.Separator.TheVariants.{Comma, Nothing}, specs.declared.making.Making.Making, specs.declared.making.Making.TheVariants.{Keep, View, Join, AsOf, Agg, Merge, Sort, Head, Tail}, specs.declared.token.Token.Token, specs.Answers.{◌>>=◌, when_some}, specs.Formulas.{Reading, after_word, word_expected, name_at, test_at}, specs.Kept.{IsNamed, TestKeeps, ComputedKeeps, PairKeeps, GatheredKeeps, MembersKeep}, specs.Members.{list_at, option_at, computed_at, pair_at, gathered_at, sorted_at, digits_at}}
 
 -- the parts after the word that says how a node is made
 unfoldable pub keep_at : List Token → Reading Making

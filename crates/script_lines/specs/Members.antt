@@ -1,24 +1,11 @@
 -- Members of lists, and lists of them, over the tokens of a line.
 --     list_at item_at separator tokens      one member or more
 --     option_at item_at word tokens      a word and then such a list, or nothing
-use Rattle.std.specs.Prelude.{ℕ, zero, suc, Bool, true, false, ℤ, List, [], ◌∷◌, ◌++◌, Option, Some, None, Ok, Err, codes, if◌then◌else◌}
-use Rattle.std.specs.Str.{bytes_eq}
+use Rattle.std.{specs.Prelude.{ℕ, zero, suc, Bool, true, false, ℤ, List, [], ◌∷◌, ◌++◌, Option, Some, None, Ok, Err, codes, if◌then◌else◌}, specs.Str.bytes_eq}
 use Rattle.tick_model.specs.declared.plan.Kind.{Kind}
 use Rattle.tick_model.specs.declared.plan.Kind.TheVariants as kinds
-use Rattle.script_lines.specs.declared.fault.ScriptKind.TheVariants.{BadLine}
-use Rattle.script_lines.specs.declared.line.Computed.{Computed}
-use Rattle.script_lines.specs.declared.line.Declared.{Declared}
-use Rattle.script_lines.specs.declared.line.Function.{Function}
-use Rattle.script_lines.specs.declared.line.Function.TheVariants.{Count, Sum, Min, Max, First, Last}
-use Rattle.script_lines.specs.declared.line.Gathered.{Gathered}
-use Rattle.script_lines.specs.declared.line.Pair.{Pair}
-use Rattle.script_lines.specs.declared.line.Sorted.{Sorted}
-use Rattle.script_lines.specs.declared.lists.Separator.{Separator}
-use Rattle.script_lines.specs.declared.lists.Separator.TheVariants.{Comma, Nothing}
-use Rattle.script_lines.specs.declared.token.Token.{Token}
+use Rattle.script_lines.{specs.declared.fault.ScriptKind.TheVariants.BadLine, specs.declared.line.Computed.Computed, specs.declared.line.Declared.Declared, specs.declared.line.Function.Function, specs.declared.line.Function.TheVariants.{Count, Sum, Min, Max, First, Last}, specs.declared.line.Gathered.Gathered, specs.declared.line.Pair.Pair, specs.declared.line.Sorted.Sorted, specs.declared.lists.Separator.Separator, specs.declared.lists.Separator.TheVariants.{Comma, Nothing}, specs.declared.token.Token.Token, specs.Answers.{◌>>=◌, when_some}, specs.Formulas.{Reading, after_word, after_mark, mark_expected, name_at, expr_at}}
 use Rattle.script_lines.specs.declared.token.Token.TheVariants as tokens
-use Rattle.script_lines.specs.Answers.{◌>>=◌, when_some}
-use Rattle.script_lines.specs.Formulas.{Reading, after_word, after_mark, mark_expected, name_at, expr_at}
 
 -- whether a list without separators ends: at the end of the line, or at the word `from`
 abbrev pub ends_bare : List Token → Bool

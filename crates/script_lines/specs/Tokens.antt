@@ -1,14 +1,8 @@
 -- The tokens of a line, from left to right, the longest first.
 --     tokens_of line      the tokens of the bytes of a line, or the kind of the first bad one
-use Rattle.std.specs.Prelude.{ℕ, zero, suc, ◌+◌, ◌^◌, ◌==◌, ◌||◌, ◌&&◌, Bool, false, not, List, [], ◌∷◌, take, drop, length, Option, Some, None, Result, Ok, Err, pos, nat_lt, if◌then◌else◌}
-use Rattle.std.specs.List.{position_or_len}
-use Rattle.std.specs.Str.Parse.{digits_value}
+use Rattle.std.{specs.Prelude.{ℕ, zero, suc, ◌+◌, ◌^◌, ◌==◌, ◌||◌, ◌&&◌, Bool, false, not, List, [], ◌∷◌, take, drop, length, Option, Some, None, Result, Ok, Err, pos, nat_lt, if◌then◌else◌}, specs.List.position_or_len, specs.Str.Parse.digits_value}
 use Rattle.tick_model.specs.Names.{is_within, is_letter, is_name_byte}
-use Rattle.script_lines.specs.declared.fault.ScriptKind.{ScriptKind}
-use Rattle.script_lines.specs.declared.fault.ScriptKind.TheVariants.{BadLine, NumberRange}
-use Rattle.script_lines.specs.declared.token.Token.{Token}
-use Rattle.script_lines.specs.declared.token.Token.TheVariants.{Word, Number, Text, Mark}
-use Rattle.script_lines.specs.Answers.{◌>>=◌}
+use Rattle.script_lines.{specs.declared.fault.ScriptKind.ScriptKind, specs.declared.fault.ScriptKind.TheVariants.{BadLine, NumberRange}, specs.declared.token.Token.Token, specs.declared.token.Token.TheVariants.{Word, Number, Text, Mark}, specs.Answers.◌>>=◌}
 
 abbrev pub is_blank : ℕ → Bool
 is_blank byte = byte == 32 || byte == 9

@@ -1,23 +1,10 @@
 -- Where the parts of a line lie makes no difference to what it says.
 use Rattle.std.proofs.Common.{◌≡◌, refl, ap, ◌∙◌, ℕ, List, [], ◌∷◌, ◌++◌, map, Result, Ok, Err}
-use Rattle.tick_model.specs.declared.plan.ColumnSpec.{ColumnSpec}
-use Rattle.tick_model.specs.declared.plan.Expr.{Expr}
+use Rattle.tick_model.{specs.declared.plan.ColumnSpec.ColumnSpec, specs.declared.plan.Expr.Expr, specs.declared.plan.Pred.{Pred, Compare}, specs.Columns.{kinds_of, test_fits}}
 use Rattle.tick_model.specs.declared.plan.Op.TheVariants as ops
-use Rattle.tick_model.specs.declared.plan.Pred.{Pred, Compare}
-use Rattle.tick_model.specs.Columns.{kinds_of, test_fits}
-use Rattle.script_lines.specs.declared.fault.ScriptKind.{ScriptKind}
-use Rattle.script_lines.specs.declared.line.Computed.{Computed}
-use Rattle.script_lines.specs.declared.line.Formula.{Formula, Column, Number as Digits, Text as Quoted, Null as Nothing, Neg' as Minus', Add' as Plus', Sub' as Less', Mul' as Times'}
-use Rattle.script_lines.specs.declared.line.Line.{Line}
+use Rattle.script_lines.{specs.declared.fault.ScriptKind.ScriptKind, specs.declared.line.Computed.Computed, specs.declared.line.Formula.{Formula, Column, Number as Digits, Text as Quoted, Null as Nothing, Neg' as Minus', Add' as Plus', Sub' as Less', Mul' as Times'}, specs.declared.line.Line.Line, specs.declared.making.Making.Making, specs.declared.making.Making.TheVariants.{Keep, View}, specs.declared.line.Test.{Test, Compare as Compares, And' as Both', Or' as Either', Not' as Never'}, specs.Answers.◌>>=◌, specs.Bare.{bare, bare_test, bare_column, bare_making, bare_line}}
 use Rattle.script_lines.specs.declared.line.Line.TheVariants as lines
-use Rattle.script_lines.specs.declared.making.Making.{Making}
-use Rattle.script_lines.specs.declared.making.Making.TheVariants.{Keep, View}
-use Rattle.script_lines.specs.declared.line.Test.{Test, Compare as Compares, And' as Both', Or' as Either', Not' as Never'}
-use Rattle.script_lines.specs.Answers.{◌>>=◌}
-use Rattle.script_lines.specs.Bare.{bare, bare_test, bare_column, bare_making, bare_line}
-use Rattle.script_reader.specs.declared.script.Script.{Script}
-use Rattle.script_reader.specs.Checks.{Before, Draft, expr_of, pred_of, exprs_of, kept, viewed, drafted, said, node_named, table_at, placed, before_of, draft_of, all_there, expr_kinds, named_columns}
-use Rattle.script_reader.specs.Plain.{neg, add, sub, mul, both, either, negated}
+use Rattle.script_reader.{specs.declared.script.Script.Script, specs.Checks.{Before, Draft, expr_of, pred_of, exprs_of, kept, viewed, drafted, said, node_named, table_at, placed, before_of, draft_of, all_there, expr_kinds, named_columns}, specs.Plain.{neg, add, sub, mul, both, either, negated}}
 
 -- a part, and then another after its texts
 module _ {X Y : Type 0} where

@@ -1,16 +1,8 @@
 -- A view, of formulas that lie somewhere.
 use Rattle.std.proofs.Common.{◌≡◌, ap, sym, ◌∙◌, Bool, ℕ, List, ◌++◌, map, Option, Ok}
-use Rattle.tick_model.specs.declared.plan.ColumnSpec.{ColumnSpec}
-use Rattle.tick_model.specs.declared.plan.Expr.{Expr}
-use Rattle.tick_model.specs.declared.plan.Kind.{Kind}
-use Rattle.tick_model.specs.declared.plan.Node.{Node}
-use Rattle.tick_model.specs.declared.plan.Op.TheVariants.{View}
-use Rattle.tick_model.specs.Columns.{kind_of, kinds_of}
+use Rattle.tick_model.{specs.declared.plan.ColumnSpec.ColumnSpec, specs.declared.plan.Expr.Expr, specs.declared.plan.Kind.Kind, specs.declared.plan.Node.Node, specs.declared.plan.Op.TheVariants.View, specs.Columns.{kind_of, kinds_of}}
 use Rattle.script_lines.specs.declared.line.Computed.{Computed}
-use Rattle.script_reader.specs.Checks.{node_named, names_of, tables_of, table_at, exprs_of, named_columns, all_there, draft_of, expr_kinds, viewed}
-use Rattle.script_reader.specs.Drafts.{before}
-use Rattle.script_reader.specs.Plain.{plain}
-use Rattle.script_reader.proofs.Plainly.{expr_kinds_plain}
+use Rattle.script_reader.{specs.Checks.{node_named, names_of, tables_of, table_at, exprs_of, named_columns, all_there, draft_of, expr_kinds, viewed}, specs.Drafts.before, specs.Plain.plain, proofs.Plainly.expr_kinds_plain}
 
 pub viewed_is : (nodes : List Node) (literals after : List (List ℕ)) (name : List ℕ) (computed : List Computed) (input : ℕ) (columns all : List ColumnSpec) (exprs : List Expr) (kinds : List (Option Kind)) (fits : Bool)
     → node_named (names_of nodes) name ≡ Ok input → columns ≡ table_at (tables_of nodes) input → exprs_of columns literals computed ≡ Ok (map plain exprs, after)

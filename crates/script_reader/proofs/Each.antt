@@ -1,13 +1,9 @@
 -- What is made of each of a list, a member at a time.
 use Rattle.std.proofs.Common.{◌≡◌, refl, ap, sym, ◌∙◌, subst, ℕ, ◌+◌, ◌<◌, ◌≤◌, List, [], ◌∷◌, ◌++◌, length, take, drop, get_or, Result, Ok, Err}
 use Rattle.std.proofs.lemmas.List.{take_more, take_all, take-append-drop, drop_more}
-use Rattle.tick_model.specs.declared.plan.ColumnSpec.{ColumnSpec}
-use Rattle.tick_model.specs.declared.plan.Expr.{Expr}
-use Rattle.script_lines.specs.declared.fault.LineFault.{LineFault}
+use Rattle.tick_model.{specs.declared.plan.ColumnSpec.ColumnSpec, specs.declared.plan.Expr.Expr}
+use Rattle.script_lines.{specs.declared.fault.LineFault.LineFault, specs.declared.fault.ScriptKind.ScriptKind, specs.declared.line.Computed.Computed, specs.Answers.{◌>>=◌, Fails}}
 use Rattle.script_lines.specs.declared.fault.LineFault.TheVariants as faults
-use Rattle.script_lines.specs.declared.fault.ScriptKind.{ScriptKind}
-use Rattle.script_lines.specs.declared.line.Computed.{Computed}
-use Rattle.script_lines.specs.Answers.{◌>>=◌, Fails}
 use Rattle.script_reader.specs.Checks.{each, exprs_of, expr_of}
 
 -- a refusal stays a refusal

@@ -1,13 +1,9 @@
 -- Going on from line to line.
 use Rattle.std.proofs.Common.{◌≡◌, refl, ap, ℕ, ◌+◌, ◌<◌, arith, List, [], ◌∷◌, length, Option, Some, None, Ok, Bor}
 use Rattle.std.specs.Prelude.{IfSome, IfNone}
-use Rattle.script_lines.specs.declared.fault.LineFault.{LineFault}
+use Rattle.script_lines.{specs.declared.fault.LineFault.LineFault, specs.Answers.Fails, specs.Lines.lines_of}
 use Rattle.script_lines.specs.declared.fault.LineFault.TheVariants as faults
-use Rattle.script_lines.specs.Answers.{Fails}
-use Rattle.script_lines.specs.Lines.{lines_of}
-use Rattle.script_reader.specs.declared.script.Script.{Script}
-use Rattle.script_reader.specs.Refusals.{at_line, Refuses}
-use Rattle.script_reader.specs.Scripts.{after_line, after_lines, going_on}
+use Rattle.script_reader.{specs.declared.script.Script.Script, specs.Refusals.{at_line, Refuses}, specs.Scripts.{after_line, after_lines, going_on}}
 
 -- the lines that are left, and more than how many bytes they have
 abbrev pub lines_left : Option (Bor (List ℕ)) → List (List ℕ)

@@ -1,10 +1,7 @@
 -- New columns, one behind the other.
 use Rattle.std.proofs.Common.{◌≡◌, refl, ap, sym, ◌∙◌, ℕ, zero, suc, ◌+◌, ◌<◌, min, arith, List, [], ◌∷◌, ◌++◌, length, map, take, get_or, Option, append_assoc}
-use Rattle.std.specs.Prelude.{unwrap_or}
-use Rattle.std.proofs.lemmas.List.{take_more, map_push, length-map, length-take-le}
-use Rattle.tick_model.specs.declared.plan.ColumnSpec.{ColumnSpec}
-use Rattle.tick_model.specs.declared.plan.Kind.{Kind}
-use Rattle.tick_model.specs.declared.plan.Kind.TheVariants.{Long}
+use Rattle.std.{specs.Prelude.unwrap_or, proofs.lemmas.List.{take_more, map_push, length-map, length-take-le}}
+use Rattle.tick_model.{specs.declared.plan.ColumnSpec.ColumnSpec, specs.declared.plan.Kind.Kind, specs.declared.plan.Kind.TheVariants.Long}
 use Rattle.script_reader.specs.Checks.{named_columns}
 
 named_push : (names : List (List ℕ)) (kinds : List (Option Kind)) (name : List ℕ) (kind : Option Kind) → length names ≡ length kinds

@@ -1,11 +1,6 @@
 -- The first place of a text.
 use Rattle.std.proofs.Common.{◌≡◌, refl, ap, sym, ◌∙◌, Bool, true, false, not, cond, ℕ, suc, ◌+◌, ltb, arith, List, [], ◌∷◌, ◌++◌, map, length, Option, Some, None, is_some, ◌||◌, inl, inr}
-use Rattle.std.specs.Prelude.{position, unwrap_or, insert, nat_lt}
-use Rattle.std.specs.List.{list_any, position_or_len}
-use Rattle.std.proofs.lemmas.Bool.{lt-ltb, le-ltb, ltb-false, cases_lt}
-use Rattle.std.proofs.lemmas.List.{length-map, map_push}
-use Rattle.std.proofs.lemmas.List.Sums.{prefix_len-le-length}
-use Rattle.std.specs.Str.{bytes_eq}
+use Rattle.std.{specs.Prelude.{position, unwrap_or, insert, nat_lt}, specs.List.{list_any, position_or_len}, proofs.lemmas.Bool.{lt-ltb, le-ltb, ltb-false, cases_lt}, proofs.lemmas.List.{length-map, map_push}, proofs.lemmas.List.Sums.prefix_len-le-length, specs.Str.bytes_eq}
 use Rattle.script_reader.specs.Checks.{in_order, place_of, with_text}
 
 module _ {X Y : Type 0} (p : Y → Bool) (f : X → Y) where

@@ -1,26 +1,10 @@
 -- A node that is placed behind the others.
 use Rattle.std.proofs.Common.{◌≡◌, refl, ap, sym, ◌∙◌, subst, Bool, true, false, not, cond, ℕ, ◌^◌, ◌<◌, arith, List, [], ◌∷◌, ◌++◌, map, length, Option, Some, None, Ok, Err}
-use Rattle.std.specs.Prelude.{nat_le, nat_lt, slice_index}
-use Rattle.std.specs.List.{list_any}
-use Rattle.std.specs.Str.{bytes_eq}
-use Rattle.std.proofs.lemmas.Bool.{leb-false}
-use Rattle.std.proofs.lemmas.List.{length-map, map_push}
-use Rattle.tick_model.specs.declared.plan.ColumnSpec.{ColumnSpec}
-use Rattle.tick_model.specs.declared.plan.Node.{Node}
-use Rattle.tick_model.specs.Names.{is_one_of, are_distinct}
-use Rattle.std.proofs.lemmas.List.Sums.{fold-append}
-use Rattle.tick_model.specs.Plans.{with_bound, key_bounds}
-use Rattle.tick_model.specs.Operators.{bound_of}
-use Rattle.script_lines.specs.declared.fault.LineFault.{LineFault}
+use Rattle.std.{specs.Prelude.{nat_le, nat_lt, slice_index}, specs.List.list_any, specs.Str.bytes_eq, proofs.lemmas.Bool.leb-false, proofs.lemmas.List.{length-map, map_push}, proofs.lemmas.List.Sums.fold-append}
+use Rattle.tick_model.{specs.declared.plan.ColumnSpec.ColumnSpec, specs.declared.plan.Node.Node, specs.Names.{is_one_of, are_distinct}, specs.Plans.{with_bound, key_bounds}, specs.Operators.bound_of}
+use Rattle.script_lines.{specs.declared.fault.LineFault.LineFault, specs.declared.fault.ScriptKind.ScriptKind, specs.declared.fault.ScriptKind.TheVariants.{TakenName, TakenColumn, WrongKind, NumberRange, TooManyNodes, TooManyColumns, KeySpace}, specs.Answers.Fails}
 use Rattle.script_lines.specs.declared.fault.LineFault.TheVariants as faults
-use Rattle.script_lines.specs.declared.fault.ScriptKind.{ScriptKind}
-use Rattle.script_lines.specs.declared.fault.ScriptKind.TheVariants.{TakenName, TakenColumn, WrongKind, NumberRange, TooManyNodes, TooManyColumns, KeySpace}
-use Rattle.script_lines.specs.Answers.{Fails}
-use Rattle.script_reader.specs.declared.drafts.Draft.{Draft as Made}
-use Rattle.script_reader.specs.Checks.{Draft, broken, or_broken, names_of, with_text}
-use Rattle.script_reader.specs.Drafts.{shown}
-use Rattle.script_reader.specs.Plain.{plain_node, plain_op}
-use Rattle.script_reader.proofs.Plainly.{names_plain, key_bounds_plain, bound_plain}
+use Rattle.script_reader.{specs.declared.drafts.Draft.Draft as Made, specs.Checks.{Draft, broken, or_broken, names_of, with_text}, specs.Drafts.shown, specs.Plain.{plain_node, plain_op}, proofs.Plainly.{names_plain, key_bounds_plain, bound_plain}}
 
 -- the rules in their order
 abbrev first_of : (taken distinct kinds_fit rows_fit many_columns many_nodes no_room : Bool) → Option ScriptKind

@@ -1,18 +1,9 @@
 -- Where the parts of formulas lie makes no difference.
 use Rattle.std.proofs.Common.{◌≡◌, refl, ap, ◌∙◌, ◌&&◌, ◌||◌, ℕ, List, [], ◌∷◌, ◌++◌, map, get_or}
 use Rattle.std.specs.Prelude.{fold}
-use Rattle.tick_model.specs.declared.plan.ColumnSpec.{ColumnSpec}
-use Rattle.tick_model.specs.declared.plan.Expr.{Expr, Cell, Number, Null, Literal, Rank, Neg', Add', Sub', Mul'}
-use Rattle.tick_model.specs.declared.plan.Kind.{Kind}
-use Rattle.tick_model.specs.declared.plan.Node.{Node}
-use Rattle.tick_model.specs.declared.plan.Op.{Op}
+use Rattle.tick_model.{specs.declared.plan.ColumnSpec.ColumnSpec, specs.declared.plan.Expr.{Expr, Cell, Number, Null, Literal, Rank, Neg', Add', Sub', Mul'}, specs.declared.plan.Kind.Kind, specs.declared.plan.Node.Node, specs.declared.plan.Op.Op, specs.declared.plan.Pred.{Pred, Compare, And', Or', Not'}, specs.Plans.{with_bound, key_bounds}, specs.Columns.{long_alone, both_long, kind_of, kinds_of, kinds_meet, is_null_alone, test_fits}, specs.Operators.bound_of}
 use Rattle.tick_model.specs.declared.plan.Op.TheVariants as ops
-use Rattle.tick_model.specs.declared.plan.Pred.{Pred, Compare, And', Or', Not'}
-use Rattle.tick_model.specs.Plans.{with_bound, key_bounds}
-use Rattle.tick_model.specs.Columns.{long_alone, both_long, kind_of, kinds_of, kinds_meet, is_null_alone, test_fits}
-use Rattle.tick_model.specs.Operators.{bound_of}
-use Rattle.script_reader.specs.Checks.{expr_kinds, names_of, tables_of}
-use Rattle.script_reader.specs.Plain.{plain, plain_test, plain_op, plain_node}
+use Rattle.script_reader.{specs.Checks.{expr_kinds, names_of, tables_of}, specs.Plain.{plain, plain_test, plain_op, plain_node}}
 
 pub kind_of_plain : (expr : Expr) (kinds : List Kind) → kind_of (plain expr) kinds ≡ kind_of expr kinds
 kind_of_plain (Cell column) kinds = refl

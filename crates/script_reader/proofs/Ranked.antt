@@ -1,19 +1,6 @@
 -- The place of a text among texts that rise, found by halves.
 use Rattle.std.proofs.Common.{◌≡◌, refl, ap, sym, ◌∙◌, true, true≢false, ℕ, zero, suc, ◌+◌, ◌<◌, arith, List, [], ◌∷◌, length, get_or, inl, inr}
-use Rattle.std.specs.Prelude.{Result, Ok, Err, MatchResult}
-use Rattle.std.specs.List.{AllByRecursion, position_or_len}
-use Rattle.std.specs.List.Sorted.{IsBinarySearchResult, IsSearchInRange, IsSortedBy}
-use Rattle.std.specs.Ordering.{nat_cmp, is_lt, is_eq, ordering_reverse}
-use Rattle.std.specs.Str.{bytes_eq}
-use Rattle.std.specs.Cmp.Lexicographic.{slice_cmp, nat_list_cmp_total}
-use Rattle.std.specs.declared.cmp.Ordering.{Ordering}
-use Rattle.std.specs.declared.cmp.Ordering.TheVariants.{Less, Equal, Greater}
-use Rattle.std.proofs.lemmas.Bool.{cases_lt}
-use Rattle.std.proofs.lemmas.Bool.Decides.{nat_tests}
-use Rattle.std.proofs.lemmas.Cmp.{same_from_slice_cmp}
-use Rattle.std.proofs.lemmas.List.{get_or_default}
-use Rattle.std.proofs.lemmas.List.Sorted.{searchable_from_sorted}
-use Rattle.std.proofs.lemmas.List.Sums.{position_or_len_is}
+use Rattle.std.{specs.Prelude.{Result, Ok, Err, MatchResult}, specs.List.{AllByRecursion, position_or_len}, specs.List.Sorted.{IsBinarySearchResult, IsSearchInRange, IsSortedBy}, specs.Ordering.{nat_cmp, is_lt, is_eq, ordering_reverse}, specs.Str.bytes_eq, specs.Cmp.Lexicographic.{slice_cmp, nat_list_cmp_total}, specs.declared.cmp.Ordering.Ordering, specs.declared.cmp.Ordering.TheVariants.{Less, Equal, Greater}, proofs.lemmas.Bool.cases_lt, proofs.lemmas.Bool.Decides.nat_tests, proofs.lemmas.Cmp.same_from_slice_cmp, proofs.lemmas.List.get_or_default, proofs.lemmas.List.Sorted.searchable_from_sorted, proofs.lemmas.List.Sums.position_or_len_is}
 use Rattle.tick_model.specs.LawfulRuns.{AreTexts, is_before}
 
 abbrev order : List ℕ → List ℕ → Ordering

@@ -1,22 +1,9 @@
 -- What lines that name nodes say, over nodes whose formulas lie somewhere.
 use Rattle.std.proofs.Common.{◌≡◌, refl, ap, sym, ◌∙◌, subst, Bool, true, false, not, ℕ, ◌<◌, ◌≤◌, List, [], ◌∷◌, ◌++◌, map, Some, None, is_some, Result, Ok, Err}
-use Rattle.std.specs.Prelude.{ℤ, nat_lt}
-use Rattle.std.proofs.lemmas.Bool.{lt-ltb, le-ltb}
-use Rattle.std.proofs.lemmas.List.{append-nil}
-use Rattle.tick_model.specs.declared.plan.Node.{Node}
-use Rattle.script_lines.specs.declared.fault.LineFault.{LineFault}
-use Rattle.tick_model.specs.declared.plan.Published.{Published}
-use Rattle.tick_model.specs.Plans.{published_words}
-use Rattle.script_lines.specs.declared.fault.ScriptKind.{ScriptKind}
-use Rattle.script_lines.specs.declared.fault.ScriptKind.TheVariants.{NumberRange, TooWide}
-use Rattle.script_lines.specs.Answers.{◌>>=◌, Fails}
-use Rattle.script_reader.specs.declared.script.Script.{Script}
-use Rattle.script_reader.specs.declared.script.SourceFile.{SourceFile}
-use Rattle.script_reader.specs.Checks.{Before, Draft, node_named, names_of, tables_of, broken, or_broken, placed, is_among, is_no_limit, rows_of, publication_of, published, with_published}
-use Rattle.script_reader.specs.Drafts.{before}
-use Rattle.script_reader.specs.Plain.{plain_node}
-use Rattle.script_reader.proofs.Each.{fails_on}
-use Rattle.script_reader.proofs.Plainly.{names_plain, tables_plain}
+use Rattle.std.{specs.Prelude.{ℤ, nat_lt}, proofs.lemmas.Bool.{lt-ltb, le-ltb}, proofs.lemmas.List.append-nil}
+use Rattle.tick_model.{specs.declared.plan.Node.Node, specs.declared.plan.Published.Published, specs.Plans.published_words}
+use Rattle.script_lines.{specs.declared.fault.LineFault.LineFault, specs.declared.fault.ScriptKind.ScriptKind, specs.declared.fault.ScriptKind.TheVariants.{NumberRange, TooWide}, specs.Answers.{◌>>=◌, Fails}}
+use Rattle.script_reader.{specs.declared.script.Script.Script, specs.declared.script.SourceFile.SourceFile, specs.Checks.{Before, Draft, node_named, names_of, tables_of, broken, or_broken, placed, is_among, is_no_limit, rows_of, publication_of, published, with_published}, specs.Drafts.before, specs.Plain.plain_node, proofs.Each.fails_on, proofs.Plainly.{names_plain, tables_plain}}
 
 -- what stands before a node, without where formulas lie
 pub before_plain : (nodes : List Node) (literals : List (List ℕ)) → before (map plain_node nodes) literals ≡ before nodes literals

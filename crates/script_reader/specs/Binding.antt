@@ -1,16 +1,8 @@
 -- A script's plan, with the rank of its text in the place of each literal. The texts rise in byte order, and a text's rank is its place.
 --     bound script texts      the plan
-use Rattle.std.specs.Prelude.{ℕ, ℤ, pos, List, map, slice_index_or}
-use Rattle.std.specs.List.{position_or_len}
-use Rattle.std.specs.Str.{bytes_eq}
-use Rattle.tick_model.specs.declared.plan.Expr.{Expr, Cell, Number, Null, Literal, Rank, Neg', Add', Sub', Mul'}
-use Rattle.tick_model.specs.declared.plan.Node.{Node}
-use Rattle.tick_model.specs.declared.plan.Op.{Op}
-use Rattle.tick_model.specs.declared.plan.Op.TheVariants.{Keep, View}
-use Rattle.tick_model.specs.declared.plan.Plan.{Plan}
-use Rattle.tick_model.specs.declared.plan.Pred.{Pred, Compare, And', Or', Not'}
-use Rattle.script_reader.specs.declared.script.Script.{Script}
-use Rattle.script_reader.specs.Plain.{neg, add, sub, mul, both, either, negated}
+use Rattle.std.{specs.Prelude.{ℕ, ℤ, pos, List, map, slice_index_or}, specs.List.position_or_len, specs.Str.bytes_eq}
+use Rattle.tick_model.{specs.declared.plan.Expr.{Expr, Cell, Number, Null, Literal, Rank, Neg', Add', Sub', Mul'}, specs.declared.plan.Node.Node, specs.declared.plan.Op.Op, specs.declared.plan.Op.TheVariants.{Keep, View}, specs.declared.plan.Plan.Plan, specs.declared.plan.Pred.{Pred, Compare, And', Or', Not'}}
+use Rattle.script_reader.{specs.declared.script.Script.Script, specs.Plain.{neg, add, sub, mul, both, either, negated}}
 
 -- the rank of each literal, in order of their numbers
 abbrev pub ranks_of : List (List ℕ) → List (List ℕ) → List ℕ

@@ -3,46 +3,13 @@
 --     drafted before making      what a node would be: its operator, its columns, and whether kinds and numbers of rows are right
 --     placed script name draft files      the script with the node, or the first rule that the node breaks
 --     said script line      the script after a line
-use Rattle.std.specs.Prelude.{ℕ, ◌^◌, ◌==◌, ◌&&◌, Bool, true, not, ℤ, pos, negsuc, List, [], ◌∷◌, ◌++◌, map, length, position, Option, Some, None, Result, Ok, Err, is_some, unwrap_or, nat_lt, nat_le, slice_index, slice_index_or, if◌then◌else◌}
-use Rattle.std.specs.List.{list_all, list_any, position_or_len}
-use Rattle.std.specs.Str.{bytes_eq}
-use Rattle.tick_model.specs.declared.plan.Agg.{Agg as Aggregate}
+use Rattle.std.{specs.Prelude.{ℕ, ◌^◌, ◌==◌, ◌&&◌, Bool, true, not, ℤ, pos, negsuc, List, [], ◌∷◌, ◌++◌, map, length, position, Option, Some, None, Result, Ok, Err, is_some, unwrap_or, nat_lt, nat_le, slice_index, slice_index_or, if◌then◌else◌}, specs.List.{list_all, list_any, position_or_len}, specs.Str.bytes_eq}
+use Rattle.tick_model.{specs.declared.plan.Agg.Agg as Aggregate, specs.declared.plan.Choice.Choice, specs.declared.plan.ColumnSpec.ColumnSpec, specs.declared.plan.Expr.{Expr, Cell, Number, Null, Literal}, specs.declared.plan.Kind.Kind, specs.declared.plan.Kind.TheVariants.Long, specs.declared.plan.Node.Node, specs.declared.plan.OnPair.OnPair, specs.declared.plan.Op.Op, specs.declared.plan.Pred.{Pred, Compare}, specs.declared.plan.Published.Published, specs.declared.plan.SortBy.SortBy, specs.Names.{is_one_of, are_distinct}, specs.Plans.{key_bounds, published_words}, specs.Columns.{kind_of, kinds_of, kind_at, test_fits, same_kind_at, has_kind, agg_kind}, specs.Operators.{columns_fit, bound_of}}
 use Rattle.tick_model.specs.declared.plan.Agg.TheVariants as aggregates
-use Rattle.tick_model.specs.declared.plan.Choice.{Choice}
-use Rattle.tick_model.specs.declared.plan.ColumnSpec.{ColumnSpec}
-use Rattle.tick_model.specs.declared.plan.Expr.{Expr, Cell, Number, Null, Literal}
-use Rattle.tick_model.specs.declared.plan.Kind.{Kind}
-use Rattle.tick_model.specs.declared.plan.Kind.TheVariants.{Long}
-use Rattle.tick_model.specs.declared.plan.Node.{Node}
-use Rattle.tick_model.specs.declared.plan.OnPair.{OnPair}
-use Rattle.tick_model.specs.declared.plan.Op.{Op}
 use Rattle.tick_model.specs.declared.plan.Op.TheVariants as ops
-use Rattle.tick_model.specs.declared.plan.Pred.{Pred, Compare}
-use Rattle.tick_model.specs.declared.plan.Published.{Published}
-use Rattle.tick_model.specs.declared.plan.SortBy.{SortBy}
-use Rattle.tick_model.specs.Names.{is_one_of, are_distinct}
-use Rattle.tick_model.specs.Plans.{key_bounds, published_words}
-use Rattle.tick_model.specs.Columns.{kind_of, kinds_of, kind_at, test_fits, same_kind_at, has_kind, agg_kind}
-use Rattle.tick_model.specs.Operators.{columns_fit, bound_of}
-use Rattle.script_lines.specs.declared.fault.ScriptKind.{ScriptKind}
-use Rattle.script_lines.specs.declared.fault.ScriptKind.TheVariants.{UnknownName, TakenName, UnknownColumn, TakenColumn, WrongKind, NumberRange, TooManyNodes, TooManyColumns, KeySpace, TooWide}
-use Rattle.script_lines.specs.declared.line.Computed.{Computed}
-use Rattle.script_lines.specs.declared.line.Declared.{Declared}
-use Rattle.script_lines.specs.declared.line.Formula.{Formula, Column, Number as Digits, Text as Quoted, Null as Nothing, Neg' as Minus', Add' as Plus', Sub' as Less', Mul' as Times'}
-use Rattle.script_lines.specs.declared.line.Function.{Function}
-use Rattle.script_lines.specs.declared.line.Function.TheVariants.{Count, Sum, Min, Max, First, Last}
-use Rattle.script_lines.specs.declared.line.Gathered.{Gathered}
-use Rattle.script_lines.specs.declared.line.Line.{Line}
+use Rattle.script_lines.{specs.declared.fault.ScriptKind.ScriptKind, specs.declared.fault.ScriptKind.TheVariants.{UnknownName, TakenName, UnknownColumn, TakenColumn, WrongKind, NumberRange, TooManyNodes, TooManyColumns, KeySpace, TooWide}, specs.declared.line.Computed.Computed, specs.declared.line.Declared.Declared, specs.declared.line.Formula.{Formula, Column, Number as Digits, Text as Quoted, Null as Nothing, Neg' as Minus', Add' as Plus', Sub' as Less', Mul' as Times'}, specs.declared.line.Function.Function, specs.declared.line.Function.TheVariants.{Count, Sum, Min, Max, First, Last}, specs.declared.line.Gathered.Gathered, specs.declared.line.Line.Line, specs.declared.making.Making.Making, specs.declared.making.Making.TheVariants.{Keep, View, Join, AsOf, Agg, Merge, Sort, Head, Tail}, specs.declared.line.Pair.Pair, specs.declared.line.Sorted.Sorted, specs.declared.line.Test.{Test, Compare as Compares, And' as Both', Or' as Either', Not' as Never'}, specs.Answers.◌>>=◌}
 use Rattle.script_lines.specs.declared.line.Line.TheVariants as lines
-use Rattle.script_lines.specs.declared.making.Making.{Making}
-use Rattle.script_lines.specs.declared.making.Making.TheVariants.{Keep, View, Join, AsOf, Agg, Merge, Sort, Head, Tail}
-use Rattle.script_lines.specs.declared.line.Pair.{Pair}
-use Rattle.script_lines.specs.declared.line.Sorted.{Sorted}
-use Rattle.script_lines.specs.declared.line.Test.{Test, Compare as Compares, And' as Both', Or' as Either', Not' as Never'}
-use Rattle.script_reader.specs.declared.script.Script.{Script}
-use Rattle.script_reader.specs.declared.script.SourceFile.{SourceFile}
-use Rattle.script_lines.specs.Answers.{◌>>=◌}
-use Rattle.script_reader.specs.Plain.{neg, add, sub, mul, both, either, negated}
+use Rattle.script_reader.{specs.declared.script.Script.Script, specs.declared.script.SourceFile.SourceFile, specs.Plain.{neg, add, sub, mul, both, either, negated}}
 
 abbrev pub or_refused : {X : Type 0} → ScriptKind → Option X → Result X ScriptKind
 or_refused kind None = Err kind

@@ -3,9 +3,7 @@
 --     before nodes literals      what a node may be made of
 use Rattle.std.specs.Prelude.{ℕ, List}
 use Rattle.tick_model.specs.declared.plan.Node.{Node}
-use Rattle.script_reader.specs.declared.drafts.Draft.{Draft as Made}
-use Rattle.script_reader.specs.Checks.{Before, Draft, names_of, tables_of}
-use Rattle.script_reader.specs.Plain.{plain_op}
+use Rattle.script_reader.{specs.declared.drafts.Draft.Draft as Made, specs.Checks.{Before, Draft, names_of, tables_of}, specs.Plain.plain_op}
 
 abbrev pub shown : List (List ℕ) → Made → Draft
 shown literals made = record { op = plain_op made.op; columns = made.columns; kinds_fit = made.kinds_fit; rows_fit = made.rows_fit; literals = literals }

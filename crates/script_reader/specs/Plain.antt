@@ -1,12 +1,7 @@
 -- Expressions, and what has them, without where their parts lie in memory. Definitions make such ones, and contracts compare by them.
 --     plain e, plain_test t, plain_op o, plain_plan p, plain_script s      an expression, a test, an operator, a plan, a script
 use Rattle.std.specs.Prelude.{map}
-use Rattle.tick_model.specs.declared.plan.Expr.{Expr, Cell, Number, Null, Literal, Rank, Neg', Add', Sub', Mul'}
-use Rattle.tick_model.specs.declared.plan.Node.{Node}
-use Rattle.tick_model.specs.declared.plan.Op.{Op}
-use Rattle.tick_model.specs.declared.plan.Op.TheVariants.{Keep, View}
-use Rattle.tick_model.specs.declared.plan.Plan.{Plan}
-use Rattle.tick_model.specs.declared.plan.Pred.{Pred, Compare, And', Or', Not'}
+use Rattle.tick_model.{specs.declared.plan.Expr.{Expr, Cell, Number, Null, Literal, Rank, Neg', Add', Sub', Mul'}, specs.declared.plan.Node.Node, specs.declared.plan.Op.Op, specs.declared.plan.Op.TheVariants.{Keep, View}, specs.declared.plan.Plan.Plan, specs.declared.plan.Pred.{Pred, Compare, And', Or', Not'}}
 use Rattle.script_lines.specs.Bare.{nowhere}
 use Rattle.script_reader.specs.declared.script.Script.{Script}
 

@@ -4,10 +4,7 @@
 use Rattle.std.specs.Prelude.{◌≡◌, ℕ, Result, Err}
 use Rattle.script_lines.specs.declared.fault.LineFault.{LineFault}
 use Rattle.script_lines.specs.declared.fault.LineFault.TheVariants as lines
-use Rattle.script_reader.specs.declared.fault.ScriptFault.{ScriptFault}
-use Rattle.script_reader.specs.declared.fault.ScriptFault.TheVariants.{Memory, Refused}
-use Rattle.script_reader.specs.declared.script.Script.{Script}
-use Rattle.script_reader.specs.Scripts.{Refusal}
+use Rattle.script_reader.{specs.declared.fault.ScriptFault.ScriptFault, specs.declared.fault.ScriptFault.TheVariants.{Memory, Refused}, specs.declared.script.Script.Script, specs.Scripts.Refusal}
 
 abbrev pub at_line : ℕ → LineFault → ScriptFault
 at_line number lines.Memory = Memory

@@ -1,12 +1,8 @@
 -- What a line says, by its form.
 --     said_source script name columns file, said_node script name making, said_print script name, said_publish script name rows      the script after the line
 use Rattle.std.specs.Prelude.{ℕ, ℤ, List, [], ◌∷◌, length, Option, Result}
-use Rattle.script_lines.specs.declared.fault.ScriptKind.{ScriptKind}
-use Rattle.script_lines.specs.declared.line.Declared.{Declared}
-use Rattle.script_lines.specs.declared.making.Making.{Making}
-use Rattle.script_lines.specs.Answers.{◌>>=◌}
-use Rattle.script_reader.specs.declared.script.Script.{Script}
-use Rattle.script_reader.specs.Checks.{before_of, node_named, names_of, drafted, placed, printed, published, source_draft}
+use Rattle.script_lines.{specs.declared.fault.ScriptKind.ScriptKind, specs.declared.line.Declared.Declared, specs.declared.making.Making.Making, specs.Answers.◌>>=◌}
+use Rattle.script_reader.{specs.declared.script.Script.Script, specs.Checks.{before_of, node_named, names_of, drafted, placed, printed, published, source_draft}}
 
 abbrev pub said_source : Script → List ℕ → List Declared → Option (List ℕ) → Result Script ScriptKind
 said_source script name columns file = placed script name (source_draft columns script.literals) (record { node = length script.plan.nodes; file = file } ∷ [])

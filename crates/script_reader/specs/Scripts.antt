@@ -1,12 +1,8 @@
 -- What a script says, or its first refused line.
 --     script_of bytes      the script, whose formulas lie nowhere, or the refusal of its first refused line; lines are counted from 1
 use Rattle.std.specs.Prelude.{ℕ, ◌+◌, List, [], ◌∷◌, length, Result, Ok, Err, nat_lt, if◌then◌else◌}
-use Rattle.script_lines.specs.declared.fault.ScriptKind.{ScriptKind}
-use Rattle.script_lines.specs.declared.fault.ScriptKind.TheVariants.{TooLong}
-use Rattle.script_reader.specs.declared.script.Script.{Script}
-use Rattle.script_lines.specs.Answers.{◌>>=◌}
-use Rattle.script_reader.specs.Checks.{said}
-use Rattle.script_lines.specs.Lines.{lines_of, line_of}
+use Rattle.script_lines.{specs.declared.fault.ScriptKind.ScriptKind, specs.declared.fault.ScriptKind.TheVariants.TooLong, specs.Answers.◌>>=◌, specs.Lines.{lines_of, line_of}}
+use Rattle.script_reader.{specs.declared.script.Script.Script, specs.Checks.said}
 
 -- a refused line and why
 pub record Refusal : Type 0 where

@@ -1,9 +1,7 @@
 -- The script so far, as the code keeps it, in the words of the definitions.
 --     so_far known      the script, whose formulas lie nowhere
 use Rattle.std.specs.Prelude.{map}
-use Rattle.script_reader.specs.declared.known.Known.{Known}
-use Rattle.script_reader.specs.declared.script.Script.{Script}
-use Rattle.script_reader.specs.Plain.{plain_node}
+use Rattle.script_reader.{specs.declared.known.Known.Known, specs.declared.script.Script.Script, specs.Plain.plain_node}
 
 abbrev pub so_far : Known → Script
 so_far known = record {

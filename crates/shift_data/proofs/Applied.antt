@@ -1,26 +1,10 @@
 -- Runs of neighbouring keys, and where they move.
 use Rattle.std.proofs.Common.{◌≡◌, refl, ap, sym, ◌∙◌, subst, false, cond, ◌==◌, ℕ, zero, suc, ◌+◌, ◌-◌, ◌^◌, ◌<◌, ◌≤◌, arith, List, [], ◌∷◌, ◌++◌, map, length, take, drop, get_or, pos, ℤ, ◌+ℤ◌, append_assoc, w64, SFits, to_z, of_z}
-use Rattle.std.specs.List.{AllByRecursion, range_with_len}
-use Rattle.std.proofs.lemmas.Bool.{lt-ltb, le-ltb, ne_eqb}
-use Rattle.std.proofs.lemmas.Int.{ints, to_z-of_z}
-use Rattle.std.proofs.lemmas.List.{map-append, take_more, append-nil}
-use Rattle.std.proofs.lemmas.Grind.{flat_map-append}
-use Rattle.key_lists.specs.Keys.{IsRising}
-use Rattle.key_lists.proofs.Every.{all_from}
-use Rattle.row_set.specs.declared.ranges.Range.{Range}
-use Rattle.row_set.specs.Ranges.{keys_from, keys_in, keys_of, AreApart, IsRangeFrom}
-use Rattle.row_set.specs.Sets.{united, with_key}
-use Rattle.row_set.proofs.Apart.{each_range}
-use Rattle.row_set.proofs.Held.{among-in, holds-true}
-use Rattle.row_set.proofs.Windows.{rising_front, rising_left_out}
-use Rattle.key_lists.proofs.Among.{of_among}
-use Rattle.key_lists.proofs.Parts.{every_front, every_back}
-use Rattle.key_lists.proofs.Ranges.{range-append}
-use Rattle.tick_model.specs.declared.update.ShiftRange.{ShiftRange}
-use Rattle.tick_model.specs.Rules.{is_past, landed}
-use Rattle.tick_model.specs.Shifts.{moved, as_key, delta_at}
-use Rattle.shift_data.specs.Moves.{IsLawful}
-use Rattle.shift_data.proofs.Lawful.{lawful, not_past, place}
+use Rattle.std.{specs.List.{AllByRecursion, range_with_len}, proofs.lemmas.Bool.{lt-ltb, le-ltb, ne_eqb}, proofs.lemmas.Int.{ints, to_z-of_z}, proofs.lemmas.List.{map-append, take_more, append-nil}, proofs.lemmas.Grind.flat_map-append}
+use Rattle.key_lists.{specs.Keys.IsRising, proofs.Every.all_from, proofs.Among.of_among, proofs.Parts.{every_front, every_back}, proofs.Ranges.range-append}
+use Rattle.row_set.{specs.declared.ranges.Range.Range, specs.Ranges.{keys_from, keys_in, keys_of, AreApart, IsRangeFrom}, specs.Sets.{united, with_key}, proofs.Apart.each_range, proofs.Held.{among-in, holds-true}, proofs.Windows.{rising_front, rising_left_out}}
+use Rattle.tick_model.{specs.declared.update.ShiftRange.ShiftRange, specs.Rules.{is_past, landed}, specs.Shifts.{moved, as_key, delta_at}}
+use Rattle.shift_data.{specs.Moves.IsLawful, proofs.Lawful.{lawful, not_past, place}}
 
 key_past : (old : List ℕ) (key : ℕ) (keys : List ℕ) → IsRising (old ++ key ∷ keys) → with_key key (old ++ keys) ≡ old ++ key ∷ keys
 key_past [] key [] h = refl

@@ -1,30 +1,10 @@
 -- Keys that are asked for by the keys to which they move.
 use Rattle.std.proofs.Common.{◌≡◌, refl, ap, sym, ◌∙◌, subst, true, false, cond, ◌&&◌, ◌==◌, ℕ, suc, ◌+◌, ◌-◌, ◌^◌, ◌<◌, ◌≤◌, arith, List, [], ◌∷◌, ◌++◌, leb, Some, None, pos, ℤ, ◌+ℤ◌, append_assoc}
-use Rattle.std.specs.Prelude.{find, filter}
-use Rattle.std.specs.List.{AllByRecursion, list_any, range_with_len}
-use Rattle.std.proofs.lemmas.Bool.{or_left, or_right, or_from, leb-true, and_parts, true≢false, eqb-true}
-use Rattle.std.proofs.lemmas.Option.{none-some, same_Some}
-use Rattle.std.proofs.lemmas.List.Elements.{filter-append}
-use Rattle.key_lists.specs.Keys.{is_among, IsRising}
-use Rattle.key_lists.proofs.Every.{every_weaker, filter_same, filter_none, filter_all}
-use Rattle.key_lists.proofs.Among.{of_among, among-filter, each_among}
-use Rattle.key_lists.proofs.Rising.{rising_some, rising_same}
-use Rattle.row_set.specs.declared.ranges.Range.{Range}
-use Rattle.row_set.specs.Ranges.{keys_from, keys_of, holds, ranges_of, preceded}
-use Rattle.row_set.specs.Sets.{IsKeySet, united}
-use Rattle.row_set.proofs.Held.{among-keys, among-in, range_rises, holds-true}
-use Rattle.row_set.proofs.Windows.{rising_front}
-use Rattle.tick_model.specs.declared.update.ShiftRange.{ShiftRange}
-use Rattle.tick_model.specs.Rules.{is_past}
-use Rattle.tick_model.specs.Shifts.{moved, as_key, delta_at}
-use Rattle.shift_data.specs.declared.unapply.AskedPart.{AskedPart}
-use Rattle.shift_data.specs.declared.parts.Segment.{Segment}
-use Rattle.shift_data.specs.Moves.{IsLawful, unapplied}
-use Rattle.shift_data.specs.Parts.{from_on, within, IsSegment}
-use Rattle.shift_data.specs.Wanted.{IsAskedPart}
-use Rattle.shift_data.proofs.Keys.{find_key, none_between, cut}
-use Rattle.shift_data.proofs.Lawful.{lawful, place}
-use Rattle.shift_data.proofs.Applied.{lands_at, united_past}
+use Rattle.std.{specs.Prelude.{find, filter}, specs.List.{AllByRecursion, list_any, range_with_len}, proofs.lemmas.Bool.{or_left, or_right, or_from, leb-true, and_parts, true≢false, eqb-true}, proofs.lemmas.Option.{none-some, same_Some}, proofs.lemmas.List.Elements.filter-append}
+use Rattle.key_lists.{specs.Keys.{is_among, IsRising}, proofs.Every.{every_weaker, filter_same, filter_none, filter_all}, proofs.Among.{of_among, among-filter, each_among}, proofs.Rising.{rising_some, rising_same}}
+use Rattle.row_set.{specs.declared.ranges.Range.Range, specs.Ranges.{keys_from, keys_of, holds, ranges_of, preceded}, specs.Sets.{IsKeySet, united}, proofs.Held.{among-keys, among-in, range_rises, holds-true}, proofs.Windows.rising_front}
+use Rattle.tick_model.{specs.declared.update.ShiftRange.ShiftRange, specs.Rules.is_past, specs.Shifts.{moved, as_key, delta_at}}
+use Rattle.shift_data.{specs.declared.unapply.AskedPart.AskedPart, specs.declared.parts.Segment.Segment, specs.Moves.{IsLawful, unapplied}, specs.Parts.{from_on, within, IsSegment}, specs.Wanted.IsAskedPart, proofs.Keys.{find_key, none_between, cut}, proofs.Lawful.{lawful, place}, proofs.Applied.{lands_at, united_past}}
 
 -- the keys of the longest runs are the keys
 ascends : (keys : List ℕ) → AllByRecursion (λ (run : Range). run.first ≤ run.last) (ranges_of keys)

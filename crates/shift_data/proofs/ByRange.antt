@@ -1,25 +1,10 @@
 -- Keys that move range by range.
 use Rattle.std.proofs.Common.{◌≡◌, refl, ap, sym, ◌∙◌, subst, true, false, cond, ◌||◌, ℕ, ◌-◌, ◌^◌, ◌<◌, ◌≤◌, arith, List, [], ◌∷◌, map, length, get_or, take, drop, leb, leb-false, ltb-true, pos, negsuc, ℤ, ◌+ℤ◌, unwrap_or, option_map, Option, true≢false, ◌⊎◌, inl, inr, w64, to_z, of_z}
-use Rattle.std.specs.Prelude.{int_le, int_lt, IfNone, IfSome}
-use Rattle.std.specs.Bool.{then_some}
-use Rattle.std.specs.List.{AllByRecursion}
-use Rattle.std.proofs.lemmas.Bool.{cases_eq, cases_lt, ne_eqb, and_from, and_left, and_right, le-leb, le-ltb, leb-true, lt-leb, or_from}
-use Rattle.std.proofs.lemmas.Int.{ints, to_z-of_z}
-use Rattle.std.proofs.lemmas.List.{take_all}
-use Rattle.key_lists.specs.Keys.{is_among, IsRising}
-use Rattle.key_lists.proofs.Among.{each_among, of_among}
-use Rattle.key_lists.proofs.Every.{every_both, every_weaker, every-map, every_unmapped, map_map, map_own, map_same}
-use Rattle.row_set.specs.Moves.{IsKey, moved_key, moved_keys}
-use Rattle.row_set.specs.Moves.{as_key as key_of}
-use Rattle.row_set.specs.Sets.{IsKeySet}
-use Rattle.tick_model.specs.declared.update.ShiftRange.{ShiftRange}
-use Rattle.tick_model.specs.Rules.{is_past, landed}
-use Rattle.tick_model.specs.Shifts.{moved, as_key, holds}
-use Rattle.shift_data.specs.Parts.{IsLastUpTo}
-use Rattle.shift_data.specs.ShiftLists.{IsShiftList}
-use Rattle.shift_data.proofs.Lawful.{not_past, place}
-use Rattle.shift_data.proofs.Searches.{find_here, find_none, find_past, holds_not_after, holds_not_before, holds_within}
-use Rattle.shift_data.proofs.Segments.{fits_delta}
+use Rattle.std.{specs.Prelude.{int_le, int_lt, IfNone, IfSome}, specs.Bool.then_some, specs.List.AllByRecursion, proofs.lemmas.Bool.{cases_eq, cases_lt, ne_eqb, and_from, and_left, and_right, le-leb, le-ltb, leb-true, lt-leb, or_from}, proofs.lemmas.Int.{ints, to_z-of_z}, proofs.lemmas.List.take_all}
+use Rattle.key_lists.{specs.Keys.{is_among, IsRising}, proofs.Among.{each_among, of_among}, proofs.Every.{every_both, every_weaker, every-map, every_unmapped, map_map, map_own, map_same}}
+use Rattle.row_set.{specs.Moves.{IsKey, moved_key, moved_keys, as_key as key_of}, specs.Sets.IsKeySet}
+use Rattle.tick_model.{specs.declared.update.ShiftRange.ShiftRange, specs.Rules.{is_past, landed}, specs.Shifts.{moved, as_key, holds}}
+use Rattle.shift_data.{specs.Parts.IsLastUpTo, specs.ShiftLists.IsShiftList, proofs.Lawful.{not_past, place}, proofs.Searches.{find_here, find_none, find_past, holds_not_after, holds_not_before, holds_within}, proofs.Segments.fits_delta}
 
 same_key : (place : ℤ) → key_of place ≡ as_key place
 same_key (pos n) = refl

@@ -1,19 +1,10 @@
 -- The ranges of a shift that are left while ranges of keys are gone over.
 use Rattle.std.proofs.Common.{◌≡◌, ap, sym, ◌∙◌, subst, false, ℕ, ◌+◌, ◌^◌, ◌<◌, ◌≤◌, arith, List, [], ◌∷◌, ◌++◌, length, take, get_or, pos, ◌+ℤ◌}
-use Rattle.std.specs.List.{AllByRecursion}
-use Rattle.std.proofs.lemmas.List.{take_more, get_or_default}
+use Rattle.std.{specs.List.AllByRecursion, proofs.lemmas.List.{take_more, get_or_default}}
 use Rattle.key_lists.proofs.Every.{every_weaker, map_same}
-use Rattle.row_set.specs.declared.ranges.Range.{Range}
-use Rattle.row_set.specs.Ranges.{AreApart, keys_in}
-use Rattle.row_set.proofs.Counts.{blank}
-use Rattle.row_set.proofs.Held.{each_between}
-use Rattle.row_set.proofs.Middles.{before_head}
-use Rattle.tick_model.specs.declared.update.ShiftRange.{ShiftRange}
-use Rattle.tick_model.specs.Rules.{is_past, landed}
-use Rattle.tick_model.specs.Shifts.{as_key, delta_at, moved}
-use Rattle.shift_data.specs.ShiftLists.{IsShiftList}
-use Rattle.shift_data.proofs.Applied.{run_key}
-use Rattle.shift_data.proofs.Lawful.{place}
+use Rattle.row_set.{specs.declared.ranges.Range.Range, specs.Ranges.{AreApart, keys_in}, proofs.Counts.blank, proofs.Held.each_between, proofs.Middles.before_head}
+use Rattle.tick_model.{specs.declared.update.ShiftRange.ShiftRange, specs.Rules.{is_past, landed}, specs.Shifts.{as_key, delta_at, moved}}
+use Rattle.shift_data.{specs.ShiftLists.IsShiftList, proofs.Applied.run_key, proofs.Lawful.place}
 
 -- the ranges that are left move the keys behind the first i ranges of keys as all do
 pub record AreLeft (shifts : List ShiftRange) (runs : List Range) (i : ℕ) (ranges : List ShiftRange) : Type 0 where

@@ -1,32 +1,10 @@
 -- Keys that are moved in place.
 use Rattle.std.proofs.Common.{◌≡◌, refl, ap, sym, ◌∙◌, subst, Bool, true, false, cond, not, ◌&&◌, ◌||◌, ◌==◌, ℕ, ◌+◌, arith, List, [], ◌∷◌, ◌++◌, pos, ℤ, ◌+ℤ◌, append_assoc, w64, SFits, to_z, of_z, length, ◌<◌}
-use Rattle.std.specs.Prelude.{filter}
-use Rattle.std.specs.Ordering.{int_eq}
-use Rattle.std.specs.Cmp.{signed_Decides}
-use Rattle.std.proofs.lemmas.Bool.{not_from_true, not_from_false, false_from_ne_true}
-use Rattle.std.proofs.lemmas.Int.{to_z-of_z}
-use Rattle.std.proofs.lemmas.List.{map-append}
-use Rattle.std.proofs.lemmas.List.Elements.{filter-append}
-use Rattle.key_lists.specs.Keys.{is_among, IsRising, without}
-use Rattle.key_lists.proofs.Every.{every, map_own, every_weaker, filter_same, filter_none, filter_all}
-use Rattle.key_lists.proofs.Among.{among-filter, each_among}
-use Rattle.key_lists.proofs.Rising.{rising_some, rising_same, rising-filter}
-use Rattle.key_lists.proofs.Booleans.{or_assoc, or_swap}
-use Rattle.row_set.specs.Ranges.{keys_from}
-use Rattle.row_set.specs.Sets.{IsKeySet, united}
-use Rattle.row_set.proofs.United.{among-united, united_rises}
-use Rattle.row_set.proofs.Windows.{rising_front}
-use Rattle.tick_model.specs.declared.update.ShiftRange.{ShiftRange}
-use Rattle.tick_model.specs.Rules.{landed}
-use Rattle.tick_model.specs.Shifts.{as_key, delta_at}
-use Rattle.shift_data.specs.declared.parts.Part.{Part}
-use Rattle.shift_data.specs.Moves.{IsLawful}
-use Rattle.shift_data.specs.Movers.{movers, IsMove}
-use Rattle.shift_data.specs.Parts.{from_on, within}
-use Rattle.shift_data.proofs.Applied.{united_past, run_lands}
-use Rattle.shift_data.proofs.Asked.{all_within}
-use Rattle.shift_data.proofs.Keys.{cut, each_within}
-use Rattle.shift_data.proofs.Lawful.{lawful, place}
+use Rattle.std.{specs.Prelude.filter, specs.Ordering.int_eq, specs.Cmp.signed_Decides, proofs.lemmas.Bool.{not_from_true, not_from_false, false_from_ne_true}, proofs.lemmas.Int.to_z-of_z, proofs.lemmas.List.map-append, proofs.lemmas.List.Elements.filter-append}
+use Rattle.key_lists.{specs.Keys.{is_among, IsRising, without}, proofs.Every.{every, map_own, every_weaker, filter_same, filter_none, filter_all}, proofs.Among.{among-filter, each_among}, proofs.Rising.{rising_some, rising_same, rising-filter}, proofs.Booleans.{or_assoc, or_swap}}
+use Rattle.row_set.{specs.Ranges.keys_from, specs.Sets.{IsKeySet, united}, proofs.United.{among-united, united_rises}, proofs.Windows.rising_front}
+use Rattle.tick_model.{specs.declared.update.ShiftRange.ShiftRange, specs.Rules.landed, specs.Shifts.{as_key, delta_at}}
+use Rattle.shift_data.{specs.declared.parts.Part.Part, specs.Moves.IsLawful, specs.Movers.{movers, IsMove}, specs.Parts.{from_on, within}, proofs.Applied.{united_past, run_lands}, proofs.Asked.all_within, proofs.Keys.{cut, each_within}, proofs.Lawful.{lawful, place}}
 
 -- what leaves and what stays, part by part
 module _ (shifts : List ShiftRange) (keys : List ℕ) (from : ℕ) (part : Part) (set : IsKeySet keys) (h : IsMove (delta_at shifts) keys from part) where

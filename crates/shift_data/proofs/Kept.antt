@@ -1,20 +1,9 @@
 -- Keys of which some are left out.
 use Rattle.std.proofs.Common.{◌≡◌, refl, ap, sym, ◌∙◌, Bool, true, false, cond, not, ◌&&◌, ℕ, ◌+◌, ◌-◌, ◌^◌, ◌<◌, ◌≤◌, arith, List, [], ◌∷◌, leb, Some, None, inl, inr}
-use Rattle.std.specs.Prelude.{find, filter}
-use Rattle.std.specs.List.{AllByRecursion}
-use Rattle.std.proofs.lemmas.Bool.{cases_lt, and_left, and_right, and_parts, le-leb, lt-leb, not_from_true, not_from_false, not-true, true≢false, and_from}
-use Rattle.std.proofs.lemmas.Option.{none-some, same_Some}
-use Rattle.key_lists.specs.Keys.{is_among, IsRising, without}
-use Rattle.key_lists.proofs.Every.{every_weaker, every-filter}
-use Rattle.key_lists.proofs.Among.{among-filter, each_among}
-use Rattle.key_lists.proofs.Rising.{rising_some}
-use Rattle.row_set.specs.declared.ranges.Range.{Range}
-use Rattle.row_set.specs.Ranges.{holds, ranges_of}
-use Rattle.row_set.specs.Sets.{IsKeySet}
-use Rattle.shift_data.specs.Parts.{IsLastUpTo}
-use Rattle.shift_data.proofs.Asked.{run_of, no_run}
-use Rattle.shift_data.proofs.Keys.{none_between}
-use Rattle.shift_data.proofs.Segments.{key_small}
+use Rattle.std.{specs.Prelude.{find, filter}, specs.List.AllByRecursion, proofs.lemmas.Bool.{cases_lt, and_left, and_right, and_parts, le-leb, lt-leb, not_from_true, not_from_false, not-true, true≢false, and_from}, proofs.lemmas.Option.{none-some, same_Some}}
+use Rattle.key_lists.{specs.Keys.{is_among, IsRising, without}, proofs.Every.{every_weaker, every-filter}, proofs.Among.{among-filter, each_among}, proofs.Rising.rising_some}
+use Rattle.row_set.{specs.declared.ranges.Range.Range, specs.Ranges.{holds, ranges_of}, specs.Sets.IsKeySet}
+use Rattle.shift_data.{specs.Parts.IsLastUpTo, proofs.Asked.{run_of, no_run}, proofs.Keys.none_between, proofs.Segments.key_small}
 
 pub kept_set : (left_out keys : List ℕ) → IsKeySet keys → IsKeySet (without left_out keys)
 kept_set left_out keys set = record {

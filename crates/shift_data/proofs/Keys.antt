@@ -1,16 +1,8 @@
 -- The keys of a rising list from one on, and from one to another.
 use Rattle.std.proofs.Common.{◌≡◌, refl, ap, sym, ◌∙◌, Bool, true, false, cond, ◌&&◌, ◌||◌, ◌==◌, ℕ, zero, suc, ◌+◌, ◌<◌, ◌≤◌, arith, List, [], ◌∷◌, ◌++◌, length, leb, ltb, Some, None, true≢false, inl, inr}
-use Rattle.std.specs.Prelude.{filter, find, slice_get, IfSome}
-use Rattle.std.specs.List.{AllByRecursion}
-use Rattle.std.proofs.lemmas.Bool.{le-leb, lt-leb, leb-true, lt-ltb, le-ltb, eq-eqb, eqb-true, and_right, and_from, and_parts, or_cases, or_from, or_left, or_right, cases_lt}
-use Rattle.std.proofs.lemmas.Option.{none-some, same_Some}
-use Rattle.key_lists.specs.Keys.{is_among, IsRising}
-use Rattle.key_lists.proofs.Every.{every, every_weaker, filter_passes, filter_same, filter_all}
-use Rattle.key_lists.proofs.Among.{among_below, among_own, among_past, among-filter, among-append, of_among}
-use Rattle.key_lists.proofs.Rising.{rising_some, rising-append, rising_same}
-use Rattle.key_lists.proofs.Booleans.{or_false, and_false}
-use Rattle.row_set.specs.Sets.{count_below}
-use Rattle.row_set.proofs.Lookups.{count_none}
+use Rattle.std.{specs.Prelude.{filter, find, slice_get, IfSome}, specs.List.AllByRecursion, proofs.lemmas.Bool.{le-leb, lt-leb, leb-true, lt-ltb, le-ltb, eq-eqb, eqb-true, and_right, and_from, and_parts, or_cases, or_from, or_left, or_right, cases_lt}, proofs.lemmas.Option.{none-some, same_Some}}
+use Rattle.key_lists.{specs.Keys.{is_among, IsRising}, proofs.Every.{every, every_weaker, filter_passes, filter_same, filter_all}, proofs.Among.{among_below, among_own, among_past, among-filter, among-append, of_among}, proofs.Rising.{rising_some, rising-append, rising_same}, proofs.Booleans.{or_false, and_false}}
+use Rattle.row_set.{specs.Sets.count_below, proofs.Lookups.count_none}
 use Rattle.shift_data.specs.Parts.{from_on, within}
 
 -- what a search for the first key that passes a test says

@@ -1,16 +1,8 @@
 -- What a lawful shift does to the keys.
 use Rattle.std.proofs.Common.{◌≡◌, refl, ap, sym, ◌∙◌, false, cond, ℕ, ◌^◌, ◌<◌, arith, List, [], ◌∷◌, Some, None, Option, pos, negsuc, ℤ, ◌+ℤ◌, ◌-ℤ◌, leb-false, inl, inr}
-use Rattle.std.specs.Prelude.{IfSome, int_le, int_lt}
-use Rattle.std.specs.List.{AllByRecursion}
-use Rattle.std.proofs.lemmas.Bool.{or_parts, cases_Bool, true≢false}
-use Rattle.std.proofs.lemmas.Option.{none-some}
-use Rattle.std.proofs.lemmas.Int.{ints}
-use Rattle.key_lists.specs.Keys.{IsRising}
-use Rattle.key_lists.proofs.Every.{every_weaker, every-map}
-use Rattle.tick_model.specs.declared.update.ShiftRange.{ShiftRange}
-use Rattle.tick_model.specs.declared.update.UpdateFault.TheVariants.{ShiftBreaks}
-use Rattle.tick_model.specs.Shifts.{moved, as_key}
-use Rattle.tick_model.specs.Rules.{is_past, shift_fault_after, shift_fault, landed}
+use Rattle.std.{specs.Prelude.{IfSome, int_le, int_lt}, specs.List.AllByRecursion, proofs.lemmas.Bool.{or_parts, cases_Bool, true≢false}, proofs.lemmas.Option.none-some, proofs.lemmas.Int.ints}
+use Rattle.key_lists.{specs.Keys.IsRising, proofs.Every.{every_weaker, every-map}}
+use Rattle.tick_model.{specs.declared.update.ShiftRange.ShiftRange, specs.declared.update.UpdateFault.TheVariants.ShiftBreaks, specs.Shifts.{moved, as_key}, specs.Rules.{is_past, shift_fault_after, shift_fault, landed}}
 
 -- a number that is a key below the limit
 pub not_past : (limit : ℕ) (place : ℤ) → is_past limit place ≡ false → (place ≡ pos (as_key place)) × (as_key place < limit)

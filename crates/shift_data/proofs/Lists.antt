@@ -1,19 +1,9 @@
 -- Shifts that are put together from ranges.
-use Rattle.std.proofs.Common.{◌≡◌, refl, ap, sym, ◌∙◌, subst, true, false, cond, ℕ, suc, ◌+◌, ◌-◌, ◌^◌, ◌<◌, ◌≤◌, arith, List, [], ◌∷◌, ◌++◌, length, pos}
-use Rattle.std.specs.Prelude.{slice_get, Option, Some, None, IfSome}
-use Rattle.std.specs.List.{AllByRecursion}
-use Rattle.std.specs.Option.{option_or}
-use Rattle.std.proofs.Common.{ℤ, negsuc, ltb, leb, ltb-false, leb-false, inl, inr}
-use Rattle.std.specs.Prelude.{◌<ℤ◌}
-use Rattle.std.proofs.lemmas.Bool.{cases_Bool}
-use Rattle.std.proofs.lemmas.Option.{none-some}
-use Rattle.shift_data.specs.declared.shifts.ShiftFault.TheVariants.{Backward, NotAscending, ZeroDelta}
-use Rattle.shift_data.specs.Pushes.{push_fault, not_past}
-use Rattle.std.specs.Ordering.{int_eq}
+use Rattle.std.proofs.Common.{◌≡◌, refl, ap, sym, ◌∙◌, subst, true, false, cond, ℕ, suc, ◌+◌, ◌-◌, ◌^◌, ◌<◌, ◌≤◌, arith, List, [], ◌∷◌, ◌++◌, length, pos, ℤ, negsuc, ltb, leb, ltb-false, leb-false, inl, inr}
+use Rattle.std.{specs.Prelude.{slice_get, Option, Some, None, IfSome, ◌<ℤ◌}, specs.List.AllByRecursion, specs.Option.option_or, proofs.lemmas.Bool.cases_Bool, proofs.lemmas.Option.none-some, specs.Ordering.int_eq}
+use Rattle.shift_data.{specs.declared.shifts.ShiftFault.TheVariants.{Backward, NotAscending, ZeroDelta}, specs.Pushes.{push_fault, not_past}, specs.ShiftLists.{IsShiftList, offset_range, offset_by}}
 use Rattle.key_lists.proofs.Every.{every_weaker, every-append, every-map}
-use Rattle.tick_model.specs.declared.update.ShiftRange.{ShiftRange}
-use Rattle.tick_model.specs.Printable.{IsShift, IsShiftRange}
-use Rattle.shift_data.specs.ShiftLists.{IsShiftList, offset_range, offset_by}
+use Rattle.tick_model.{specs.declared.update.ShiftRange.ShiftRange, specs.Printable.{IsShift, IsShiftRange}}
 
 -- one more range, past the last one
 IsPastLast : ℕ → List ShiftRange → Type 0

@@ -1,28 +1,10 @@
 -- What is left of the ranges of a shift, and of ranges of keys, from a key on.
 use Rattle.std.proofs.Common.{◌≡◌, refl, ap, sym, ◌∙◌, subst, true, false, max, ℕ, ◌-◌, ◌^◌, ◌<◌, ◌≤◌, arith, List, [], ◌∷◌, length, take, drop, leb, Some, None, pos, ℤ, inl, inr, true≢false}
-use Rattle.std.specs.Prelude.{slice_get, option_map, unwrap_or}
-use Rattle.std.specs.List.{AllByRecursion}
-use Rattle.std.specs.Ordering.{int_eq}
-use Rattle.std.proofs.lemmas.Bool.{cases_lt, lt-leb}
-use Rattle.std.proofs.lemmas.List.{take_rest}
-use Rattle.std.proofs.lemmas.Option.{none-some, same_Some}
-use Rattle.key_lists.specs.Keys.{is_among}
-use Rattle.key_lists.proofs.Among.{each_among}
-use Rattle.key_lists.proofs.Every.{every_weaker, filter_none}
-use Rattle.key_lists.proofs.Parts.{every-drop}
-use Rattle.row_set.specs.declared.ranges.Range.{Range}
-use Rattle.row_set.specs.Choice.{AreAhead}
-use Rattle.row_set.specs.Ranges.{AreApart, keys_of}
-use Rattle.row_set.proofs.Merged.{stretch_free, stretch_held}
-use Rattle.tick_model.specs.declared.update.ShiftRange.{ShiftRange}
-use Rattle.tick_model.specs.Printable.{IsShiftRange}
-use Rattle.tick_model.specs.Shifts.{delta_at}
-use Rattle.shift_data.specs.declared.parts.Part.{Part}
-use Rattle.shift_data.specs.declared.parts.Segment.{Segment}
-use Rattle.shift_data.specs.Movers.{IsMove}
-use Rattle.shift_data.specs.Parts.{from_on, IsSegment}
-use Rattle.shift_data.specs.ShiftLists.{IsShiftList}
-use Rattle.shift_data.proofs.Searches.{apart-drop, find-drop}
+use Rattle.std.{specs.Prelude.{slice_get, option_map, unwrap_or}, specs.List.AllByRecursion, specs.Ordering.int_eq, proofs.lemmas.Bool.{cases_lt, lt-leb}, proofs.lemmas.List.take_rest, proofs.lemmas.Option.{none-some, same_Some}}
+use Rattle.key_lists.{specs.Keys.is_among, proofs.Among.each_among, proofs.Every.{every_weaker, filter_none}, proofs.Parts.every-drop}
+use Rattle.row_set.{specs.declared.ranges.Range.Range, specs.Choice.AreAhead, specs.Ranges.{AreApart, keys_of}, proofs.Merged.{stretch_free, stretch_held}}
+use Rattle.tick_model.{specs.declared.update.ShiftRange.ShiftRange, specs.Printable.IsShiftRange, specs.Shifts.delta_at}
+use Rattle.shift_data.{specs.declared.parts.Part.Part, specs.declared.parts.Segment.Segment, specs.Movers.IsMove, specs.Parts.{from_on, IsSegment}, specs.ShiftLists.IsShiftList, proofs.Searches.{apart-drop, find-drop}}
 
 -- the ranges of a shift from the i-th on
 pub shifts_left : (shifts : List ShiftRange) (i : ℕ) → IsShiftList shifts → IsShiftList (take (length shifts - i) (drop i shifts))

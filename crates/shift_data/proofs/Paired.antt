@@ -1,25 +1,10 @@
 -- The pairs of two sets of keys.
 use Rattle.std.proofs.Common.{◌≡◌, refl, ap, sym, ◌∙◌, subst, ℕ, zero, suc, ◌+◌, ◌-◌, ◌^◌, ◌<◌, ◌≤◌, arith, List, [], ◌∷◌, ◌++◌, map, leb, Some, pos, ◌-ℤ◌}
-use Rattle.std.specs.Prelude.{find}
-use Rattle.std.specs.List.{AllByRecursion, range_with_len}
-use Rattle.std.proofs.lemmas.Bool.{leb-true}
-use Rattle.std.proofs.lemmas.Int.{ints}
-use Rattle.key_lists.specs.Keys.{IsRising}
-use Rattle.key_lists.proofs.Ranges.{each_from}
-use Rattle.row_set.specs.declared.ranges.Range.{Range}
-use Rattle.row_set.specs.Ranges.{holds, ranges_of}
-use Rattle.row_set.specs.Sets.{IsKeySet}
-use Rattle.tick_model.specs.declared.update.KeyPair.{KeyPair}
-use Rattle.tick_model.specs.Shifts.{stretches, shifted}
-use Rattle.shift_data.specs.ShiftLists.{IsShiftList}
-use Rattle.shift_data.specs.Moves.{pairs_of}
-use Rattle.shift_data.specs.Parts.{from_on}
-use Rattle.shift_data.specs.Stretches.{joined}
-use Rattle.shift_data.proofs.Asked.{run_of, all_within}
-use Rattle.shift_data.proofs.Keys.{Spans, cut, find_key, none_between}
-use Rattle.shift_data.proofs.Segments.{key_small}
-use Rattle.shift_data.proofs.ShiftOf.{IsSmall, shift_of}
-use Rattle.shift_data.proofs.Stretched.{range_by, stretched}
+use Rattle.std.{specs.Prelude.find, specs.List.{AllByRecursion, range_with_len}, proofs.lemmas.Bool.leb-true, proofs.lemmas.Int.ints}
+use Rattle.key_lists.{specs.Keys.IsRising, proofs.Ranges.each_from}
+use Rattle.row_set.{specs.declared.ranges.Range.Range, specs.Ranges.{holds, ranges_of}, specs.Sets.IsKeySet}
+use Rattle.tick_model.{specs.declared.update.KeyPair.KeyPair, specs.Shifts.{stretches, shifted}}
+use Rattle.shift_data.{specs.ShiftLists.IsShiftList, specs.Moves.pairs_of, specs.Parts.from_on, specs.Stretches.joined, proofs.Asked.{run_of, all_within}, proofs.Keys.{Spans, cut, find_key, none_between}, proofs.Segments.key_small, proofs.ShiftOf.{IsSmall, shift_of}, proofs.Stretched.{range_by, stretched}}
 
 -- the keys from one on begin with those of the run of the first of them
 pub front_run : (keys : List ℕ) (from first count : ℕ) (run : Range) → IsKeySet keys → find (leb from) keys ≡ Some first → find (holds first) (ranges_of keys) ≡ Some run → 1 ≤ count → first + count ≤ run.last + 1 → (from_on from keys ≡ range_with_len first count ++ from_on (first + count) keys) × (first + count ≤ 2 ^ 62)

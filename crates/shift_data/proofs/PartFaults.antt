@@ -1,25 +1,10 @@
 -- Where a shift breaks the order of keys, part by part.
 use Rattle.std.proofs.Common.{◌≡◌, refl, ap, sym, ◌∙◌, Bool, true, false, cond, ◌&&◌, ℕ, ◌+◌, ◌<◌, ◌≤◌, arith, List, [], ◌∷◌, ◌++◌, leb, ltb, Some, None, Option, pos, negsuc, ℤ, ◌+ℤ◌, ◌-ℤ◌, inl, inr}
-use Rattle.std.specs.Prelude.{find, IfSome, int_le, ◌≤ℤ◌, option_map}
-use Rattle.std.specs.Option.{option_or, is_some}
-use Rattle.std.specs.List.{AllByRecursion}
-use Rattle.std.proofs.lemmas.Bool.{cases_lt, le-leb, lt-leb, and_left, and_right, and_from, or_from, or_right, lt-ltb, le-ltb, leb-false, false_from_ne_true, false≢true}
-use Rattle.std.proofs.lemmas.Int.{ints}
-use Rattle.key_lists.specs.Keys.{IsRising}
-use Rattle.key_lists.proofs.Every.{every_weaker, filter_none}
-use Rattle.key_lists.proofs.Rising.{rising_some}
+use Rattle.std.{specs.Prelude.{find, IfSome, int_le, ◌≤ℤ◌, option_map}, specs.Option.{option_or, is_some}, specs.List.AllByRecursion, proofs.lemmas.Bool.{cases_lt, le-leb, lt-leb, and_left, and_right, and_from, or_from, or_right, lt-ltb, le-ltb, leb-false, false_from_ne_true, false≢true}, proofs.lemmas.Int.ints}
+use Rattle.key_lists.{specs.Keys.IsRising, proofs.Every.{every_weaker, filter_none}, proofs.Rising.rising_some}
 use Rattle.row_set.specs.Sets.{IsKeySet}
-use Rattle.tick_model.specs.declared.update.ShiftRange.{ShiftRange}
-use Rattle.tick_model.specs.declared.update.UpdateFault.{UpdateFault}
-use Rattle.tick_model.specs.declared.update.UpdateFault.TheVariants.{ShiftBreaks}
-use Rattle.tick_model.specs.Shifts.{moved, delta_at, as_key}
-use Rattle.shift_data.proofs.Lawful.{not_past}
-use Rattle.tick_model.specs.Rules.{is_past, shift_fault_after}
-use Rattle.shift_data.specs.declared.parts.Part.{Part}
-use Rattle.shift_data.specs.Parts.{from_on, within, IsPart}
-use Rattle.shift_data.specs.Faults.{breaks, past_fault, fault_in}
-use Rattle.shift_data.specs.declared.shifts.Broken.{Broken}
-use Rattle.shift_data.proofs.Keys.{Spans, cut, within_spans, each_within, found_is}
+use Rattle.tick_model.{specs.declared.update.ShiftRange.ShiftRange, specs.declared.update.UpdateFault.UpdateFault, specs.declared.update.UpdateFault.TheVariants.ShiftBreaks, specs.Shifts.{moved, delta_at, as_key}, specs.Rules.{is_past, shift_fault_after}}
+use Rattle.shift_data.{proofs.Lawful.not_past, specs.declared.parts.Part.Part, specs.Parts.{from_on, within, IsPart}, specs.Faults.{breaks, past_fault, fault_in}, specs.declared.shifts.Broken.Broken, proofs.Keys.{Spans, cut, within_spans, each_within, found_is}}
 
 abbrev pub own_fault : ℕ → UpdateFault
 own_fault key = ShiftBreaks key key

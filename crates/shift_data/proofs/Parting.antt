@@ -1,25 +1,10 @@
 -- The stretches of a set of keys, part by part.
 use Rattle.std.proofs.Common.{◌≡◌, refl, ap, sym, ◌∙◌, subst, ◌&&◌, ℕ, ◌+◌, ◌^◌, ◌<◌, arith, List, map, leb, ℤ, false, pos, [], ◌∷◌, ◌+ℤ◌, ◌-ℤ◌}
-use Rattle.std.specs.List.{AllByRecursion}
-use Rattle.std.specs.Prelude.{filter}
-use Rattle.std.proofs.lemmas.List.{append-nil, map-append}
-use Rattle.key_lists.proofs.Every.{every_both, every_weaker, every-filter, every-map, every_unmapped, map_map, map_own, every}
-use Rattle.key_lists.specs.Keys.{IsRising}
+use Rattle.std.{specs.List.AllByRecursion, specs.Prelude.filter, proofs.lemmas.List.{append-nil, map-append}, proofs.lemmas.Int.ints}
+use Rattle.key_lists.{proofs.Every.{every_both, every_weaker, every-filter, every-map, every_unmapped, map_map, map_own, every}, specs.Keys.IsRising}
 use Rattle.row_set.specs.Sets.{IsKeySet}
-use Rattle.tick_model.specs.declared.update.KeyPair.{KeyPair}
-use Rattle.tick_model.specs.declared.update.ShiftRange.{ShiftRange}
-use Rattle.tick_model.specs.Rules.{is_past, landed}
-use Rattle.tick_model.specs.Shifts.{delta, stretches, shifted, moved, as_key, delta_at}
-use Rattle.shift_data.specs.Moves.{IsLawful, pair_by, canonical, pair_through, delta_through, canonical_through}
-use Rattle.std.proofs.lemmas.Int.{ints}
-use Rattle.shift_data.proofs.Lawful.{lawful, moves_by, not_past}
-use Rattle.shift_data.specs.declared.parts.Part.{Part}
-use Rattle.shift_data.specs.ShiftLists.{IsShiftList}
-use Rattle.shift_data.specs.Parts.{from_on, within, IsPart}
-use Rattle.shift_data.specs.Stretches.{is_moving, joined}
-use Rattle.shift_data.proofs.Keys.{Spans, cut, within_spans, each_within}
-use Rattle.shift_data.proofs.Stretched.{range_by, stretched}
-use Rattle.shift_data.proofs.ShiftOf.{IsSmall, shift_of}
+use Rattle.tick_model.{specs.declared.update.KeyPair.KeyPair, specs.declared.update.ShiftRange.ShiftRange, specs.Rules.{is_past, landed}, specs.Shifts.{delta, stretches, shifted, moved, as_key, delta_at}}
+use Rattle.shift_data.{specs.Moves.{IsLawful, pair_by, canonical, pair_through, delta_through, canonical_through}, proofs.Lawful.{lawful, moves_by, not_past}, specs.declared.parts.Part.Part, specs.ShiftLists.IsShiftList, specs.Parts.{from_on, within, IsPart}, specs.Stretches.{is_moving, joined}, proofs.Keys.{Spans, cut, within_spans, each_within}, proofs.Stretched.{range_by, stretched}, proofs.ShiftOf.{IsSmall, shift_of}}
 
 -- each key moves from itself by what is said
 pub record Goes (pair : ℕ → KeyPair) (move : ℕ → ℤ) (keys : List ℕ) : Type 0 where

@@ -1,19 +1,9 @@
 -- Where a search cuts the ranges of a shift, and which range holds a key.
 use Rattle.std.proofs.Common.{◌≡◌, refl, ap, sym, ◌∙◌, subst, Bool, true, false, cond, ℕ, zero, suc, ◌<◌, ◌≤◌, arith, List, [], ◌∷◌, length, take, drop, get_or, leb, ltb, ltb-true, ltb-false, Option, Some, None}
-use Rattle.std.specs.Prelude.{find, option_copied}
-use Rattle.std.specs.Bool.{then_some}
-use Rattle.std.specs.Slice.{IsItemAt}
+use Rattle.std.{specs.Prelude.{find, option_copied}, specs.Bool.then_some, specs.Slice.IsItemAt, proofs.lemmas.Option.{none-some, same_Some}, specs.List.AllByRecursion, specs.List.Sorted.{IsPartitionPoint, IsPartitionedBy, IsNonDecreasingBy}, proofs.lemmas.Bool.{le-leb, lt-leb, and_left, and_right, and_from}, proofs.lemmas.List.Sorted.IsPartitionedBy-ltb}
 use denote.Ref.{Bor}
-use Rattle.std.proofs.lemmas.Option.{none-some, same_Some}
-use Rattle.std.specs.List.{AllByRecursion}
-use Rattle.std.specs.List.Sorted.{IsPartitionPoint, IsPartitionedBy, IsNonDecreasingBy}
-use Rattle.std.proofs.lemmas.Bool.{le-leb, lt-leb, and_left, and_right, and_from}
-use Rattle.std.proofs.lemmas.List.Sorted.{IsPartitionedBy-ltb}
-use Rattle.key_lists.proofs.Every.{every_weaker, all_from}
-use Rattle.key_lists.proofs.Parts.{every_before, every_from}
-use Rattle.tick_model.specs.declared.update.ShiftRange.{ShiftRange}
-use Rattle.tick_model.specs.Printable.{IsShift}
-use Rattle.tick_model.specs.Shifts.{holds}
+use Rattle.key_lists.{proofs.Every.{every_weaker, all_from}, proofs.Parts.{every_before, every_from}}
+use Rattle.tick_model.{specs.declared.update.ShiftRange.ShiftRange, specs.Printable.IsShift, specs.Shifts.holds}
 
 ordered : (shifts : List ShiftRange) → IsShift shifts → AllByRecursion (λ range. range.begin ≤ range.end) shifts
 ordered [] h = tt

@@ -1,23 +1,10 @@
 -- The numbers and keys that move by one delta.
 use Rattle.std.proofs.Common.{◌≡◌, refl, ap, sym, ◌∙◌, subst, true, ℕ, zero, suc, ◌+◌, ◌-◌, ◌^◌, ◌<◌, ◌≤◌, arith, List, [], ◌∷◌, length, take, drop, get_or, leb, Some, None, Option, pos, negsuc, ℤ, w64, SFits}
-use Rattle.std.specs.Prelude.{find, slice_get, IfSome, option_map, unwrap_or, ◌<ℤ◌}
-use Rattle.std.specs.List.{AllByRecursion}
-use Rattle.std.proofs.lemmas.Bool.{leb-true}
-use Rattle.std.proofs.lemmas.Int.{ints}
-use Rattle.key_lists.specs.Keys.{is_among, IsRising}
-use Rattle.key_lists.proofs.Every.{every_weaker, all_from}
-use Rattle.key_lists.proofs.Among.{of_among}
-use Rattle.key_lists.proofs.Parts.{first_left}
+use Rattle.std.{specs.Prelude.{find, slice_get, IfSome, option_map, unwrap_or, ◌<ℤ◌}, specs.List.AllByRecursion, proofs.lemmas.Bool.leb-true, proofs.lemmas.Int.ints}
+use Rattle.key_lists.{specs.Keys.{is_among, IsRising}, proofs.Every.{every_weaker, all_from}, proofs.Among.of_among, proofs.Parts.first_left}
 use Rattle.row_set.specs.Sets.{count_below, IsKeySet}
-use Rattle.tick_model.specs.declared.update.ShiftRange.{ShiftRange}
-use Rattle.tick_model.specs.Printable.{IsShift, IsShiftRange}
-use Rattle.tick_model.specs.Shifts.{holds, delta_at}
-use Rattle.shift_data.specs.declared.parts.Part.{Part}
-use Rattle.shift_data.specs.declared.parts.Segment.{Segment}
-use Rattle.shift_data.specs.ShiftLists.{IsShiftList}
-use Rattle.shift_data.specs.Parts.{IsSegment, IsPart, IsLastUpTo}
-use Rattle.shift_data.proofs.Keys.{find_key, none_between, last_below}
-use Rattle.shift_data.proofs.Searches.{find_past, find_here, find_none, holds_within, holds_not_after}
+use Rattle.tick_model.{specs.declared.update.ShiftRange.ShiftRange, specs.Printable.{IsShift, IsShiftRange}, specs.Shifts.{holds, delta_at}}
+use Rattle.shift_data.{specs.declared.parts.Part.Part, specs.declared.parts.Segment.Segment, specs.ShiftLists.IsShiftList, specs.Parts.{IsSegment, IsPart, IsLastUpTo}, proofs.Keys.{find_key, none_between, last_below}, proofs.Searches.{find_past, find_here, find_none, holds_within, holds_not_after}}
 
 pub fits_delta : (delta : ℤ) → delta <ℤ pos (2 ^ 62) → negsuc (2 ^ 62 - 1) <ℤ delta → SFits w64 delta
 fits_delta (pos n) up down = record { sfits = omega (arith, ints, up) }

@@ -1,18 +1,9 @@
 -- The ranges of rising pairs of keys are those of a shift.
 use Rattle.std.proofs.Common.{◌≡◌, refl, true, false, cond, ℕ, ◌+◌, ◌-◌, ◌^◌, ◌<◌, ◌≤◌, arith, List, [], ◌∷◌, map, pos, negsuc, ◌-ℤ◌}
-use Rattle.std.specs.Prelude.{filter, ◌<ℤ◌}
-use Rattle.std.specs.List.{AllByRecursion}
-use Rattle.std.specs.Ordering.{int_eq}
-use Rattle.std.proofs.lemmas.Bool.{not-true}
-use Rattle.std.proofs.lemmas.Int.{ints}
-use Rattle.key_lists.specs.Keys.{IsRising}
-use Rattle.key_lists.proofs.Every.{every, every_weaker, every-filter}
-use Rattle.tick_model.specs.declared.update.ShiftRange.{ShiftRange}
-use Rattle.tick_model.specs.declared.update.KeyPair.{KeyPair}
-use Rattle.tick_model.specs.Printable.{IsShift, IsShiftRange}
-use Rattle.tick_model.specs.Shifts.{delta, one, extend, stretches, shifted}
-use Rattle.shift_data.specs.ShiftLists.{IsShiftList}
-use Rattle.shift_data.specs.Stretches.{is_moving}
+use Rattle.std.{specs.Prelude.{filter, ◌<ℤ◌}, specs.List.AllByRecursion, specs.Ordering.int_eq, proofs.lemmas.Bool.not-true, proofs.lemmas.Int.ints}
+use Rattle.key_lists.{specs.Keys.IsRising, proofs.Every.{every, every_weaker, every-filter}}
+use Rattle.tick_model.{specs.declared.update.ShiftRange.ShiftRange, specs.declared.update.KeyPair.KeyPair, specs.Printable.{IsShift, IsShiftRange}, specs.Shifts.{delta, one, extend, stretches, shifted}}
+use Rattle.shift_data.{specs.ShiftLists.IsShiftList, specs.Stretches.is_moving}
 
 -- the ranges lie apart, from a first key on
 abbrev pub AreApart : ℕ → List ShiftRange → Type 0

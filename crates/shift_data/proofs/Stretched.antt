@@ -1,17 +1,8 @@
 -- Stretches of pairs that are put together from the left.
 use Rattle.std.proofs.Common.{◌≡◌, refl, ap, sym, ◌∙◌, Bool, true, false, cond, ℕ, List, [], ◌∷◌, ◌++◌, map, ℤ, Some, None, Option, append_assoc, w64, to_z, of_z, SFits}
-use Rattle.std.specs.Prelude.{filter}
-use Rattle.std.specs.List.{AllByRecursion}
-use Rattle.std.specs.Ordering.{int_eq}
-use Rattle.std.specs.Cmp.{signed_Decides}
-use Rattle.std.proofs.lemmas.Bool.{false_from_ne_true}
-use Rattle.std.proofs.lemmas.Int.{to_z-of_z}
-use Rattle.std.proofs.lemmas.List.{append-nil}
-use Rattle.tick_model.specs.declared.update.ShiftRange.{ShiftRange}
-use Rattle.tick_model.specs.declared.update.KeyPair.{KeyPair}
-use Rattle.tick_model.specs.Shifts.{delta, one, extend, stretches}
-use Rattle.shift_data.specs.Stretches.{joined, is_moving, built}
-use Rattle.shift_data.proofs.Keys.{Spans}
+use Rattle.std.{specs.Prelude.filter, specs.List.AllByRecursion, specs.Ordering.int_eq, specs.Cmp.signed_Decides, proofs.lemmas.Bool.false_from_ne_true, proofs.lemmas.Int.to_z-of_z, proofs.lemmas.List.append-nil}
+use Rattle.tick_model.{specs.declared.update.ShiftRange.ShiftRange, specs.declared.update.KeyPair.KeyPair, specs.Shifts.{delta, one, extend, stretches}}
+use Rattle.shift_data.{specs.Stretches.{joined, is_moving, built}, proofs.Keys.Spans}
 
 abbrev pub range_by : ℕ → ℕ → ℤ → ShiftRange
 range_by begin end delta = record { begin = begin; end = end; delta = delta }

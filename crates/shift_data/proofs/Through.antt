@@ -1,17 +1,10 @@
 -- Keys that move twice.
 use Rattle.std.proofs.Common.{◌≡◌, ap, sym, ◌∙◌, subst, true, ℕ, ◌+◌, ◌-◌, ◌^◌, ◌<◌, ◌≤◌, arith, List, Some, None, Option, pos, negsuc, ℤ, ◌+ℤ◌, min, w64, SFits}
-use Rattle.std.specs.Prelude.{IfSome, unwrap_or, ◌<ℤ◌}
-use Rattle.std.proofs.lemmas.Int.{ints}
+use Rattle.std.{specs.Prelude.{IfSome, unwrap_or, ◌<ℤ◌}, proofs.lemmas.Int.ints}
 use Rattle.key_lists.specs.Keys.{is_among}
 use Rattle.row_set.specs.Sets.{IsKeySet}
-use Rattle.tick_model.specs.declared.update.ShiftRange.{ShiftRange}
-use Rattle.tick_model.specs.Shifts.{moved, as_key, delta_at}
-use Rattle.shift_data.specs.declared.parts.Part.{Part}
-use Rattle.shift_data.specs.declared.parts.Segment.{Segment}
-use Rattle.shift_data.specs.Moves.{delta_through}
-use Rattle.shift_data.specs.Parts.{IsSegment, IsPart, IsLastUpTo}
-use Rattle.shift_data.proofs.Applied.{lands_at}
-use Rattle.shift_data.proofs.Segments.{key_small}
+use Rattle.tick_model.{specs.declared.update.ShiftRange.ShiftRange, specs.Shifts.{moved, as_key, delta_at}}
+use Rattle.shift_data.{specs.declared.parts.Part.Part, specs.declared.parts.Segment.Segment, specs.Moves.delta_through, specs.Parts.{IsSegment, IsPart, IsLastUpTo}, proofs.Applied.lands_at, proofs.Segments.key_small}
 
 pub fits_sum : (a b : ℤ) → a <ℤ pos (2 ^ 62) → negsuc (2 ^ 62 - 1) <ℤ a → b <ℤ pos (2 ^ 62) → negsuc (2 ^ 62 - 1) <ℤ b → SFits w64 (a +ℤ b)
 fits_sum a b up down over under = go (a +ℤ b) (omega (arith, ints, up, over)) (omega (arith, ints, down, under))

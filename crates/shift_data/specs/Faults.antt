@@ -2,14 +2,9 @@
 --     breaks broken      the fault that two keys show
 --     past_fault limit part keys      the least key of the part that moves past the limit
 --     fault_in limit before part keys      the fault that the part shows behind the one before it
-use Rattle.std.specs.Prelude.{ℕ, ◌-◌, ◌^◌, ◌<◌, List, Option, Some, None, find, option_map, ℤ, pos, negsuc, ◌+ℤ◌, ◌<ℤ◌, int_le, if◌then◌else◌}
-use Rattle.std.specs.Option.{option_or}
-use Rattle.tick_model.specs.declared.update.UpdateFault.{UpdateFault}
-use Rattle.tick_model.specs.declared.update.UpdateFault.TheVariants.{ShiftBreaks}
-use Rattle.tick_model.specs.Rules.{is_past}
-use Rattle.shift_data.specs.declared.parts.Part.{Part}
-use Rattle.shift_data.specs.declared.shifts.Broken.{Broken}
-use Rattle.shift_data.specs.Parts.{within}
+use Rattle.std.{specs.Prelude.{ℕ, ◌-◌, ◌^◌, ◌<◌, List, Option, Some, None, find, option_map, ℤ, pos, negsuc, ◌+ℤ◌, ◌<ℤ◌, int_le, if◌then◌else◌}, specs.Option.option_or}
+use Rattle.tick_model.{specs.declared.update.UpdateFault.UpdateFault, specs.declared.update.UpdateFault.TheVariants.ShiftBreaks, specs.Rules.is_past}
+use Rattle.shift_data.{specs.declared.parts.Part.Part, specs.declared.shifts.Broken.Broken, specs.Parts.within}
 
 abbrev pub breaks : Broken → UpdateFault
 breaks broken = ShiftBreaks broken.first broken.second

@@ -1,8 +1,7 @@
 -- Keys that move at all.
 --     movers move keys      those of the keys that do not stay
 --     IsMove move keys from part      the part has the first key from `from` on; its numbers move by its delta, and where that is not 0 they all are keys
-use Rattle.std.specs.Prelude.{◌≡◌, ℕ, ◌^◌, ◌<◌, ◌≤◌, true, false, not, List, filter, ℤ, pos}
-use Rattle.std.specs.Ordering.{int_eq}
+use Rattle.std.{specs.Prelude.{◌≡◌, ℕ, ◌^◌, ◌<◌, ◌≤◌, true, false, not, List, filter, ℤ, pos}, specs.Ordering.int_eq}
 use Rattle.key_lists.specs.Keys.{is_among}
 use Rattle.shift_data.specs.declared.parts.Part.{Part}
 

@@ -8,10 +8,7 @@
 --     pairs_of old new      the pairs of two lists of keys, one key by one
 use Rattle.std.specs.Prelude.{◌≡◌, ℕ, ◌^◌, List, [], ◌∷◌, None, map, filter, ℤ, ◌+ℤ◌}
 use Rattle.key_lists.specs.Keys.{is_among}
-use Rattle.tick_model.specs.declared.update.KeyPair.{KeyPair}
-use Rattle.tick_model.specs.declared.update.ShiftRange.{ShiftRange}
-use Rattle.tick_model.specs.Rules.{shift_fault}
-use Rattle.tick_model.specs.Shifts.{moved, as_key, delta_at, shifted}
+use Rattle.tick_model.{specs.declared.update.KeyPair.KeyPair, specs.declared.update.ShiftRange.ShiftRange, specs.Rules.shift_fault, specs.Shifts.{moved, as_key, delta_at, shifted}}
 
 abbrev pub IsLawful : List ShiftRange → List ℕ → Type 0
 IsLawful shifts keys = shift_fault (2 ^ 62) shifts keys ≡ None

@@ -1,9 +1,7 @@
 -- Runs of neighbouring keys that are paired.
 --     IsPairRun old new old_from new_from run      the run has the first keys of both from these on, and the keys behind it are left
-use Rattle.std.specs.Prelude.{◌≡◌, ℕ, ◌+◌, ◌^◌, ◌≤◌, List, ◌++◌}
-use Rattle.std.specs.List.{range_with_len}
-use Rattle.shift_data.specs.declared.pairs.PairRun.{PairRun}
-use Rattle.shift_data.specs.Parts.{from_on}
+use Rattle.std.{specs.Prelude.{◌≡◌, ℕ, ◌+◌, ◌^◌, ◌≤◌, List, ◌++◌}, specs.List.range_with_len}
+use Rattle.shift_data.{specs.declared.pairs.PairRun.PairRun, specs.Parts.from_on}
 
 pub record IsPairRun (old new : List ℕ) (old_from new_from : ℕ) (run : PairRun) : Type 0 where
   pub some : 1 ≤ run.count

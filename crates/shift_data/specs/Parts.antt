@@ -6,8 +6,7 @@
 --     IsLastUpTo keys high last      the greatest key that is not above high
 use Rattle.std.specs.Prelude.{◌≡◌, ℕ, ◌^◌, ◌<◌, ◌≤◌, ◌&&◌, true, false, List, filter, nat_le, ℤ}
 use Rattle.key_lists.specs.Keys.{is_among}
-use Rattle.shift_data.specs.declared.parts.Part.{Part}
-use Rattle.shift_data.specs.declared.parts.Segment.{Segment}
+use Rattle.shift_data.{specs.declared.parts.Part.Part, specs.declared.parts.Segment.Segment}
 
 abbrev pub from_on : ℕ → List ℕ → List ℕ
 from_on low = filter (nat_le low)

@@ -1,11 +1,8 @@
 -- Why a range cannot stand behind those of a shift.
 --     push_fault shifts begin end delta      the first cause, if there is one
-use Rattle.std.specs.Prelude.{ℕ, ◌-◌, List, length, Option, Some, None, slice_get, nat_lt, nat_le, if◌then◌else◌, ℤ, pos}
-use Rattle.std.specs.Option.{option_or}
-use Rattle.std.specs.Ordering.{int_eq}
+use Rattle.std.{specs.Prelude.{ℕ, ◌-◌, List, length, Option, Some, None, slice_get, nat_lt, nat_le, if◌then◌else◌, ℤ, pos}, specs.Option.option_or, specs.Ordering.int_eq}
 use Rattle.tick_model.specs.declared.update.ShiftRange.{ShiftRange}
-use Rattle.shift_data.specs.declared.shifts.ShiftFault.{ShiftFault}
-use Rattle.shift_data.specs.declared.shifts.ShiftFault.TheVariants.{Backward, NotAscending, ZeroDelta}
+use Rattle.shift_data.{specs.declared.shifts.ShiftFault.ShiftFault, specs.declared.shifts.ShiftFault.TheVariants.{Backward, NotAscending, ZeroDelta}}
 
 -- a range that begins here is not past the last one
 abbrev pub not_past : Option ShiftRange → ℕ → Option ShiftFault

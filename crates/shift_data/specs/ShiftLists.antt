@@ -1,10 +1,8 @@
 -- Lists of shift ranges.
 --     IsShiftList shifts      the ranges ascend, are disjoint, move their rows, and are ranges of keys
 --     offset_by by shifts      both ends of each range, by keys higher
-use Rattle.std.specs.Prelude.{ℕ, ◌+◌, ◌^◌, List, map}
-use Rattle.std.specs.List.{AllByRecursion}
-use Rattle.tick_model.specs.declared.update.ShiftRange.{ShiftRange}
-use Rattle.tick_model.specs.Printable.{IsShift, IsShiftRange}
+use Rattle.std.{specs.Prelude.{ℕ, ◌+◌, ◌^◌, List, map}, specs.List.AllByRecursion}
+use Rattle.tick_model.{specs.declared.update.ShiftRange.ShiftRange, specs.Printable.{IsShift, IsShiftRange}}
 
 pub record IsShiftList (shifts : List ShiftRange) : Type 0 where
   pub apart : IsShift shifts

@@ -2,8 +2,7 @@
 --     joined range ranges      the range before others, as one with the first of them where both move by one delta
 --     led_by last ranges      the last range, if there is one, before others
 --     built whole last ranges      the ranges that move, where others are still to come
-use Rattle.std.specs.Prelude.{List, [], ◌∷◌, ◌++◌, Option, Some, None, Bool, not, filter, pos, if◌then◌else◌}
-use Rattle.std.specs.Ordering.{int_eq}
+use Rattle.std.{specs.Prelude.{List, [], ◌∷◌, ◌++◌, Option, Some, None, Bool, not, filter, pos, if◌then◌else◌}, specs.Ordering.int_eq}
 use Rattle.tick_model.specs.declared.update.ShiftRange.{ShiftRange}
 
 abbrev pub joined : ShiftRange → List ShiftRange → List ShiftRange

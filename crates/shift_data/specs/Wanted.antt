@@ -2,8 +2,7 @@
 --     IsAskedPart shifts survivors after from part      the part has the first key from `from` on, and those to its last are asked for as it says
 use Rattle.std.specs.Prelude.{◌≡◌, ℕ, ◌^◌, ◌<◌, ◌≤◌, true, false, List}
 use Rattle.key_lists.specs.Keys.{is_among}
-use Rattle.tick_model.specs.declared.update.ShiftRange.{ShiftRange}
-use Rattle.tick_model.specs.Shifts.{moved, as_key}
+use Rattle.tick_model.{specs.declared.update.ShiftRange.ShiftRange, specs.Shifts.{moved, as_key}}
 use Rattle.shift_data.specs.declared.unapply.AskedPart.{AskedPart}
 
 pub record IsAskedPart (shifts : List ShiftRange) (survivors after : List ℕ) (from : ℕ) (part : AskedPart) : Type 0 where

@@ -1,10 +1,7 @@
 -- Elements of a list that are told by their keys.
 use Rattle.std.proofs.Common.{◌≡◌, refl, ap, sym, ◌∙◌, Bool, true, false, cond, ◌||◌, ℕ, ◌<◌, ◌==◌, List, [], ◌∷◌, map, filter, true≢false}
-use Rattle.std.specs.List.{AllByRecursion}
-use Rattle.std.proofs.lemmas.Bool.{eqb-true}
-use Rattle.key_lists.specs.Keys.{is_among, IsRising}
-use Rattle.key_lists.proofs.Among.{among_own, among_past, among_below}
-use Rattle.key_lists.proofs.Every.{every_both, every-map, every_unmapped, every-filter, filter_same}
+use Rattle.std.{specs.List.AllByRecursion, proofs.lemmas.Bool.eqb-true}
+use Rattle.key_lists.{specs.Keys.{is_among, IsRising}, proofs.Among.{among_own, among_past, among_below}, proofs.Every.{every_both, every-map, every_unmapped, every-filter, filter_same}}
 
 -- under rising keys, an element's key is among those of the elements that pass a test where it passes itself
 pub named_by : {X : Type 0} (f : X → ℕ) (test : X → Bool) (xs : List X) → IsRising (map f xs) → AllByRecursion (λ x. is_among (f x) (map f (filter test xs)) ≡ test x) xs

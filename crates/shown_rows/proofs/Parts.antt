@@ -1,19 +1,11 @@
 -- The part of a table that some of its keys make.
 use Rattle.std.proofs.Common.{◌≡◌, ap, sym, ◌∙◌, subst, Bool, true, ℕ, List, [], filter, Option}
-use Rattle.std.specs.Prelude.{option_map, unwrap_or}
-use Rattle.std.specs.List.{AllByRecursion}
-use Rattle.key_lists.specs.Keys.{is_among}
-use Rattle.key_lists.proofs.Among.{of_among}
-use Rattle.key_lists.proofs.Every.{every_weaker, every-map, every-filter}
-use Rattle.key_lists.proofs.Rising.{rising-filter}
-use Rattle.tick_model.specs.declared.table.PlainRow.{PlainRow}
-use Rattle.tick_model.specs.declared.table.PlainTable.{PlainTable}
-use Rattle.tick_model.specs.Tables.{IsRow, IsTable, cells_at, keys}
-use Rattle.tick_model.proofs.Among.{row_at-filter, rows_among}
+use Rattle.std.{specs.Prelude.{option_map, unwrap_or}, specs.List.AllByRecursion}
+use Rattle.key_lists.{specs.Keys.is_among, proofs.Among.of_among, proofs.Every.{every_weaker, every-map, every-filter}, proofs.Rising.rising-filter}
+use Rattle.tick_model.{specs.declared.table.PlainRow.PlainRow, specs.declared.table.PlainTable.PlainTable, specs.Tables.{IsRow, IsTable, cells_at, keys}, proofs.Among.{row_at-filter, rows_among}}
 use Rattle.tick_table.proofs.Told.{flat_map-same}
 use Rattle.row_changes.specs.Parts.{AreThere, cells_under}
-use Rattle.shown_rows.specs.Shown.{IsPart, part}
-use Rattle.shown_rows.proofs.Named.{filter_named}
+use Rattle.shown_rows.{specs.Shown.{IsPart, part}, proofs.Named.filter_named}
 
 part_table : (these : List ℕ) (table : PlainTable) → IsTable table → IsTable (part these table)
 part_table these table t = record {

@@ -1,32 +1,14 @@
 -- The tick from some rows of an exact input before to some of them now, and its parts.
 use Rattle.std.proofs.Common.{◌≡◌, refl, ap, ap₂, sym, ◌∙◌, subst, Bool, true, false, not, ◌&&◌, ℕ, ◌+◌, ◌*◌, ◌≤◌, ◌^◌, arith, List, map, filter, length, None}
-use Rattle.std.specs.List.{AllByRecursion}
-use Rattle.std.proofs.Math.Nat.{mul-le-mul_left}
-use Rattle.std.proofs.lemmas.Bool.{and_parts}
-use Rattle.std.proofs.lemmas.List.{length-map}
-use Rattle.key_lists.specs.Keys.{is_among, IsRising, without}
-use Rattle.key_lists.proofs.Among.{among-filter, each_among}
-use Rattle.key_lists.proofs.Every.{every, every_weaker, every_both, every-map, every_unmapped, every-filter, filter_passes, filter_same, filter_swap, filter-map, map_map, map_own}
+use Rattle.std.{specs.List.AllByRecursion, proofs.Math.Nat.mul-le-mul_left, proofs.lemmas.Bool.and_parts, proofs.lemmas.List.length-map}
+use Rattle.key_lists.{specs.Keys.{is_among, IsRising, without}, proofs.Among.{among-filter, each_among}, proofs.Every.{every, every_weaker, every_both, every-map, every_unmapped, every-filter, filter_passes, filter_same, filter_swap, filter-map, map_map, map_own}}
 use Rattle.shift_data.specs.Moves.{IsLawful, canonical, pair_by, pairs_of}
-use Rattle.table_update.proofs.LawfulParts.{lawful_some}
-use Rattle.table_update.specs.Kept.{old_modified}
-use Rattle.tick_model.specs.declared.table.PlainTable.{PlainTable}
-use Rattle.tick_model.specs.declared.update.KeyPair.{KeyPair}
-use Rattle.tick_model.specs.Rules.{update_fault}
-use Rattle.tick_model.specs.Shifts.{shifted}
-use Rattle.tick_model.specs.Tables.{keys, same_cells}
-use Rattle.tick_model.specs.Updates.{IsTick, Tick, Update, between, differs, kept_pair, new_keys, old_keys, pairs}
-use Rattle.tick_laws.specs.Checked.{keys_after}
-use Rattle.tick_laws.proofs.OperatorTicks.{all_both_in}
-use Rattle.tick_laws.proofs.ResultCells.{length-filter_most}
-use Rattle.row_changes.proofs.Comparing.{pairs_of-keys}
-use Rattle.row_changes.specs.Parts.{AreParts, Parts}
-use Rattle.tick_table.specs.Exact.{IsExact, tick_of}
-use Rattle.tick_table.specs.Ticking.{Ticking}
-use Rattle.shown_rows.specs.Shown.{IsPart, through}
-use Rattle.tick_table.proofs.Between.{keys_after_between, shift_keeps_order, staying_are, between_lawful}
-use Rattle.shown_rows.proofs.Named.{filter_named, named_by}
-use Rattle.shown_rows.proofs.Parts.{cells_there, is_table}
+use Rattle.table_update.{proofs.LawfulParts.lawful_some, specs.Kept.old_modified}
+use Rattle.tick_model.{specs.declared.table.PlainTable.PlainTable, specs.declared.update.KeyPair.KeyPair, specs.Rules.update_fault, specs.Shifts.shifted, specs.Tables.{keys, same_cells}, specs.Updates.{IsTick, Tick, Update, between, differs, kept_pair, new_keys, old_keys, pairs}}
+use Rattle.tick_laws.{specs.Checked.keys_after, proofs.OperatorTicks.all_both_in, proofs.ResultCells.length-filter_most}
+use Rattle.row_changes.{proofs.Comparing.pairs_of-keys, specs.Parts.{AreParts, Parts}}
+use Rattle.tick_table.{specs.Exact.{IsExact, tick_of}, specs.Ticking.Ticking, proofs.Between.{keys_after_between, shift_keeps_order, staying_are, between_lawful}}
+use Rattle.shown_rows.{specs.Shown.{IsPart, through}, proofs.Named.{filter_named, named_by}, proofs.Parts.{cells_there, is_table}}
 
 module _ (t : Ticking) (e : IsExact t) where
   abbrev pub kept : List KeyPair

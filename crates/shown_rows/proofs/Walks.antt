@@ -1,12 +1,7 @@
 -- Lists that are walked from the front.
 use Rattle.std.proofs.Common.{◌≡◌, refl, ap, sym, ◌∙◌, subst, Bool, true, false, cond, ℕ, zero, suc, ◌+◌, ◌<◌, arith, add-one, ap₂, List, [], ◌∷◌, ◌++◌, map, filter, take, length, Some}
-use Rattle.std.specs.Prelude.{slice_get}
-use Rattle.std.specs.List.{AllByRecursion}
-use Rattle.std.proofs.lemmas.List.{append-nil}
-use Rattle.std.proofs.lemmas.List.Elements.{filter-append}
-use Rattle.std.proofs.lemmas.Option.{none-some, same_Some}
-use Rattle.key_lists.specs.Keys.{IsRising}
-use Rattle.key_lists.proofs.Every.{every-map, every_unmapped, every-filter}
+use Rattle.std.{specs.Prelude.slice_get, specs.List.AllByRecursion, proofs.lemmas.List.append-nil, proofs.lemmas.List.Elements.filter-append, proofs.lemmas.Option.{none-some, same_Some}}
+use Rattle.key_lists.{specs.Keys.IsRising, proofs.Every.{every-map, every_unmapped, every-filter}}
 use Rattle.row_changes.proofs.Comparing.{length-pairs_of}
 use Rattle.shift_data.specs.Moves.{pairs_of}
 use Rattle.tick_model.specs.declared.update.KeyPair.{KeyPair}

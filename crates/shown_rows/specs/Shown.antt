@@ -3,9 +3,7 @@
 --     IsPart some table      the rows of the one are rows of the other, under their keys
 --     through choice input      the tick from the rows that are chosen of the input before to those chosen now, along the input's pairs of which both rows are chosen
 use Rattle.std.specs.Prelude.{◌≡◌, ℕ, List}
-use Rattle.tick_model.specs.declared.table.PlainTable.{PlainTable}
-use Rattle.tick_model.specs.Tables.{keys}
-use Rattle.tick_model.specs.Updates.{Tick, both_in, rows_at}
+use Rattle.tick_model.{specs.declared.table.PlainTable.PlainTable, specs.Tables.keys, specs.Updates.{Tick, both_in, rows_at}}
 
 abbrev pub part : List ℕ → PlainTable → PlainTable
 part these table = record table { rows = rows_at these table.rows }

@@ -1,29 +1,8 @@
 -- What the calls of a store take from its rule, over plain variables.
 use Rattle.std.proofs.Common.{◌≡◌, ℕ, true, false, ⊎_elim, cond, Bool, lt-ltb, le-ltb, append_assoc, length-append, mul-le-mul_right, ◌+◌, ◌*◌, ◌%◌, ◌<◌, ◌≤◌, ◌^◌, List, [], ◌∷◌, ◌++◌, length, get_or, sym, refl, ap, ◌∙◌, subst, arith, Some}
-use Rattle.tick_model.specs.declared.feed.Run.{Run}
-use Rattle.tick_model.specs.declared.plan.Published.{Published}
-use Rattle.tick_model.specs.LawfulRuns.{IsLawfulRun}
-use Rattle.snapshot_store.specs.Lines.{below, count, limit, width, size, total, spot, line_of, start_in, total_in, IsWhole}
-use Rattle.tick_model.specs.Clock.{completed, updating}
-use Rattle.tick_model.specs.Words.{line}
-use Rattle.snapshot_store.specs.Views.{IsSameBut}
-use Rattle.snapshot_store.specs.Looks.{looks_of, last_or, NeverFalls, latest}
-use Rattle.snapshot_store.specs.Models.{CallerModel, Place, IsCalling, IsAt, HasRoom, words_of}
-use Rattle.snapshot_store.specs.Answers.{AreMoved, IsAttempt, IsReading, IsSnapshot, answer}
-use Rattle.snapshot_store.specs.declared.answers.Attempt.{Attempt}
-use Rattle.snapshot_store.specs.declared.answers.Attempt.TheVariants.{Taken, Moved}
-use Rattle.snapshot_store.specs.declared.answers.Taken.{Taken as Snapped}
-use Rattle.snapshot_store.specs.declared.board.View.{View}
-use Rattle.snapshot_store.specs.declared.board.Doing.TheVariants.{Writing}
-use Rattle.snapshot_store.specs.declared.writers.Phase.TheVariants.{Begun}
-use Rattle.snapshot_store.proofs.Places.{below_less, spot_bound}
-use Rattle.snapshot_store.proofs.Published.{total_small}
-use Rattle.std.specs.List.{All}
-use Rattle.std.proofs.lemmas.Bool.{cases_lt}
-use Rattle.std.proofs.lemmas.List.{append-nil, nil_from_length}
-use Rattle.std.proofs.lemmas.List.Elements.{All-push}
-use Rattle.std.proofs.lemmas.Option.{same_Some}
-use Rattle.std.proofs.Math.Seq.{get_or-append_seam}
+use Rattle.tick_model.{specs.declared.feed.Run.Run, specs.declared.plan.Published.Published, specs.LawfulRuns.IsLawfulRun, specs.Clock.{completed, updating}, specs.Words.line}
+use Rattle.snapshot_store.{specs.Lines.{below, count, limit, width, size, total, spot, line_of, start_in, total_in, IsWhole}, specs.Views.IsSameBut, specs.Looks.{looks_of, last_or, NeverFalls, latest}, specs.Models.{CallerModel, Place, IsCalling, IsAt, HasRoom, words_of}, specs.Answers.{AreMoved, IsAttempt, IsReading, IsSnapshot, answer}, specs.declared.answers.Attempt.Attempt, specs.declared.answers.Attempt.TheVariants.{Taken, Moved}, specs.declared.answers.Taken.Taken as Snapped, specs.declared.board.View.View, specs.declared.board.Doing.TheVariants.Writing, specs.declared.writers.Phase.TheVariants.Begun, proofs.Places.{below_less, spot_bound}, proofs.Published.total_small}
+use Rattle.std.{specs.List.All, proofs.lemmas.Bool.cases_lt, proofs.lemmas.List.{append-nil, nil_from_length}, proofs.lemmas.List.Elements.All-push, proofs.lemmas.Option.same_Some, proofs.Math.Seq.get_or-append_seam}
 
 pub first_place : (run : Run) (tables : List Published) (bank all start p : ℕ) → tables ≡ run.plan.published → all ≡ total_in tables → start ≡ start_in tables p → 2 + bank * all + start ≡ spot run bank p 0
 unfolding spot

@@ -2,8 +2,7 @@
 use Rattle.std.proofs.Common.{◌≡◌, refl, zero, suc, arith, lit<, lit≤}
 use Rattle.tick_model.specs.LawfulRuns.{IsLawfulRun}
 use Rattle.tick_laws.specs.Reached.{KeepsRules}
-use Rattle.snapshot_store.specs.Lines.{published_table}
-use Rattle.snapshot_store.specs.Example.{example, example_table, first_rows, second_rows, third_rows}
+use Rattle.snapshot_store.{specs.Lines.published_table, specs.Example.{example, example_table, first_rows, second_rows, third_rows}}
 
 pub is_lawful_example : IsLawfulRun example
 is_lawful_example = record {

@@ -5,21 +5,11 @@ use mathlib.Core.Option.{none, some}
 use native.Mathlib.Decide.{ℕ_discrete, dec_le}
 use lib.ListN.{get_elem?}
 use lib.Seq.{set-get_or}
-use Rattle.std.proofs.lemmas.List.Elements.{All-push, All-weaker}
-use Rattle.std.proofs.Math.ListN.{get_or-append}
+use Rattle.std.{proofs.lemmas.List.Elements.{All-push, All-weaker}, proofs.Math.ListN.get_or-append}
 use prog.Atomic.{either}
-use Rattle.atomic_table.specs.Table.{Me, State, step, keeps, stepped, Allows, Splits, Joins}
-use Rattle.atomic_table.proofs.Lists.{at_set, set_else, at_snoc, at_longer}
-use Rattle.tick_model.specs.declared.feed.Run.{Run}
-use Rattle.snapshot_store.specs.declared.board.View.{View}
-use Rattle.snapshot_store.specs.declared.board.Doing.{Doing}
-use Rattle.snapshot_store.specs.declared.board.Doing.TheVariants.{Rest, Looked, Reading, Writing}
-use Rattle.snapshot_store.specs.Lines.{below, count, limit, width, size, spot, line_of, IsWhole}
-use Rattle.tick_model.specs.Clock.{completed}
-use Rattle.snapshot_store.specs.Views.{Begins, informed, IsQuiet}
-use Rattle.snapshot_store.specs.Rule.{Stands, Stored, IsDoing, Knows, KeepsRule}
-use Rattle.snapshot_store.specs.Plays.{looks_first, looks_once, counts_rows, reads_word, looks_last, sets_clock, stores_word, finds_word, takes_turn, gives_turn}
-use Rattle.snapshot_store.proofs.Places.{place_unique, spot_high, spot_bound, spot_unique, begins_more, within_line, held_on, set_at}
+use Rattle.atomic_table.{specs.Table.{Me, State, step, keeps, stepped, Allows, Splits, Joins}, proofs.Lists.{at_set, set_else, at_snoc, at_longer}}
+use Rattle.tick_model.{specs.declared.feed.Run.Run, specs.Clock.completed}
+use Rattle.snapshot_store.{specs.declared.board.View.View, specs.declared.board.Doing.Doing, specs.declared.board.Doing.TheVariants.{Rest, Looked, Reading, Writing}, specs.Lines.{below, count, limit, width, size, spot, line_of, IsWhole}, specs.Views.{Begins, informed, IsQuiet}, specs.Rule.{Stands, Stored, IsDoing, Knows, KeepsRule}, specs.Plays.{looks_first, looks_once, counts_rows, reads_word, looks_last, sets_clock, stores_word, finds_word, takes_turn, gives_turn}, proofs.Places.{place_unique, spot_high, spot_bound, spot_unique, begins_more, within_line, held_on, set_at}}
 
 abbrev Sat : Type 0
 Sat = Me (Unit {0}) View

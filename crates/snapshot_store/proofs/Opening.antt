@@ -5,27 +5,11 @@ use mathlib.Core.Option.{some, some-injective, some-ne-none}
 use native.Mathlib.Decide.{ℕ_discrete, dec_le}
 use lib.ListN.{get_elem?}
 use Rattle.atomic_table.specs.Table.{opening}
-use Rattle.tick_model.specs.declared.feed.Run.{Run}
-use Rattle.snapshot_store.specs.declared.board.View.{View}
-use Rattle.std.specs.Prelude.{map}
-use Rattle.std.specs.Arc.{arc_value}
-use Rattle.std.specs.declared.alloc.Global.{Global}
-use Rattle.std.specs.declared.sync.Arc.{Arc}
-use Rattle.std.proofs.lemmas.List.{get_or-map}
+use Rattle.tick_model.{specs.declared.feed.Run.Run, specs.declared.table.PlainTable.PlainTable, specs.Tables.no_table, specs.LawfulRuns.IsLawfulRun, specs.Words.words, specs.Clock.completed}
+use Rattle.snapshot_store.{specs.declared.board.View.View, specs.Lines.{count, limit, size, total, spot, line_of, IsWhole}, specs.Rule.{Stands, Holds, Knows, KeepsRule}, specs.Views.first_view, specs.Opening.{IsLaying, AreOpening, AreFirst}, proofs.Places.{spot_high, spot_bound, spot_unique}, proofs.Calls.{spot_from, line_fits}, proofs.Published.{line_named, line_rows, line_whole, opening_keeps}}
+use Rattle.std.{specs.Prelude.map, specs.Arc.arc_value, specs.declared.alloc.Global.Global, specs.declared.sync.Arc.Arc, proofs.lemmas.List.get_or-map}
 use Rattle.key_lists.proofs.Parts.{take_front}
 use Rattle.tick_table.specs.Ticking.{Ticking}
-use Rattle.tick_model.specs.declared.table.PlainTable.{PlainTable}
-use Rattle.tick_model.specs.Tables.{no_table}
-use Rattle.tick_model.specs.LawfulRuns.{IsLawfulRun}
-use Rattle.tick_model.specs.Words.{words}
-use Rattle.snapshot_store.specs.Lines.{count, limit, size, total, spot, line_of, IsWhole}
-use Rattle.tick_model.specs.Clock.{completed}
-use Rattle.snapshot_store.specs.Rule.{Stands, Holds, Knows, KeepsRule}
-use Rattle.snapshot_store.specs.Views.{first_view}
-use Rattle.snapshot_store.specs.Opening.{IsLaying, AreOpening, AreFirst}
-use Rattle.snapshot_store.proofs.Places.{spot_high, spot_bound, spot_unique}
-use Rattle.snapshot_store.proofs.Calls.{spot_from, line_fits}
-use Rattle.snapshot_store.proofs.Published.{line_named, line_rows, line_whole, opening_keeps}
 
 zeros : (o n i : ℕ) → get_or (replicate n o) i o ≡ o
 zeros o zero i = refl

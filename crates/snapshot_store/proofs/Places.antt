@@ -4,13 +4,10 @@ use mathlib.Core.Logic.{dite}
 use mathlib.Core.Option.{some, some-injective, some-ne-none}
 use lib.ListN.{get_elem?}
 use Rattle.atomic_table.proofs.Lists.{set_else}
-use Rattle.snapshot_store.specs.declared.board.View.{View}
+use Rattle.snapshot_store.{specs.declared.board.View.View, specs.Lines.{below, count, width, size, total, spot, line_of, IsWhole}, specs.Views.Begins}
 use native.Mathlib.Decide.{ℕ_discrete, dec_le}
 use Rattle.tick_model.specs.declared.feed.Run.{Run}
-use Rattle.snapshot_store.specs.Lines.{below, count, width, size, total, spot, line_of, IsWhole}
-use Rattle.snapshot_store.specs.Views.{Begins}
-use Rattle.std.proofs.Math.Seq.{get_or-append_right}
-use Rattle.std.proofs.Math.ListN.{get_or-append}
+use Rattle.std.{proofs.Math.Seq.get_or-append_right, proofs.Math.ListN.get_or-append}
 
 pub below_less : (f : ℕ → ℕ) (n p i : ℕ) → p < n → i < f p → below f p + i < below f n
 below_less f zero p i h l = absurd (omega arith)

@@ -1,30 +1,10 @@
 -- What a lawful run says of its published tables: how many words they have, and that their lines are whole rows.
 use Rattle.std.proofs.Common.{◌≡◌, refl, ap, sym, ◌∙◌, subst, ℕ, zero, suc, ◌+◌, ◌*◌, ◌<◌, ◌≤◌, ◌^◌, arith, true, List, [], ◌∷◌, ◌++◌, take, length, get_or, None, mul-le-mul_right, length-append}
-use Rattle.std.proofs.lemmas.List.{length-map}
-use Rattle.std.specs.Prelude.{sum_by, flat_map, nat_le, nat_lt, ◌==◌}
-use Rattle.std.specs.List.{list_all, AllByRecursion}
-use Rattle.std.specs.Int.{w64, cast_unsigned}
-use Rattle.std.proofs.Math.Nat.{suc-mul}
-use Rattle.std.proofs.lemmas.Bool.{and_parts, ltb-true, leb-true, eqb-true}
-use Rattle.std.proofs.lemmas.List.Sums.{sum_by_more}
-use Rattle.tick_model.specs.declared.feed.Run.{Run}
-use Rattle.tick_model.specs.declared.plan.Node.{Node}
-use Rattle.tick_model.specs.declared.plan.Plan.{Plan}
-use Rattle.tick_model.specs.declared.plan.Published.{Published}
-use Rattle.tick_model.specs.declared.table.PlainRow.{PlainRow}
-use Rattle.tick_model.specs.declared.table.PlainTable.{PlainTable}
-use Rattle.tick_model.specs.Evaluation.{Outcome, Table, Fault, NoInput, has_table, table_of, outcome_at}
-use Rattle.tick_model.specs.LawfulRuns.{IsLawfulRun}
-use Rattle.tick_model.specs.Plans.{is_lawful, publication_lawful, published_words, table_words, columns_at}
-use Rattle.tick_model.specs.Sources.{batch_fault}
-use Rattle.tick_model.specs.States.{state}
-use Rattle.tick_model.specs.Tables.{IsRow}
-use Rattle.tick_model.specs.Words.{row_words, words}
-use Rattle.tick_laws.specs.Reached.{KeepsRules}
-use Rattle.tick_laws.proofs.ReachedTables.{bounded_at}
+use Rattle.std.{proofs.lemmas.List.length-map, specs.Prelude.{sum_by, flat_map, nat_le, nat_lt, ◌==◌}, specs.List.{list_all, AllByRecursion}, specs.Int.{w64, cast_unsigned}, proofs.Math.Nat.suc-mul, proofs.lemmas.Bool.{and_parts, ltb-true, leb-true, eqb-true}, proofs.lemmas.List.Sums.sum_by_more}
+use Rattle.tick_model.{specs.declared.feed.Run.Run, specs.declared.plan.Node.Node, specs.declared.plan.Plan.Plan, specs.declared.plan.Published.Published, specs.declared.table.PlainRow.PlainRow, specs.declared.table.PlainTable.PlainTable, specs.Evaluation.{Outcome, Table, Fault, NoInput, has_table, table_of, outcome_at}, specs.LawfulRuns.IsLawfulRun, specs.Plans.{is_lawful, publication_lawful, published_words, table_words, columns_at}, specs.Sources.batch_fault, specs.States.state, specs.Tables.IsRow, specs.Words.{row_words, words}}
+use Rattle.tick_laws.{specs.Reached.KeepsRules, proofs.ReachedTables.bounded_at}
 use Rattle.key_lists.proofs.Every.{every_weaker}
-use Rattle.snapshot_store.proofs.Places.{below_less}
-use Rattle.snapshot_store.specs.Lines.{node_in, limit_in, width_in, size_in, start_in, total_in, count, limit, width, size, total, published_table, line_of, IsWhole}
+use Rattle.snapshot_store.{proofs.Places.below_less, specs.Lines.{node_in, limit_in, width_in, size_in, start_in, total_in, count, limit, width, size, total, published_table, line_of, IsWhole}}
 
 -- the words of a bank
 pub size_at : (tables : List Published) (p : ℕ) (d : Published) → p < length tables → size_in tables p ≡ table_words (get_or tables p d)

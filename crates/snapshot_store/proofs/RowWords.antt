@@ -1,13 +1,7 @@
 -- The words of a table, row by row.
 use Rattle.std.proofs.Common.{◌≡◌, refl, ap, ap₂, ℕ, suc, List, [], ◌∷◌, ◌++◌, length, Some}
-use Rattle.std.specs.Prelude.{map, flat_map, unwrap_or, option_map, Option}
-use Rattle.std.specs.List.{AllByRecursion}
-use Rattle.std.specs.Int.{w64, cast_unsigned}
-use Rattle.tick_model.specs.declared.table.PlainRow.{PlainRow}
-use Rattle.tick_model.specs.declared.table.PlainTable.{PlainTable}
-use Rattle.tick_model.specs.Tables.{IsTable, cells_at, keys, row_at}
-use Rattle.tick_model.specs.Words.{row_words}
-use Rattle.tick_model.proofs.Among.{each_found}
+use Rattle.std.{specs.Prelude.{map, flat_map, unwrap_or, option_map, Option}, specs.List.AllByRecursion, specs.Int.{w64, cast_unsigned}}
+use Rattle.tick_model.{specs.declared.table.PlainRow.PlainRow, specs.declared.table.PlainTable.PlainTable, specs.Tables.{IsTable, cells_at, keys, row_at}, specs.Words.row_words, proofs.Among.each_found}
 
 -- a key and the cells of its row
 abbrev pub words_at : List PlainRow → ℕ → List ℕ

@@ -1,10 +1,7 @@
 -- The sentences of the rule.
 use Rattle.std.proofs.Common.{◌+◌, ◌-◌, subst, sym, ◌∙◌, arith}
 use Rattle.tick_model.specs.declared.feed.Run.{Run}
-use Rattle.snapshot_store.specs.declared.writers.Phase.TheVariants.{Idle, Begun, Stopped, Left}
-use Rattle.snapshot_store.specs.Models.{words_of}
-use Rattle.snapshot_store.specs.Rule.{IsDoing, KeepsRule, Stored}
-use Rattle.snapshot_store.specs.Sentences.{Board, clock, HasOneTurn, HoldsBoth, HoldsOne, IsClockOfWriter, IsFloorOfWriter, IsPastLooks, IsStill, IsTrueToSteps, IsTurnOfWriter, IsWithinRows, KeepsLimits}
+use Rattle.snapshot_store.{specs.declared.writers.Phase.TheVariants.{Idle, Begun, Stopped, Left}, specs.Models.words_of, specs.Rule.{IsDoing, KeepsRule, Stored}, specs.Sentences.{Board, clock, HasOneTurn, HoldsBoth, HoldsOne, IsClockOfWriter, IsFloorOfWriter, IsPastLooks, IsStill, IsTrueToSteps, IsTurnOfWriter, IsWithinRows, KeepsLimits}}
 
 pub past_looks : (run : Run) (board : Board) → KeepsRule run board → IsPastLooks board
 past_looks run board r = (r.started, λ seat view at. let k = r.each_seat seat view at in (k.below_clock, k.looks_below))

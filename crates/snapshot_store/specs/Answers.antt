@@ -2,18 +2,9 @@
 --     answer first last      what an attempt answers after these two looks
 --     IsAttempt, IsSnapshot      what an attempt and a snapshot leave, and what they answer
 --     IsRefused      what a snapshot leaves that is not taken
-use Rattle.std.specs.Prelude.{◌≡◌, ℕ, ◌+◌, ◌*◌, ◌<◌, ◌≤◌, List, [], ◌∷◌, ◌++◌, length, ltb, cond, true, false}
-use Rattle.std.specs.List.{All}
-use Rattle.tick_model.specs.Clock.{completed}
-use Rattle.tick_model.specs.Words.{line}
-use Rattle.tick_model.specs.declared.feed.Run.{Run}
-use Rattle.snapshot_store.specs.declared.answers.Attempt.{Attempt}
-use Rattle.snapshot_store.specs.declared.answers.Attempt.TheVariants.{Taken, Moved}
-use Rattle.snapshot_store.specs.declared.answers.Full.{Full}
-use Rattle.snapshot_store.specs.declared.answers.Taken.{Taken as Snapped}
-use Rattle.snapshot_store.specs.declared.board.Doing.TheVariants.{Rest}
-use Rattle.snapshot_store.specs.Looks.{latest, looks_of}
-use Rattle.snapshot_store.specs.Models.{CallerModel, Place, IsSamePlace}
+use Rattle.std.{specs.Prelude.{◌≡◌, ℕ, ◌+◌, ◌*◌, ◌<◌, ◌≤◌, List, [], ◌∷◌, ◌++◌, length, ltb, cond, true, false}, specs.List.All}
+use Rattle.tick_model.{specs.Clock.completed, specs.Words.line, specs.declared.feed.Run.Run}
+use Rattle.snapshot_store.{specs.declared.answers.Attempt.Attempt, specs.declared.answers.Attempt.TheVariants.{Taken, Moved}, specs.declared.answers.Full.Full, specs.declared.answers.Taken.Taken as Snapped, specs.declared.board.Doing.TheVariants.Rest, specs.Looks.{latest, looks_of}, specs.Models.{CallerModel, Place, IsSamePlace}}
 
 -- the step that was completed at the first look, unless the clock may have gone past its words
 abbrev pub answer : ℕ → ℕ → Attempt

@@ -1,23 +1,8 @@
 -- A small run for worked examples: a source of one column, and its rows above 5, which are published with at most two rows. They are
 -- 3: 7 in the opening, 3: 7 and 4: 8 after the first step, and one row too many after the second.
 use Rattle.std.specs.Prelude.{ℕ, List, [], ◌∷◌, ℤ, pos}
-use Rattle.row_set.specs.Ranges.{keys_from}
-use Rattle.row_set.specs.Sets.{united}
-use Rattle.tick_model.specs.Changes.{Change}
-use Rattle.tick_model.specs.Updates.{Update}
-use Rattle.tick_model.specs.declared.feed.Batch.{Batch}
-use Rattle.tick_model.specs.declared.feed.Run.{Run}
-use Rattle.tick_model.specs.declared.plan.ColumnSpec.{ColumnSpec}
-use Rattle.tick_model.specs.declared.plan.Comparison.TheVariants.{Gt}
-use Rattle.tick_model.specs.declared.plan.Expr.{Cell, Number}
-use Rattle.tick_model.specs.declared.plan.Kind.TheVariants.{Long}
-use Rattle.tick_model.specs.declared.plan.Node.{Node}
-use Rattle.tick_model.specs.declared.plan.Op.{Op}
-use Rattle.tick_model.specs.declared.plan.Op.TheVariants.{Source, Keep}
-use Rattle.tick_model.specs.declared.plan.Plan.{Plan}
-use Rattle.tick_model.specs.declared.plan.Pred.{Compare}
-use Rattle.tick_model.specs.declared.table.PlainRow.{PlainRow}
-use Rattle.tick_model.specs.declared.table.PlainTable.{PlainTable}
+use Rattle.row_set.{specs.Ranges.keys_from, specs.Sets.united}
+use Rattle.tick_model.{specs.Changes.Change, specs.Updates.Update, specs.declared.feed.Batch.Batch, specs.declared.feed.Run.Run, specs.declared.plan.ColumnSpec.ColumnSpec, specs.declared.plan.Comparison.TheVariants.Gt, specs.declared.plan.Expr.{Cell, Number}, specs.declared.plan.Kind.TheVariants.Long, specs.declared.plan.Node.Node, specs.declared.plan.Op.Op, specs.declared.plan.Op.TheVariants.{Source, Keep}, specs.declared.plan.Plan.Plan, specs.declared.plan.Pred.Compare, specs.declared.table.PlainRow.PlainRow, specs.declared.table.PlainTable.PlainTable}
 
 abbrev pub example_columns : List ColumnSpec
 example_columns = (record { name = 120 ∷ []; kind = Long }) ∷ []

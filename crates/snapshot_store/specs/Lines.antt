@@ -6,12 +6,7 @@
 --     line_of run step p      the words of the table p at a step
 --     IsWhole run step p      they are whole rows
 use Rattle.std.specs.Prelude.{◌≡◌, ℕ, zero, suc, ◌+◌, ◌*◌, List, length, map, slice_index}
-use Rattle.tick_model.specs.declared.feed.Run.{Run}
-use Rattle.tick_model.specs.declared.plan.Published.{Published}
-use Rattle.tick_model.specs.declared.table.PlainTable.{PlainTable}
-use Rattle.tick_model.specs.Evaluation.{table_at}
-use Rattle.tick_model.specs.States.{state}
-use Rattle.tick_model.specs.Words.{line}
+use Rattle.tick_model.{specs.declared.feed.Run.Run, specs.declared.plan.Published.Published, specs.declared.table.PlainTable.PlainTable, specs.Evaluation.table_at, specs.States.state, specs.Words.line}
 
 -- f 0 + f 1 + .. + f (n - 1)
 abbrev pub below : (ℕ → ℕ) → ℕ → ℕ

@@ -1,17 +1,8 @@
 -- What contracts see of a store, its writer, its callers and its notes, and what holds of each.
 use Rattle.std.specs.Prelude.{◌≡◌, ℕ, ◌+◌, ◌*◌, ◌^◌, ◌<◌, ◌≤◌, List, [], length, true, false, slice_index, Option, Some}
-use Rattle.atomic_table.specs.Seated.{TableId}
-use Rattle.atomic_table.specs.declared.shared.Seat.{Seat}
-use Rattle.tick_model.specs.Clock.{idle, updating, completed}
-use Rattle.tick_model.specs.LawfulRuns.{IsLawfulRun}
-use Rattle.tick_model.specs.declared.feed.Run.{Run}
-use Rattle.tick_model.specs.declared.plan.Published.{Published}
-use Rattle.snapshot_store.specs.declared.board.View.{View}
-use Rattle.snapshot_store.specs.declared.board.Doing.TheVariants.{Rest, Writing}
-use Rattle.snapshot_store.specs.declared.writers.Phase.{Phase}
-use Rattle.snapshot_store.specs.declared.writers.Phase.TheVariants.{Idle, Begun, Stopped, Left}
-use Rattle.snapshot_store.specs.Lines.{below, count, size, size_in, start_in, total, total_in, line_of, IsWhole}
-use Rattle.snapshot_store.specs.Looks.{NeverFalls, last_or}
+use Rattle.atomic_table.{specs.Seated.TableId, specs.declared.shared.Seat.Seat}
+use Rattle.tick_model.{specs.Clock.{idle, updating, completed}, specs.LawfulRuns.IsLawfulRun, specs.declared.feed.Run.Run, specs.declared.plan.Published.Published}
+use Rattle.snapshot_store.{specs.declared.board.View.View, specs.declared.board.Doing.TheVariants.{Rest, Writing}, specs.declared.writers.Phase.Phase, specs.declared.writers.Phase.TheVariants.{Idle, Begun, Stopped, Left}, specs.Lines.{below, count, size, size_in, start_in, total, total_in, line_of, IsWhole}, specs.Looks.{NeverFalls, last_or}}
 
 -- which table of words, and whose run
 pub record StoreModel : Type 0 where

@@ -2,11 +2,8 @@
 --     AreFirst run tables      the published tables at step 0, each within its limit
 --     AreOpening run words      the words of a store whose clock is 1: bank 0 holds step 0, and the turn is free
 use Rattle.std.specs.Prelude.{◌≡◌, ℕ, ◌+◌, ◌*◌, ◌<◌, ◌≤◌, List, length, slice_index, slice_index_or}
-use Rattle.tick_model.specs.declared.feed.Run.{Run}
-use Rattle.tick_model.specs.declared.table.PlainTable.{PlainTable}
-use Rattle.tick_model.specs.Tables.{no_table}
-use Rattle.snapshot_store.specs.Lines.{count, limit, total, spot, line_of, published_table, IsWhole}
-use Rattle.snapshot_store.specs.Rule.{Stands, Holds}
+use Rattle.tick_model.{specs.declared.feed.Run.Run, specs.declared.table.PlainTable.PlainTable, specs.Tables.no_table}
+use Rattle.snapshot_store.{specs.Lines.{count, limit, total, spot, line_of, published_table, IsWhole}, specs.Rule.{Stands, Holds}}
 
 pub record AreFirst (run : Run) (tables : List PlainTable) : Type 0 where
   pub as_many : length tables ≡ count run

@@ -1,13 +1,8 @@
 -- What each step on a word tells the seat that makes it. None changes what the seat holds.
 use Rattle.std.specs.Prelude.{◌≡◌, ◌≢◌, ℕ, ◌+◌, ◌*◌, ◌%◌, ◌<◌, ◌≤◌, List, [], ◌∷◌, ◌++◌, length, true, false, slice_index, Some}
 use Rattle.atomic_table.specs.Table.{Me, State, Step}
-use Rattle.tick_model.specs.Clock.{completed}
-use Rattle.tick_model.specs.declared.feed.Run.{Run}
-use Rattle.snapshot_store.specs.declared.board.View.{View}
-use Rattle.snapshot_store.specs.declared.board.Doing.TheVariants.{Rest, Looked, Reading, Writing}
-use Rattle.snapshot_store.specs.Lines.{below, count, limit, spot, line_of, IsWhole}
-use Rattle.snapshot_store.specs.Rule.{KeepsRule}
-use Rattle.snapshot_store.specs.Views.{IsLook, IsTick, IsSameSight, IsSameBut, Begins}
+use Rattle.tick_model.{specs.Clock.completed, specs.declared.feed.Run.Run}
+use Rattle.snapshot_store.{specs.declared.board.View.View, specs.declared.board.Doing.TheVariants.{Rest, Looked, Reading, Writing}, specs.Lines.{below, count, limit, spot, line_of, IsWhole}, specs.Rule.KeepsRule, specs.Views.{IsLook, IsTick, IsSameSight, IsSameBut, Begins}}
 
 -- what a step tells: of the step, the seat before it, the word that it found, and the seat after it
 abbrev pub Plays : Type 1

@@ -5,18 +5,12 @@
 --     Knows ..      what holds of the view of a seat
 --     KeepsRule run state      the rule
 -- Word 0 is the clock, word 1 the turn; the bank `step % 2` is that of a step.
-use Rattle.std.specs.Prelude.{◌≡◌, ℕ, ◌+◌, ◌*◌, ◌%◌, ◌<◌, ◌≤◌, List, length, Bool, true, slice_index, Some}
+use Rattle.std.{specs.Prelude.{◌≡◌, ℕ, ◌+◌, ◌*◌, ◌%◌, ◌<◌, ◌≤◌, List, length, Bool, true, slice_index, Some}, specs.List.All}
 use mathlib.Core.Option.{some}
 use lib.ListN.{get_elem?}
-use Rattle.std.specs.List.{All}
 use Rattle.atomic_table.specs.Table.{State}
-use Rattle.tick_model.specs.Clock.{completed}
-use Rattle.tick_model.specs.declared.feed.Run.{Run}
-use Rattle.snapshot_store.specs.declared.board.View.{View}
-use Rattle.snapshot_store.specs.declared.board.Doing.{Doing}
-use Rattle.snapshot_store.specs.declared.board.Doing.TheVariants.{Rest, Looked, Reading, Writing}
-use Rattle.snapshot_store.specs.Lines.{below, count, limit, width, size, total, spot, line_of, IsWhole}
-use Rattle.snapshot_store.specs.Views.{Begins}
+use Rattle.tick_model.{specs.Clock.completed, specs.declared.feed.Run.Run}
+use Rattle.snapshot_store.{specs.declared.board.View.View, specs.declared.board.Doing.Doing, specs.declared.board.Doing.TheVariants.{Rest, Looked, Reading, Writing}, specs.Lines.{below, count, limit, width, size, total, spot, line_of, IsWhole}, specs.Views.Begins}
 
 module _ (run : Run) (words : List ℕ) where
   abbrev pub Stands : ℕ → ℕ → ℕ → Type 0

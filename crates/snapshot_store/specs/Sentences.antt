@@ -1,19 +1,10 @@
 -- What the rule says, sentence by sentence.
-use Rattle.std.specs.Prelude.{◌≡◌, ℕ, ◌+◌, ◌-◌, ◌*◌, ◌<◌, ◌≤◌, List, true, length, slice_index}
+use Rattle.std.{specs.Prelude.{◌≡◌, ℕ, ◌+◌, ◌-◌, ◌*◌, ◌<◌, ◌≤◌, List, true, length, slice_index}, specs.List.All}
 use mathlib.Core.Option.{some}
 use lib.ListN.{get_elem?}
-use Rattle.std.specs.List.{All}
 use Rattle.atomic_table.specs.Table.{State}
-use Rattle.tick_model.specs.Clock.{idle, updating, completed}
-use Rattle.tick_model.specs.declared.feed.Run.{Run}
-use Rattle.snapshot_store.specs.declared.board.View.{View}
-use Rattle.snapshot_store.specs.declared.board.Doing.TheVariants.{Looked, Reading, Writing}
-use Rattle.snapshot_store.specs.declared.writers.Phase.{Phase}
-use Rattle.snapshot_store.specs.declared.writers.Phase.TheVariants.{Idle, Begun, Stopped}
-use Rattle.snapshot_store.specs.Lines.{count, limit, width, spot, line_of}
-use Rattle.snapshot_store.specs.Models.{IsAt}
-use Rattle.snapshot_store.specs.Rule.{Holds, Stored}
-use Rattle.snapshot_store.specs.Views.{Begins}
+use Rattle.tick_model.{specs.Clock.{idle, updating, completed}, specs.declared.feed.Run.Run}
+use Rattle.snapshot_store.{specs.declared.board.View.View, specs.declared.board.Doing.TheVariants.{Looked, Reading, Writing}, specs.declared.writers.Phase.Phase, specs.declared.writers.Phase.TheVariants.{Idle, Begun, Stopped}, specs.Lines.{count, limit, width, spot, line_of}, specs.Models.IsAt, specs.Rule.{Holds, Stored}, specs.Views.Begins}
 
 -- the words and the views
 abbrev pub Board : Type 0

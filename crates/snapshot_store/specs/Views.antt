@@ -1,10 +1,7 @@
 -- What a seat knows, and what a step leaves of it.
 use Rattle.std.specs.Prelude.{◌≡◌, ℕ, ◌<◌, ◌≤◌, List, [], ◌∷◌, ◌++◌, false, length, max, slice_index, Option, Some, None}
-use Rattle.tick_model.specs.Clock.{completed}
-use Rattle.tick_model.specs.declared.feed.Run.{Run}
-use Rattle.snapshot_store.specs.declared.board.View.{View}
-use Rattle.snapshot_store.specs.declared.board.Doing.{Doing}
-use Rattle.snapshot_store.specs.declared.board.Doing.TheVariants.{Rest, Looked, Reading, Writing}
+use Rattle.tick_model.{specs.Clock.completed, specs.declared.feed.Run.Run}
+use Rattle.snapshot_store.{specs.declared.board.View.View, specs.declared.board.Doing.Doing, specs.declared.board.Doing.TheVariants.{Rest, Looked, Reading, Writing}}
 
 -- the writer's view at the start
 abbrev pub first_view : Run → View

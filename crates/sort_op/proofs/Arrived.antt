@@ -1,31 +1,9 @@
 -- Where entries stand that were put in one behind the other.
 use Rattle.std.proofs.Common.{◌≡◌, refl, ap, ap₂, sym, ◌∙◌, subst, true, false, ◌||◌, ◌==◌, ℕ, zero, suc, ◌<◌, ◌≤◌, arith, List, [], ◌∷◌, ◌++◌, map, take, drop, length, get_or, append_assoc, take-append-drop, length-take-le, Option, Some, None, inl, inr}
-use Rattle.std.specs.Prelude.{insert, slice_get}
-use Rattle.std.specs.Cmp.{IsStrictWeakOrder}
-use Rattle.std.specs.List.{AllByRecursion}
-use Rattle.std.specs.List.Sorted.{IsPermutation, IsSortedBy}
-use Rattle.std.specs.Option.{option_map_or}
-use Rattle.std.proofs.lemmas.Bool.{cases_eq, eq-eqb, ne_eqb}
-use Rattle.std.proofs.lemmas.Cmp.{back_total}
-use Rattle.std.proofs.lemmas.List.{append-nil}
-use Rattle.std.proofs.lemmas.List.Edits.{insert_end}
-use Rattle.std.proofs.lemmas.List.Elements.{recursion_from_All}
-use Rattle.std.proofs.lemmas.List.MinMax.{ranks_by}
-use Rattle.std.proofs.lemmas.List.Sorted.{sorted_far}
-use Rattle.key_lists.specs.Keys.{is_among}
-use Rattle.key_lists.proofs.Among.{among-append}
-use Rattle.key_lists.proofs.Every.{every, every_both, every_weaker, every-append, every-map, map_own}
-use Rattle.key_lists.proofs.Booleans.{or_false, or_true}
-use Rattle.key_lists.proofs.Parts.{every_front, every_back}
+use Rattle.std.{specs.Prelude.{insert, slice_get}, specs.Cmp.IsStrictWeakOrder, specs.List.AllByRecursion, specs.List.Sorted.{IsPermutation, IsSortedBy}, specs.Option.option_map_or, proofs.lemmas.Bool.{cases_eq, eq-eqb, ne_eqb}, proofs.lemmas.Cmp.back_total, proofs.lemmas.List.append-nil, proofs.lemmas.List.Edits.insert_end, proofs.lemmas.List.Elements.recursion_from_All, proofs.lemmas.List.MinMax.ranks_by, proofs.lemmas.List.Sorted.sorted_far}
+use Rattle.key_lists.{specs.Keys.is_among, proofs.Among.among-append, proofs.Every.{every, every_both, every_weaker, every-append, every-map, map_own}, proofs.Booleans.{or_false, or_true}, proofs.Parts.{every_front, every_back}}
 use Rattle.tick_model.specs.declared.plan.SortBy.{SortBy}
-use Rattle.sort_op.specs.declared.entry.Entry.{Entry}
-use Rattle.sort_op.specs.Entries.{comes_before, is_in, is_same, place_of, AreDistinct, Falls, IsWhole, Rises}
-use Rattle.sort_op.specs.Places.{AreFound, is_one}
-use Rattle.sort_op.proofs.Batched.{same_flip}
-use Rattle.sort_op.proofs.Comparing.{before_trans, behind, entries_total, is_same_own, other_before}
-use Rattle.sort_op.proofs.Inserted.{in_permuted, others_than_first, others_than_last}
-use Rattle.sort_op.proofs.Rises.{rises_back}
-use Rattle.sort_op.proofs.Searches.{each_other}
+use Rattle.sort_op.{specs.declared.entry.Entry.Entry, specs.Entries.{comes_before, is_in, is_same, place_of, AreDistinct, Falls, IsWhole, Rises}, specs.Places.{AreFound, is_one}, proofs.Batched.same_flip, proofs.Comparing.{before_trans, behind, entries_total, is_same_own, other_before}, proofs.Inserted.{in_permuted, others_than_first, others_than_last}, proofs.Rises.rises_back, proofs.Searches.each_other}
 
 none_one : (some entries : List Entry) (at : ℕ) → AllByRecursion (λ entry. is_in entry some ≡ false) entries → is_one entries some at ≡ false
 none_one some [] at h = refl

@@ -1,17 +1,9 @@
 -- Orders from which entries are taken one by one.
 use Rattle.std.proofs.Common.{◌≡◌, refl, ap, sym, ◌∙◌, subst, true, false, cond, not, ◌&&◌, ◌||◌, ℕ, ◌+◌, ◌<◌, List, [], ◌∷◌, ◌++◌, length, take, get_or, filter, Option, Some, None, inl, inr, ◌⊎◌}
-use Rattle.std.specs.Prelude.{remove, IfNone, IfSome}
-use Rattle.std.specs.List.{AllByRecursion}
-use Rattle.std.proofs.lemmas.Bool.{cases_Bool}
-use Rattle.std.proofs.lemmas.List.{take_more}
-use Rattle.key_lists.proofs.Every.{every, every_weaker, filter_all, filter_filter, filter_same}
-use Rattle.key_lists.proofs.Booleans.{or_assoc, neither, same_truth, or_false}
+use Rattle.std.{specs.Prelude.{remove, IfNone, IfSome}, specs.List.AllByRecursion, proofs.lemmas.Bool.cases_Bool, proofs.lemmas.List.take_more}
+use Rattle.key_lists.{proofs.Every.{every, every_weaker, filter_all, filter_filter, filter_same}, proofs.Booleans.{or_assoc, neither, same_truth, or_false}}
 use Rattle.tick_model.specs.declared.plan.SortBy.{SortBy}
-use Rattle.sort_op.specs.declared.entry.Entry.{Entry}
-use Rattle.sort_op.specs.Entries.{comes_before, is_in, is_same, place_of, Rises}
-use Rattle.sort_op.proofs.Comparing.{is_same_own, other_behind, same_is}
-use Rattle.sort_op.proofs.Rises.{rises_back}
-use Rattle.sort_op.proofs.Searches.{place_here, place_none}
+use Rattle.sort_op.{specs.declared.entry.Entry.Entry, specs.Entries.{comes_before, is_in, is_same, place_of, Rises}, proofs.Comparing.{is_same_own, other_behind, same_is}, proofs.Rises.rises_back, proofs.Searches.{place_here, place_none}}
 
 remove_between : {X : Type 0} (xs : List X) (x : X) (ys : List X) → remove (xs ++ x ∷ ys) (length xs) ≡ xs ++ ys
 remove_between [] x ys = refl

@@ -1,11 +1,7 @@
 -- Sort cells compared column by column.
 use Rattle.std.proofs.Common.{◌≡◌, refl, ap, ap₂, sym, ◌∙◌, ℕ, zero, suc, ◌+◌, ◌<◌, arith, List, [], ◌∷◌, length, drop, get_or, add-one, ℤ, true, false, not, ◌==◌, true≢false}
-use Rattle.std.specs.Ordering.{ordering_then, ordering_index}
-use Rattle.std.specs.declared.cmp.Ordering.{Ordering}
-use Rattle.std.specs.declared.cmp.Ordering.TheVariants.{Less, Equal, Greater}
-use Rattle.tick_model.specs.declared.plan.SortBy.{SortBy}
-use Rattle.tick_model.specs.Tables.{cell}
-use Rattle.tick_model.specs.Sort.{column_cmp}
+use Rattle.std.{specs.Ordering.{ordering_then, ordering_index}, specs.declared.cmp.Ordering.Ordering, specs.declared.cmp.Ordering.TheVariants.{Less, Equal, Greater}}
+use Rattle.tick_model.{specs.declared.plan.SortBy.SortBy, specs.Tables.cell, specs.Sort.column_cmp}
 use Rattle.sort_op.specs.Cells.{cells_cmp}
 
 cell-drop : (i : ℕ) (xs : List ℤ) → cell (drop i xs) 0 ≡ cell xs i

@@ -1,28 +1,9 @@
 -- Rows that come, which are compared by their first sort cells before all others.
 use Rattle.std.proofs.Common.{◌≡◌, refl, ap, ap₂, sym, ◌∙◌, subst, cond, true, false, ℕ, ◌+◌, ◌<◌, arith, List, [], ◌∷◌, map, length, get_or, ℤ, ◌<ℤ◌, is_lt}
-use Rattle.std.specs.Prelude.{negsuc, ◌-ℤ◌}
-use Rattle.std.specs.Cmp.{IsStrictWeakOrder, int_cmp_is, int_ranks}
-use Rattle.std.specs.List.Sorted.{IsPermutation, IsSortedBy}
-use Rattle.std.specs.Ordering.{MatchOrdering, int_cmp, nat_cmp, ordering_then}
-use Rattle.std.specs.declared.cmp.Ordering.{Ordering}
-use Rattle.std.specs.declared.cmp.Ordering.TheVariants.{Less, Equal, Greater}
-use Rattle.std.proofs.lemmas.Cmp.{back_total, int_cmp_total, on_total, then_total, tied_itself}
-use Rattle.std.proofs.lemmas.Int.{ints}
-use Rattle.std.proofs.lemmas.List.MinMax.{ranks_by}
-use Rattle.std.proofs.lemmas.List.Sorted.{IsPermutation-map}
+use Rattle.std.{specs.Prelude.{negsuc, ◌-ℤ◌}, specs.Cmp.{IsStrictWeakOrder, int_cmp_is, int_ranks}, specs.List.Sorted.{IsPermutation, IsSortedBy}, specs.Ordering.{MatchOrdering, int_cmp, nat_cmp, ordering_then}, specs.declared.cmp.Ordering.Ordering, specs.declared.cmp.Ordering.TheVariants.{Less, Equal, Greater}, proofs.lemmas.Cmp.{back_total, int_cmp_total, on_total, then_total, tied_itself}, proofs.lemmas.Int.ints, proofs.lemmas.List.MinMax.ranks_by, proofs.lemmas.List.Sorted.IsPermutation-map}
 use Rattle.key_lists.proofs.Every.{all_from, every, every-map, map_map, map_own}
-use Rattle.tick_model.specs.declared.plan.SortBy.{SortBy}
-use Rattle.tick_model.specs.Sort.{column_cmp}
-use Rattle.tick_model.specs.Tables.{null}
-use Rattle.sort_op.specs.declared.arrivals.Coming.{Coming}
-use Rattle.sort_op.specs.declared.row_order.Row.{Row}
-use Rattle.sort_op.specs.Cells.{cells_cmp}
-use Rattle.sort_op.specs.Entries.{Falls, entry_cmp}
-use Rattle.sort_op.specs.Firsts.{coming_cmp, coming_of, ranked, rows_in}
-use Rattle.sort_op.specs.Ranks.{cell_in, cells_from, row_entry}
-use Rattle.sort_op.proofs.Arrived.{rows_fall}
-use Rattle.sort_op.proofs.Comparing.{entries_total}
-use Rattle.sort_op.proofs.Inserted.{every_permuted}
+use Rattle.tick_model.{specs.declared.plan.SortBy.SortBy, specs.Sort.column_cmp, specs.Tables.null}
+use Rattle.sort_op.{specs.declared.arrivals.Coming.Coming, specs.declared.row_order.Row.Row, specs.Cells.cells_cmp, specs.Entries.{Falls, entry_cmp}, specs.Firsts.{coming_cmp, coming_of, ranked, rows_in}, specs.Ranks.{cell_in, cells_from, row_entry}, proofs.Arrived.rows_fall, proofs.Comparing.entries_total, proofs.Inserted.every_permuted}
 
 -- of two opposites the lower is that of the higher
 flipped : (x y : ℤ) → int_cmp (negsuc 0 -ℤ x) (negsuc 0 -ℤ y) ≡ int_cmp y x

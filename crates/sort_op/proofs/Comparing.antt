@@ -1,19 +1,8 @@
 -- The order of entries is total, and an entry stands neither before nor behind itself alone.
 use Rattle.std.proofs.Common.{◌≡◌, refl, ap, ap₂, sym, ◌∙◌, true, false, cond, ◌&&◌, ◌==◌, ℕ, arith, List, [], ◌∷◌, length, drop, true≢false, inl, inr, ℤ, is_lt}
-use Rattle.std.specs.Cmp.{IsTotalOrder}
-use Rattle.std.specs.Cmp.Derive.{point_total}
-use Rattle.std.specs.Cmp.Rules.{signed_items}
-use Rattle.std.specs.Ordering.{int_cmp, nat_cmp, ordering_then, ordering_index, ordering_reverse}
-use Rattle.std.specs.declared.cmp.Ordering.{Ordering}
-use Rattle.std.specs.declared.cmp.Ordering.TheVariants.{Less, Equal, Greater}
-use Rattle.std.proofs.lemmas.Bool.{and_parts, eqb-true, eq-eqb, cases_Bool}
-use Rattle.std.proofs.lemmas.Cmp.{int_cmp_total, nat_cmp_total, then_total, on_total, back_total, tied_itself, ranked, int_ranked}
-use Rattle.tick_model.specs.declared.plan.SortBy.{SortBy}
-use Rattle.tick_model.specs.Tables.{cell, same_cells}
-use Rattle.tick_model.specs.Sort.{column_cmp}
-use Rattle.sort_op.specs.declared.entry.Entry.{Entry}
-use Rattle.sort_op.specs.Cells.{cells_cmp}
-use Rattle.sort_op.specs.Entries.{entry_cmp, comes_before, is_same, IsWhole}
+use Rattle.std.{specs.Cmp.IsTotalOrder, specs.Cmp.Derive.point_total, specs.Cmp.Rules.signed_items, specs.Ordering.{int_cmp, nat_cmp, ordering_then, ordering_index, ordering_reverse}, specs.declared.cmp.Ordering.Ordering, specs.declared.cmp.Ordering.TheVariants.{Less, Equal, Greater}, proofs.lemmas.Bool.{and_parts, eqb-true, eq-eqb, cases_Bool}, proofs.lemmas.Cmp.{int_cmp_total, nat_cmp_total, then_total, on_total, back_total, tied_itself, ranked, int_ranked}}
+use Rattle.tick_model.{specs.declared.plan.SortBy.SortBy, specs.Tables.{cell, same_cells}, specs.Sort.column_cmp}
+use Rattle.sort_op.{specs.declared.entry.Entry.Entry, specs.Cells.cells_cmp, specs.Entries.{entry_cmp, comes_before, is_same, IsWhole}}
 
 column_total : (sort : SortBy) → IsTotalOrder (column_cmp sort)
 column_total sort = elim sort.descending as (λ b. IsTotalOrder (λ x y. cond b (int_cmp y x) (int_cmp x y))) [ true ↦ back_total int_cmp_total | false ↦ int_cmp_total ]

@@ -1,25 +1,11 @@
 -- Rows that get handles, and rows that are put in one by one.
 use Rattle.std.proofs.Common.{◌≡◌, ◌≢◌, refl, ap, ap₂, sym, ◌∙◌, subst, Bool, true, false, cond, ◌||◌, ◌==◌, ℕ, ◌+◌, ◌*◌, arith, length, length-append, List, [], ◌∷◌, ◌++◌, map, Some, None, Result, Ok, Err, true≢false, ltb-true, ltb-false, eqb-true, inl, inr, ℤ}
-use Rattle.std.specs.Prelude.{IfOk, OnErr, OnOk, nat_lt}
-use Rattle.std.specs.List.{AllByRecursion}
-use Rattle.std.proofs.lemmas.Bool.{cases_eq, eq-eqb, ne_eqb, or_parts}
-use Rattle.std.proofs.lemmas.List.{map-append}
-use Rattle.std.proofs.lemmas.Option.{none-some}
-use Rattle.key_lists.specs.Keys.{IsRising, is_among}
-use Rattle.key_lists.proofs.Among.{among-append, each_among}
-use Rattle.key_lists.proofs.Every.{every_both, every_unmapped, every_weaker, every-append, map_map, map_same}
+use Rattle.std.{specs.Prelude.{IfOk, OnErr, OnOk, nat_lt}, specs.List.AllByRecursion, proofs.lemmas.Bool.{cases_eq, eq-eqb, ne_eqb, or_parts}, proofs.lemmas.List.map-append, proofs.lemmas.Option.none-some}
+use Rattle.key_lists.{specs.Keys.{IsRising, is_among}, proofs.Among.{among-append, each_among}, proofs.Every.{every_both, every_unmapped, every_weaker, every-append, map_map, map_same}}
 use Rattle.row_handles.specs.Entries.{Entry as Handled, entry_of, handle_under, key_with, keys_of, with_row}
-use Rattle.row_set.specs.Sets.{with_key}
-use Rattle.row_set.proofs.United.{among-with_key, with_key_rises}
-use Rattle.tick_model.specs.declared.plan.SortBy.{SortBy}
-use Rattle.tick_model.specs.declared.table.PlainTable.{PlainTable}
-use Rattle.sort_op.specs.declared.entry.Entry.{Entry}
-use Rattle.sort_op.specs.declared.row_order.Row.{Row}
-use Rattle.sort_op.specs.Entries.{keys_in}
-use Rattle.sort_op.specs.Ranks.{AreArrived, HasArrived, Ranking, arrived, cell_in}
-use Rattle.sort_op.specs.Reading.{entries_under}
-use Rattle.sort_op.proofs.KeptCells.{cells_same}
-use Rattle.sort_op.proofs.Members.{keys_under}
+use Rattle.row_set.{specs.Sets.with_key, proofs.United.{among-with_key, with_key_rises}}
+use Rattle.tick_model.{specs.declared.plan.SortBy.SortBy, specs.declared.table.PlainTable.PlainTable}
+use Rattle.sort_op.{specs.declared.entry.Entry.Entry, specs.declared.row_order.Row.Row, specs.Entries.keys_in, specs.Ranks.{AreArrived, HasArrived, Ranking, arrived, cell_in}, specs.Reading.entries_under, proofs.KeptCells.cells_same, proofs.Members.keys_under}
 
 -- a key that has no handle is none of the keys
 pub not_among : (key : ℕ) (xs : List Handled) → handle_under key xs ≡ None → is_among key (keys_of xs) ≡ false

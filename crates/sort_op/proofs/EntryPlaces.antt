@@ -1,24 +1,11 @@
 -- Where the entries of rows stand, by the keys of the rows there.
 use Rattle.std.proofs.Common.{◌≡◌, refl, ap, ◌∙◌, false, ◌&&◌, ℕ, List, Option, Some, None}
-use Rattle.std.specs.Prelude.{option_map, slice_get}
-use Rattle.std.specs.Option.{option_map_or}
-use Rattle.std.proofs.lemmas.Option.{slice_get-map}
-use Rattle.key_lists.specs.Keys.{is_among, IsRising}
-use Rattle.key_lists.proofs.Booleans.{and_true}
+use Rattle.std.{specs.Prelude.{option_map, slice_get}, specs.Option.option_map_or, proofs.lemmas.Option.slice_get-map}
+use Rattle.key_lists.{specs.Keys.{is_among, IsRising}, proofs.Booleans.and_true}
 use Rattle.shown_rows.proofs.Walks.{of_place}
 use Rattle.tick_laws.proofs.Placed.{every-in_order}
-use Rattle.tick_model.specs.declared.plan.SortBy.{SortBy}
-use Rattle.tick_model.specs.declared.table.PlainRow.{PlainRow}
-use Rattle.tick_model.specs.declared.table.PlainTable.{PlainTable}
-use Rattle.tick_model.specs.Sort.{in_order}
-use Rattle.tick_model.specs.Tables.{keys, row_at}
-use Rattle.tick_model.proofs.Among.{each_found}
-use Rattle.sort_op.specs.Entries.{is_in, is_same}
-use Rattle.sort_op.specs.Places.{is_one}
-use Rattle.sort_op.specs.Reading.{entries_under}
-use Rattle.sort_op.specs.Sorted.{entries_of, entry_of}
-use Rattle.sort_op.proofs.Comparing.{is_same_own}
-use Rattle.sort_op.proofs.Members.{entry_found, in_under}
+use Rattle.tick_model.{specs.declared.plan.SortBy.SortBy, specs.declared.table.PlainRow.PlainRow, specs.declared.table.PlainTable.PlainTable, specs.Sort.in_order, specs.Tables.{keys, row_at}, proofs.Among.each_found}
+use Rattle.sort_op.{specs.Entries.{is_in, is_same}, specs.Places.is_one, specs.Reading.entries_under, specs.Sorted.{entries_of, entry_of}, proofs.Comparing.is_same_own, proofs.Members.{entry_found, in_under}}
 
 module _ (by : List SortBy) where
   -- the positions of the rows under some keys

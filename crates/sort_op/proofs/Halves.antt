@@ -1,10 +1,7 @@
 -- Pairs of which some pass a test: the keys of these and of the others.
 use Rattle.std.proofs.Common.{◌≡◌, refl, ap, ap₂, sym, ◌∙◌, Bool, true, false, not, ◌&&◌, ◌||◌, ℕ, List, map, filter, ◌++◌, true≢false, inl, inr}
-use Rattle.std.specs.List.{AllByRecursion}
-use Rattle.std.proofs.lemmas.Bool.{cases_Bool}
-use Rattle.key_lists.specs.Keys.{is_among, IsRising, without}
-use Rattle.key_lists.proofs.Among.{among-append, among-filter, each_among, of_among}
-use Rattle.key_lists.proofs.Every.{every_both, every-append, every-filter, every-map, every_unmapped}
+use Rattle.std.{specs.List.AllByRecursion, proofs.lemmas.Bool.cases_Bool}
+use Rattle.key_lists.{specs.Keys.{is_among, IsRising, without}, proofs.Among.{among-append, among-filter, each_among, of_among}, proofs.Every.{every_both, every-append, every-filter, every-map, every_unmapped}}
 use Rattle.shown_rows.proofs.Named.{named_by, of_named}
 use Rattle.tick_model.specs.declared.update.KeyPair.{KeyPair}
 

@@ -1,20 +1,8 @@
 -- Orders into which entries are put one by one.
 use Rattle.std.proofs.Common.{◌≡◌, refl, ap, ap₂, sym, ◌∙◌, subst, Bool, true, false, cond, ◌||◌, ℕ, ◌+◌, ◌≤◌, arith, List, [], ◌∷◌, ◌++◌, take, drop, take-append-drop, None, inl, inr}
-use Rattle.std.specs.Prelude.{count_by, insert}
-use Rattle.std.specs.List.{AllByRecursion}
-use Rattle.std.specs.List.Sorted.{IsPermutation}
-use Rattle.std.proofs.lemmas.Bool.{cases_Bool, or_parts}
-use Rattle.std.proofs.lemmas.List.Elements.{recursion_from_All}
-use Rattle.std.proofs.lemmas.List.Folds.{list_any-append}
-use Rattle.std.proofs.lemmas.List.Sorted.{All-permutation, list_any-IsPermutation, sum_by-IsPermutation}
-use Rattle.std.proofs.lemmas.List.Sums.{sum_by-append}
-use Rattle.key_lists.proofs.Every.{all_from, every_both}
-use Rattle.key_lists.proofs.Parts.{every_front, every_back}
-use Rattle.sort_op.specs.declared.entry.Entry.{Entry}
-use Rattle.sort_op.specs.Entries.{is_in, is_same, place_of, AreDistinct}
-use Rattle.sort_op.proofs.Batched.{in_more, same_flip}
-use Rattle.sort_op.proofs.Comparing.{is_same_own}
-use Rattle.sort_op.proofs.Searches.{place_none}
+use Rattle.std.{specs.Prelude.{count_by, insert}, specs.List.AllByRecursion, specs.List.Sorted.IsPermutation, proofs.lemmas.Bool.{cases_Bool, or_parts}, proofs.lemmas.List.Elements.recursion_from_All, proofs.lemmas.List.Folds.list_any-append, proofs.lemmas.List.Sorted.{All-permutation, list_any-IsPermutation, sum_by-IsPermutation}, proofs.lemmas.List.Sums.sum_by-append}
+use Rattle.key_lists.{proofs.Every.{all_from, every_both}, proofs.Parts.{every_front, every_back}}
+use Rattle.sort_op.{specs.declared.entry.Entry.Entry, specs.Entries.{is_in, is_same, place_of, AreDistinct}, proofs.Batched.{in_more, same_flip}, proofs.Comparing.is_same_own, proofs.Searches.place_none}
 
 -- an entry that is not in has no place
 pub in_none : (entry : Entry) (entries : List Entry) → is_in entry entries ≡ false → AllByRecursion (λ other. is_same other entry ≡ false) entries

@@ -1,15 +1,8 @@
 -- The sort cells of rows, by the handles of the rows.
 use Rattle.std.proofs.Common.{◌≡◌, ◌≢◌, refl, ap, ap₂, sym, ◌∙◌, false, Bool, ℕ, zero, suc, ◌+◌, ◌<◌, arith, List, [], ◌∷◌, ◌++◌, length, drop, get_or, set, add-one, ℤ}
-use Rattle.std.specs.Global.{Vec}
-use Rattle.std.specs.Ordering.{ordering_then}
-use Rattle.std.specs.declared.cmp.Ordering.{Ordering}
-use Rattle.tick_model.specs.declared.plan.SortBy.{SortBy}
-use Rattle.tick_model.specs.Sort.{column_cmp}
-use Rattle.tick_model.specs.Tables.{cell, null, same_cells}
-use Rattle.sort_op.specs.Cells.{cells_cmp}
-use Rattle.sort_op.specs.Ranks.{cell_in, cells_from, lists_of}
-use Rattle.sort_op.specs.Sorted.{sort_cells}
-use Rattle.sort_op.proofs.CellOrders.{head_first}
+use Rattle.std.{specs.Global.Vec, specs.Ordering.ordering_then, specs.declared.cmp.Ordering.Ordering}
+use Rattle.tick_model.{specs.declared.plan.SortBy.SortBy, specs.Sort.column_cmp, specs.Tables.{cell, null, same_cells}}
+use Rattle.sort_op.{specs.Cells.cells_cmp, specs.Ranks.{cell_in, cells_from, lists_of}, specs.Sorted.sort_cells, proofs.CellOrders.head_first}
 
 abbrev pub blank : SortBy
 blank = record { column = 0; descending = false }

@@ -1,19 +1,10 @@
 -- The pairs that a tick keeps, from the rows that go and come; and the places that a sort keeps.
 use Rattle.std.proofs.Common.{◌≡◌, refl, ap, ap₂, sym, ◌∙◌, Bool, true, false, cond, not, ◌&&◌, ◌||◌, ◌==◌, ℕ, zero, suc, ◌+◌, ◌<◌, ◌≤◌, arith, List, [], ◌∷◌, length, Option, Some, None, true≢false}
-use Rattle.std.specs.Prelude.{filter_map, find, option_map, slice_get}
-use Rattle.std.specs.List.{AllByRecursion, cons_option, enumerate_from, range_with_len}
-use Rattle.std.proofs.lemmas.Bool.{eq-eqb, ne_eqb}
-use Rattle.key_lists.specs.Keys.{is_among, IsRising, without}
-use Rattle.key_lists.proofs.Among.{among-filter, among_below, each_among}
-use Rattle.key_lists.proofs.Every.{every_weaker, every-map, filter_same}
-use Rattle.key_lists.proofs.Rising.{as_filter}
+use Rattle.std.{specs.Prelude.{filter_map, find, option_map, slice_get}, specs.List.{AllByRecursion, cons_option, enumerate_from, range_with_len}, proofs.lemmas.Bool.{eq-eqb, ne_eqb}}
+use Rattle.key_lists.{specs.Keys.{is_among, IsRising, without}, proofs.Among.{among-filter, among_below, each_among}, proofs.Every.{every_weaker, every-map, filter_same}, proofs.Rising.as_filter}
 use Rattle.row_changes.proofs.Comparing.{pairs_of-keys}
 use Rattle.shift_data.specs.Moves.{pairs_of}
-use Rattle.tick_model.specs.declared.table.PlainRow.{PlainRow}
-use Rattle.tick_model.specs.declared.update.KeyPair.{KeyPair}
-use Rattle.tick_model.specs.Sort.{numbered, place_of, place_pair}
-use Rattle.tick_model.specs.Tables.{keys}
-use Rattle.tick_model.specs.Updates.{Tick, IsTick, between, new_keys, old_keys}
+use Rattle.tick_model.{specs.declared.table.PlainRow.PlainRow, specs.declared.update.KeyPair.KeyPair, specs.Sort.{numbered, place_of, place_pair}, specs.Tables.keys, specs.Updates.{Tick, IsTick, between, new_keys, old_keys}}
 
 -- the others of the others, where all of them are there
 others_twice : (keys others : List ℕ) → IsRising keys → IsRising others → AllByRecursion (λ key. is_among key keys ≡ true) others → without (without others keys) keys ≡ others

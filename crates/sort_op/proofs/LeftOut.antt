@@ -1,18 +1,9 @@
 -- Lists without what stands at some positions.
 use Rattle.std.proofs.Common.{◌≡◌, refl, ap, sym, ◌∙◌, subst, Bool, true, false, cond, not, ◌||◌, ℕ, zero, suc, ◌+◌, ◌<◌, ◌≤◌, arith, List, [], ◌∷◌, map, drop, length, Option, Some, None}
-use Rattle.std.specs.Prelude.{filter, option_map, remove, slice_get}
-use Rattle.std.specs.List.{AllByRecursion}
-use Rattle.std.specs.Option.{option_map_or}
-use Rattle.std.proofs.lemmas.Bool.{eq-eqb, ne_eqb}
-use Rattle.std.proofs.lemmas.List.{drop_all}
-use Rattle.std.proofs.lemmas.Option.{slice_get-map}
-use Rattle.key_lists.specs.Keys.{is_among, IsRising}
-use Rattle.key_lists.proofs.Among.{among_below, among_past, each_among}
-use Rattle.key_lists.proofs.Every.{every_weaker}
-use Rattle.key_lists.proofs.Parts.{drop_got, every_got}
+use Rattle.std.{specs.Prelude.{filter, option_map, remove, slice_get}, specs.List.AllByRecursion, specs.Option.option_map_or, proofs.lemmas.Bool.{eq-eqb, ne_eqb}, proofs.lemmas.List.drop_all, proofs.lemmas.Option.slice_get-map}
+use Rattle.key_lists.{specs.Keys.{is_among, IsRising}, proofs.Among.{among_below, among_past, each_among}, proofs.Every.every_weaker, proofs.Parts.{drop_got, every_got}}
 use Rattle.row_set.proofs.Windows.{rising-drop}
-use Rattle.sort_op.specs.Places.{AreUnder, left_from}
-use Rattle.sort_op.proofs.Made.{held_within}
+use Rattle.sort_op.{specs.Places.{AreUnder, left_from}, proofs.Made.held_within}
 
 -- where none is left out
 left_none : {X : Type 0} (first : ℕ) (entries : List X) → left_from first [] entries ≡ entries

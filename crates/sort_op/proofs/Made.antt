@@ -1,16 +1,10 @@
 -- An order with an entry more and with an entry less.
 use Rattle.std.proofs.Common.{◌≡◌, refl, ap, sym, ◌∙◌, subst, true, false, ℕ, zero, suc, ◌<◌, ◌≤◌, arith, List, [], ◌∷◌, ◌++◌, length, take, drop, take-append-drop, length-take-le, Some, None, Bool, Ok, Err, true≢false}
-use Rattle.std.specs.Prelude.{insert, remove, slice_get}
-use Rattle.std.specs.List.{AllByRecursion}
-use Rattle.std.specs.Option.{ok_or, option_map_or}
+use Rattle.std.{specs.Prelude.{insert, remove, slice_get}, specs.List.AllByRecursion, specs.Option.{ok_or, option_map_or}}
 use Rattle.chunk_list.specs.Chunked.{joined, IsChunk}
-use Rattle.key_lists.proofs.Every.{every-append}
-use Rattle.key_lists.proofs.Parts.{every_front, every_back, every_remove}
+use Rattle.key_lists.{proofs.Every.every-append, proofs.Parts.{every_front, every_back, every_remove}}
 use Rattle.tick_model.specs.declared.plan.SortBy.{SortBy}
-use Rattle.sort_op.specs.declared.entry.Entry.{Entry}
-use Rattle.sort_op.specs.Entries.{comes_before, count_before, entries, found, is_same, place_of, IsOrder, IsWhole, Order, Rises}
-use Rattle.sort_op.proofs.Rises.{rises_back, rises_with, rises_without}
-use Rattle.sort_op.proofs.Searches.{count_is, each_other, others_before, others_behind, others_past, place_here, place_none, FirstIsOther}
+use Rattle.sort_op.{specs.declared.entry.Entry.Entry, specs.Entries.{comes_before, count_before, entries, found, is_same, place_of, IsOrder, IsWhole, Order, Rises}, proofs.Rises.{rises_back, rises_with, rises_without}, proofs.Searches.{count_is, each_other, others_before, others_behind, others_past, place_here, place_none, FirstIsOther}}
 
 -- the first of those from a place on
 first_from : (xs : List Entry) (n : ℕ) → slice_get (drop n xs) 0 ≡ slice_get xs n

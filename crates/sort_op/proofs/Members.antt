@@ -1,27 +1,9 @@
 -- Entries by their keys: which of them are those of rows, under some keys or in order.
 use Rattle.std.proofs.Common.{◌≡◌, refl, ap, ap₂, sym, ◌∙◌, subst, Bool, true, false, cond, ◌&&◌, ◌||◌, ◌==◌, ℕ, ◌≤◌, arith, List, [], ◌∷◌, map, filter, length, Option, Some, unwrap_or, true≢false, inl, inr, is_lt}
-use Rattle.std.specs.Prelude.{option_map}
-use Rattle.std.specs.List.{AllByRecursion, list_any}
-use Rattle.std.proofs.lemmas.Bool.{and_left, and_parts, and_right, cases_Bool, cases_eq, eqb-false, eqb-true, eq-eqb, ne_eqb, or_cases, or_parts}
-use Rattle.std.proofs.lemmas.List.Sums.{length-filter}
-use Rattle.key_lists.specs.Keys.{is_among, IsRising}
-use Rattle.key_lists.proofs.Among.{among_below}
-use Rattle.key_lists.proofs.Every.{every_weaker, filter_none, map_map, map_same, any-map}
-use Rattle.key_lists.proofs.Booleans.{or_swap, same_truth, or_true}
-use Rattle.tick_model.specs.declared.plan.SortBy.{SortBy}
-use Rattle.tick_model.specs.declared.table.PlainRow.{PlainRow}
-use Rattle.tick_model.specs.declared.table.PlainTable.{PlainTable}
-use Rattle.tick_model.specs.Sort.{in_order, ordered, place, sort_cmp}
-use Rattle.tick_model.specs.Tables.{keys, row_at, same_cells}
-use Rattle.tick_model.proofs.Among.{each_found}
-use Rattle.sort_op.specs.declared.entry.Entry.{Entry}
-use Rattle.sort_op.specs.Entries.{AreDistinct, is_in, is_same, keys_in}
-use Rattle.sort_op.specs.Places.{AreApart}
-use Rattle.sort_op.specs.Reading.{entries_under, entry_under, entry_with}
-use Rattle.sort_op.specs.Sorted.{entries_of, entry_of}
-use Rattle.sort_op.proofs.Comparing.{same_is}
-use Rattle.sort_op.proofs.Inserted.{in_none}
-use Rattle.sort_op.proofs.SortedRows.{own_in}
+use Rattle.std.{specs.Prelude.option_map, specs.List.{AllByRecursion, list_any}, proofs.lemmas.Bool.{and_left, and_parts, and_right, cases_Bool, cases_eq, eqb-false, eqb-true, eq-eqb, ne_eqb, or_cases, or_parts}, proofs.lemmas.List.Sums.length-filter}
+use Rattle.key_lists.{specs.Keys.{is_among, IsRising}, proofs.Among.among_below, proofs.Every.{every_weaker, filter_none, map_map, map_same, any-map}, proofs.Booleans.{or_swap, same_truth, or_true}}
+use Rattle.tick_model.{specs.declared.plan.SortBy.SortBy, specs.declared.table.PlainRow.PlainRow, specs.declared.table.PlainTable.PlainTable, specs.Sort.{in_order, ordered, place, sort_cmp}, specs.Tables.{keys, row_at, same_cells}, proofs.Among.each_found}
+use Rattle.sort_op.{specs.declared.entry.Entry.Entry, specs.Entries.{AreDistinct, is_in, is_same, keys_in}, specs.Places.AreApart, specs.Reading.{entries_under, entry_under, entry_with}, specs.Sorted.{entries_of, entry_of}, proofs.Comparing.same_is, proofs.Inserted.in_none, proofs.SortedRows.own_in}
 
 any-place : {X : Type 0} (p : X → Bool) (less : X → X → Bool) (x : X) (xs : List X) → list_any p (place less x xs) ≡ (p x || list_any p xs)
 any-place p less x [] = refl

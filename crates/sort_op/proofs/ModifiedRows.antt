@@ -1,23 +1,11 @@
 -- The modified rows whose sort cells change, and those whose do not.
 use Rattle.std.proofs.Common.{◌≡◌, refl, ap, ap₂, sym, ◌∙◌, Bool, true, ◌&&◌, List, [], ◌∷◌, length, ℤ}
-use Rattle.std.specs.List.{AllByRecursion}
-use Rattle.std.specs.Ordering.{int_eq}
-use Rattle.std.proofs.lemmas.List.{length-map}
-use Rattle.key_lists.specs.Keys.{is_among}
-use Rattle.key_lists.proofs.Every.{every_unmapped, every-filter}
+use Rattle.std.{specs.List.AllByRecursion, specs.Ordering.int_eq, proofs.lemmas.List.length-map}
+use Rattle.key_lists.{specs.Keys.is_among, proofs.Every.{every_unmapped, every-filter}}
 use Rattle.shown_rows.proofs.Restricted.{modified_new}
-use Rattle.tick_model.specs.declared.plan.SortBy.{SortBy}
-use Rattle.tick_model.specs.declared.update.KeyPair.{KeyPair}
-use Rattle.tick_model.specs.Sort.{same_place}
-use Rattle.tick_model.specs.Tables.{cell, cells_at, keys, same_cells}
-use Rattle.tick_table.specs.Exact.{IsExact, tick_of}
-use Rattle.tick_table.specs.Ticking.{Ticking}
-use Rattle.sort_op.specs.declared.entry.Entry.{Entry}
-use Rattle.sort_op.specs.Entries.{is_in}
-use Rattle.sort_op.specs.Reading.{entry_under, modified_pairs, sort_cells_alike}
-use Rattle.sort_op.specs.Sorted.{entries_of, sort_cells}
-use Rattle.sort_op.proofs.Comparing.{is_same_own}
-use Rattle.sort_op.proofs.Members.{in_rows}
+use Rattle.tick_model.{specs.declared.plan.SortBy.SortBy, specs.declared.update.KeyPair.KeyPair, specs.Sort.same_place, specs.Tables.{cell, cells_at, keys, same_cells}}
+use Rattle.tick_table.{specs.Exact.{IsExact, tick_of}, specs.Ticking.Ticking}
+use Rattle.sort_op.{specs.declared.entry.Entry.Entry, specs.Entries.is_in, specs.Reading.{entry_under, modified_pairs, sort_cells_alike}, specs.Sorted.{entries_of, sort_cells}, proofs.Comparing.is_same_own, proofs.Members.in_rows}
 
 same_alike : (by : List SortBy) (xs ys : List ℤ) → same_cells (sort_cells by xs) (sort_cells by ys) ≡ sort_cells_alike by xs ys
 same_alike [] xs ys = refl

@@ -1,23 +1,11 @@
 -- The rows of a sort under their places, by the entries.
 use Rattle.std.proofs.Common.{◌≡◌, refl, ap, sym, ◌∙◌, true, cond, ℕ, zero, suc, ◌+◌, ◌<◌, ◌≤◌, arith, List, [], ◌∷◌, length, Option, Some, unwrap_or}
-use Rattle.std.specs.Prelude.{option_map, slice_get}
-use Rattle.std.specs.Option.{option_map_or}
-use Rattle.std.proofs.lemmas.Bool.{eq-eqb, ne_eqb}
-use Rattle.std.proofs.lemmas.Option.{none-some, slice_get-map}
-use Rattle.key_lists.specs.Keys.{is_among, IsRising}
-use Rattle.key_lists.proofs.Among.{of_among}
-use Rattle.tick_model.specs.declared.plan.SortBy.{SortBy}
-use Rattle.tick_model.specs.declared.table.PlainRow.{PlainRow}
-use Rattle.tick_model.specs.declared.table.PlainTable.{PlainTable}
-use Rattle.tick_model.specs.Sort.{in_order, numbered, sort_table}
-use Rattle.tick_model.specs.Tables.{cells_at, keys, row_at}
-use Rattle.tick_model.proofs.Among.{each_found, rows_among}
-use Rattle.tick_laws.proofs.Placed.{every-in_order}
-use Rattle.tick_laws.proofs.ResultTables.{keys-numbered}
+use Rattle.std.{specs.Prelude.{option_map, slice_get}, specs.Option.option_map_or, proofs.lemmas.Bool.{eq-eqb, ne_eqb}, proofs.lemmas.Option.{none-some, slice_get-map}}
+use Rattle.key_lists.{specs.Keys.{is_among, IsRising}, proofs.Among.of_among}
+use Rattle.tick_model.{specs.declared.plan.SortBy.SortBy, specs.declared.table.PlainRow.PlainRow, specs.declared.table.PlainTable.PlainTable, specs.Sort.{in_order, numbered, sort_table}, specs.Tables.{cells_at, keys, row_at}, proofs.Among.{each_found, rows_among}}
+use Rattle.tick_laws.{proofs.Placed.every-in_order, proofs.ResultTables.keys-numbered}
 use Rattle.shown_rows.proofs.Walks.{of_place}
-use Rattle.sort_op.specs.declared.entry.Entry.{Entry}
-use Rattle.sort_op.specs.Places.{key_at}
-use Rattle.sort_op.specs.Sorted.{entries_of, entry_of}
+use Rattle.sort_op.{specs.declared.entry.Entry.Entry, specs.Places.key_at, specs.Sorted.{entries_of, entry_of}}
 
 -- the row under the number of a place
 row_numbered : (n i : ℕ) (rows : List PlainRow) (row : PlainRow) → slice_get rows i ≡ Some row → cells_at (n + i) (numbered n rows) ≡ row.cells

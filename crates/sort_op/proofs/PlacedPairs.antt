@@ -1,27 +1,11 @@
 -- The places of the rows that a sort keeps, before a step and now.
 use Rattle.std.proofs.Common.{◌≡◌, refl, ap, sym, ◌∙◌, true, false, cond, not, ◌==◌, ℕ, zero, suc, ◌+◌, arith, List, [], ◌∷◌, Option, Some, None, is_lt}
-use Rattle.std.specs.Prelude.{IfSome, find, option_map, slice_get}
-use Rattle.std.specs.List.{AllByRecursion, cons_option}
-use Rattle.std.proofs.lemmas.Bool.{eqb-true, eq-eqb, or_parts}
-use Rattle.std.proofs.lemmas.List.Folds.{find_at}
-use Rattle.std.proofs.lemmas.Option.{none-some, same_Some}
-use Rattle.key_lists.specs.Keys.{is_among, IsRising}
-use Rattle.key_lists.proofs.Among.{each_among}
-use Rattle.key_lists.proofs.Every.{every_both, every_unmapped, every_weaker}
-use Rattle.key_lists.proofs.Booleans.{same_truth}
-use Rattle.shown_rows.proofs.Named.{of_named}
-use Rattle.shown_rows.proofs.Walks.{of_place}
+use Rattle.std.{specs.Prelude.{IfSome, find, option_map, slice_get}, specs.List.{AllByRecursion, cons_option}, proofs.lemmas.Bool.{eqb-true, eq-eqb, or_parts}, proofs.lemmas.List.Folds.find_at, proofs.lemmas.Option.{none-some, same_Some}}
+use Rattle.key_lists.{specs.Keys.{is_among, IsRising}, proofs.Among.each_among, proofs.Every.{every_both, every_unmapped, every_weaker}, proofs.Booleans.same_truth}
+use Rattle.shown_rows.{proofs.Named.of_named, proofs.Walks.of_place}
 use Rattle.tick_laws.proofs.Placed.{find_has, row_at-in_order}
-use Rattle.tick_model.specs.declared.plan.SortBy.{SortBy}
-use Rattle.tick_model.specs.declared.table.PlainRow.{PlainRow}
-use Rattle.tick_model.specs.declared.update.KeyPair.{KeyPair}
-use Rattle.tick_model.specs.Sort.{in_order, place_of, sort_cmp}
-use Rattle.tick_model.specs.Tables.{keys, row_at}
-use Rattle.tick_model.specs.Updates.{new_keys, old_keys}
-use Rattle.tick_model.proofs.Among.{each_found}
-use Rattle.sort_op.proofs.KeptPlaces.{place_kept, places_from}
-use Rattle.sort_op.specs.Places.{AreApart}
-use Rattle.sort_op.proofs.Members.{apart-ordered, apart_rising, unequal_flip}
+use Rattle.tick_model.{specs.declared.plan.SortBy.SortBy, specs.declared.table.PlainRow.PlainRow, specs.declared.update.KeyPair.KeyPair, specs.Sort.{in_order, place_of, sort_cmp}, specs.Tables.{keys, row_at}, specs.Updates.{new_keys, old_keys}, proofs.Among.each_found}
+use Rattle.sort_op.{proofs.KeptPlaces.{place_kept, places_from}, specs.Places.AreApart, proofs.Members.{apart-ordered, apart_rising, unequal_flip}}
 
 -- a key that is not among others is unequal to each
 others_unequal : (key : ℕ) (others : List ℕ) → is_among key others ≡ false → AllByRecursion (λ other. (other == key) ≡ false) others

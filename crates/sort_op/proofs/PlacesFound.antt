@@ -1,18 +1,9 @@
 -- Positions below a number, and the keys that are kept of positions.
 use Rattle.std.proofs.Common.{◌≡◌, refl, ap, ◌∙◌, Bool, true, false, cond, ℕ, ◌+◌, ◌-◌, ◌<◌, arith, List, [], length, get_or, Some, Ok, Err}
-use Rattle.std.specs.Prelude.{option_map, slice_get}
-use Rattle.std.specs.List.{range_with_len}
-use Rattle.std.proofs.lemmas.Option.{slice_get-get_or, slice_get-map, slice_get_within}
-use Rattle.key_lists.specs.Keys.{IsRising, is_among}
-use Rattle.row_set.specs.Ranges.{keys_from}
-use Rattle.row_set.specs.Sets.{count_below, found, united}
-use Rattle.row_set.proofs.Held.{range_rises}
-use Rattle.row_set.proofs.United.{among-united, united_rises}
-use Rattle.row_set.proofs.Lookups.{count_at}
-use Rattle.key_lists.proofs.Rising.{rising_same}
-use Rattle.key_lists.proofs.Booleans.{or_false}
-use Rattle.sort_op.specs.declared.entry.Entry.{Entry}
-use Rattle.sort_op.specs.Places.{key_at, keys_at}
+use Rattle.std.{specs.Prelude.{option_map, slice_get}, specs.List.range_with_len, proofs.lemmas.Option.{slice_get-get_or, slice_get-map, slice_get_within}}
+use Rattle.key_lists.{specs.Keys.{IsRising, is_among}, proofs.Rising.rising_same, proofs.Booleans.or_false}
+use Rattle.row_set.{specs.Ranges.keys_from, specs.Sets.{count_below, found, united}, proofs.Held.range_rises, proofs.United.{among-united, united_rises}, proofs.Lookups.count_at}
+use Rattle.sort_op.{specs.declared.entry.Entry.Entry, specs.Places.{key_at, keys_at}}
 
 -- the positions below a number
 pub all_below : (count : ℕ) (all : List ℕ) → 0 < count → all ≡ united (keys_from 0 (count - 1)) [] → all ≡ range_with_len 0 count

@@ -1,30 +1,10 @@
 -- Rows in order by their handles: where a row stands, and the handle of the row under a key.
 use Rattle.std.proofs.Common.{◌≡◌, refl, ap, ap₂, sym, ◌∙◌, Bool, true, false, cond, ◌||◌, ◌==◌, ℕ, zero, suc, ◌<◌, ◌≤◌, arith, List, [], ◌∷◌, ◌++◌, map, length, take, drop, Option, Some, None, IsSome, unwrap_or, true≢false, inl, inr, get_or}
-use Rattle.std.specs.Prelude.{option_map, slice_get}
-use Rattle.std.specs.List.{AllByRecursion}
-use Rattle.std.specs.List.Sorted.{IsPartitionedBy}
-use Rattle.std.specs.Option.{option_map_or}
-use Rattle.std.specs.Ordering.{is_lt, nat_cmp, ordering_then}
-use Rattle.std.specs.declared.cmp.Ordering.{Ordering}
-use Rattle.std.specs.declared.cmp.Ordering.TheVariants.{Less, Equal, Greater}
-use Rattle.std.proofs.lemmas.Bool.{cases_Bool, cases_eq, eq-eqb, eqb-true, ne_eqb, or_cases, le-ltb}
-use Rattle.std.proofs.lemmas.List.{length-map}
-use Rattle.std.proofs.lemmas.Option.{none-some, same_Some, slice_get-map}
-use Rattle.key_lists.specs.Keys.{IsRising, is_among}
-use Rattle.key_lists.proofs.Among.{among-append, each_among, of_among}
-use Rattle.key_lists.proofs.Booleans.{or_false}
-use Rattle.key_lists.proofs.Every.{every, every_weaker, every-map, all_from, every_unmapped}
-use Rattle.key_lists.proofs.Parts.{every_got}
+use Rattle.std.{specs.Prelude.{option_map, slice_get}, specs.List.AllByRecursion, specs.List.Sorted.IsPartitionedBy, specs.Option.option_map_or, specs.Ordering.{is_lt, nat_cmp, ordering_then}, specs.declared.cmp.Ordering.Ordering, specs.declared.cmp.Ordering.TheVariants.{Less, Equal, Greater}, proofs.lemmas.Bool.{cases_Bool, cases_eq, eq-eqb, eqb-true, ne_eqb, or_cases, le-ltb}, proofs.lemmas.List.length-map, proofs.lemmas.Option.{none-some, same_Some, slice_get-map}}
+use Rattle.key_lists.{specs.Keys.{IsRising, is_among}, proofs.Among.{among-append, each_among, of_among}, proofs.Booleans.or_false, proofs.Every.{every, every_weaker, every-map, all_from, every_unmapped}, proofs.Parts.every_got}
 use Rattle.row_handles.specs.Entries.{Entry as Handled, handle_under, key_with, keys_of}
 use Rattle.tick_model.specs.declared.plan.SortBy.{SortBy}
-use Rattle.sort_op.specs.declared.entry.Entry.{Entry}
-use Rattle.sort_op.specs.declared.row_order.Row.{Row}
-use Rattle.sort_op.specs.Entries.{IsWhole, Rises, comes_before, is_in, is_same, keys_in}
-use Rattle.sort_op.specs.Cells.{cells_cmp}
-use Rattle.sort_op.specs.Places.{AreApart, AreUnder}
-use Rattle.sort_op.specs.Ranks.{IsRanking, Ranking, arrived, entry_in, key_in, kept_cells, listed}
-use Rattle.sort_op.proofs.Comparing.{before_trans, not_before_own, same_is}
-use Rattle.sort_op.proofs.KeptCells.{length-kept}
+use Rattle.sort_op.{specs.declared.entry.Entry.Entry, specs.declared.row_order.Row.Row, specs.Entries.{IsWhole, Rises, comes_before, is_in, is_same, keys_in}, specs.Cells.cells_cmp, specs.Places.{AreApart, AreUnder}, specs.Ranks.{IsRanking, Ranking, arrived, entry_in, key_in, kept_cells, listed}, proofs.Comparing.{before_trans, not_before_own, same_is}, proofs.KeptCells.length-kept}
 
 module _ (by : List SortBy) (entry : Entry) where
   not_sooner : (x y : Entry) → comes_before by x y ≡ true → comes_before by x entry ≡ false → comes_before by y entry ≡ false

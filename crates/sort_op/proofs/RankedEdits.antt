@@ -1,30 +1,12 @@
 -- Rows in order by their handles: a row more and a row less, other keys and other cells.
 use Rattle.std.proofs.Common.{◌≡◌, ◌≢◌, refl, ap, ap₂, sym, ◌∙◌, subst, Bool, true, false, cond, not, ℕ, zero, suc, ◌≤◌, List, [], ◌∷◌, map, length, take, drop, Option, Some, None, Result, Ok, Err, IsSome, unwrap_or, true≢false, inl, inr, ℤ}
-use Rattle.std.specs.Prelude.{OnErr, OnOk, insert, remove}
-use Rattle.std.specs.List.{AllByRecursion}
-use Rattle.std.proofs.lemmas.Bool.{cases_eq, eq-eqb, ne_eqb}
-use Rattle.std.proofs.lemmas.Option.{none-some, same_Some}
-use Rattle.key_lists.specs.Keys.{IsRising, is_among, without}
-use Rattle.key_lists.proofs.Among.{each_among}
-use Rattle.key_lists.proofs.Every.{every_both, every_weaker, every-map, every_unmapped, filter-map, map_map, map_same}
-use Rattle.key_lists.proofs.Parts.{every_insert, every_remove}
-use Rattle.key_lists.proofs.Rising.{rising_some}
+use Rattle.std.{specs.Prelude.{OnErr, OnOk, insert, remove}, specs.List.AllByRecursion, proofs.lemmas.Bool.{cases_eq, eq-eqb, ne_eqb}, proofs.lemmas.Option.{none-some, same_Some}}
+use Rattle.key_lists.{specs.Keys.{IsRising, is_among, without}, proofs.Among.each_among, proofs.Every.{every_both, every_weaker, every-map, every_unmapped, filter-map, map_map, map_same}, proofs.Parts.{every_insert, every_remove}, proofs.Rising.rising_some}
 use Rattle.row_handles.specs.Entries.{Entry as Handled, key_with, keys_of, left_rows, moved_row, moved_rows}
 use Rattle.shift_data.specs.Moves.{IsLawful}
 use Rattle.table_update.proofs.LawfulParts.{places_rise}
-use Rattle.tick_model.specs.declared.plan.SortBy.{SortBy}
-use Rattle.tick_model.specs.declared.update.ShiftRange.{ShiftRange}
-use Rattle.tick_model.specs.Shifts.{as_key, moved}
-use Rattle.sort_op.specs.declared.entry.Entry.{Entry}
-use Rattle.sort_op.specs.declared.row_order.Row.{Row}
-use Rattle.sort_op.specs.Entries.{Rises, comes_before, keys_in, place_of, rekeyed}
-use Rattle.sort_op.specs.Places.{left_from}
-use Rattle.sort_op.specs.Ranks.{IsRanking, Ranking, arrived, cell_in, entry_in, key_in, kept_cells, listed}
-use Rattle.sort_op.proofs.KeptCells.{cells_same}
-use Rattle.sort_op.proofs.Made.{rises_more}
-use Rattle.sort_op.proofs.Ranked.{arrived_whole, entry_known, key_there, some_key, whole_all}
-use Rattle.sort_op.proofs.Rekeyed.{rises_moved}
-use Rattle.sort_op.proofs.Rises.{rises_without}
+use Rattle.tick_model.{specs.declared.plan.SortBy.SortBy, specs.declared.update.ShiftRange.ShiftRange, specs.Shifts.{as_key, moved}}
+use Rattle.sort_op.{specs.declared.entry.Entry.Entry, specs.declared.row_order.Row.Row, specs.Entries.{Rises, comes_before, keys_in, place_of, rekeyed}, specs.Places.left_from, specs.Ranks.{IsRanking, Ranking, arrived, cell_in, entry_in, key_in, kept_cells, listed}, proofs.KeptCells.cells_same, proofs.Made.rises_more, proofs.Ranked.{arrived_whole, entry_known, key_there, some_key, whole_all}, proofs.Rekeyed.rises_moved, proofs.Rises.rises_without}
 
 module _ {X Y : Type 0} (f : X → Y) where
   pub map_insert : (xs : List X) (i : ℕ) (x : X) → map f (insert xs i x) ≡ insert (map f xs) i (f x)

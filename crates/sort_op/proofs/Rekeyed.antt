@@ -1,31 +1,12 @@
 -- An order whose keys move as the keys of its rows do.
 use Rattle.std.proofs.Common.{◌≡◌, refl, ap, sym, ◌∙◌, subst, Bool, true, false, cond, ℕ, ◌<◌, ◌^◌, arith, List, [], ◌∷◌, ◌==◌, map, true≢false, is_lt, ltb-true, lt-ltb}
-use Rattle.std.specs.Prelude.{nat_lt}
-use Rattle.std.specs.List.{AllByRecursion}
-use Rattle.std.specs.Cmp.{IsStrictWeakOrder}
-use Rattle.std.specs.Ordering.{nat_cmp, ordering_then}
-use Rattle.std.specs.declared.cmp.Ordering.{Ordering}
-use Rattle.std.specs.declared.cmp.Ordering.TheVariants.{Less, Equal, Greater}
-use Rattle.std.proofs.lemmas.List.Sorted.{IsStrictWeakOrder-by_number}
+use Rattle.std.{specs.Prelude.nat_lt, specs.List.AllByRecursion, specs.Cmp.IsStrictWeakOrder, specs.Ordering.{nat_cmp, ordering_then}, specs.declared.cmp.Ordering.Ordering, specs.declared.cmp.Ordering.TheVariants.{Less, Equal, Greater}, proofs.lemmas.List.Sorted.IsStrictWeakOrder-by_number, proofs.lemmas.Bool.le-ltb}
 use Rattle.table_update.proofs.StillKeys.{still_key}
-use Rattle.chunk_list.specs.Chunked.{joined, IsChunk}
-use Rattle.chunk_list.proofs.Changing.{joined-changed}
-use Rattle.std.proofs.lemmas.Bool.{le-ltb}
-use Rattle.key_lists.specs.Keys.{IsRising, is_among}
-use Rattle.key_lists.proofs.Among.{each_among, of_among}
-use Rattle.key_lists.proofs.Every.{every, every_weaker, every-map, every_unmapped, map_own}
-use Rattle.tick_model.specs.declared.plan.SortBy.{SortBy}
-use Rattle.tick_model.specs.declared.update.ShiftRange.{ShiftRange}
-use Rattle.tick_model.specs.Rules.{is_past}
-use Rattle.tick_model.specs.Shifts.{as_key, moved}
-use Rattle.tick_model.specs.Sort.{ordered, place}
-use Rattle.tick_model.proofs.Stable.{IsInOrder, ordered_in_order}
-use Rattle.shift_data.specs.Moves.{IsLawful}
-use Rattle.shift_data.proofs.Lawful.{lawful}
-use Rattle.sort_op.specs.declared.entry.Entry.{Entry}
-use Rattle.sort_op.specs.Cells.{cells_cmp}
-use Rattle.sort_op.proofs.Members.{any-ordered}
-use Rattle.sort_op.specs.Entries.{comes_before, keys_in, rekeyed, rising_keys, IsOrder, IsWhole, Rises}
+use Rattle.chunk_list.{specs.Chunked.{joined, IsChunk}, proofs.Changing.joined-changed}
+use Rattle.key_lists.{specs.Keys.{IsRising, is_among}, proofs.Among.{each_among, of_among}, proofs.Every.{every, every_weaker, every-map, every_unmapped, map_own}}
+use Rattle.tick_model.{specs.declared.plan.SortBy.SortBy, specs.declared.update.ShiftRange.ShiftRange, specs.Rules.is_past, specs.Shifts.{as_key, moved}, specs.Sort.{ordered, place}, proofs.Stable.{IsInOrder, ordered_in_order}}
+use Rattle.shift_data.{specs.Moves.IsLawful, proofs.Lawful.lawful}
+use Rattle.sort_op.{specs.declared.entry.Entry.Entry, specs.Cells.cells_cmp, proofs.Members.any-ordered, specs.Entries.{comes_before, keys_in, rekeyed, rising_keys, IsOrder, IsWhole, Rises}}
 
 -- what holds of all in order holds of all
 unplaced : {X : Type 0} (P : X → Type 0) (less : X → X → Bool) (x : X) (xs : List X) → AllByRecursion P (place less x xs) → P x × AllByRecursion P xs

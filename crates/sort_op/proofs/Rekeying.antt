@@ -1,17 +1,9 @@
 -- Keys that move.
 use Rattle.std.proofs.Common.{◌≡◌, ap, sym, ◌∙◌, subst, false, ℕ, ◌<◌, ◌≤◌, ◌^◌, arith, List, length, Option, None, inl, inr, pos, ◌+ℤ◌, take_all}
-use Rattle.std.specs.Prelude.{find, option_map, unwrap_or}
-use Rattle.std.specs.List.{AllByRecursion}
-use Rattle.std.proofs.lemmas.Bool.{cases_lt}
-use Rattle.std.proofs.lemmas.Int.{ints}
+use Rattle.std.{specs.Prelude.{find, option_map, unwrap_or}, specs.List.AllByRecursion, proofs.lemmas.Bool.cases_lt, proofs.lemmas.Int.ints}
 use Rattle.key_lists.proofs.Every.{every_weaker}
-use Rattle.tick_model.specs.declared.update.ShiftRange.{ShiftRange}
-use Rattle.tick_model.specs.Printable.{IsShiftRange}
-use Rattle.tick_model.specs.Rules.{is_past}
-use Rattle.tick_model.specs.Shifts.{holds, moved}
-use Rattle.shift_data.specs.ShiftLists.{IsShiftList}
-use Rattle.shift_data.proofs.Lawful.{not_past}
-use Rattle.shift_data.proofs.Searches.{found_none}
+use Rattle.tick_model.{specs.declared.update.ShiftRange.ShiftRange, specs.Printable.IsShiftRange, specs.Rules.is_past, specs.Shifts.{holds, moved}}
+use Rattle.shift_data.{specs.ShiftLists.IsShiftList, proofs.Lawful.not_past, proofs.Searches.found_none}
 
 -- what moves to a key is a key
 pub key_small : (shifts : List ShiftRange) (key : ℕ) → IsShiftList shifts → is_past (2 ^ 62) (moved shifts key) ≡ false → key < 2 ^ 62

@@ -1,14 +1,9 @@
 -- Lists of entries that rise: their parts, an entry more and an entry less.
 use Rattle.std.proofs.Common.{◌≡◌, true, ℕ, zero, suc, arith, List, [], ◌∷◌, ◌++◌, get_or}
-use Rattle.std.specs.Prelude.{remove}
-use Rattle.std.specs.List.{AllByRecursion}
-use Rattle.std.specs.List.Sorted.{IsPartitionedBy}
-use Rattle.key_lists.proofs.Every.{every-append, all_from}
-use Rattle.key_lists.proofs.Parts.{every_front, every_back, every_remove}
+use Rattle.std.{specs.Prelude.remove, specs.List.AllByRecursion, specs.List.Sorted.IsPartitionedBy}
+use Rattle.key_lists.{proofs.Every.{every-append, all_from}, proofs.Parts.{every_front, every_back, every_remove}}
 use Rattle.tick_model.specs.declared.plan.SortBy.{SortBy}
-use Rattle.sort_op.specs.declared.entry.Entry.{Entry}
-use Rattle.sort_op.specs.Entries.{comes_before, Rises}
-use Rattle.sort_op.proofs.Comparing.{before_trans}
+use Rattle.sort_op.{specs.declared.entry.Entry.Entry, specs.Entries.{comes_before, Rises}, proofs.Comparing.before_trans}
 
 module _ (by : List SortBy) where
   pub rises_back : (xs ys : List Entry) → Rises by (xs ++ ys) → Rises by ys

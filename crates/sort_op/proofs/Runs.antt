@@ -1,11 +1,7 @@
 -- The key at a position, by the handle that stands there.
 use Rattle.std.proofs.Common.{◌≡◌, refl, ap, sym, ◌∙◌, ℕ, ◌≤◌, List, [], ◌∷◌, length, Option, Some, None}
-use Rattle.std.specs.Prelude.{option_map, slice_get}
-use Rattle.std.specs.Option.{option_map_or}
-use Rattle.std.proofs.lemmas.Option.{none-some, slice_get-map, slice_get_past}
-use Rattle.sort_op.specs.declared.entry.Entry.{Entry}
-use Rattle.sort_op.specs.Places.{key_at}
-use Rattle.sort_op.specs.Ranks.{Ranking, entry_in, key_in, listed}
+use Rattle.std.{specs.Prelude.{option_map, slice_get}, specs.Option.option_map_or, proofs.lemmas.Option.{none-some, slice_get-map, slice_get_past}}
+use Rattle.sort_op.{specs.declared.entry.Entry.Entry, specs.Places.key_at, specs.Ranks.{Ranking, entry_in, key_in, listed}}
 
 pub first_none : (xs : List ℕ) → slice_get xs 0 ≡ None → length xs ≡ 0
 first_none [] none = refl

@@ -1,13 +1,9 @@
 -- What is found among entries that stand before an entry and entries that do not.
 use Rattle.std.proofs.Common.{◌≡◌, refl, ap, ◌∙◌, Bool, true, false, cond, not, ℕ, suc, ◌+◌, ◌≤◌, arith, List, [], ◌∷◌, ◌++◌, length, Option, Some, None, length-append, ltb-false}
-use Rattle.std.specs.Prelude.{filter, nat_lt}
-use Rattle.std.specs.List.{AllByRecursion, position_or_len}
-use Rattle.std.proofs.lemmas.Bool.{lt-ltb, le-ltb}
+use Rattle.std.{specs.Prelude.{filter, nat_lt}, specs.List.{AllByRecursion, position_or_len}, proofs.lemmas.Bool.{lt-ltb, le-ltb}}
 use Rattle.key_lists.proofs.Every.{every_weaker, filter_none}
 use Rattle.tick_model.specs.declared.plan.SortBy.{SortBy}
-use Rattle.sort_op.specs.declared.entry.Entry.{Entry}
-use Rattle.sort_op.specs.Entries.{comes_before, count_before, is_same, place_of, IsWhole, Rises}
-use Rattle.sort_op.proofs.Comparing.{before_trans, behind, other_before, other_behind}
+use Rattle.sort_op.{specs.declared.entry.Entry.Entry, specs.Entries.{comes_before, count_before, is_same, place_of, IsWhole, Rises}, proofs.Comparing.{before_trans, behind, other_before, other_behind}}
 
 -- the first of the entries, if there is one, is another
 abbrev pub FirstIsOther : Entry → List Entry → Type 0

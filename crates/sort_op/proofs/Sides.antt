@@ -1,29 +1,11 @@
 -- The positions that a step of a sort touches, before it or now, from the keys of their rows.
 use Rattle.std.proofs.Common.{◌≡◌, refl, ap, sym, ◌∙◌, subst, true, false, not, ◌&&◌, ◌||◌, ◌==◌, ℕ, zero, suc, ◌+◌, arith, List, [], ◌∷◌, Option, Some, None, true≢false, inl, inr}
-use Rattle.std.specs.Prelude.{slice_get}
-use Rattle.std.specs.List.{AllByRecursion}
-use Rattle.std.specs.Option.{option_map_or}
-use Rattle.std.proofs.lemmas.Bool.{and_right, cases_Bool, eq-eqb}
-use Rattle.std.proofs.lemmas.Option.{none-some}
-use Rattle.key_lists.specs.Keys.{is_among, IsRising, without}
-use Rattle.key_lists.proofs.Among.{among-filter, each_among}
-use Rattle.key_lists.proofs.Every.{every_weaker, map_map}
-use Rattle.key_lists.proofs.Rising.{rising_same, rising_some}
-use Rattle.key_lists.proofs.Booleans.{and_true, or_true}
+use Rattle.std.{specs.Prelude.slice_get, specs.List.AllByRecursion, specs.Option.option_map_or, proofs.lemmas.Bool.{and_right, cases_Bool, eq-eqb}, proofs.lemmas.Option.none-some}
+use Rattle.key_lists.{specs.Keys.{is_among, IsRising, without}, proofs.Among.{among-filter, each_among}, proofs.Every.{every_weaker, map_map}, proofs.Rising.{rising_same, rising_some}, proofs.Booleans.{and_true, or_true}}
 use Rattle.shown_rows.proofs.Walks.{of_place}
 use Rattle.tick_laws.proofs.Placed.{every-in_order}
-use Rattle.tick_model.specs.declared.plan.SortBy.{SortBy}
-use Rattle.tick_model.specs.declared.table.PlainRow.{PlainRow}
-use Rattle.tick_model.specs.declared.table.PlainTable.{PlainTable}
-use Rattle.tick_model.specs.Sort.{in_order, numbered, sort_table}
-use Rattle.tick_model.specs.Tables.{cells_at, keys}
-use Rattle.tick_model.proofs.Among.{rows_among}
-use Rattle.sort_op.specs.declared.entry.Entry.{Entry}
-use Rattle.sort_op.specs.Entries.{keys_in}
-use Rattle.sort_op.specs.Places.{AreUnder}
-use Rattle.sort_op.specs.Sorted.{entries_of, entry_of}
-use Rattle.sort_op.proofs.LeftOut.{under_here}
-use Rattle.sort_op.proofs.PlacedCells.{cells_placed, place_within, row_there}
+use Rattle.tick_model.{specs.declared.plan.SortBy.SortBy, specs.declared.table.PlainRow.PlainRow, specs.declared.table.PlainTable.PlainTable, specs.Sort.{in_order, numbered, sort_table}, specs.Tables.{cells_at, keys}, proofs.Among.rows_among}
+use Rattle.sort_op.{specs.declared.entry.Entry.Entry, specs.Entries.keys_in, specs.Places.AreUnder, specs.Sorted.{entries_of, entry_of}, proofs.LeftOut.under_here, proofs.PlacedCells.{cells_placed, place_within, row_there}}
 
 numbered_here : (n i : ℕ) (rows : List PlainRow) (row : PlainRow) → slice_get rows i ≡ Some row → is_among (n + i) (keys (numbered n rows)) ≡ true
 numbered_here n i [] row at = absurd (none-some row at)

@@ -1,37 +1,15 @@
 -- The change of a sort, from the positions that a step touches.
 use Rattle.std.proofs.Common.{◌≡◌, refl, ap, ap₂, sym, ◌∙◌, subst, Bool, true, false, ◌||◌, ℕ, ◌<◌, ◌^◌, List, filter, None, true≢false}
-use Rattle.std.specs.Cmp.Rules.{signed_items}
-use Rattle.std.specs.List.{AllByRecursion}
-use Rattle.std.proofs.lemmas.Bool.{not-false}
-use Rattle.key_lists.specs.Keys.{is_among, without}
-use Rattle.key_lists.proofs.Among.{of_among}
-use Rattle.key_lists.proofs.Every.{every_both, every_unmapped, every_weaker, every-map}
-use Rattle.row_set.specs.Sets.{united}
-use Rattle.row_set.proofs.United.{among-united}
-use Rattle.shift_data.specs.Moves.{pairs_of}
-use Rattle.shift_data.proofs.Kept.{run_kept}
-use Rattle.shift_data.proofs.Lawful.{Lands, lawful}
-use Rattle.tick_model.specs.declared.plan.Op.TheVariants.{Sort}
-use Rattle.tick_model.specs.declared.plan.SortBy.{SortBy}
-use Rattle.tick_model.specs.declared.update.KeyPair.{KeyPair}
-use Rattle.tick_model.specs.declared.update.ShiftRange.{ShiftRange}
-use Rattle.tick_model.specs.Rules.{is_past}
-use Rattle.tick_model.specs.Shifts.{as_key, moved, shifted}
-use Rattle.tick_model.specs.declared.table.PlainRow.{PlainRow}
-use Rattle.tick_model.specs.Tables.{IsRow, cells_at, keys}
-use Rattle.tick_model.specs.Updates.{Tick, IsTick, between, differs, old_keys}
-use Rattle.tick_laws.proofs.Moves.{each_moved}
-use Rattle.tick_laws.proofs.Placed.{sort_keeps}
-use Rattle.tick_laws.proofs.ResultTables.{result_table}
-use Rattle.tick_table.proofs.Between.{shift_keeps_order, staying_are}
-use Rattle.tick_table.specs.Exact.{IsExact, tick_of}
-use Rattle.tick_table.specs.Ticking.{Ticking}
-use Rattle.row_changes.specs.Parts.{AreCompared, AreParts, Parts}
-use Rattle.row_changes.proofs.Comparing.{old_keys-pairs_of}
+use Rattle.std.{specs.Cmp.Rules.signed_items, specs.List.AllByRecursion, proofs.lemmas.Bool.not-false}
+use Rattle.key_lists.{specs.Keys.{is_among, without}, proofs.Among.of_among, proofs.Every.{every_both, every_unmapped, every_weaker, every-map}}
+use Rattle.row_set.{specs.Sets.united, proofs.United.among-united}
+use Rattle.shift_data.{specs.Moves.pairs_of, proofs.Kept.run_kept, proofs.Lawful.{Lands, lawful}}
+use Rattle.tick_model.{specs.declared.plan.Op.TheVariants.Sort, specs.declared.plan.SortBy.SortBy, specs.declared.update.KeyPair.KeyPair, specs.declared.update.ShiftRange.ShiftRange, specs.Rules.is_past, specs.Shifts.{as_key, moved, shifted}, specs.declared.table.PlainRow.PlainRow, specs.Tables.{IsRow, cells_at, keys}, specs.Updates.{Tick, IsTick, between, differs, old_keys}}
+use Rattle.tick_laws.{proofs.Moves.each_moved, proofs.Placed.sort_keeps, proofs.ResultTables.result_table}
+use Rattle.tick_table.{proofs.Between.{shift_keeps_order, staying_are}, specs.Exact.{IsExact, tick_of}, specs.Ticking.Ticking}
+use Rattle.row_changes.{specs.Parts.{AreCompared, AreParts, Parts}, proofs.Comparing.old_keys-pairs_of}
 use Rattle.shown_rows.proofs.Named.{named_by, of_named}
-use Rattle.sort_op.specs.Sorter.{sorted}
-use Rattle.sort_op.specs.Steps.{Stays}
-use Rattle.sort_op.proofs.KeptPlaces.{kept_are}
+use Rattle.sort_op.{specs.Sorter.sorted, specs.Steps.Stays, proofs.KeptPlaces.kept_are}
 
 module _ (by : List SortBy) (t : Ticking) (e : IsExact t) where
   abbrev tick : Tick

@@ -1,23 +1,10 @@
 -- The entries of the rows of a table, in order: they rise, and lists that rise and have the same entries are one.
 use Rattle.std.proofs.Common.{◌≡◌, refl, ap, ap₂, sym, ◌∙◌, subst, true, false, cond, ◌||◌, ℕ, ◌<◌, ◌==◌, List, [], ◌∷◌, map, true≢false, inl, inr, is_lt}
-use Rattle.std.specs.List.{AllByRecursion}
-use Rattle.std.specs.Ordering.{nat_cmp, ordering_reverse, ordering_then}
-use Rattle.std.specs.declared.cmp.Ordering.{Ordering}
-use Rattle.std.specs.declared.cmp.Ordering.TheVariants.{Less, Equal, Greater}
-use Rattle.std.proofs.lemmas.Bool.{cases_Bool, lt-ltb, or_cases}
-use Rattle.key_lists.specs.Keys.{IsRising}
-use Rattle.key_lists.proofs.Every.{every_weaker, every-map}
-use Rattle.tick_model.specs.declared.plan.SortBy.{SortBy}
-use Rattle.tick_model.specs.declared.table.PlainRow.{PlainRow}
-use Rattle.tick_model.specs.Sort.{column_cmp, in_order, sort_cmp}
-use Rattle.tick_model.specs.Tables.{cell, keys}
-use Rattle.tick_model.proofs.SortOrders.{sort_total}
+use Rattle.std.{specs.List.AllByRecursion, specs.Ordering.{nat_cmp, ordering_reverse, ordering_then}, specs.declared.cmp.Ordering.Ordering, specs.declared.cmp.Ordering.TheVariants.{Less, Equal, Greater}, proofs.lemmas.Bool.{cases_Bool, lt-ltb, or_cases}}
+use Rattle.key_lists.{specs.Keys.IsRising, proofs.Every.{every_weaker, every-map}}
+use Rattle.tick_model.{specs.declared.plan.SortBy.SortBy, specs.declared.table.PlainRow.PlainRow, specs.Sort.{column_cmp, in_order, sort_cmp}, specs.Tables.{cell, keys}, proofs.SortOrders.sort_total}
 use Rattle.tick_laws.proofs.Placed.{in_order_placed, IsPlaced, Stands}
-use Rattle.sort_op.specs.declared.entry.Entry.{Entry}
-use Rattle.sort_op.specs.Cells.{cells_cmp}
-use Rattle.sort_op.specs.Entries.{Rises, comes_before, is_in, is_same}
-use Rattle.sort_op.specs.Sorted.{entries_of, entry_of, sort_cells}
-use Rattle.sort_op.proofs.Comparing.{before_trans, is_same_own, not_before_own, other_behind, same_is}
+use Rattle.sort_op.{specs.declared.entry.Entry.Entry, specs.Cells.cells_cmp, specs.Entries.{Rises, comes_before, is_in, is_same}, specs.Sorted.{entries_of, entry_of, sort_cells}, proofs.Comparing.{before_trans, is_same_own, not_before_own, other_behind, same_is}}
 
 -- the cells of rows stand to one another as the rows do
 cells-rows : (by : List SortBy) (a b : PlainRow) → cells_cmp by (sort_cells by a.cells) (sort_cells by b.cells) ≡ sort_cmp by a b

@@ -1,43 +1,15 @@
 -- The parts of a step's change, from the positions that are found in the order before it and in the one now.
 use Rattle.std.proofs.Common.{◌≡◌, refl, ap, ap₂, sym, ◌∙◌, subst, true, false, not, ◌&&◌, ◌||◌, ◌==◌, ℕ, ◌+◌, ◌*◌, ◌^◌, ◌<◌, ◌≤◌, arith, List, [], ◌∷◌, map, filter, length, Option, Some, None}
-use Rattle.std.specs.Prelude.{option_map, slice_get}
-use Rattle.std.specs.List.{AllByRecursion}
-use Rattle.std.specs.Option.{option_map_or}
-use Rattle.std.proofs.Math.Nat.{mul-le-mul_left}
-use Rattle.std.proofs.lemmas.Bool.{or_parts}
-use Rattle.std.proofs.lemmas.Option.{slice_get-map}
-use Rattle.key_lists.specs.Keys.{IsRising, is_among, without}
-use Rattle.key_lists.proofs.Every.{every_unmapped, every_weaker, every-map, map_map}
-use Rattle.key_lists.proofs.Rising.{rising_same}
+use Rattle.std.{specs.Prelude.{option_map, slice_get}, specs.List.AllByRecursion, specs.Option.option_map_or, proofs.Math.Nat.mul-le-mul_left, proofs.lemmas.Bool.or_parts, proofs.lemmas.Option.slice_get-map}
+use Rattle.key_lists.{specs.Keys.{IsRising, is_among, without}, proofs.Every.{every_unmapped, every_weaker, every-map, map_map}, proofs.Rising.rising_same}
 use Rattle.row_changes.specs.Parts.{AreCompared}
 use Rattle.row_handles.specs.Entries.{keys_of}
 use Rattle.row_set.specs.Sets.{IsKeySet}
 use Rattle.shift_data.specs.Moves.{IsLawful}
 use Rattle.shown_rows.proofs.Restricted.{exact_shift}
-use Rattle.tick_model.specs.declared.plan.SortBy.{SortBy}
-use Rattle.tick_model.specs.declared.table.PlainRow.{PlainRow}
-use Rattle.tick_model.specs.declared.table.PlainTable.{PlainTable}
-use Rattle.tick_model.specs.declared.update.KeyPair.{KeyPair}
-use Rattle.tick_model.specs.declared.update.ShiftRange.{ShiftRange}
-use Rattle.tick_model.specs.Shifts.{as_key, moved}
-use Rattle.tick_model.specs.Sort.{in_order, sort_pairs, sort_table}
-use Rattle.tick_model.specs.Tables.{IsTable, keys, same_cells}
-use Rattle.tick_model.specs.Updates.{Update, between, kept_pair, new_keys, old_keys, pairs}
-use Rattle.tick_table.specs.Exact.{IsExact, counted, tick_of}
-use Rattle.tick_table.specs.Ticking.{Ticking}
-use Rattle.sort_op.specs.declared.entry.Entry.{Entry}
-use Rattle.sort_op.specs.declared.row_order.Row.{Row}
-use Rattle.sort_op.specs.Entries.{AreDistinct, Rises, is_in, keys_in, rekeyed}
-use Rattle.sort_op.specs.Places.{AreApart, AreFound, AreUnder, is_one, left_from, other_places}
-use Rattle.sort_op.specs.Ranks.{IsSettled, Ranking, arrived, entry_in, listed}
-use Rattle.sort_op.specs.Reading.{carried, coming, entries_under, entry_under, leaving, staying, staying_pairs}
-use Rattle.sort_op.specs.Sorted.{entries_of, entry_of}
-use Rattle.sort_op.specs.Sorter.{sorted}
-use Rattle.sort_op.proofs.EntryPlaces.{place_under}
-use Rattle.sort_op.proofs.LeftOut.{under_left, under_within}
-use Rattle.sort_op.proofs.Ranked.{listed_count}
-use Rattle.sort_op.proofs.RankedEdits.{map_left}
-use Rattle.sort_op.proofs.Stepped.{added_is, among_listed, apart_listed, coming_absent, coming_distinct, coming_within, compared_are, entries_now, few_coming, few_compared, few_entries, gone_apart, keys_now, other_places_are, removed_is}
+use Rattle.tick_model.{specs.declared.plan.SortBy.SortBy, specs.declared.table.PlainRow.PlainRow, specs.declared.table.PlainTable.PlainTable, specs.declared.update.KeyPair.KeyPair, specs.declared.update.ShiftRange.ShiftRange, specs.Shifts.{as_key, moved}, specs.Sort.{in_order, sort_pairs, sort_table}, specs.Tables.{IsTable, keys, same_cells}, specs.Updates.{Update, between, kept_pair, new_keys, old_keys, pairs}}
+use Rattle.tick_table.{specs.Exact.{IsExact, counted, tick_of}, specs.Ticking.Ticking}
+use Rattle.sort_op.{specs.declared.entry.Entry.Entry, specs.declared.row_order.Row.Row, specs.Entries.{AreDistinct, Rises, is_in, keys_in, rekeyed}, specs.Places.{AreApart, AreFound, AreUnder, is_one, left_from, other_places}, specs.Ranks.{IsSettled, Ranking, arrived, entry_in, listed}, specs.Reading.{carried, coming, entries_under, entry_under, leaving, staying, staying_pairs}, specs.Sorted.{entries_of, entry_of}, specs.Sorter.sorted, proofs.EntryPlaces.place_under, proofs.LeftOut.{under_left, under_within}, proofs.Ranked.listed_count, proofs.RankedEdits.map_left, proofs.Stepped.{added_is, among_listed, apart_listed, coming_absent, coming_distinct, coming_within, compared_are, entries_now, few_coming, few_compared, few_entries, gone_apart, keys_now, other_places_are, removed_is}}
 
 under_as : (order other : List Entry) (some positions : List ℕ) → order ≡ other → AreUnder (keys_in order) some positions → AreUnder (keys_in other) some positions
 under_as order other some positions o = subst (λ (entries : List Entry). AreUnder (keys_in entries) some positions) o

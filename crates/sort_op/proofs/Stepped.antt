@@ -1,48 +1,15 @@
 -- What a step of a sort does: what its edits of the order come to, and which positions it touches.
 use Rattle.std.proofs.Common.{◌≡◌, refl, ap, ap₂, sym, ◌∙◌, subst, arith, Bool, true, false, not, ◌&&◌, ◌||◌, ℕ, ◌+◌, ◌^◌, ◌≤◌, List, [], ◌∷◌, ◌++◌, map, filter, length, true≢false, ℤ, Some, is_lt}
-use Rattle.std.specs.Prelude.{slice_get}
-use Rattle.std.specs.List.{AllByRecursion, range_with_len}
-use Rattle.std.specs.Cmp.{signed_Decides}
-use Rattle.std.specs.Cmp.Rules.{signed_items}
-use Rattle.std.specs.Ordering.{int_eq}
-use Rattle.std.proofs.lemmas.Bool.{and_parts, and_right, not-false, not-true}
-use Rattle.std.proofs.lemmas.List.{length-map}
-use Rattle.key_lists.specs.Keys.{IsRising, is_among, without}
-use Rattle.key_lists.proofs.Every.{every, every_both, every_weaker, every-filter, every-map, every_unmapped, filter_in, filter_passes, filter_same, filter_swap, filter-map, map_map, map_same}
-use Rattle.key_lists.proofs.Among.{among-append, each_among, of_among}
-use Rattle.key_lists.proofs.Rising.{as_filter, rising-filter}
-use Rattle.row_set.specs.Sets.{IsKeySet}
-use Rattle.row_set.proofs.United.{among-united, length-united, united_rises}
-use Rattle.row_changes.specs.Parts.{AreCompared}
-use Rattle.row_changes.proofs.Comparing.{pairs_of-keys}
+use Rattle.std.{specs.Prelude.slice_get, specs.List.{AllByRecursion, range_with_len}, specs.Cmp.signed_Decides, specs.Cmp.Rules.signed_items, specs.Ordering.int_eq, proofs.lemmas.Bool.{and_parts, and_right, not-false, not-true}, proofs.lemmas.List.length-map}
+use Rattle.key_lists.{specs.Keys.{IsRising, is_among, without}, proofs.Every.{every, every_both, every_weaker, every-filter, every-map, every_unmapped, filter_in, filter_passes, filter_same, filter_swap, filter-map, map_map, map_same}, proofs.Among.{among-append, each_among, of_among}, proofs.Rising.{as_filter, rising-filter}}
+use Rattle.row_set.{specs.Sets.IsKeySet, proofs.United.{among-united, length-united, united_rises}}
+use Rattle.row_changes.{specs.Parts.AreCompared, proofs.Comparing.pairs_of-keys}
 use Rattle.shift_data.specs.Moves.{pairs_of}
-use Rattle.shown_rows.proofs.Named.{named_by}
-use Rattle.shown_rows.proofs.Restricted.{modified_by, modified_new}
-use Rattle.tick_model.specs.declared.plan.SortBy.{SortBy}
-use Rattle.tick_model.specs.declared.table.PlainRow.{PlainRow}
-use Rattle.tick_model.specs.declared.table.PlainTable.{PlainTable}
-use Rattle.tick_model.specs.declared.update.KeyPair.{KeyPair}
-use Rattle.tick_model.specs.Shifts.{as_key, moved}
-use Rattle.tick_model.specs.Sort.{in_order, same_place, sort_cmp, sort_pairs, sort_table}
-use Rattle.tick_model.specs.Tables.{IsTable, cell, cells_at, keys, same_cells}
-use Rattle.tick_model.specs.Updates.{Update, between, differs, kept_pair, new_keys, old_keys, pairs}
-use Rattle.tick_laws.proofs.ResultCells.{length-filter_most}
-use Rattle.tick_laws.proofs.ResultTables.{length-in_order, table_count}
-use Rattle.tick_table.specs.Exact.{IsExact, tick_of}
-use Rattle.tick_table.specs.Ticking.{Ticking}
-use Rattle.sort_op.specs.declared.entry.Entry.{Entry}
-use Rattle.sort_op.specs.Entries.{AreDistinct, Rises, is_in, keys_in, rekeyed}
-use Rattle.sort_op.specs.Places.{AreApart, AreUnder, other_places}
-use Rattle.sort_op.specs.Reading.{carried, coming, entries_under, entry_under, leaving, modified_pairs, moving_pairs, sort_cells_alike, staying, staying_pairs}
-use Rattle.sort_op.specs.Sorted.{entries_of, entry_of, sort_cells}
-use Rattle.sort_op.specs.Sorter.{sorted}
-use Rattle.sort_op.proofs.Halves.{left_over, left_within, rest, some_among}
-use Rattle.sort_op.proofs.KeptPlaces.{keys-numbered}
-use Rattle.sort_op.proofs.Members.{among-ordered, among_same, apart_rising, distinct_under, in_filter, in_map_same, in_rows, in_under, is_own, keys_under}
-use Rattle.sort_op.proofs.PlacedPairs.{IsKept, apart_in_order, each_kept, new_place, old_place}
-use Rattle.sort_op.proofs.Sides.{cells_here, others_are, position_here, within_placed}
-use Rattle.sort_op.proofs.SortedChange.{sorted_tick}
-use Rattle.sort_op.proofs.SortedRows.{one_list, sorted_rises}
+use Rattle.shown_rows.{proofs.Named.named_by, proofs.Restricted.{modified_by, modified_new}}
+use Rattle.tick_model.{specs.declared.plan.SortBy.SortBy, specs.declared.table.PlainRow.PlainRow, specs.declared.table.PlainTable.PlainTable, specs.declared.update.KeyPair.KeyPair, specs.Shifts.{as_key, moved}, specs.Sort.{in_order, same_place, sort_cmp, sort_pairs, sort_table}, specs.Tables.{IsTable, cell, cells_at, keys, same_cells}, specs.Updates.{Update, between, differs, kept_pair, new_keys, old_keys, pairs}}
+use Rattle.tick_laws.{proofs.ResultCells.length-filter_most, proofs.ResultTables.{length-in_order, table_count}}
+use Rattle.tick_table.{specs.Exact.{IsExact, tick_of}, specs.Ticking.Ticking}
+use Rattle.sort_op.{specs.declared.entry.Entry.Entry, specs.Entries.{AreDistinct, Rises, is_in, keys_in, rekeyed}, specs.Places.{AreApart, AreUnder, other_places}, specs.Reading.{carried, coming, entries_under, entry_under, leaving, modified_pairs, moving_pairs, sort_cells_alike, staying, staying_pairs}, specs.Sorted.{entries_of, entry_of, sort_cells}, specs.Sorter.sorted, proofs.Halves.{left_over, left_within, rest, some_among}, proofs.KeptPlaces.keys-numbered, proofs.Members.{among-ordered, among_same, apart_rising, distinct_under, in_filter, in_map_same, in_rows, in_under, is_own, keys_under}, proofs.PlacedPairs.{IsKept, apart_in_order, each_kept, new_place, old_place}, proofs.Sides.{cells_here, others_are, position_here, within_placed}, proofs.SortedChange.sorted_tick, proofs.SortedRows.{one_list, sorted_rises}}
 
 -- cells that are alike have one list of sort cells, and equal cells are alike
 alike_same : (by : List SortBy) (xs ys : List ℤ) → sort_cells_alike by xs ys ≡ true → sort_cells by xs ≡ sort_cells by ys

@@ -1,12 +1,7 @@
 -- The order of sort cells, which stand in the order of the sort columns.
 --     cells_cmp by xs ys      how cells stand to others, by the first sort column in which they differ
-use Rattle.std.specs.Prelude.{List, [], ◌∷◌, drop, ℤ}
-use Rattle.std.specs.Ordering.{ordering_then}
-use Rattle.std.specs.declared.cmp.Ordering.{Ordering}
-use Rattle.std.specs.declared.cmp.Ordering.TheVariants.{Equal}
-use Rattle.tick_model.specs.declared.plan.SortBy.{SortBy}
-use Rattle.tick_model.specs.Tables.{cell}
-use Rattle.tick_model.specs.Sort.{column_cmp}
+use Rattle.std.{specs.Prelude.{List, [], ◌∷◌, drop, ℤ}, specs.Ordering.ordering_then, specs.declared.cmp.Ordering.Ordering, specs.declared.cmp.Ordering.TheVariants.Equal}
+use Rattle.tick_model.{specs.declared.plan.SortBy.SortBy, specs.Tables.cell, specs.Sort.column_cmp}
 
 abbrev pub cells_cmp : List SortBy → List ℤ → List ℤ → Ordering
 cells_cmp [] xs ys = Equal

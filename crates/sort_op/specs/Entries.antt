@@ -8,19 +8,10 @@
 --     keys_in entries      their keys
 --     rekeyed shifts entry      the entry under the key to which its row moves
 --     Order, IsOrder order      what an order shows: chunks of 1 to 512 entries, which rise over all chunks
-use Rattle.std.specs.Prelude.{◌≡◌, ℕ, ◌≤◌, ◌==◌, ◌&&◌, Bool, true, false, List, [], ◌∷◌, Option, Result, count_by, length, filter, map, position, nat_lt}
-use Rattle.std.specs.List.{AllByRecursion, list_any}
-use Rattle.std.specs.Option.{ok_or}
-use Rattle.std.specs.Ordering.{is_lt, nat_cmp, ordering_then}
-use Rattle.std.specs.declared.cmp.Ordering.{Ordering}
+use Rattle.std.{specs.Prelude.{◌≡◌, ℕ, ◌≤◌, ◌==◌, ◌&&◌, Bool, true, false, List, [], ◌∷◌, Option, Result, count_by, length, filter, map, position, nat_lt}, specs.List.{AllByRecursion, list_any}, specs.Option.ok_or, specs.Ordering.{is_lt, nat_cmp, ordering_then}, specs.declared.cmp.Ordering.Ordering}
 use Rattle.chunk_list.specs.Chunked.{joined, IsChunk}
-use Rattle.tick_model.specs.declared.plan.SortBy.{SortBy}
-use Rattle.tick_model.specs.declared.update.ShiftRange.{ShiftRange}
-use Rattle.tick_model.specs.Shifts.{as_key, moved}
-use Rattle.tick_model.specs.Sort.{ordered}
-use Rattle.tick_model.specs.Tables.{same_cells}
-use Rattle.sort_op.specs.declared.entry.Entry.{Entry}
-use Rattle.sort_op.specs.Cells.{cells_cmp}
+use Rattle.tick_model.{specs.declared.plan.SortBy.SortBy, specs.declared.update.ShiftRange.ShiftRange, specs.Shifts.{as_key, moved}, specs.Sort.ordered, specs.Tables.same_cells}
+use Rattle.sort_op.{specs.declared.entry.Entry.Entry, specs.Cells.cells_cmp}
 
 abbrev pub entry_cmp : List SortBy → Entry → Entry → Ordering
 entry_cmp by a b = ordering_then (cells_cmp by a.cells b.cells) (nat_cmp a.key b.key)

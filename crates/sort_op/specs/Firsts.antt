@@ -4,16 +4,9 @@
 --     coming_of by cells row      a row by its first sort cell
 --     rows_in coming      the rows
 --     coming_cmp by cells a b      how a row stands to another: by the first sort cells, and then as an entry
-use Rattle.std.specs.Prelude.{ℕ, List, map, slice_get, ℤ, negsuc, ◌-ℤ◌, if◌then◌else◌}
-use Rattle.std.specs.Option.{option_map_or}
-use Rattle.std.specs.Ordering.{int_cmp, ordering_then}
-use Rattle.std.specs.declared.cmp.Ordering.{Ordering}
-use Rattle.tick_model.specs.declared.plan.SortBy.{SortBy}
-use Rattle.tick_model.specs.Tables.{null}
-use Rattle.sort_op.specs.declared.arrivals.Coming.{Coming}
-use Rattle.sort_op.specs.declared.row_order.Row.{Row}
-use Rattle.sort_op.specs.Entries.{entry_cmp}
-use Rattle.sort_op.specs.Ranks.{cell_in, row_entry}
+use Rattle.std.{specs.Prelude.{ℕ, List, map, slice_get, ℤ, negsuc, ◌-ℤ◌, if◌then◌else◌}, specs.Option.option_map_or, specs.Ordering.{int_cmp, ordering_then}, specs.declared.cmp.Ordering.Ordering}
+use Rattle.tick_model.{specs.declared.plan.SortBy.SortBy, specs.Tables.null}
+use Rattle.sort_op.{specs.declared.arrivals.Coming.Coming, specs.declared.row_order.Row.Row, specs.Entries.entry_cmp, specs.Ranks.{cell_in, row_entry}}
 
 abbrev pub ranked : SortBy → ℤ → ℤ
 ranked sort cell = if sort.descending then negsuc 0 -ℤ cell else cell

@@ -3,13 +3,9 @@
 --     HasEntries sort tables      its entries are those of the rows in order
 --     CanSort op      it can be made of this operator of a plan
 use Rattle.std.specs.Prelude.{◌≡◌, List, [], ◌∷◌}
-use Rattle.tick_model.specs.declared.plan.Op.{Op}
-use Rattle.tick_model.specs.declared.plan.Op.TheVariants.{Sort}
-use Rattle.tick_model.specs.declared.table.PlainTable.{PlainTable}
-use Rattle.tick_model.specs.Ready.{table_in}
+use Rattle.tick_model.{specs.declared.plan.Op.Op, specs.declared.plan.Op.TheVariants.Sort, specs.declared.table.PlainTable.PlainTable, specs.Ready.table_in}
 use Rattle.table_operator.specs.Made.{Made}
-use Rattle.sort_op.specs.Sorted.{entries_of}
-use Rattle.sort_op.specs.Sorter.{Sorter}
+use Rattle.sort_op.{specs.Sorted.entries_of, specs.Sorter.Sorter}
 
 abbrev pub sort_made : Sorter → Made
 sort_made sort = record { op = Sort 0 sort.by; widths = sort.width ∷ [] }

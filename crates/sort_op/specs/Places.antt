@@ -8,12 +8,9 @@
 --     AreUnder order some positions      these are the positions of the keys that are some, in the order of keys
 --     left_from first positions all      all but those at the positions, where the first one stands at `first`
 --     other_places count positions      the positions below a number but these
-use Rattle.std.specs.Prelude.{◌≡◌, ℕ, suc, ◌+◌, ◌<◌, Bool, false, List, [], ◌∷◌, if◌then◌else◌, length, map, slice_get}
-use Rattle.std.specs.List.{range_with_len}
-use Rattle.std.specs.Option.{option_map_or}
+use Rattle.std.{specs.Prelude.{◌≡◌, ℕ, suc, ◌+◌, ◌<◌, Bool, false, List, [], ◌∷◌, if◌then◌else◌, length, map, slice_get}, specs.List.range_with_len, specs.Option.option_map_or}
 use Rattle.key_lists.specs.Keys.{is_among, without}
-use Rattle.sort_op.specs.declared.entry.Entry.{Entry}
-use Rattle.sort_op.specs.Entries.{is_in}
+use Rattle.sort_op.{specs.declared.entry.Entry.Entry, specs.Entries.is_in}
 
 abbrev pub is_one : List Entry → List Entry → ℕ → Bool
 is_one entries some position = option_map_or (λ entry. is_in entry some) (slice_get entries position) false

@@ -7,16 +7,11 @@
 --     listed ranking      the entries of all rows, in order
 --     HasArrived ranking row entry      a row has its handle and its cells, and this is its entry
 --     IsSettled ranking      the rows with handles are those in the order
-use Rattle.std.specs.Prelude.{◌≡◌, ℕ, suc, List, [], ◌∷◌, Some, IsSome, map, slice_index_or, unwrap_or, ℤ}
-use Rattle.std.specs.List.{AllByRecursion}
-use Rattle.std.specs.Global.{Vec}
+use Rattle.std.{specs.Prelude.{◌≡◌, ℕ, suc, List, [], ◌∷◌, Some, IsSome, map, slice_index_or, unwrap_or, ℤ}, specs.List.AllByRecursion, specs.Global.Vec}
 use Rattle.key_lists.specs.Keys.{IsRising, is_among}
 use Rattle.row_handles.specs.Entries.{Entry as Handled, key_with, keys_of}
-use Rattle.tick_model.specs.declared.plan.SortBy.{SortBy}
-use Rattle.tick_model.specs.Tables.{cell}
-use Rattle.sort_op.specs.declared.entry.Entry.{Entry}
-use Rattle.sort_op.specs.declared.row_order.Row.{Row}
-use Rattle.sort_op.specs.Entries.{Rises, keys_in}
+use Rattle.tick_model.{specs.declared.plan.SortBy.SortBy, specs.Tables.cell}
+use Rattle.sort_op.{specs.declared.entry.Entry.Entry, specs.declared.row_order.Row.Row, specs.Entries.{Rises, keys_in}}
 
 abbrev pub lists_of : List (Vec ℤ) → List (List ℤ)
 lists_of = map (λ column. column.items)

@@ -8,22 +8,12 @@
 --     leaving by input      the old keys of the rows that leave the order: those that go, and those whose sort cells change
 --     coming by input      the keys of those that come
 --     carried by input      the entries of the rows that stay, under their keys now
-use Rattle.std.specs.Prelude.{ℕ, Bool, List, filter, map, not, ℤ}
-use Rattle.std.specs.List.{list_all}
-use Rattle.std.specs.Ordering.{int_eq}
+use Rattle.std.{specs.Prelude.{ℕ, Bool, List, filter, map, not, ℤ}, specs.List.list_all, specs.Ordering.int_eq}
 use Rattle.key_lists.specs.Keys.{is_among}
 use Rattle.row_set.specs.Sets.{united}
-use Rattle.tick_model.specs.declared.plan.SortBy.{SortBy}
-use Rattle.tick_model.specs.declared.table.PlainTable.{PlainTable}
-use Rattle.tick_model.specs.declared.update.KeyPair.{KeyPair}
-use Rattle.tick_model.specs.Sort.{same_place}
-use Rattle.tick_model.specs.Tables.{cell, cells_at}
-use Rattle.tick_model.specs.Updates.{new_keys, old_keys, pairs}
-use Rattle.tick_table.specs.Exact.{tick_of}
-use Rattle.tick_table.specs.Ticking.{Ticking}
-use Rattle.sort_op.specs.declared.entry.Entry.{Entry}
-use Rattle.sort_op.specs.Entries.{rekeyed}
-use Rattle.sort_op.specs.Sorted.{entries_of, sort_cells}
+use Rattle.tick_model.{specs.declared.plan.SortBy.SortBy, specs.declared.table.PlainTable.PlainTable, specs.declared.update.KeyPair.KeyPair, specs.Sort.same_place, specs.Tables.{cell, cells_at}, specs.Updates.{new_keys, old_keys, pairs}}
+use Rattle.tick_table.{specs.Exact.tick_of, specs.Ticking.Ticking}
+use Rattle.sort_op.{specs.declared.entry.Entry.Entry, specs.Entries.rekeyed, specs.Sorted.{entries_of, sort_cells}}
 
 abbrev pub entry_with : List SortBy → List ℤ → ℕ → Entry
 entry_with by cells key = record { cells = sort_cells by cells; key = key }

@@ -2,10 +2,7 @@
 --     entry_of by row      a row's cells in the sort columns, and its key
 --     entries_of by rows      the entries of rows, in order
 use Rattle.std.specs.Prelude.{List, map, ℤ}
-use Rattle.tick_model.specs.declared.plan.SortBy.{SortBy}
-use Rattle.tick_model.specs.declared.table.PlainRow.{PlainRow}
-use Rattle.tick_model.specs.Sort.{in_order}
-use Rattle.tick_model.specs.Tables.{cell}
+use Rattle.tick_model.{specs.declared.plan.SortBy.SortBy, specs.declared.table.PlainRow.PlainRow, specs.Sort.in_order, specs.Tables.cell}
 use Rattle.sort_op.specs.declared.entry.Entry.{Entry}
 
 abbrev pub sort_cells : List SortBy → List ℤ → List ℤ

@@ -3,17 +3,9 @@
 --     IsReady by order input touched keys shifted      the order has the rows now; the keys are those at the touched positions before the step; and each other row stays
 use Rattle.std.specs.Prelude.{◌≡◌, ℕ, ◌<◌, ◌^◌, false, List, IsTrue}
 use Rattle.key_lists.specs.Keys.{IsRising, is_among}
-use Rattle.tick_model.specs.declared.plan.SortBy.{SortBy}
-use Rattle.tick_model.specs.declared.table.PlainTable.{PlainTable}
-use Rattle.tick_model.specs.declared.update.ShiftRange.{ShiftRange}
-use Rattle.tick_model.specs.Rules.{is_past}
-use Rattle.tick_model.specs.Shifts.{as_key, moved}
-use Rattle.tick_model.specs.Sort.{sort_table}
-use Rattle.tick_model.specs.Tables.{cells_at, keys}
+use Rattle.tick_model.{specs.declared.plan.SortBy.SortBy, specs.declared.table.PlainTable.PlainTable, specs.declared.update.ShiftRange.ShiftRange, specs.Rules.is_past, specs.Shifts.{as_key, moved}, specs.Sort.sort_table, specs.Tables.{cells_at, keys}}
 use Rattle.tick_table.specs.Ticking.{Ticking}
-use Rattle.sort_op.specs.declared.entry.Entry.{Entry}
-use Rattle.sort_op.specs.Places.{keys_at}
-use Rattle.sort_op.specs.Sorted.{entries_of}
+use Rattle.sort_op.{specs.declared.entry.Entry.Entry, specs.Places.keys_at, specs.Sorted.entries_of}
 
 pub record Stays (old new : PlainTable) (shifted : List ShiftRange) (position : ℕ) : Type 0 where
   pub small : position < 2 ^ 62

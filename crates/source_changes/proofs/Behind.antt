@@ -1,26 +1,12 @@
 -- An update that moves no row, checked on the keys that it names alone.
 use Rattle.std.proofs.Common.{◌≡◌, refl, ap, ap₂, sym, ◌∙◌, Bool, true, false, cond, not, ◌&&◌, ◌||◌, ℕ, ◌^◌, ◌<◌, arith, List, [], ◌∷◌, ◌++◌, ltb, leb, Option, Some, None, pos}
-use Rattle.std.specs.Prelude.{find, int_le, option_map}
-use Rattle.std.specs.List.{AllByRecursion}
-use Rattle.std.specs.Option.{option_or}
-use Rattle.std.proofs.lemmas.Bool.{or_from, or_left, or_right, le-ltb, lt-leb}
-use Rattle.std.proofs.lemmas.Int.{ints}
-use Rattle.key_lists.specs.Keys.{is_among, IsRising, without}
-use Rattle.key_lists.proofs.Among.{among-append, among-filter, each_among, of_among}
-use Rattle.key_lists.proofs.Every.{every_weaker, every-filter, filter_passes, find_same}
-use Rattle.key_lists.proofs.Rising.{rising_same, rising_some}
-use Rattle.row_set.specs.Sets.{common, united}
-use Rattle.row_set.proofs.United.{among-united, united_rises}
+use Rattle.std.{specs.Prelude.{find, int_le, option_map}, specs.List.AllByRecursion, specs.Option.option_or, proofs.lemmas.Bool.{or_from, or_left, or_right, le-ltb, lt-leb}, proofs.lemmas.Int.ints}
+use Rattle.key_lists.{specs.Keys.{is_among, IsRising, without}, proofs.Among.{among-append, among-filter, each_among, of_among}, proofs.Every.{every_weaker, every-filter, filter_passes, find_same}, proofs.Rising.{rising_same, rising_some}}
+use Rattle.row_set.{specs.Sets.{common, united}, proofs.United.{among-united, united_rises}}
 use Rattle.source_changes.specs.Waiting.{MayWait}
 use Rattle.table_update.proofs.StillKeys.{still_places}
-use Rattle.tick_laws.specs.Checked.{keys_after}
-use Rattle.tick_laws.proofs.CheckedUpdates.{among-put_keys, keys_after-rise}
-use Rattle.tick_model.specs.declared.update.ShiftRange.{ShiftRange}
-use Rattle.tick_model.specs.declared.update.UpdateFault.{UpdateFault}
-use Rattle.tick_model.specs.declared.update.UpdateFault.TheVariants.{RemovedAbsent, AddedTaken, ModifiedAbsent, ModifiedAdded, ShiftBreaks}
-use Rattle.tick_model.specs.Rules.{is_past, landed, shift_fault, shift_fault_after, update_fault}
-use Rattle.tick_model.specs.Shifts.{moved}
-use Rattle.tick_model.specs.Updates.{Update}
+use Rattle.tick_laws.{specs.Checked.keys_after, proofs.CheckedUpdates.{among-put_keys, keys_after-rise}}
+use Rattle.tick_model.{specs.declared.update.ShiftRange.ShiftRange, specs.declared.update.UpdateFault.UpdateFault, specs.declared.update.UpdateFault.TheVariants.{RemovedAbsent, AddedTaken, ModifiedAbsent, ModifiedAdded, ShiftBreaks}, specs.Rules.{is_past, landed, shift_fault, shift_fault_after, update_fault}, specs.Shifts.moved, specs.Updates.Update}
 
 -- the keys that an update names
 abbrev pub named : Update → List ℕ

@@ -1,35 +1,14 @@
 -- A block carries a table's rows and the told ones alike.
 use Rattle.std.proofs.Common.{◌≡◌, refl, ap, ap₂, sym, ◌∙◌, subst, Option, Bool, true, false, not, ◌||◌, ◌&&◌, ℕ, ◌^◌, List, [], ◌++◌, map, ℤ, Some, None, true≢false, unwrap_or, inl, inr, lit≤}
-use Rattle.std.specs.Prelude.{option_map}
-use Rattle.std.specs.List.{AllByRecursion}
-use Rattle.std.specs.Option.{is_some, option_or}
-use Rattle.std.proofs.lemmas.Bool.{and_parts, not-false, or_cases, or_left, or_right}
-use Rattle.std.proofs.lemmas.List.Elements.{filter-append}
-use Rattle.std.proofs.lemmas.List.{append-nil}
-use Rattle.key_lists.specs.Keys.{is_among, IsRising, without}
-use Rattle.key_lists.proofs.Among.{among-append, among-filter, each_among, of_among, apart_back}
-use Rattle.key_lists.proofs.Every.{every_weaker, every_unmapped, filter_all, filter_none, filter_same, none_pass}
-use Rattle.key_lists.proofs.Rising.{as_filter, rising_some}
+use Rattle.std.{specs.Prelude.option_map, specs.List.AllByRecursion, specs.Option.{is_some, option_or}, proofs.lemmas.Bool.{and_parts, not-false, or_cases, or_left, or_right}, proofs.lemmas.List.Elements.filter-append, proofs.lemmas.List.append-nil}
+use Rattle.key_lists.{specs.Keys.{is_among, IsRising, without}, proofs.Among.{among-append, among-filter, each_among, of_among, apart_back}, proofs.Every.{every_weaker, every_unmapped, filter_all, filter_none, filter_same, none_pass}, proofs.Rising.{as_filter, rising_some}}
 use Rattle.shift_data.specs.Moves.{IsLawful}
 use Rattle.shown_rows.proofs.Named.{of_named}
-use Rattle.table_update.proofs.KeysAfter.{KeepsRules, rules_kept}
-use Rattle.table_update.proofs.LawfulParts.{lawful_below, lawful_some, places_rise}
-use Rattle.tick_laws.specs.Checked.{IsChecked, keys_after}
-use Rattle.tick_laws.proofs.Blocks.{block_told}
-use Rattle.tick_laws.proofs.CheckedUpdates.{among-put_keys, keys-carry}
-use Rattle.tick_model.specs.declared.feed.Block.{Block}
-use Rattle.tick_model.specs.declared.table.PlainRow.{PlainRow}
-use Rattle.tick_model.specs.declared.table.PlainTable.{PlainTable}
-use Rattle.tick_model.specs.Rules.{landed}
-use Rattle.tick_model.specs.Shifts.{as_key, moved}
-use Rattle.tick_model.specs.Sources.{carried, update_of}
-use Rattle.tick_model.specs.Tables.{cells_at, keys, row_at}
-use Rattle.tick_model.specs.Updates.{adding, modifying, removing, rows_at, shifting}
-use Rattle.tick_model.proofs.Among.{rows_among}
-use Rattle.tick_table.proofs.NewKeys.{among-adding}
-use Rattle.tick_table.proofs.CarriedRows.{keys-removing}
-use Rattle.source_changes.specs.Stepping.{put_rows, told_after}
-use Rattle.source_changes.proofs.Looked.{among-put_rows, cells_at-stay, is_there, keys-shifting, rising-put_rows, row_at-adding, row_at-modified, row_at-put_rows}
+use Rattle.table_update.{proofs.KeysAfter.{KeepsRules, rules_kept}, proofs.LawfulParts.{lawful_below, lawful_some, places_rise}}
+use Rattle.tick_laws.{specs.Checked.{IsChecked, keys_after}, proofs.Blocks.block_told, proofs.CheckedUpdates.{among-put_keys, keys-carry}}
+use Rattle.tick_model.{specs.declared.feed.Block.Block, specs.declared.table.PlainRow.PlainRow, specs.declared.table.PlainTable.PlainTable, specs.Rules.landed, specs.Shifts.{as_key, moved}, specs.Sources.{carried, update_of}, specs.Tables.{cells_at, keys, row_at}, specs.Updates.{adding, modifying, removing, rows_at, shifting}, proofs.Among.rows_among}
+use Rattle.tick_table.{proofs.NewKeys.among-adding, proofs.CarriedRows.keys-removing}
+use Rattle.source_changes.{specs.Stepping.{put_rows, told_after}, proofs.Looked.{among-put_rows, cells_at-stay, is_there, keys-shifting, rising-put_rows, row_at-adding, row_at-modified, row_at-put_rows}}
 
 abbrev pub cells_of : Option PlainRow → List ℤ
 cells_of o = unwrap_or (option_map (λ (row : PlainRow). row.cells) o) []

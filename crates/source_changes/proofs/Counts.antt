@@ -1,17 +1,11 @@
 -- How many keys two lists have together, and how many two updates.
 use Rattle.std.proofs.Common.{◌≡◌, ap, true, false, cond, ℕ, ◌+◌, ◌≤◌, ◌^◌, ◌==◌, arith, List, [], ◌∷◌, length, not, None}
-use Rattle.std.proofs.lemmas.List.{length-map}
-use Rattle.std.specs.Prelude.{nat_lt}
+use Rattle.std.{proofs.lemmas.List.length-map, specs.Prelude.nat_lt}
 use Rattle.key_lists.specs.Keys.{is_among, IsRising, without}
-use Rattle.row_set.specs.Sets.{with_key}
-use Rattle.row_set.proofs.United.{length-united}
-use Rattle.tick_laws.specs.Checked.{keys_after}
-use Rattle.tick_laws.proofs.ResultCells.{length-filter_most}
-use Rattle.tick_model.specs.Rules.{landed, update_fault}
-use Rattle.tick_model.specs.Shifts.{as_key, moved}
-use Rattle.tick_model.specs.Updates.{Update}
-use Rattle.table_update.specs.Coalesced.{added_by_both, modified_by_both}
-use Rattle.table_update.proofs.CoalescedKeys.{united_added, united_modified}
+use Rattle.row_set.{specs.Sets.with_key, proofs.United.length-united}
+use Rattle.tick_laws.{specs.Checked.keys_after, proofs.ResultCells.length-filter_most}
+use Rattle.tick_model.{specs.Rules.{landed, update_fault}, specs.Shifts.{as_key, moved}, specs.Updates.Update}
+use Rattle.table_update.{specs.Coalesced.{added_by_both, modified_by_both}, proofs.CoalescedKeys.{united_added, united_modified}}
 
 -- where keys move that stay
 length-staying : (next : Update) (keys : List ℕ) → length (landed next.shifted (without next.removed keys)) ≤ length keys

@@ -1,33 +1,11 @@
 -- The rule that a block breaks, and its record.
 use Rattle.std.proofs.Common.{◌≡◌, refl, ap, ap₂, sym, ◌∙◌, subst, Option, Bool, true, false, cond, not, ◌==◌, ℕ, suc, ◌+◌, ◌-◌, ◌<◌, ◌≤◌, ◌^◌, arith, List, [], ◌∷◌, ◌++◌, length, pos, ◌+ℤ◌, Some, None, true≢false, ltb, leb, unwrap_or, inl, inr, ◌⊎◌}
-use Rattle.std.specs.Prelude.{find, option_map, flat_map, IfSome, int_le, int_lt}
-use Rattle.std.specs.List.{AllByRecursion, position_or_len}
-use Rattle.std.specs.Option.{option_or}
-use Rattle.std.proofs.lemmas.Bool.{eq-eqb, le-leb, lt-leb, ltb-true, ltb-false, and_from, or_from, cases_lt}
-use Rattle.std.proofs.lemmas.Int.{ints}
-use Rattle.key_lists.specs.Keys.{is_among, IsRising, without}
-use Rattle.key_lists.proofs.Every.{every_weaker, every-filter, every-append}
-use Rattle.key_lists.proofs.Rising.{rising_some}
-use Rattle.key_lists.proofs.Ranges.{each_from}
-use Rattle.tick_laws.specs.Checked.{IsChecked, keys_after}
-use Rattle.tick_laws.proofs.Blocks.{block_told}
-use Rattle.tick_laws.proofs.CheckedUpdates.{keys-carry}
-use Rattle.tick_model.specs.declared.feed.Block.{Block}
-use Rattle.tick_model.specs.declared.table.PlainRow.{PlainRow}
-use Rattle.tick_model.specs.declared.table.PlainTable.{PlainTable}
-use Rattle.tick_model.specs.declared.update.FeedRule.{FeedRule}
-use Rattle.tick_model.specs.declared.update.FeedRule.TheVariants.{Update as ByUpdate, TooManyRows}
-use Rattle.tick_model.specs.declared.update.KeyRange.{KeyRange}
-use Rattle.tick_model.specs.declared.update.ShiftRange.{ShiftRange}
-use Rattle.tick_model.specs.declared.update.UpdateFault.{UpdateFault}
-use Rattle.tick_model.specs.declared.update.UpdateFault.TheVariants.{RemovedAbsent, ShiftBreaks, AddedTaken, ModifiedAbsent, ModifiedAdded, Memory}
-use Rattle.tick_model.specs.Rules.{is_past, landed, shift_fault, shift_fault_after, update_fault}
-use Rattle.tick_model.specs.Shifts.{delta_at, holds, moved}
-use Rattle.tick_model.specs.Sources.{added_record, block_fault, carried, is_within, keys_within, modified_record, record_of, removed_record, too_many, update_of}
-use Rattle.tick_model.specs.Tables.{keys}
+use Rattle.std.{specs.Prelude.{find, option_map, flat_map, IfSome, int_le, int_lt}, specs.List.{AllByRecursion, position_or_len}, specs.Option.option_or, proofs.lemmas.Bool.{eq-eqb, le-leb, lt-leb, ltb-true, ltb-false, and_from, or_from, cases_lt}, proofs.lemmas.Int.ints}
+use Rattle.key_lists.{specs.Keys.{is_among, IsRising, without}, proofs.Every.{every_weaker, every-filter, every-append}, proofs.Rising.rising_some, proofs.Ranges.each_from}
+use Rattle.tick_laws.{specs.Checked.{IsChecked, keys_after}, proofs.Blocks.block_told, proofs.CheckedUpdates.keys-carry}
+use Rattle.tick_model.{specs.declared.feed.Block.Block, specs.declared.table.PlainRow.PlainRow, specs.declared.table.PlainTable.PlainTable, specs.declared.update.FeedRule.FeedRule, specs.declared.update.FeedRule.TheVariants.{Update as ByUpdate, TooManyRows}, specs.declared.update.KeyRange.KeyRange, specs.declared.update.ShiftRange.ShiftRange, specs.declared.update.UpdateFault.UpdateFault, specs.declared.update.UpdateFault.TheVariants.{RemovedAbsent, ShiftBreaks, AddedTaken, ModifiedAbsent, ModifiedAdded, Memory}, specs.Rules.{is_past, landed, shift_fault, shift_fault_after, update_fault}, specs.Shifts.{delta_at, holds, moved}, specs.Sources.{added_record, block_fault, carried, is_within, keys_within, modified_record, record_of, removed_record, too_many, update_of}, specs.Tables.keys}
 use Rattle.tick_table.proofs.TableColumns.{length-mapped}
-use Rattle.source_changes.specs.Blocks.{IsReadable}
-use Rattle.source_changes.specs.Faults.{IsKeysBelow, keys_fault}
+use Rattle.source_changes.{specs.Blocks.IsReadable, specs.Faults.{IsKeysBelow, keys_fault}}
 
 -- the rule that a block breaks on a table is the one that its update breaks on the table's keys
 pub block_keys_fault : (table : PlainTable) (block : Block) → IsRising (keys block.added) → keys_fault (keys table.rows) (update_of block) ≡ block_fault table block

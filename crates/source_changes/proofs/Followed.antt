@@ -1,24 +1,12 @@
 -- The update so far and then the next one, also where it is the first that changes anything: it has the parts of both together.
 use Rattle.std.proofs.Common.{◌≡◌, refl, ap, ap₂, sym, ◌∙◌, subst, Bool, true, false, cond, not, ◌&&◌, ℕ, ◌^◌, List, [], map, filter, None}
-use Rattle.std.specs.List.{AllByRecursion}
-use Rattle.std.proofs.lemmas.Bool.{and_parts, not-false}
-use Rattle.key_lists.specs.Keys.{is_among, IsRising, without}
-use Rattle.key_lists.proofs.Every.{every, every_weaker, filter_all, filter_same, map_own, map_same, none_pass}
-use Rattle.key_lists.proofs.Rising.{as_filter}
+use Rattle.std.{specs.List.AllByRecursion, proofs.lemmas.Bool.{and_parts, not-false}}
+use Rattle.key_lists.{specs.Keys.{is_among, IsRising, without}, proofs.Every.{every, every_weaker, filter_all, filter_same, map_own, map_same, none_pass}, proofs.Rising.as_filter}
 use Rattle.row_set.specs.Sets.{united}
 use Rattle.shift_data.specs.Moves.{IsLawful, canonical, pair_through, unapplied}
-use Rattle.table_update.specs.Coalesced.{added_by_both, coalesced, kept_by_both, modified_by_both, removed_by_both}
-use Rattle.table_update.proofs.CoalescedKeys.{kept_pairs, united_added, united_modified, united_removed}
-use Rattle.table_update.proofs.KeysAfter.{rules_kept}
-use Rattle.table_update.proofs.StillKeys.{still_key}
-use Rattle.tick_laws.specs.Checked.{keys_after, put_keys}
-use Rattle.tick_laws.proofs.EmptyUpdates.{none_is}
-use Rattle.tick_model.specs.declared.update.KeyPair.{KeyPair}
-use Rattle.tick_model.specs.declared.update.ShiftRange.{ShiftRange}
-use Rattle.tick_model.specs.Changes.{is_empty, is_none}
-use Rattle.tick_model.specs.Rules.{landed, update_fault}
-use Rattle.tick_model.specs.Shifts.{as_key, moved, shifted}
-use Rattle.tick_model.specs.Updates.{Update, kept_pair}
+use Rattle.table_update.{specs.Coalesced.{added_by_both, coalesced, kept_by_both, modified_by_both, removed_by_both}, proofs.CoalescedKeys.{kept_pairs, united_added, united_modified, united_removed}, proofs.KeysAfter.rules_kept, proofs.StillKeys.still_key}
+use Rattle.tick_laws.{specs.Checked.{keys_after, put_keys}, proofs.EmptyUpdates.none_is}
+use Rattle.tick_model.{specs.declared.update.KeyPair.KeyPair, specs.declared.update.ShiftRange.ShiftRange, specs.Changes.{is_empty, is_none}, specs.Rules.{landed, update_fault}, specs.Shifts.{as_key, moved, shifted}, specs.Updates.{Update, kept_pair}}
 use Rattle.source_changes.specs.Stepping.{first_update, update_after}
 
 pub unmoved : (keys : List ℕ) → landed [] (without [] keys) ≡ keys

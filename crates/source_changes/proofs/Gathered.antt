@@ -1,25 +1,9 @@
 -- The keys of ranges and of rows, gathered one after the other.
 use Rattle.std.proofs.Common.{◌≡◌, ap, sym, ◌∙◌, ℕ, zero, suc, ◌+◌, ◌-◌, ◌<◌, ◌≤◌, ◌^◌, arith, List, [], ◌∷◌, ◌++◌, length, get_or, take, add-one}
-use Rattle.std.specs.Prelude.{flat_map}
-use Rattle.std.specs.List.{AllByRecursion, range_with_len}
-use Rattle.std.proofs.Math.Seq.{take-suc}
-use Rattle.std.proofs.lemmas.Grind.{flat_map-append}
-use Rattle.std.proofs.lemmas.List.{append-nil, map-append}
-use Rattle.key_lists.specs.Keys.{is_among, IsRising}
-use Rattle.key_lists.proofs.Among.{among-append}
-use Rattle.key_lists.proofs.Every.{every, every_weaker, every_unmapped, every-append}
-use Rattle.key_lists.proofs.Rising.{rising-append, rising_same}
-use Rattle.key_lists.proofs.Booleans.{or_turned}
-use Rattle.key_lists.proofs.Parts.{every-take, every_at}
-use Rattle.key_lists.proofs.Ranges.{each_from}
-use Rattle.row_set.specs.Sets.{united}
-use Rattle.row_set.proofs.Held.{range_rises}
-use Rattle.row_set.proofs.United.{among-united, united_rises}
-use Rattle.tick_model.specs.declared.table.PlainRow.{PlainRow}
-use Rattle.tick_model.specs.declared.update.KeyRange.{KeyRange}
-use Rattle.tick_model.specs.LawfulRuns.{AreRanges}
-use Rattle.tick_model.specs.Sources.{keys_within}
-use Rattle.tick_model.specs.Tables.{keys}
+use Rattle.std.{specs.Prelude.flat_map, specs.List.{AllByRecursion, range_with_len}, proofs.Math.Seq.take-suc, proofs.lemmas.Grind.flat_map-append, proofs.lemmas.List.{append-nil, map-append}}
+use Rattle.key_lists.{specs.Keys.{is_among, IsRising}, proofs.Among.among-append, proofs.Every.{every, every_weaker, every_unmapped, every-append}, proofs.Rising.{rising-append, rising_same}, proofs.Booleans.or_turned, proofs.Parts.{every-take, every_at}, proofs.Ranges.each_from}
+use Rattle.row_set.{specs.Sets.united, proofs.Held.range_rises, proofs.United.{among-united, united_rises}}
+use Rattle.tick_model.{specs.declared.table.PlainRow.PlainRow, specs.declared.update.KeyRange.KeyRange, specs.LawfulRuns.AreRanges, specs.Sources.keys_within, specs.Tables.keys}
 
 pub range_at : (ranges : List KeyRange) (i : ℕ) (d : KeyRange) → AreRanges ranges → i < length ranges → ((get_or ranges i d).first ≤ (get_or ranges i d).last) × ((get_or ranges i d).last < 2 ^ 40)
 range_at [] i d h less = absurd (omega (arith, less))

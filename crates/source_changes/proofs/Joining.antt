@@ -1,17 +1,11 @@
 -- What was gathered of a source, and an update that is joined to it or waits.
 use Rattle.std.proofs.Common.{◌≡◌, ap, sym, ◌∙◌, subst, Option, ℕ, ◌^◌, List, [], Some, None, inl, inr}
-use Rattle.std.specs.Prelude.{OnOk, Result, Ok, Err}
-use Rattle.std.proofs.lemmas.Option.{none-some}
+use Rattle.std.{specs.Prelude.{OnOk, Result, Ok, Err}, proofs.lemmas.Option.none-some}
 use Rattle.row_set.specs.Sets.{IsKeySet}
 use Rattle.table_update.specs.Coalesced.{Follow, coalesced}
 use Rattle.tick_laws.specs.Checked.{keys_after}
-use Rattle.tick_model.specs.Rules.{update_fault}
-use Rattle.tick_model.specs.Updates.{Update}
-use Rattle.source_changes.specs.declared.gathering.Gathered.{Gathered}
-use Rattle.source_changes.specs.Stepping.{update_after}
-use Rattle.source_changes.specs.Waiting.{AreSets, IsGathered, MayFollow, MayWait, joined, keys_with}
-use Rattle.source_changes.proofs.Settled.{settled_applies, settled_keys, settled_plain}
-use Rattle.source_changes.proofs.Waited.{both_joined, both_waits}
+use Rattle.tick_model.{specs.Rules.update_fault, specs.Updates.Update}
+use Rattle.source_changes.{specs.declared.gathering.Gathered.Gathered, specs.Stepping.update_after, specs.Waiting.{AreSets, IsGathered, MayFollow, MayWait, joined, keys_with}, proofs.Settled.{settled_applies, settled_keys, settled_plain}, proofs.Waited.{both_joined, both_waits}}
 
 abbrev pub made : List ℕ → Update → Option Update → Gathered
 made keys update waiting = record { keys = keys; update = update; waiting = waiting }

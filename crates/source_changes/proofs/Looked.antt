@@ -1,21 +1,9 @@
 -- Rows that are found by key, where rows were put, added, modified or moved.
 use Rattle.std.proofs.Common.{◌≡◌, refl, ap, ap₂, sym, ◌∙◌, subst, Bool, Option, true, false, cond, not, ◌||◌, ◌&&◌, ℕ, ◌<◌, ◌≤◌, ◌==◌, arith, List, [], ◌∷◌, ℤ, Some, None, ltb, true≢false, unwrap_or, inl, inr}
-use Rattle.std.specs.Prelude.{option_map}
-use Rattle.std.specs.List.{AllByRecursion}
-use Rattle.std.specs.Option.{is_some, option_or}
-use Rattle.std.proofs.lemmas.Bool.{cases_eq, ne_eqb, eq-eqb, eqb-true, eqb-false, ltb-true, ltb-false, or_parts, or_from}
-use Rattle.key_lists.specs.Keys.{is_among, IsRising, without}
-use Rattle.key_lists.proofs.Among.{among_below, among-filter, of_among}
-use Rattle.key_lists.proofs.Every.{every_weaker, every_unmapped, map_map}
-use Rattle.tick_model.specs.declared.table.PlainRow.{PlainRow}
-use Rattle.tick_model.specs.declared.update.ShiftRange.{ShiftRange}
-use Rattle.tick_model.specs.Rules.{landed}
-use Rattle.tick_model.specs.Shifts.{as_key, moved}
-use Rattle.tick_model.specs.Tables.{cells_at, keys, row_at}
-use Rattle.tick_model.specs.Updates.{adding, insert_row, modifying, moved_row, removing, shifting}
-use Rattle.tick_model.proofs.Among.{rest_above, row_at-filter, row_below}
-use Rattle.tick_table.proofs.NewKeys.{among-adding, key-row_at}
-use Rattle.tick_table.proofs.CarriedRows.{keys-removing}
+use Rattle.std.{specs.Prelude.option_map, specs.List.AllByRecursion, specs.Option.{is_some, option_or}, proofs.lemmas.Bool.{cases_eq, ne_eqb, eq-eqb, eqb-true, eqb-false, ltb-true, ltb-false, or_parts, or_from}}
+use Rattle.key_lists.{specs.Keys.{is_among, IsRising, without}, proofs.Among.{among_below, among-filter, of_among}, proofs.Every.{every_weaker, every_unmapped, map_map}}
+use Rattle.tick_model.{specs.declared.table.PlainRow.PlainRow, specs.declared.update.ShiftRange.ShiftRange, specs.Rules.landed, specs.Shifts.{as_key, moved}, specs.Tables.{cells_at, keys, row_at}, specs.Updates.{adding, insert_row, modifying, moved_row, removing, shifting}, proofs.Among.{rest_above, row_at-filter, row_below}}
+use Rattle.tick_table.{proofs.NewKeys.{among-adding, key-row_at}, proofs.CarriedRows.keys-removing}
 use Rattle.source_changes.specs.Stepping.{put_row, put_rows}
 
 -- a row is found exactly under the keys of the rows

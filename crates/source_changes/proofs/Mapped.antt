@@ -1,39 +1,12 @@
 -- Told rows in a map by key: as they are found, put, taken away and moved.
 use Rattle.std.proofs.Common.{◌≡◌, refl, ap, ap₂, sym, ◌∙◌, subst, Bool, true, false, cond, not, ◌&&◌, ◌==◌, ℕ, ◌+◌, ◌^◌, ◌<◌, ◌≤◌, arith, List, [], ◌∷◌, ◌++◌, append_assoc, length, get_or, take, map, add-one, ℤ, pos, Bor, Some, None, Less, Equal, Greater, nat_cmp, leb, inl, inr, filter, unwrap_or, Ordering}
-use Rattle.std.proofs.Math.Seq.{take-suc}
-use Rattle.std.specs.BTreeMap.{insert_entry, is_at}
-use Rattle.std.specs.BTreeMap.Range.{entries_between, range_contains}
-use Rattle.std.specs.declared.ops.Bound.TheVariants.{Included}
-use Rattle.std.specs.Cmp.{nat_cmp_is}
-use Rattle.std.specs.List.{AllByRecursion}
-use Rattle.std.specs.Map.{keys_of as map_keys, lookup, remove_entry}
-use Rattle.std.specs.Ordering.{is_eq, is_le, is_lt, match_ordering}
-use Rattle.std.specs.Prelude.{option_map, find, ◌+ℤ◌}
-use Rattle.std.proofs.lemmas.Bool.{and_right, cases_eq, cases_lt, eq-eqb, eqb-true, le-leb, le-ltb, lt-leb, lt-ltb, ne_eqb}
-use Rattle.std.proofs.lemmas.Grind.{flat_map-append}
-use Rattle.std.proofs.lemmas.Int.{ints}
-use Rattle.std.proofs.lemmas.List.{append-nil}
+use Rattle.std.{proofs.Math.Seq.take-suc, specs.BTreeMap.{insert_entry, is_at}, specs.BTreeMap.Range.{entries_between, range_contains}, specs.declared.ops.Bound.TheVariants.Included, specs.Cmp.nat_cmp_is, specs.List.AllByRecursion, specs.Map.{keys_of as map_keys, lookup, remove_entry}, specs.Ordering.{is_eq, is_le, is_lt, match_ordering}, specs.Prelude.{option_map, find, ◌+ℤ◌}, proofs.lemmas.Bool.{and_right, cases_eq, cases_lt, eq-eqb, eqb-true, le-leb, le-ltb, lt-leb, lt-ltb, ne_eqb}, proofs.lemmas.Grind.flat_map-append, proofs.lemmas.Int.ints, proofs.lemmas.List.append-nil}
 use Rattle.table_update.proofs.StillKeys.{still_key}
-use Rattle.key_lists.specs.Keys.{is_among, IsRising}
-use Rattle.key_lists.proofs.Among.{among-append}
-use Rattle.key_lists.proofs.Every.{every, every_weaker, filter-map, filter_all, filter_filter, filter_same, map_map, map_own}
-use Rattle.key_lists.proofs.Booleans.{neither, is_eq-nat_cmp}
-use Rattle.row_set.specs.declared.ranges.Range.{Range}
-use Rattle.row_set.specs.Ranges.{AreApart, holds, keys_in, keys_of}
-use Rattle.row_set.proofs.Held.{among-in}
-use Rattle.shift_data.specs.Moves.{IsLawful}
-use Rattle.shift_data.specs.ShiftLists.{IsShiftList}
-use Rattle.shift_data.proofs.Lawful.{lawful, not_past}
-use Rattle.tick_model.specs.declared.table.PlainRow.{PlainRow}
-use Rattle.tick_model.specs.declared.update.ShiftRange.{ShiftRange}
-use Rattle.tick_model.specs.Printable.{IsShiftRange}
-use Rattle.tick_model.specs.Rules.{is_past}
-use Rattle.tick_model.specs.Shifts.{as_key, holds as moves, moved}
-use Rattle.tick_model.specs.Tables.{keys, row_at}
-use Rattle.tick_model.specs.Updates.{moved_row, removing, shifting}
-use Rattle.source_changes.specs.Stepping.{put_row, put_rows}
-use Rattle.source_changes.specs.Told.{told_row}
-use Rattle.source_changes.proofs.Looked.{keys-shifting}
+use Rattle.key_lists.{specs.Keys.{is_among, IsRising}, proofs.Among.among-append, proofs.Every.{every, every_weaker, filter-map, filter_all, filter_filter, filter_same, map_map, map_own}, proofs.Booleans.{neither, is_eq-nat_cmp}}
+use Rattle.row_set.{specs.declared.ranges.Range.Range, specs.Ranges.{AreApart, holds, keys_in, keys_of}, proofs.Held.among-in}
+use Rattle.shift_data.{specs.Moves.IsLawful, specs.ShiftLists.IsShiftList, proofs.Lawful.{lawful, not_past}}
+use Rattle.tick_model.{specs.declared.table.PlainRow.PlainRow, specs.declared.update.ShiftRange.ShiftRange, specs.Printable.IsShiftRange, specs.Rules.is_past, specs.Shifts.{as_key, holds as moves, moved}, specs.Tables.{keys, row_at}, specs.Updates.{moved_row, removing, shifting}}
+use Rattle.source_changes.{specs.Stepping.{put_row, put_rows}, specs.Told.told_row, proofs.Looked.keys-shifting}
 
 abbrev Told : Type 0
 Told = ℕ × Bor (List ℤ)

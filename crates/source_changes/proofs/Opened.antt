@@ -1,21 +1,9 @@
 -- The change that opens a source, and the tables with which the sources of a lawful run open.
 use Rattle.std.proofs.Common.{◌≡◌, refl, ap, ap₂, sym, ◌∙◌, ℕ, List, [], ◌∷◌, ◌++◌, ℤ, Some, subst, length, unwrap_or}
-use Rattle.std.specs.Prelude.{flat_map, option_map}
-use Rattle.std.specs.List.{AllByRecursion}
-use Rattle.std.proofs.lemmas.List.{append-nil}
+use Rattle.std.{specs.Prelude.{flat_map, option_map}, specs.List.AllByRecursion, proofs.lemmas.List.append-nil}
 use Rattle.key_lists.specs.Keys.{IsRising}
-use Rattle.tick_laws.proofs.LawfulSources.{rising_range}
-use Rattle.tick_laws.proofs.WholeUpdates.{between-replaced}
-use Rattle.tick_model.specs.declared.plan.Node.{Node}
-use Rattle.tick_model.specs.declared.table.PlainRow.{PlainRow}
-use Rattle.tick_model.specs.declared.table.PlainTable.{PlainTable}
-use Rattle.tick_model.specs.declared.update.ShiftRange.{ShiftRange}
-use Rattle.tick_model.specs.Changes.{Change, change_of, told_keys}
-use Rattle.tick_model.specs.LawfulRuns.{AreOpenings}
-use Rattle.tick_model.specs.Sources.{opened}
-use Rattle.tick_model.specs.Tables.{cells_at, keys, row_at}
-use Rattle.tick_model.specs.Updates.{Update}
-use Rattle.tick_model.proofs.Among.{each_found}
+use Rattle.tick_laws.{proofs.LawfulSources.rising_range, proofs.WholeUpdates.between-replaced}
+use Rattle.tick_model.{specs.declared.plan.Node.Node, specs.declared.table.PlainRow.PlainRow, specs.declared.table.PlainTable.PlainTable, specs.declared.update.ShiftRange.ShiftRange, specs.Changes.{Change, change_of, told_keys}, specs.LawfulRuns.AreOpenings, specs.Sources.opened, specs.Tables.{cells_at, keys, row_at}, specs.Updates.Update, proofs.Among.each_found}
 use Rattle.source_changes.specs.Openings.{IsOpenedTable}
 
 -- the tables with which the sources of a lawful run open are such

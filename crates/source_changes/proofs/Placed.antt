@@ -1,7 +1,6 @@
 -- The first place at which a test passes.
 use Rattle.std.proofs.Common.{◌≡◌, refl, Bool, true, false, cond, not, ◌+◌, ◌≤◌, arith, List, [], ◌∷◌, length, Some, None, ltb, unwrap_or}
-use Rattle.std.specs.List.{position, position_or_len}
-use Rattle.std.proofs.lemmas.Bool.{ltb-false}
+use Rattle.std.{specs.List.{position, position_or_len}, proofs.lemmas.Bool.ltb-false}
 
 within : {X : Type 0} (p : X → Bool) (xs : List X) → position_or_len p xs ≤ length xs
 within p [] = omega arith

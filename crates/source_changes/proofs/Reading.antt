@@ -1,25 +1,10 @@
 -- Rows of a step that are read.
 use Rattle.std.proofs.Common.{◌≡◌, refl, ap, sym, ◌∙◌, subst, Option, Bool, true, false, cond, ◌||◌, ◌==◌, ℕ, ◌<◌, ◌^◌, List, [], ◌∷◌, map, ℤ, Some, None, not, true≢false, unwrap_or}
-use Rattle.std.specs.Prelude.{find, option_map}
-use Rattle.std.specs.List.{AllByRecursion}
-use Rattle.std.specs.Option.{option_or}
-use Rattle.std.proofs.lemmas.Bool.{and_parts, eqb-true}
-use Rattle.std.proofs.lemmas.Option.{none-some}
-use Rattle.std.proofs.lemmas.List.{map-id}
-use Rattle.key_lists.specs.Keys.{is_among, without}
-use Rattle.key_lists.proofs.Among.{among-filter, each_among, of_among}
-use Rattle.key_lists.proofs.Every.{every_weaker, map_map}
-use Rattle.tick_laws.specs.Checked.{keys_after}
-use Rattle.tick_laws.specs.Replaced.{no_update}
-use Rattle.tick_model.specs.declared.table.PlainRow.{PlainRow}
-use Rattle.tick_model.specs.declared.table.PlainTable.{PlainTable}
-use Rattle.tick_model.specs.Shifts.{as_key, moved}
-use Rattle.tick_model.specs.Sources.{unchanged}
-use Rattle.tick_model.specs.Tables.{IsTable, cells_at, keys, row_at}
-use Rattle.tick_model.specs.Updates.{Update}
-use Rattle.source_changes.specs.Stepping.{IsStepping, Stepping, cells_now, key_before, now_of, row_now, ticked}
-use Rattle.source_changes.proofs.Standing.{stands_unchanged}
-use Rattle.source_changes.proofs.Ticked.{stepping, tick_is}
+use Rattle.std.{specs.Prelude.{find, option_map}, specs.List.AllByRecursion, specs.Option.option_or, proofs.lemmas.Bool.{and_parts, eqb-true}, proofs.lemmas.Option.none-some, proofs.lemmas.List.map-id}
+use Rattle.key_lists.{specs.Keys.{is_among, without}, proofs.Among.{among-filter, each_among, of_among}, proofs.Every.{every_weaker, map_map}}
+use Rattle.tick_laws.{specs.Checked.keys_after, specs.Replaced.no_update}
+use Rattle.tick_model.{specs.declared.table.PlainRow.PlainRow, specs.declared.table.PlainTable.PlainTable, specs.Shifts.{as_key, moved}, specs.Sources.unchanged, specs.Tables.{IsTable, cells_at, keys, row_at}, specs.Updates.Update}
+use Rattle.source_changes.{specs.Stepping.{IsStepping, Stepping, cells_now, key_before, now_of, row_now, ticked}, proofs.Standing.stands_unchanged, proofs.Ticked.{stepping, tick_is}}
 
 pub none_of : {X : Type 0} (o : Option X) → ((x : X) → o ≡ Some x → ⊥) → o ≡ None
 none_of None h = refl

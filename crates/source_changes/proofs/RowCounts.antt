@@ -1,24 +1,11 @@
 -- The number of rows that an update leaves, and the rules that the update and that number break.
 use Rattle.std.proofs.Common.{◌≡◌, refl, ap, sym, ◌∙◌, subst, Bool, true, false, cond, not, ℕ, suc, ◌+◌, ◌-◌, ◌<◌, ◌≤◌, arith, List, [], ◌∷◌, length, ltb, Option, None, ◌^◌}
-use Rattle.std.specs.Prelude.{filter, option_map}
-use Rattle.std.specs.List.{AllByRecursion}
-use Rattle.std.specs.Option.{option_or}
-use Rattle.std.proofs.lemmas.Bool.{not-false}
-use Rattle.std.proofs.lemmas.List.{length-map}
-use Rattle.key_lists.specs.Keys.{is_among, IsRising, without}
-use Rattle.key_lists.proofs.Every.{every, every_weaker, none_pass}
-use Rattle.key_lists.proofs.Rising.{as_filter, rising_count}
-use Rattle.source_changes.specs.declared.faults.KeyFault.{KeyFault}
-use Rattle.source_changes.specs.declared.faults.KeyFault.TheVariants.{Memory, Broken}
-use Rattle.source_changes.specs.Faults.{IsRuleOf, keys_fault}
+use Rattle.std.{specs.Prelude.{filter, option_map}, specs.List.AllByRecursion, specs.Option.option_or, proofs.lemmas.Bool.not-false, proofs.lemmas.List.length-map}
+use Rattle.key_lists.{specs.Keys.{is_among, IsRising, without}, proofs.Every.{every, every_weaker, none_pass}, proofs.Rising.{as_filter, rising_count}}
+use Rattle.source_changes.{specs.declared.faults.KeyFault.KeyFault, specs.declared.faults.KeyFault.TheVariants.{Memory, Broken}, specs.Faults.{IsRuleOf, keys_fault}}
 use Rattle.table_update.proofs.KeysAfter.{rules_kept}
 use Rattle.tick_laws.specs.Checked.{keys_after, put_key, put_keys}
-use Rattle.tick_model.specs.declared.update.FeedRule.{FeedRule}
-use Rattle.tick_model.specs.declared.update.FeedRule.TheVariants.{Update as ByUpdate}
-use Rattle.tick_model.specs.Rules.{landed, update_fault}
-use Rattle.tick_model.specs.Shifts.{as_key, moved}
-use Rattle.tick_model.specs.Sources.{too_many}
-use Rattle.tick_model.specs.Updates.{Update}
+use Rattle.tick_model.{specs.declared.update.FeedRule.FeedRule, specs.declared.update.FeedRule.TheVariants.Update as ByUpdate, specs.Rules.{landed, update_fault}, specs.Shifts.{as_key, moved}, specs.Sources.too_many, specs.Updates.Update}
 
 pub few_rising : (bound : ℕ) (keys : List ℕ) → IsRising keys → AllByRecursion (λ key. key < bound) keys → length keys ≤ bound
 few_rising bound keys rising below = let count = rising_count 0 bound keys (omega arith) (every (λ key. 0 ≤ key) keys (λ key. omega arith)) below rising in omega (arith, count)

@@ -1,32 +1,13 @@
 -- The update that two updates of a table make together may be applied, and leaves the keys that both leave.
 use Rattle.std.proofs.Common.{◌≡◌, refl, ap, ap₂, sym, ◌∙◌, subst, Bool, true, false, cond, not, ◌||◌, ℕ, ◌<◌, ◌^◌, List, [], ◌++◌, map, filter, None, lit≤}
-use Rattle.std.specs.List.{AllByRecursion}
-use Rattle.std.proofs.lemmas.List.{map-id}
-use Rattle.key_lists.specs.Keys.{is_among, IsRising, without}
-use Rattle.key_lists.proofs.Among.{among-append, each_among, of_among}
-use Rattle.key_lists.proofs.Every.{every_weaker, every-append, every-filter, every-map, every_unmapped, map_map, find_none}
+use Rattle.std.{specs.List.AllByRecursion, proofs.lemmas.List.map-id}
+use Rattle.key_lists.{specs.Keys.{is_among, IsRising, without}, proofs.Among.{among-append, each_among, of_among}, proofs.Every.{every_weaker, every-append, every-filter, every-map, every_unmapped, map_map, find_none}}
 use Rattle.row_set.specs.Sets.{IsKeySet, united}
-use Rattle.table_update.specs.Coalesced.{coalesced, is_modified, kept_by_both, key_pairs, modified_by_both}
-use Rattle.table_update.proofs.KeysAfter.{KeepsRules, rules_kept}
-use Rattle.tick_laws.specs.Checked.{IsChecked, carried_tick, keys_after}
-use Rattle.tick_laws.specs.Replaced.{followed}
-use Rattle.tick_laws.proofs.Carried.{pairs-between}
-use Rattle.tick_laws.proofs.CheckedUpdates.{keys-carry, tick-carry}
-use Rattle.tick_laws.proofs.Composed.{composed_tick}
-use Rattle.tick_laws.proofs.ToldRows.{none_without}
-use Rattle.tick_model.specs.declared.table.PlainRow.{PlainRow}
-use Rattle.tick_model.specs.declared.table.PlainTable.{PlainTable}
-use Rattle.tick_model.specs.declared.update.KeyPair.{KeyPair}
-use Rattle.tick_model.specs.declared.update.ShiftRange.{ShiftRange}
-use Rattle.tick_model.specs.Changes.{is_empty, is_none, told_keys}
-use Rattle.tick_model.specs.Rules.{landed, update_fault}
-use Rattle.tick_model.specs.Shifts.{composed, shifted}
-use Rattle.tick_model.specs.Tables.{IsRow, IsTable, keys}
-use Rattle.tick_model.specs.Updates.{IsTick, Tick, Update, between, new_keys, old_keys}
+use Rattle.table_update.{specs.Coalesced.{coalesced, is_modified, kept_by_both, key_pairs, modified_by_both}, proofs.KeysAfter.{KeepsRules, rules_kept}}
+use Rattle.tick_laws.{specs.Checked.{IsChecked, carried_tick, keys_after}, specs.Replaced.followed, proofs.Carried.pairs-between, proofs.CheckedUpdates.{keys-carry, tick-carry}, proofs.Composed.composed_tick, proofs.ToldRows.none_without}
+use Rattle.tick_model.{specs.declared.table.PlainRow.PlainRow, specs.declared.table.PlainTable.PlainTable, specs.declared.update.KeyPair.KeyPair, specs.declared.update.ShiftRange.ShiftRange, specs.Changes.{is_empty, is_none, told_keys}, specs.Rules.{landed, update_fault}, specs.Shifts.{composed, shifted}, specs.Tables.{IsRow, IsTable, keys}, specs.Updates.{IsTick, Tick, Update, between, new_keys, old_keys}}
 use Rattle.tick_table.proofs.Between.{between_lawful, keys_after_between, new_keys-pairs}
-use Rattle.source_changes.specs.Stepping.{first_update, update_after}
-use Rattle.source_changes.proofs.Followed.{after_added, after_modified, after_removed, after_shifted}
-use Rattle.source_changes.proofs.Standing.{none_broken}
+use Rattle.source_changes.{specs.Stepping.{first_update, update_after}, proofs.Followed.{after_added, after_modified, after_removed, after_shifted}, proofs.Standing.none_broken}
 
 -- rows without cells, and a table of them
 abbrev bare : ℕ → PlainRow

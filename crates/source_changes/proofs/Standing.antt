@@ -1,42 +1,14 @@
 -- A step that is a tick's: its update, its keys and its told rows, and how a block carries it on.
 use Rattle.std.proofs.Common.{◌≡◌, refl, ap, ap₂, sym, ◌∙◌, subst, Option, Bool, true, false, not, ◌||◌, ◌&&◌, ℕ, ◌^◌, List, [], ◌++◌, map, filter, None, true≢false, inl, inr, lit≤}
-use Rattle.std.specs.Prelude.{find, option_map}
-use Rattle.std.specs.List.{AllByRecursion}
-use Rattle.std.specs.Option.{option_or}
-use Rattle.std.proofs.lemmas.Bool.{and_parts, or_cases, or_parts}
-use Rattle.key_lists.specs.Keys.{is_among, IsRising, without}
-use Rattle.key_lists.proofs.Among.{among-append, among-filter, each_among, of_among}
-use Rattle.key_lists.proofs.Every.{every, every_weaker, every_both, every-map, every_unmapped, every-filter, every-append, filter_passes, map_map, find_none}
-use Rattle.key_lists.proofs.Rising.{rising-filter}
+use Rattle.std.{specs.Prelude.{find, option_map}, specs.List.AllByRecursion, specs.Option.option_or, proofs.lemmas.Bool.{and_parts, or_cases, or_parts}}
+use Rattle.key_lists.{specs.Keys.{is_among, IsRising, without}, proofs.Among.{among-append, among-filter, each_among, of_among}, proofs.Every.{every, every_weaker, every_both, every-map, every_unmapped, every-filter, every-append, filter_passes, map_map, find_none}, proofs.Rising.rising-filter}
 use Rattle.shift_data.specs.Moves.{pair_through}
 use Rattle.shown_rows.proofs.Named.{named_by, of_named}
-use Rattle.table_update.specs.Coalesced.{Follow, is_modified, kept_by_both, key_pairs}
-use Rattle.table_update.proofs.CoalescedKeys.{kept_keys, kept_pairs}
-use Rattle.table_update.proofs.KeysAfter.{KeepsRules, rules_kept}
-use Rattle.table_update.proofs.LawfulParts.{lawful_below}
-use Rattle.tick_laws.specs.Checked.{IsChecked, keys_after, put_keys}
-use Rattle.tick_laws.specs.Replaced.{no_update}
-use Rattle.tick_laws.proofs.Blocks.{block_checked, block_tick}
-use Rattle.tick_laws.proofs.Carried.{pairs-between}
-use Rattle.tick_laws.proofs.Composed.{composed_tick}
-use Rattle.tick_laws.proofs.SourceTicks.{unchanged_tick}
-use Rattle.tick_laws.proofs.ToldRows.{none_without}
-use Rattle.tick_laws.proofs.WholeUpdates.{between-unchanged}
-use Rattle.tick_model.specs.declared.feed.Block.{Block}
-use Rattle.tick_model.specs.declared.table.PlainTable.{PlainTable}
-use Rattle.tick_model.specs.declared.update.KeyPair.{KeyPair}
-use Rattle.tick_model.specs.declared.update.ShiftRange.{ShiftRange}
-use Rattle.tick_model.specs.declared.update.UpdateFault.{UpdateFault}
-use Rattle.tick_model.specs.declared.update.UpdateFault.TheVariants.{RemovedAbsent, AddedTaken, ModifiedAbsent, ModifiedAdded}
-use Rattle.tick_model.specs.Rules.{landed, shift_fault, update_fault}
-use Rattle.tick_model.specs.Shifts.{as_key, composed, moved, shifted}
-use Rattle.tick_model.specs.Sources.{IsBlock, block_fault, carried, carry_on, same_key, unchanged, update_of}
-use Rattle.tick_model.specs.Tables.{IsTable, cells_at, keys}
-use Rattle.tick_model.specs.Updates.{IsTick, Tick, Update, between, kept_pair, new_keys, old_keys, pairs}
+use Rattle.table_update.{specs.Coalesced.{Follow, is_modified, kept_by_both, key_pairs}, proofs.CoalescedKeys.{kept_keys, kept_pairs}, proofs.KeysAfter.{KeepsRules, rules_kept}, proofs.LawfulParts.lawful_below}
+use Rattle.tick_laws.{specs.Checked.{IsChecked, keys_after, put_keys}, specs.Replaced.no_update, proofs.Blocks.{block_checked, block_tick}, proofs.Carried.pairs-between, proofs.Composed.composed_tick, proofs.SourceTicks.unchanged_tick, proofs.ToldRows.none_without, proofs.WholeUpdates.between-unchanged}
+use Rattle.tick_model.{specs.declared.feed.Block.Block, specs.declared.table.PlainTable.PlainTable, specs.declared.update.KeyPair.KeyPair, specs.declared.update.ShiftRange.ShiftRange, specs.declared.update.UpdateFault.UpdateFault, specs.declared.update.UpdateFault.TheVariants.{RemovedAbsent, AddedTaken, ModifiedAbsent, ModifiedAdded}, specs.Rules.{landed, shift_fault, update_fault}, specs.Shifts.{as_key, composed, moved, shifted}, specs.Sources.{IsBlock, block_fault, carried, carry_on, same_key, unchanged, update_of}, specs.Tables.{IsTable, cells_at, keys}, specs.Updates.{IsTick, Tick, Update, between, kept_pair, new_keys, old_keys, pairs}}
 use Rattle.tick_table.proofs.Between.{between_lawful, keys_after_between}
-use Rattle.source_changes.specs.Stepping.{Stands, Stepping, stepped}
-use Rattle.source_changes.proofs.Carrying.{among-carried, among-landed, carried_keys, cells_stay, new_told_rise, new_told_same, new_told_there, told_added, told_lawful, told_modified, told_moved}
-use Rattle.source_changes.proofs.Followed.{after_added, after_modified, after_removed, after_shifted}
+use Rattle.source_changes.{specs.Stepping.{Stands, Stepping, stepped}, proofs.Carrying.{among-carried, among-landed, carried_keys, cells_stay, new_told_rise, new_told_same, new_told_there, told_added, told_lawful, told_modified, told_moved}, proofs.Followed.{after_added, after_modified, after_removed, after_shifted}}
 
 -- where each rule is kept, none is broken
 pub none_broken : (limit : ℕ) (old : List ℕ) (update : Update) → KeepsRules limit old update → update_fault limit old update ≡ None

@@ -1,25 +1,11 @@
 -- A step that takes a block.
-use Rattle.std.proofs.Common.{◌≡◌, ap, sym, ◌∙◌, not, ◌+◌, ◌*◌, ◌≤◌, arith, length, None}
+use Rattle.std.proofs.Common.{◌≡◌, ap, sym, ◌∙◌, not, ◌+◌, ◌*◌, ◌≤◌, arith, length, None, subst}
 use Rattle.std.proofs.Math.Nat.{mul-le-mul_left}
-use Rattle.key_lists.specs.Keys.{is_among, IsRising, without}
-use Rattle.key_lists.proofs.Rising.{rising_some}
-use Rattle.std.proofs.Common.{subst}
+use Rattle.key_lists.{specs.Keys.{is_among, IsRising, without}, proofs.Rising.rising_some}
 use Rattle.shift_data.specs.Moves.{IsLawful}
-use Rattle.tick_model.specs.declared.feed.Block.{Block}
-use Rattle.tick_model.specs.Sources.{IsBlock, block_fault, carry_on, update_of}
-use Rattle.tick_model.specs.Tables.{keys}
-use Rattle.tick_model.specs.Updates.{new_keys}
-use Rattle.source_changes.specs.Blocks.{IsReadable}
-use Rattle.source_changes.specs.Faults.{keys_fault}
-use Rattle.source_changes.specs.Reads.{read_rows, step_reads}
-use Rattle.source_changes.specs.Stepping.{IsStepping, Stands, Stepping, stepped, ticked, update_after}
+use Rattle.tick_model.{specs.declared.feed.Block.Block, specs.Sources.{IsBlock, block_fault, carry_on, update_of}, specs.Tables.keys, specs.Updates.new_keys}
+use Rattle.source_changes.{specs.Blocks.IsReadable, specs.Faults.keys_fault, specs.Reads.{read_rows, step_reads}, specs.Stepping.{IsStepping, Stands, Stepping, stepped, ticked, update_after}, proofs.Counts.{length-added, length-modified}, proofs.Faulted.block_keys_fault, proofs.Followed.{after_added, after_modified}, proofs.Gathered.ranges_rise, proofs.Standing.{follow, stands_on, told_moves}, proofs.Ticked.{stepping, tick_is}}
 use Rattle.table_update.specs.Coalesced.{Follow}
-use Rattle.source_changes.proofs.Counts.{length-added, length-modified}
-use Rattle.source_changes.proofs.Faulted.{block_keys_fault}
-use Rattle.source_changes.proofs.Followed.{after_added, after_modified}
-use Rattle.source_changes.proofs.Gathered.{ranges_rise}
-use Rattle.source_changes.proofs.Standing.{follow, stands_on, told_moves}
-use Rattle.source_changes.proofs.Ticked.{stepping, tick_is}
 
 module _ (step : Stepping) (h : IsStepping step) (block : Block) (r : IsReadable block) (l : IsBlock step.old.width block) where
   pub same_fault : keys_fault (keys (ticked step).new.rows) (update_of block) ≡ block_fault (ticked step).new block

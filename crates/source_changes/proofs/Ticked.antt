@@ -1,31 +1,12 @@
 -- A step that is a tick's says what the tick is, and of which parts its change is made.
 use Rattle.std.proofs.Common.{◌≡◌, refl, ap, ap₂, sym, ◌∙◌, subst, Option, Bool, true, false, cond, not, ◌||◌, ◌==◌, ℕ, ◌<◌, ◌^◌, List, [], ◌∷◌, map, length, ℤ, Some, None, true≢false, unwrap_or}
-use Rattle.std.specs.Prelude.{find, option_map}
-use Rattle.std.specs.List.{AllByRecursion}
-use Rattle.std.specs.Option.{is_some, option_or}
-use Rattle.std.proofs.lemmas.Bool.{eq-eqb, eqb-false, eqb-true, ne_eqb}
-use Rattle.std.specs.Cmp.Rules.{signed_items}
-use Rattle.key_lists.specs.Keys.{is_among, without}
-use Rattle.key_lists.proofs.Among.{of_among}
-use Rattle.key_lists.proofs.Every.{every_weaker, every_both, every-map, map_map, map_own}
-use Rattle.row_changes.specs.Parts.{AreParts, AreThere}
-use Rattle.row_changes.proofs.ComparedPairs.{compared_at}
-use Rattle.row_changes.proofs.MadeChange.{parts_there}
+use Rattle.std.{specs.Prelude.{find, option_map}, specs.List.AllByRecursion, specs.Option.{is_some, option_or}, proofs.lemmas.Bool.{eq-eqb, eqb-false, eqb-true, ne_eqb}, specs.Cmp.Rules.signed_items}
+use Rattle.key_lists.{specs.Keys.{is_among, without}, proofs.Among.of_among, proofs.Every.{every_weaker, every_both, every-map, map_map, map_own}}
+use Rattle.row_changes.{specs.Parts.{AreParts, AreThere}, proofs.ComparedPairs.compared_at, proofs.MadeChange.parts_there}
 use Rattle.shift_data.specs.Moves.{IsLawful}
 use Rattle.table_update.specs.Kept.{old_modified}
-use Rattle.tick_model.specs.declared.table.PlainRow.{PlainRow}
-use Rattle.tick_model.specs.declared.table.PlainTable.{PlainTable}
-use Rattle.tick_model.specs.declared.update.KeyPair.{KeyPair}
-use Rattle.tick_model.specs.Rules.{landed}
-use Rattle.tick_model.specs.Shifts.{as_key, moved}
-use Rattle.tick_model.specs.Tables.{IsRow, cells_at, keys, row_at, same_cells}
-use Rattle.tick_model.specs.Updates.{Tick, differs, pairs}
-use Rattle.tick_model.proofs.Among.{each_found, rows_among}
-use Rattle.source_changes.specs.Ready.{IsReady}
-use Rattle.source_changes.specs.Stepping.{IsStepping, Stands, Stepping, cells_now, key_before, now_of, row_now, ticked, touched_by}
-use Rattle.source_changes.proofs.Looked.{is_there}
-use Rattle.source_changes.proofs.Carrying.{cells_of}
-use Rattle.source_changes.proofs.Standing.{after_is, first_rules, kept_is, modified_told, others_first, untold_stays}
+use Rattle.tick_model.{specs.declared.table.PlainRow.PlainRow, specs.declared.table.PlainTable.PlainTable, specs.declared.update.KeyPair.KeyPair, specs.Rules.landed, specs.Shifts.{as_key, moved}, specs.Tables.{IsRow, cells_at, keys, row_at, same_cells}, specs.Updates.{Tick, differs, pairs}, proofs.Among.{each_found, rows_among}}
+use Rattle.source_changes.{specs.Ready.IsReady, specs.Stepping.{IsStepping, Stands, Stepping, cells_now, key_before, now_of, row_now, ticked, touched_by}, proofs.Looked.is_there, proofs.Carrying.cells_of, proofs.Standing.{after_is, first_rules, kept_is, modified_told, others_first, untold_stays}}
 
 module _ (tick : Tick) (step : Stepping) (h : Stands tick step) where
   abbrev before : List ℕ

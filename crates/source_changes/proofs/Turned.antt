@@ -1,38 +1,12 @@
 -- A source that takes a block: its keys, and the step after it.
 use Rattle.std.proofs.Common.{◌≡◌, refl, ap, ap₂, sym, ◌∙◌, subst, Option, ℕ, ◌+◌, ◌*◌, ◌^◌, ◌<◌, ◌≤◌, List, [], length, Some, None}
-use Rattle.std.specs.List.{AllByRecursion}
-use Rattle.std.specs.Option.{option_or}
-use Rattle.std.specs.Prelude.{option_map}
-use Rattle.std.proofs.lemmas.Option.{none-some}
-use Rattle.key_lists.specs.Keys.{without}
-use Rattle.key_lists.proofs.Every.{every_weaker, every-map}
+use Rattle.std.{specs.List.AllByRecursion, specs.Option.option_or, specs.Prelude.option_map, proofs.lemmas.Option.none-some}
+use Rattle.key_lists.{specs.Keys.without, proofs.Every.{every_weaker, every-map}}
 use Rattle.row_set.specs.Sets.{IsKeySet}
 use Rattle.shift_data.specs.Moves.{IsLawful}
-use Rattle.tick_laws.specs.Checked.{keys_after}
-use Rattle.tick_laws.specs.Replaced.{no_update}
-use Rattle.tick_model.specs.declared.feed.Block.{Block}
-use Rattle.tick_model.specs.declared.table.PlainRow.{PlainRow}
-use Rattle.tick_model.specs.declared.table.PlainTable.{PlainTable}
-use Rattle.tick_model.specs.declared.update.FeedRule.TheVariants.{Update as ByUpdate}
-use Rattle.tick_model.specs.declared.update.FeedRule.{FeedRule}
-use Rattle.tick_model.specs.declared.update.UpdateFault.{UpdateFault}
-use Rattle.tick_model.specs.Rules.{update_fault}
-use Rattle.tick_model.specs.Sources.{IsBlock, block_fault, carry_on, too_many, unchanged, update_of}
-use Rattle.tick_model.specs.Tables.{IsRow, IsTable, keys}
-use Rattle.tick_model.specs.Updates.{Update}
-use Rattle.source_changes.specs.declared.gathering.Gathered.{Gathered}
-use Rattle.source_changes.specs.declared.taking.TakenBlocks.{TakenBlocks}
-use Rattle.source_changes.specs.Blocks.{IsReadable}
-use Rattle.source_changes.specs.Faults.{IsKeysBelow, keys_fault}
-use Rattle.source_changes.specs.Reads.{read_rows, step_reads}
-use Rattle.source_changes.specs.Stepping.{IsStepping, Stepping, stepped, ticked, told_after, update_after}
-use Rattle.source_changes.specs.Taking.{IsTaking, taking}
-use Rattle.source_changes.specs.Waiting.{AreSets, AreSetsOf, IsGathered, Waits, joined, keys_with}
-use Rattle.source_changes.proofs.Followed.{unmoved}
-use Rattle.source_changes.proofs.Joining.{keys_joined}
-use Rattle.source_changes.proofs.Reading.{new_step}
-use Rattle.source_changes.proofs.Standing.{after_is, first_applies, lawful_wider, stands_unchanged}
-use Rattle.source_changes.proofs.Taken.{moves, reads_on as step_reads_on, same_fault, steps_on, ticks_on, unbroken}
+use Rattle.tick_laws.{specs.Checked.keys_after, specs.Replaced.no_update}
+use Rattle.tick_model.{specs.declared.feed.Block.Block, specs.declared.table.PlainRow.PlainRow, specs.declared.table.PlainTable.PlainTable, specs.declared.update.FeedRule.TheVariants.Update as ByUpdate, specs.declared.update.FeedRule.FeedRule, specs.declared.update.UpdateFault.UpdateFault, specs.Rules.update_fault, specs.Sources.{IsBlock, block_fault, carry_on, too_many, unchanged, update_of}, specs.Tables.{IsRow, IsTable, keys}, specs.Updates.Update}
+use Rattle.source_changes.{specs.declared.gathering.Gathered.Gathered, specs.declared.taking.TakenBlocks.TakenBlocks, specs.Blocks.IsReadable, specs.Faults.{IsKeysBelow, keys_fault}, specs.Reads.{read_rows, step_reads}, specs.Stepping.{IsStepping, Stepping, stepped, ticked, told_after, update_after}, specs.Taking.{IsTaking, taking}, specs.Waiting.{AreSets, AreSetsOf, IsGathered, Waits, joined, keys_with}, proofs.Followed.unmoved, proofs.Joining.keys_joined, proofs.Reading.new_step, proofs.Standing.{after_is, first_applies, lawful_wider, stands_unchanged}, proofs.Taken.{moves, reads_on as step_reads_on, same_fault, steps_on, ticks_on, unbroken}}
 
 pub table_set : (table : PlainTable) → IsTable table → IsKeySet (keys table.rows)
 table_set table h = record {

@@ -1,28 +1,9 @@
 -- The sources of a batch, of which each takes its blocks in turn.
 use Rattle.std.proofs.Common.{◌≡◌, refl, ap, ap₂, sym, ◌∙◌, subst, ℕ, zero, suc, ◌<◌, ◌≤◌, ◌*◌, ◌^◌, arith, List, [], ◌∷◌, ◌++◌, map, length, get_or, set, take, drop, ◌+◌, None}
-use Rattle.std.specs.Prelude.{sum_by}
-use Rattle.std.specs.List.{AllByRecursion}
-use Rattle.std.proofs.Math.ListN.{drop_of_length-le}
-use Rattle.std.proofs.lemmas.List.{append-nil, length-map, get_or-map}
-use Rattle.std.proofs.lemmas.List.Sums.{sum_by-drop_more, sum_by-set, sum_by_more_le}
-use Rattle.key_lists.proofs.Every.{map_map}
-use Rattle.key_lists.proofs.Parts.{map_set}
-use Rattle.tick_model.specs.declared.feed.Block.{Block}
-use Rattle.tick_model.specs.declared.plan.Plan.{Plan}
-use Rattle.tick_model.specs.declared.table.PlainTable.{PlainTable}
-use Rattle.tick_model.specs.Evaluation.{source_number}
-use Rattle.tick_model.specs.LawfulRuns.{IsLawfulBlock, sources_of}
-use Rattle.tick_model.specs.Plans.{columns_at}
-use Rattle.tick_model.specs.Sources.{IsBlock, after_blocks, block_fault, blocks_fault, carry_on, unchanged, update_of}
-use Rattle.tick_model.specs.Tables.{keys}
-use Rattle.tick_model.specs.Updates.{Tick}
-use Rattle.source_changes.specs.declared.faults.BatchFault.{BatchFault}
-use Rattle.source_changes.specs.declared.taking.TakenBlocks.{TakenBlocks}
-use Rattle.source_changes.specs.Faults.{IsFault, record_fault}
-use Rattle.source_changes.specs.Reads.{block_reads, read_rows, step_reads}
-use Rattle.source_changes.specs.Stepping.{Stepping, ticked}
-use Rattle.source_changes.specs.Taking.{IsTaking, taking}
-use Rattle.source_changes.proofs.Walked.{AreSources, below_at, fault_at, faults_next, sources_next, steps_in, ticks_next, whole_at, width_at}
+use Rattle.std.{specs.Prelude.sum_by, specs.List.AllByRecursion, proofs.Math.ListN.drop_of_length-le, proofs.lemmas.List.{append-nil, length-map, get_or-map}, proofs.lemmas.List.Sums.{sum_by-drop_more, sum_by-set, sum_by_more_le}}
+use Rattle.key_lists.{proofs.Every.map_map, proofs.Parts.map_set}
+use Rattle.tick_model.{specs.declared.feed.Block.Block, specs.declared.plan.Plan.Plan, specs.declared.table.PlainTable.PlainTable, specs.Evaluation.source_number, specs.LawfulRuns.{IsLawfulBlock, sources_of}, specs.Plans.columns_at, specs.Sources.{IsBlock, after_blocks, block_fault, blocks_fault, carry_on, unchanged, update_of}, specs.Tables.keys, specs.Updates.Tick}
+use Rattle.source_changes.{specs.declared.faults.BatchFault.BatchFault, specs.declared.taking.TakenBlocks.TakenBlocks, specs.Faults.{IsFault, record_fault}, specs.Reads.{block_reads, read_rows, step_reads}, specs.Stepping.{Stepping, ticked}, specs.Taking.{IsTaking, taking}, proofs.Walked.{AreSources, below_at, fault_at, faults_next, sources_next, steps_in, ticks_next, whole_at, width_at}}
 
 pub every_set : {X : Type 0} (P : X → Type 0) (xs : List X) (place : ℕ) (x : X) → AllByRecursion P xs → P x → AllByRecursion P (set xs place x)
 every_set P [] place x h p = tt

@@ -1,29 +1,12 @@
 -- An update that waits takes the next one: what both make is joined to the update before them as the one and then the other.
 use Rattle.std.proofs.Common.{◌≡◌, refl, ap, ap₂, sym, ◌∙◌, subst, Bool, true, false, cond, not, ◌&&◌, ◌||◌, ℕ, ◌^◌, List, [], ◌++◌, None, true≢false, lit≤}
 use Rattle.std.proofs.lemmas.Bool.{not-false}
-use Rattle.key_lists.specs.Keys.{is_among, IsRising, without}
-use Rattle.key_lists.proofs.Among.{among-append, among-filter, of_among}
-use Rattle.key_lists.proofs.Every.{every, map_map, map_own, none_pass}
-use Rattle.key_lists.proofs.Rising.{rising_same, rising_some}
-use Rattle.row_set.specs.Sets.{IsKeySet, united}
-use Rattle.row_set.proofs.United.{among-united, united_rises}
-use Rattle.tick_model.specs.declared.update.KeyPair.{KeyPair}
-use Rattle.tick_model.specs.declared.update.ShiftRange.{ShiftRange}
-use Rattle.tick_model.specs.Changes.{is_empty, is_none}
-use Rattle.tick_model.specs.Rules.{landed, update_fault}
-use Rattle.tick_model.specs.Shifts.{composed, shifted}
-use Rattle.tick_model.specs.Updates.{Update, kept_pair, new_keys, old_keys}
-use Rattle.tick_laws.specs.Checked.{IsChecked, keys_after}
-use Rattle.tick_laws.proofs.CheckedUpdates.{among-put_keys, keys_after-below, keys_after-rise}
-use Rattle.tick_laws.proofs.ComposedThrice.{composed-associative}
-use Rattle.table_update.specs.Coalesced.{added_by_both, coalesced, key_pairs, kept_by_both, modified_by_both}
-use Rattle.table_update.proofs.CoalescedKeys.{united_added, united_modified}
-use Rattle.table_update.proofs.KeysAfter.{rules_kept}
-use Rattle.table_update.proofs.StillKeys.{still_places, still_removed, still_shifted}
-use Rattle.source_changes.specs.Stepping.{first_update, update_after}
-use Rattle.source_changes.specs.Waiting.{MayWait}
-use Rattle.source_changes.proofs.Followed.{after_added, after_modified, after_removed, after_shifted}
-use Rattle.source_changes.proofs.Settled.{coalesced_applies, coalesced_keys, key_pairs_both, settled_applies, settled_keys, settled_pairs}
+use Rattle.key_lists.{specs.Keys.{is_among, IsRising, without}, proofs.Among.{among-append, among-filter, of_among}, proofs.Every.{every, map_map, map_own, none_pass}, proofs.Rising.{rising_same, rising_some}}
+use Rattle.row_set.{specs.Sets.{IsKeySet, united}, proofs.United.{among-united, united_rises}}
+use Rattle.tick_model.{specs.declared.update.KeyPair.KeyPair, specs.declared.update.ShiftRange.ShiftRange, specs.Changes.{is_empty, is_none}, specs.Rules.{landed, update_fault}, specs.Shifts.{composed, shifted}, specs.Updates.{Update, kept_pair, new_keys, old_keys}}
+use Rattle.tick_laws.{specs.Checked.{IsChecked, keys_after}, proofs.CheckedUpdates.{among-put_keys, keys_after-below, keys_after-rise}, proofs.ComposedThrice.composed-associative}
+use Rattle.table_update.{specs.Coalesced.{added_by_both, coalesced, key_pairs, kept_by_both, modified_by_both}, proofs.CoalescedKeys.{united_added, united_modified}, proofs.KeysAfter.rules_kept, proofs.StillKeys.{still_places, still_removed, still_shifted}}
+use Rattle.source_changes.{specs.Stepping.{first_update, update_after}, specs.Waiting.MayWait, proofs.Followed.{after_added, after_modified, after_removed, after_shifted}, proofs.Settled.{coalesced_applies, coalesced_keys, key_pairs_both, settled_applies, settled_keys, settled_pairs}}
 
 -- whether a key is modified, by whether the update that waits, or the next one, removes, adds or modifies it, and the first one adds or modifies it
 joined_test : (wait_removed wait_added next_removed added modified here wait_modified next_modified : Bool)

@@ -1,32 +1,10 @@
 -- The blocks of a batch, one after the other, over the steps of all sources.
 use Rattle.std.proofs.Common.{◌≡◌, refl, ap, sym, ◌∙◌, subst, ℕ, zero, suc, ◌<◌, ◌≤◌, ◌^◌, arith, List, [], ◌∷◌, ◌++◌, map, length, get_or, set, None, lit≤, drop, ◌+◌}
-use Rattle.std.specs.List.{AllByRecursion}
-use Rattle.std.specs.Option.{option_or}
-use Rattle.std.proofs.lemmas.List.{drop_more, get_or_default, get_or-map}
-use Rattle.key_lists.proofs.Every.{every_weaker, every-map}
-use Rattle.key_lists.proofs.Parts.{map_set, every_at}
-use Rattle.tick_laws.specs.Bounded.{AreSourceTables}
-use Rattle.tick_laws.proofs.Blocks.{block_checked, block_told}
-use Rattle.tick_laws.proofs.CheckedUpdates.{keys-carry, keys_after-below}
-use Rattle.tick_laws.proofs.LawfulPlans.{columns_at-node}
-use Rattle.tick_laws.proofs.LawfulSources.{length-fit_columns, source_number_is}
-use Rattle.tick_laws.proofs.Paired.{no_node, source_there}
-use Rattle.tick_model.specs.declared.feed.Block.{Block}
-use Rattle.tick_model.specs.declared.plan.Node.{Node}
-use Rattle.tick_model.specs.declared.plan.Plan.{Plan}
-use Rattle.tick_model.specs.declared.table.PlainRow.{PlainRow}
-use Rattle.tick_model.specs.declared.table.PlainTable.{PlainTable}
-use Rattle.tick_model.specs.Evaluation.{source_number}
-use Rattle.tick_model.specs.LawfulRuns.{IsLawfulBlock, IsSourceRow, sources_of}
-use Rattle.tick_model.specs.Plans.{columns_at}
-use Rattle.tick_model.specs.Sources.{IsBlock, after_block, after_blocks, block_fault, blocks_fault, carry_on, carried, no_tick, tick_at, update_of}
-use Rattle.tick_model.specs.Tables.{IsRow, keys}
-use Rattle.tick_model.specs.Updates.{Tick}
-use Rattle.source_changes.specs.declared.faults.BatchFault.TheVariants.{Memory, Rule}
-use Rattle.source_changes.specs.declared.faults.BatchFault.{BatchFault}
-use Rattle.source_changes.specs.Blocks.{IsReadable}
-use Rattle.source_changes.specs.Faults.{IsFault, record_fault}
-use Rattle.source_changes.specs.Stepping.{IsStepping, Stepping, ticked}
+use Rattle.std.{specs.List.AllByRecursion, specs.Option.option_or, proofs.lemmas.List.{drop_more, get_or_default, get_or-map}}
+use Rattle.key_lists.{proofs.Every.{every_weaker, every-map}, proofs.Parts.{map_set, every_at}}
+use Rattle.tick_laws.{specs.Bounded.AreSourceTables, proofs.Blocks.{block_checked, block_told}, proofs.CheckedUpdates.{keys-carry, keys_after-below}, proofs.LawfulPlans.columns_at-node, proofs.LawfulSources.{length-fit_columns, source_number_is}, proofs.Paired.{no_node, source_there}}
+use Rattle.tick_model.{specs.declared.feed.Block.Block, specs.declared.plan.Node.Node, specs.declared.plan.Plan.Plan, specs.declared.table.PlainRow.PlainRow, specs.declared.table.PlainTable.PlainTable, specs.Evaluation.source_number, specs.LawfulRuns.{IsLawfulBlock, IsSourceRow, sources_of}, specs.Plans.columns_at, specs.Sources.{IsBlock, after_block, after_blocks, block_fault, blocks_fault, carry_on, carried, no_tick, tick_at, update_of}, specs.Tables.{IsRow, keys}, specs.Updates.Tick}
+use Rattle.source_changes.{specs.declared.faults.BatchFault.TheVariants.{Memory, Rule}, specs.declared.faults.BatchFault.BatchFault, specs.Blocks.IsReadable, specs.Faults.{IsFault, record_fault}, specs.Stepping.{IsStepping, Stepping, ticked}}
 
 -- a source whose step is a tick's, with its width and its bound
 pub record IsSource (source : Node) (step : Stepping) : Type 0 where

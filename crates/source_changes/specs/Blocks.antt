@@ -1,12 +1,8 @@
 -- Blocks whose parts can be read as sets of keys and as a shift.
 --     IsReadable block      its removed ranges and its shifts ascend, and so do the keys of its rows
-use Rattle.std.specs.Prelude.{◌+◌, ◌^◌, ◌<◌}
-use Rattle.std.specs.List.{AllByRecursion}
+use Rattle.std.{specs.Prelude.{◌+◌, ◌^◌, ◌<◌}, specs.List.AllByRecursion}
 use Rattle.row_set.specs.Sets.{IsKeySet}
-use Rattle.tick_model.specs.declared.feed.Block.{Block}
-use Rattle.tick_model.specs.LawfulRuns.{AreRanges, record_count}
-use Rattle.tick_model.specs.Printable.{IsShift, IsShiftRange}
-use Rattle.tick_model.specs.Tables.{keys}
+use Rattle.tick_model.{specs.declared.feed.Block.Block, specs.LawfulRuns.{AreRanges, record_count}, specs.Printable.{IsShift, IsShiftRange}, specs.Tables.keys}
 
 pub record IsReadable (block : Block) : Type 0 where
   pub removed : AreRanges block.removed

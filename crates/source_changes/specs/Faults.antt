@@ -4,21 +4,11 @@
 --     IsFault found fault      memory ran out, or these are the record and the rule that were found
 --     IsKeysBelow limit keys      the keys rise and are below the limit
 --     record_fault block found      the record of a block that breaks a rule, with the rule
-use Rattle.std.specs.Prelude.{◌≡◌, ℕ, ◌^◌, ◌<◌, List, length, Option, Some, option_map}
-use Rattle.std.specs.List.{AllByRecursion}
-use Rattle.std.specs.Option.{option_or}
+use Rattle.std.{specs.Prelude.{◌≡◌, ℕ, ◌^◌, ◌<◌, List, length, Option, Some, option_map}, specs.List.AllByRecursion, specs.Option.option_or}
 use Rattle.key_lists.specs.Keys.{IsRising}
 use Rattle.tick_laws.specs.Checked.{keys_after}
-use Rattle.tick_model.specs.declared.feed.Block.{Block}
-use Rattle.tick_model.specs.declared.update.FeedRule.{FeedRule}
-use Rattle.tick_model.specs.declared.update.FeedRule.TheVariants.{Update as ByUpdate}
-use Rattle.tick_model.specs.Rules.{update_fault}
-use Rattle.tick_model.specs.Sources.{record_of, too_many}
-use Rattle.tick_model.specs.Updates.{Update}
-use Rattle.source_changes.specs.declared.faults.BatchFault.{BatchFault}
-use Rattle.source_changes.specs.declared.faults.BatchFault.TheVariants.{Memory, Rule}
-use Rattle.source_changes.specs.declared.faults.KeyFault.{KeyFault}
-use Rattle.source_changes.specs.declared.faults.KeyFault.TheVariants.{Memory as NoMemory, Broken}
+use Rattle.tick_model.{specs.declared.feed.Block.Block, specs.declared.update.FeedRule.FeedRule, specs.declared.update.FeedRule.TheVariants.Update as ByUpdate, specs.Rules.update_fault, specs.Sources.{record_of, too_many}, specs.Updates.Update}
+use Rattle.source_changes.{specs.declared.faults.BatchFault.BatchFault, specs.declared.faults.BatchFault.TheVariants.{Memory, Rule}, specs.declared.faults.KeyFault.KeyFault, specs.declared.faults.KeyFault.TheVariants.{Memory as NoMemory, Broken}}
 
 abbrev pub keys_fault : List ℕ → Update → Option FeedRule
 keys_fault old update = option_or (option_map ByUpdate (update_fault (2 ^ 40) old update)) (too_many (length (keys_after old update)))

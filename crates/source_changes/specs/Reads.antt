@@ -3,11 +3,7 @@
 --     step_reads step      a step of a source takes no more reads
 --     block_reads plan block      nor does what a block adds to it
 use Rattle.std.specs.Prelude.{ℕ, ◌+◌, ◌*◌, length}
-use Rattle.tick_model.specs.declared.feed.Block.{Block}
-use Rattle.tick_model.specs.declared.plan.Plan.{Plan}
-use Rattle.tick_model.specs.Plans.{columns_at}
-use Rattle.tick_model.specs.Sources.{update_of}
-use Rattle.tick_model.specs.Updates.{Update}
+use Rattle.tick_model.{specs.declared.feed.Block.Block, specs.declared.plan.Plan.Plan, specs.Plans.columns_at, specs.Sources.update_of, specs.Updates.Update}
 use Rattle.source_changes.specs.Stepping.{Stepping}
 
 abbrev pub read_rows : Update → ℕ

@@ -1,7 +1,6 @@
 -- What has to hold where the rows of a source are read.
 --     IsReady step      the rows that stay move to keys in order, and each row of now is under a key
-use Rattle.std.specs.Prelude.{◌^◌, ◌<◌}
-use Rattle.std.specs.List.{AllByRecursion}
+use Rattle.std.{specs.Prelude.{◌^◌, ◌<◌}, specs.List.AllByRecursion}
 use Rattle.key_lists.specs.Keys.{without}
 use Rattle.shift_data.specs.Moves.{IsLawful}
 use Rattle.tick_laws.specs.Checked.{keys_after}

@@ -7,23 +7,13 @@
 --     told_after told block      the told rows after a block
 --     update_after old update next      the update so far and then the next one, of a table with the old keys
 --     stepped step block      the step after a block
-use Rattle.std.specs.Prelude.{◌≡◌, ℕ, ◌==◌, false, true, List, [], ◌∷◌, map, find, flat_map, nat_lt, if◌then◌else◌, Option, ℤ, option_map, unwrap_or}
-use Rattle.std.specs.List.{AllByRecursion}
-use Rattle.std.specs.Option.{option_or}
+use Rattle.std.{specs.Prelude.{◌≡◌, ℕ, ◌==◌, false, true, List, [], ◌∷◌, map, find, flat_map, nat_lt, if◌then◌else◌, Option, ℤ, option_map, unwrap_or}, specs.List.AllByRecursion, specs.Option.option_or}
 use Rattle.key_lists.specs.Keys.{is_among, IsRising, without}
 use Rattle.row_changes.specs.Parts.{Parts}
 use Rattle.shift_data.specs.Moves.{canonical}
-use Rattle.table_update.specs.Coalesced.{coalesced}
-use Rattle.table_update.specs.Kept.{old_modified}
+use Rattle.table_update.{specs.Coalesced.coalesced, specs.Kept.old_modified}
 use Rattle.tick_laws.specs.Checked.{keys_after}
-use Rattle.tick_model.specs.declared.feed.Block.{Block}
-use Rattle.tick_model.specs.declared.table.PlainRow.{PlainRow}
-use Rattle.tick_model.specs.declared.table.PlainTable.{PlainTable}
-use Rattle.tick_model.specs.Changes.{is_empty, told_keys}
-use Rattle.tick_model.specs.Shifts.{as_key, moved}
-use Rattle.tick_model.specs.Sources.{keys_within, update_of}
-use Rattle.tick_model.specs.Tables.{cells_at, keys, row_at}
-use Rattle.tick_model.specs.Updates.{IsTick, Tick, Update, between, new_keys, pairs, removing, shifting}
+use Rattle.tick_model.{specs.declared.feed.Block.Block, specs.declared.table.PlainRow.PlainRow, specs.declared.table.PlainTable.PlainTable, specs.Changes.{is_empty, told_keys}, specs.Shifts.{as_key, moved}, specs.Sources.{keys_within, update_of}, specs.Tables.{cells_at, keys, row_at}, specs.Updates.{IsTick, Tick, Update, between, new_keys, pairs, removing, shifting}}
 
 -- the row among others by key, in place of one under its key
 abbrev pub put_row : PlainRow → List PlainRow → List PlainRow

@@ -1,9 +1,7 @@
 -- A source that takes the blocks of a step.
 --     taking blocks      the step as the blocks so far have left it
 --     IsTaking blocks      the blocks are those of a tick
-use Rattle.source_changes.specs.declared.taking.TakenBlocks.{TakenBlocks}
-use Rattle.source_changes.specs.Stepping.{IsStepping, Stepping}
-use Rattle.source_changes.specs.Waiting.{IsGathered, joined}
+use Rattle.source_changes.{specs.declared.taking.TakenBlocks.TakenBlocks, specs.Stepping.{IsStepping, Stepping}, specs.Waiting.{IsGathered, joined}}
 use Rattle.tick_model.specs.Tables.{keys}
 
 abbrev pub taking : TakenBlocks → Stepping

@@ -7,11 +7,9 @@
 --     IsGathered old gathered      what was gathered of a source that had the old keys
 use Rattle.std.specs.Prelude.{◌≡◌, ℕ, ◌^◌, ◌⊎◌, List, [], Option, None, Some}
 use Rattle.row_set.specs.Sets.{IsKeySet}
-use Rattle.source_changes.specs.declared.gathering.Gathered.{Gathered}
-use Rattle.source_changes.specs.Stepping.{update_after}
+use Rattle.source_changes.{specs.declared.gathering.Gathered.Gathered, specs.Stepping.update_after}
 use Rattle.tick_laws.specs.Checked.{keys_after}
-use Rattle.tick_model.specs.Rules.{update_fault}
-use Rattle.tick_model.specs.Updates.{Update}
+use Rattle.tick_model.{specs.Rules.update_fault, specs.Updates.Update}
 
 -- it moves no row, names no column and breaks no rule
 pub record MayWait (keys : List ℕ) (update : Update) : Type 0 where

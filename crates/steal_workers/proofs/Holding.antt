@@ -1,24 +1,12 @@
 -- What a hand's seat has, from node to node.
 use Rattle.std.proofs.Common.{◌≡◌, ◌≢◌, ℕ, zero, suc, ◌+◌, ◌-◌, ◌<◌, Bool, true, false, ◌==◌, ◌||◌, sym, refl, ap, ◌∙◌, subst, arith, inl, inr, Option, Some, None, List, [], ◌∷◌, ◌++◌}
-use Rattle.std.specs.Prelude.{◌⊎◌, IfOk, MatchOption, Result, Ok, Err}
-use Rattle.std.specs.List.{list_any}
+use Rattle.std.{specs.Prelude.{◌⊎◌, IfOk, MatchOption, Result, Ok, Err}, specs.List.list_any}
 use mathlib.Core.Logic.{dite}
 use mathlib.Core.Option.{some}
 use native.Mathlib.Decide.{ℕ_discrete}
 use lib.ListN.{get_elem?}
-use Rattle.graph_words.specs.declared.graph.Edge.{Edge}
-use Rattle.graph_words.specs.declared.graph.Plan.{Plan}
-use Rattle.graph_words.specs.declared.table.Mark.{Mark}
-use Rattle.graph_words.specs.declared.table.Mark.TheVariants.{Unmarked, InHand, Drawn, Untaken, Taken, PutBack, Delivered}
-use Rattle.graph_words.specs.declared.table.View.{View}
-use Rattle.graph_words.specs.Marks.{IsHadMark, at, either_mark, inputs, put, when}
-use Rattle.graph_words.specs.Models.{SeatModel}
-use Rattle.graph_words.specs.Seats.{Has, IsLateByFrom, IsMarkedByFrom}
-use Rattle.graph_words.specs.Views.{InputsDelivered, IsUntouched, both_views, gets, mark_node}
-use Rattle.graph_words.proofs.Marks.{at_merge, at_put, at_put_else}
-use Rattle.steal_workers.specs.Lists.{IsListed}
-use Rattle.steal_workers.proofs.Listing.{listed_cases, listed_first, listed_last, listed_where, moved_in, moved_out, true_false}
-use Rattle.steal_workers.specs.Holdings.{AllBack, AllLate, IsGoneOn, IsHeld, IsReady, IsSettled, KeepsOthers, IsJoined, NoNode, OnlyNode, SourcesBack, less_parts, some_parts}
+use Rattle.graph_words.{specs.declared.graph.Edge.Edge, specs.declared.graph.Plan.Plan, specs.declared.table.Mark.Mark, specs.declared.table.Mark.TheVariants.{Unmarked, InHand, Drawn, Untaken, Taken, PutBack, Delivered}, specs.declared.table.View.View, specs.Marks.{IsHadMark, at, either_mark, inputs, put, when}, specs.Models.SeatModel, specs.Seats.{Has, IsLateByFrom, IsMarkedByFrom}, specs.Views.{InputsDelivered, IsUntouched, both_views, gets, mark_node}, proofs.Marks.{at_merge, at_put, at_put_else}}
+use Rattle.steal_workers.{specs.Lists.IsListed, proofs.Listing.{listed_cases, listed_first, listed_last, listed_where, moved_in, moved_out, true_false}, specs.Holdings.{AllBack, AllLate, IsGoneOn, IsHeld, IsReady, IsSettled, KeepsOthers, IsJoined, NoNode, OnlyNode, SourcesBack, less_parts, some_parts}}
 
 pub has_mark : (m n : Mark) → m ≡ n → IsHadMark n → IsHadMark m
 has_mark m n e has = subst IsHadMark (sym e) has

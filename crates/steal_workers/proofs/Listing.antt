@@ -1,11 +1,6 @@
 -- Lists of different numbers, one after another.
 use Rattle.std.proofs.Common.{◌≡◌, ℕ, ◌<◌, ◌+◌, Bool, true, false, ◌||◌, eqb, List, [], ◌∷◌, ◌++◌, length, length-append, Option, Some, None, sym, refl, ap, ◌∙◌, subst, arith, inl, inr}
-use Rattle.std.specs.Prelude.{◌⊎◌, IfSome, option_to_list}
-use Rattle.std.specs.List.{list_any, AllByRecursion, IsDistinct}
-use Rattle.std.proofs.lemmas.Bool.{eq-eqb, eqb-true, ne_eqb, or_right, or_left, or_cases, or_parts}
-use Rattle.std.proofs.lemmas.List.{append-nil}
-use Rattle.std.proofs.lemmas.List.Folds.{list_any-append}
-use Rattle.std.proofs.lemmas.Map.Steps.{length-le_from_distinct_below}
+use Rattle.std.{specs.Prelude.{◌⊎◌, IfSome, option_to_list}, specs.List.{list_any, AllByRecursion, IsDistinct}, proofs.lemmas.Bool.{eq-eqb, eqb-true, ne_eqb, or_right, or_left, or_cases, or_parts}, proofs.lemmas.List.append-nil, proofs.lemmas.List.Folds.list_any-append, proofs.lemmas.Map.Steps.length-le_from_distinct_below}
 use Rattle.steal_workers.specs.Lists.{IsListed}
 
 pub true_false : true ≡ false → ⊥

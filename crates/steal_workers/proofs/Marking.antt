@@ -6,16 +6,8 @@ use native.Mathlib.Decide.{ℕ_discrete}
 use lib.ListN.{get_elem?}
 use Rattle.std.specs.Vec.{with_item}
 use Rattle.graph_words.proofs.Marks.{below_of}
-use Rattle.crossbeam_deque.specs.Handles.{worker_deque, worker_view, stealer_deque}
-use Rattle.crossbeam_deque.proofs.Lists.{at_map, at_set, at_snoc, set_again, set_here}
-use Rattle.steal_workers.specs.declared.hand.Hand.{Hand}
-use Rattle.steal_workers.specs.declared.own.Own.{Own}
-use Rattle.steal_workers.specs.declared.raid.Raid.{Raid}
-use Rattle.steal_workers.specs.Deques.{IsRested, IsSameDeque, IsTallied}
-use Rattle.steal_workers.specs.Hands.{AllEmpty, AllRested, hand_mark, hand_marks, raid_mark}
-use Rattle.steal_workers.specs.Musters.{HandMark, IsCrewed, RaidMark, idle_on, nothing, passes_at, passes_in, passes_of, passes_out}
-use Rattle.steal_workers.proofs.Tallies.{nothing_left}
-use Rattle.steal_workers.proofs.Mustering.{armed_crewed, cut_crewed, disarmed_crewed, idle_crewed, joined_crewed, less_passes, none_passes, of_set_else, of_set_here, of_there, one_pass, out_most, out_none, out_set}
+use Rattle.crossbeam_deque.{specs.Handles.{worker_deque, worker_view, stealer_deque}, proofs.Lists.{at_map, at_set, at_snoc, set_again, set_here}}
+use Rattle.steal_workers.{specs.declared.hand.Hand.Hand, specs.declared.own.Own.Own, specs.declared.raid.Raid.Raid, specs.Deques.{IsRested, IsSameDeque, IsTallied}, specs.Hands.{AllEmpty, AllRested, hand_mark, hand_marks, raid_mark}, specs.Musters.{HandMark, IsCrewed, RaidMark, idle_on, nothing, passes_at, passes_in, passes_of, passes_out}, proofs.Tallies.nothing_left, proofs.Mustering.{armed_crewed, cut_crewed, disarmed_crewed, idle_crewed, joined_crewed, less_passes, none_passes, of_set_else, of_set_here, of_there, one_pass, out_most, out_none, out_set}}
 
 pub map_set : {A B : Type 0} (f : A → B) (xs : List A) (i : ℕ) (a : A) → map f (set xs i a) ≡ set (map f xs) i (f a)
 map_set f [] i a = refl

@@ -5,10 +5,8 @@ use mathlib.Core.Logic.{dite}
 use native.Mathlib.Decide.{ℕ_discrete}
 use mathlib.Core.Option.{some, some-injective, some-ne-none}
 use lib.ListN.{get_elem?}
-use Rattle.crossbeam_deque.specs.Tasks.{Pushes, Takes, Pops, Finds, Forks, Merges, Learns}
-use Rattle.crossbeam_deque.proofs.Lists.{at_set, at_snoc}
-use Rattle.steal_workers.specs.declared.deques.Log.{Log}
-use Rattle.steal_workers.specs.Deques.{AllBlank, AllIdle, IsBalanced, IsBlank, IsEven, IsIdle, IsTakenOnce, IsTallied, log, total, weigh}
+use Rattle.crossbeam_deque.{specs.Tasks.{Pushes, Takes, Pops, Finds, Forks, Merges, Learns}, proofs.Lists.{at_set, at_snoc}}
+use Rattle.steal_workers.{specs.declared.deques.Log.Log, specs.Deques.{AllBlank, AllIdle, IsBalanced, IsBlank, IsEven, IsIdle, IsTakenOnce, IsTallied, log, total, weigh}}
 
 total_set : (f : Log → ℕ) (logs : List Log) (port : ℕ) (v w : Log) → get_elem? logs port ≡ some v → total f (set logs port w) + f v ≡ total f logs + f w
 total_set f [] port v w there = absurd (some-ne-none v (sym there))

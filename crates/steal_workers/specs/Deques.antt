@@ -9,15 +9,11 @@
 --     IsSameDeque old new      the same deque, with as many parts
 --     IsRested deque      all parts are here, and nothing was pushed or taken
 --     IsEmpty rule deque      whatever the deque holds under the rule, it is nothing
-use Rattle.std.specs.Prelude.{◌≡◌, ℕ, ◌+◌, ◌≤◌, List, [], ◌∷◌, ◌++◌, length, ◌==◌, cond, Option, Some, None}
+use Rattle.std.{specs.Prelude.{◌≡◌, ℕ, ◌+◌, ◌≤◌, List, [], ◌∷◌, ◌++◌, length, ◌==◌, cond, Option, Some, None}, specs.declared.alloc.Global.Global}
 use mathlib.Core.Option.{some}
 use lib.ListN.{get_elem?}
-use Rattle.std.specs.declared.alloc.Global.{Global}
-use Rattle.crossbeam_deque.specs.declared.handles.Worker.{Worker}
-use Rattle.crossbeam_deque.specs.Tasks.{Learns}
-use Rattle.crossbeam_deque.specs.Handles.{Pass, view, worker_deque, worker_port, worker_view}
-use Rattle.steal_workers.specs.declared.deques.Log.{Log}
-use Rattle.steal_workers.specs.declared.deques.Tally.{Tally}
+use Rattle.crossbeam_deque.{specs.declared.handles.Worker.Worker, specs.Tasks.Learns, specs.Handles.{Pass, view, worker_deque, worker_port, worker_view}}
+use Rattle.steal_workers.{specs.declared.deques.Log.Log, specs.declared.deques.Tally.Tally}
 
 abbrev pub log : ℕ → List ℕ → List ℕ → Log
 log parts pushed taken = record { parts = parts; pushed = pushed; taken = taken }

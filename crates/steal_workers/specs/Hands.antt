@@ -6,11 +6,7 @@ use Rattle.std.specs.Prelude.{◌≡◌, ℕ, List, map, is_some}
 use mathlib.Core.Option.{some}
 use lib.ListN.{get_elem?}
 use Rattle.crossbeam_deque.specs.Handles.{worker_deque, worker_view, stealer_deque}
-use Rattle.steal_workers.specs.declared.deques.Log.{Log}
-use Rattle.steal_workers.specs.declared.hand.Hand.{Hand}
-use Rattle.steal_workers.specs.declared.raid.Raid.{Raid}
-use Rattle.steal_workers.specs.Deques.{IsEmpty, IsRested}
-use Rattle.steal_workers.specs.Musters.{HandMark, RaidMark}
+use Rattle.steal_workers.{specs.declared.deques.Log.Log, specs.declared.hand.Hand.Hand, specs.declared.raid.Raid.Raid, specs.Deques.{IsEmpty, IsRested}, specs.Musters.{HandMark, RaidMark}}
 
 abbrev pub raid_mark : Raid → RaidMark
 raid_mark raid = record { deque = stealer_deque raid.thief; armed = is_some raid.pass }

@@ -14,15 +14,7 @@
 use Rattle.std.specs.Prelude.{◌≡◌, ◌≢◌, ◌⊎◌, ℕ, ◌+◌, ◌-◌, ◌<◌, List, Result, Ok}
 use mathlib.Core.Option.{some}
 use lib.ListN.{get_elem?}
-use Rattle.graph_words.specs.declared.graph.Edge.{Edge}
-use Rattle.graph_words.specs.declared.graph.Plan.{Plan}
-use Rattle.graph_words.specs.declared.table.Mark.TheVariants.{Untaken, PutBack, Delivered}
-use Rattle.graph_words.specs.declared.table.View.{View}
-use Rattle.graph_words.specs.Marks.{at, inputs}
-use Rattle.graph_words.specs.Rule.{Tags}
-use Rattle.graph_words.specs.Seats.{AtEdge, Has, IsLateByFrom, IsMarkedByFrom}
-use Rattle.graph_words.specs.Models.{SeatModel}
-use Rattle.graph_words.specs.Views.{IsUntouched, both_views, one_part}
+use Rattle.graph_words.{specs.declared.graph.Edge.Edge, specs.declared.graph.Plan.Plan, specs.declared.table.Mark.TheVariants.{Untaken, PutBack, Delivered}, specs.declared.table.View.View, specs.Marks.{at, inputs}, specs.Rule.Tags, specs.Seats.{AtEdge, Has, IsLateByFrom, IsMarkedByFrom}, specs.Models.SeatModel, specs.Views.{IsUntouched, both_views, one_part}}
 use Rattle.steal_workers.specs.Lists.{IsListed}
 
 -- no node

@@ -1,6 +1,5 @@
 -- Lists of node numbers.
-use Rattle.std.specs.Prelude.{◌≡◌, ℕ, List, true, eqb}
-use Rattle.std.specs.List.{list_any}
+use Rattle.std.{specs.Prelude.{◌≡◌, ℕ, List, true, eqb}, specs.List.list_any}
 
 -- the number stands in the list
 abbrev pub IsListed : List ℕ → ℕ → Type 0

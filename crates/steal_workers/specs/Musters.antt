@@ -1,11 +1,10 @@
 -- What is told of the hands of a crew: which deques they have, and where the parts of each deque are.
 --     IsCrewed spare hands      raid number k of each hand is on the deque of hand k, and all parts of that deque are with hand k, with the raids on it, or spare
-use Rattle.std.specs.Prelude.{◌≡◌, ℕ, zero, suc, ◌+◌, List, [], ◌∷◌, Bool, false, cond}
+use Rattle.std.{specs.Prelude.{◌≡◌, ℕ, zero, suc, ◌+◌, List, [], ◌∷◌, Bool, false, cond}, specs.declared.alloc.Global.Global}
 use mathlib.Core.Option.{some, none}
 use mathlib.Core.Option as maybe
 use lib.ListN.{get_elem?}
 use Rattle.atomic_blocks.specs.Lent.{RowsId}
-use Rattle.std.specs.declared.alloc.Global.{Global}
 
 abbrev pub DequeId : Type 0
 DequeId = RowsId × Global

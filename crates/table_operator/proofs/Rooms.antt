@@ -1,14 +1,9 @@
 -- A step with one input, or with two: that there are so many, and how many cells it may read.
 use Rattle.std.proofs.Common.{◌≡◌, ap, ap₂, sym, ◌∙◌, ℕ, ◌+◌, ◌*◌, arith, List, [], ◌∷◌, map, length}
-use Rattle.std.specs.Prelude.{sum}
-use Rattle.std.proofs.lemmas.List.{length-map}
-use Rattle.std.proofs.lemmas.List.Sums.{sum_by-cons}
-use Rattle.tick_model.specs.Changes.{change_of}
-use Rattle.tick_model.specs.Operators.{result_width}
-use Rattle.tick_table.specs.Exact.{counted}
-use Rattle.tick_table.specs.Ticking.{Ticking}
-use Rattle.table_operator.specs.Inputs.{counted_in}
-use Rattle.table_operator.specs.Made.{Made, own_tick, room_for}
+use Rattle.std.{specs.Prelude.sum, proofs.lemmas.List.length-map, proofs.lemmas.List.Sums.sum_by-cons}
+use Rattle.tick_model.{specs.Changes.change_of, specs.Operators.result_width}
+use Rattle.tick_table.{specs.Exact.counted, specs.Ticking.Ticking}
+use Rattle.table_operator.{specs.Inputs.counted_in, specs.Made.{Made, own_tick, room_for}}
 
 -- as many inputs as widths
 pub count_is : (inputs : List Ticking) (widths : List ℕ) → map (λ (input : Ticking). input.new.width) inputs ≡ widths → length inputs ≡ length widths

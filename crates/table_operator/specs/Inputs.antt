@@ -3,15 +3,9 @@
 --     olds inputs, news inputs      what they were before the step, and what they are now
 --     counted_in inputs      what their updates count
 --     tick_in inputs      the tick of each input by its number in the list
-use Rattle.std.specs.Prelude.{ℕ, List, [], map, slice_index_or, sum_by}
-use Rattle.std.specs.Arc.{arc_value}
-use Rattle.std.specs.declared.alloc.Global.{Global}
-use Rattle.std.specs.declared.sync.Arc.{Arc}
-use Rattle.tick_model.specs.declared.table.PlainTable.{PlainTable}
-use Rattle.tick_model.specs.Tables.{no_table}
-use Rattle.tick_model.specs.Updates.{Tick}
-use Rattle.tick_table.specs.Exact.{counted}
-use Rattle.tick_table.specs.Ticking.{Ticking}
+use Rattle.std.{specs.Prelude.{ℕ, List, [], map, slice_index_or, sum_by}, specs.Arc.arc_value, specs.declared.alloc.Global.Global, specs.declared.sync.Arc.Arc}
+use Rattle.tick_model.{specs.declared.table.PlainTable.PlainTable, specs.Tables.no_table, specs.Updates.Tick}
+use Rattle.tick_table.{specs.Exact.counted, specs.Ticking.Ticking}
 
 abbrev pub tables : List (Arc Ticking Global) → List Ticking
 tables = map (λ shared. arc_value {X = Ticking} shared)

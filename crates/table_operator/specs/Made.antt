@@ -6,24 +6,11 @@
 --     own_tick made inputs, own_fault made inputs      the tick of its own table, and its fault where it has none now
 --     IsCause fault own      what a step answers in place of a change, where its inputs' tables have this fault
 --     room_for made inputs      how many cells a step may read
-use Rattle.std.specs.Prelude.{◌≡◌, ℕ, ◌+◌, ◌*◌, ◌^◌, ◌<◌, ◌≤◌, List, length, map, sum, Option, Some}
-use Rattle.std.specs.List.{AllByRecursion}
-use Rattle.tick_model.specs.declared.plan.Op.{Op}
-use Rattle.tick_model.specs.declared.plan.Op.TheVariants.{Merge}
-use Rattle.tick_model.specs.declared.table.NodeFault.{NodeFault}
-use Rattle.tick_model.specs.declared.table.PlainTable.{PlainTable}
-use Rattle.tick_model.specs.Changes.{change_of}
-use Rattle.tick_model.specs.Operators.{fault_of, inputs_of, result_width}
-use Rattle.tick_model.specs.Merge.{merge_table}
-use Rattle.tick_model.specs.Ready.{table_in}
-use Rattle.tick_model.specs.Tables.{keys}
-use Rattle.tick_model.specs.Updates.{Tick}
+use Rattle.std.{specs.Prelude.{◌≡◌, ℕ, ◌+◌, ◌*◌, ◌^◌, ◌<◌, ◌≤◌, List, length, map, sum, Option, Some}, specs.List.AllByRecursion}
+use Rattle.tick_model.{specs.declared.plan.Op.Op, specs.declared.plan.Op.TheVariants.Merge, specs.declared.table.NodeFault.NodeFault, specs.declared.table.PlainTable.PlainTable, specs.Changes.change_of, specs.Operators.{fault_of, inputs_of, result_width}, specs.Merge.merge_table, specs.Ready.table_in, specs.Tables.keys, specs.Updates.Tick}
 use Rattle.tick_laws.specs.Operated.{operated}
-use Rattle.tick_table.specs.Exact.{IsExact, counted, tick_of}
-use Rattle.tick_table.specs.Ticking.{Ticking}
-use Rattle.table_operator.specs.declared.fault.StepFault.{StepFault}
-use Rattle.table_operator.specs.declared.fault.StepFault.TheVariants.{Memory, Node}
-use Rattle.table_operator.specs.Inputs.{counted_in, news, olds, tick_in}
+use Rattle.tick_table.{specs.Exact.{IsExact, counted, tick_of}, specs.Ticking.Ticking}
+use Rattle.table_operator.{specs.declared.fault.StepFault.StepFault, specs.declared.fault.StepFault.TheVariants.{Memory, Node}, specs.Inputs.{counted_in, news, olds, tick_in}}
 
 pub record Made : Type 0 where
   pub op : Op

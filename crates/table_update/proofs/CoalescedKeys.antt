@@ -1,25 +1,12 @@
 -- What two updates, one after the other, remove, add and modify, by edits of the sets of the second.
 use Rattle.std.proofs.Common.{◌≡◌, refl, ap, ap₂, sym, ◌∙◌, subst, Bool, true, false, cond, not, ◌&&◌, ◌||◌, ◌==◌, ℕ, ◌<◌, ◌^◌, List, [], ◌∷◌, ◌++◌, map, filter, Some, None, true≢false, inl, inr}
-use Rattle.std.specs.Prelude.{find, option_map}
-use Rattle.std.specs.List.{AllByRecursion, cons_option}
-use Rattle.std.proofs.lemmas.Bool.{and_parts, or_right, or_cases, not-false, eqb-true, cases_Bool, cases_eq, eq-eqb, ne_eqb, or_left}
-use Rattle.key_lists.specs.Keys.{is_among, IsRising, without}
-use Rattle.key_lists.proofs.Among.{among-filter, among-append, among_below, each_among, of_among, absent-filter}
-use Rattle.key_lists.proofs.Every.{every, every_weaker, every_unmapped, filter-map, map_map, map_own, none_pass}
-use Rattle.key_lists.proofs.Rising.{rising_some, rising_same}
-use Rattle.key_lists.proofs.Booleans.{or_assoc, or_swap}
-use Rattle.row_set.specs.Sets.{united}
-use Rattle.row_set.proofs.United.{among-united, united_rises}
-use Rattle.tick_model.specs.declared.update.KeyPair.{KeyPair}
-use Rattle.tick_model.specs.Rules.{landed, update_fault}
-use Rattle.tick_model.specs.Shifts.{moved, as_key, composed}
-use Rattle.tick_model.specs.Updates.{Update, kept_pair, new_keys, old_keys}
-use Rattle.tick_laws.specs.Checked.{keys_after}
-use Rattle.tick_laws.proofs.CheckedUpdates.{among-put_keys, keys_after-rise}
+use Rattle.std.{specs.Prelude.{find, option_map}, specs.List.{AllByRecursion, cons_option}, proofs.lemmas.Bool.{and_parts, or_right, or_cases, not-false, eqb-true, cases_Bool, cases_eq, eq-eqb, ne_eqb, or_left}}
+use Rattle.key_lists.{specs.Keys.{is_among, IsRising, without}, proofs.Among.{among-filter, among-append, among_below, each_among, of_among, absent-filter}, proofs.Every.{every, every_weaker, every_unmapped, filter-map, map_map, map_own, none_pass}, proofs.Rising.{rising_some, rising_same}, proofs.Booleans.{or_assoc, or_swap}}
+use Rattle.row_set.{specs.Sets.united, proofs.United.{among-united, united_rises}}
+use Rattle.tick_model.{specs.declared.update.KeyPair.KeyPair, specs.Rules.{landed, update_fault}, specs.Shifts.{moved, as_key, composed}, specs.Updates.{Update, kept_pair, new_keys, old_keys}}
+use Rattle.tick_laws.{specs.Checked.keys_after, proofs.CheckedUpdates.{among-put_keys, keys_after-rise}}
 use Rattle.shift_data.specs.Moves.{IsLawful, pair_through, unapplied}
-use Rattle.table_update.specs.Coalesced.{key_pairs, kept_by_both, is_modified, modified_after, removed_by_both, added_by_both, modified_by_both}
-use Rattle.table_update.proofs.KeysAfter.{KeepsRules, rules_kept}
-use Rattle.table_update.proofs.LawfulParts.{lawful_some, places_rise}
+use Rattle.table_update.{specs.Coalesced.{key_pairs, kept_by_both, is_modified, modified_after, removed_by_both, added_by_both, modified_by_both}, proofs.KeysAfter.{KeepsRules, rules_kept}, proofs.LawfulParts.{lawful_some, places_rise}}
 
 -- tests of a key, by the sets that have it
 removed_test : (r o g : Bool) → (r ≡ true → o ≡ true) → (r || (g && (not r && o))) ≡ (not (not g && (not r && o)) && o)

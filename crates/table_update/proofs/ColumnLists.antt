@@ -1,18 +1,8 @@
 -- The columns of a set, by the bits of its number.
 use Rattle.std.proofs.Common.{◌≡◌, refl, ap, ap₂, sym, ◌∙◌, subst, true, false, ◌&&◌, ◌||◌, ◌==◌, ℕ, zero, suc, ◌<◌, ◌≤◌, ◌^◌, ◌*◌, ◌%◌, arith, List, [], ◌∷◌, filter, max, inl, inr, w32}
-use Rattle.std.specs.Int.{bit_at}
-use Rattle.std.specs.Prelude.{bit_or}
-use Rattle.std.proofs.lemmas.Bool.{cases_eq, cases_lt, eq-eqb, ne_eqb, or_left, or_from, and_right, and_left, or_right, false_from_ne_true, true≢false, eqb-true, eqb-false, cases_Bool}
-use Rattle.std.proofs.lemmas.Nat.Bits.{bit_at_set_same, bit_at_set_other, bit_at_or, bit_at-lt, bit_at-zero, same_from_bits_below}
-use Rattle.key_lists.specs.Keys.{is_among, IsRising}
-use Rattle.key_lists.proofs.Among.{among-filter}
-use Rattle.key_lists.proofs.Rising.{rising_some, rising_same}
-use Rattle.key_lists.proofs.Booleans.{and_true}
-use Rattle.row_set.specs.declared.ranges.Range.{Range}
-use Rattle.row_set.specs.Ranges.{keys_from}
-use Rattle.row_set.specs.Sets.{with_key, united}
-use Rattle.row_set.proofs.Held.{range_rises, among-in, holds-true, holds_after}
-use Rattle.row_set.proofs.United.{among-with_key, with_key_rises, among-united, united_rises}
+use Rattle.std.{specs.Int.bit_at, specs.Prelude.bit_or, proofs.lemmas.Bool.{cases_eq, cases_lt, eq-eqb, ne_eqb, or_left, or_from, and_right, and_left, or_right, false_from_ne_true, true≢false, eqb-true, eqb-false, cases_Bool}, proofs.lemmas.Nat.Bits.{bit_at_set_same, bit_at_set_other, bit_at_or, bit_at-lt, bit_at-zero, same_from_bits_below}}
+use Rattle.key_lists.{specs.Keys.{is_among, IsRising}, proofs.Among.among-filter, proofs.Rising.{rising_some, rising_same}, proofs.Booleans.and_true}
+use Rattle.row_set.{specs.declared.ranges.Range.Range, specs.Ranges.keys_from, specs.Sets.{with_key, united}, proofs.Held.{range_rises, among-in, holds-true, holds_after}, proofs.United.{among-with_key, with_key_rises, among-united, united_rises}}
 use Rattle.tick_model.specs.Changes.{is_none}
 use Rattle.table_update.specs.Columns.{has_bit, columns_of}
 

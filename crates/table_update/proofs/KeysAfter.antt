@@ -1,20 +1,10 @@
 -- The keys that an update leaves, by the edits of a set.
 use Rattle.std.proofs.Common.{◌≡◌, refl, ap, ◌∙◌, false, cond, not, ◌||◌, ◌++◌, ◌==◌, ℕ, ◌^◌, ltb, List, [], ◌∷◌, Option, None}
-use Rattle.std.specs.Prelude.{find, option_map, length}
-use Rattle.std.specs.List.{AllByRecursion}
-use Rattle.std.specs.Option.{option_or}
-use Rattle.std.proofs.lemmas.Bool.{or_parts, or_from}
-use Rattle.key_lists.specs.Keys.{is_among, IsRising, without}
-use Rattle.key_lists.proofs.Among.{among_below}
-use Rattle.key_lists.proofs.Every.{none_pass}
-use Rattle.key_lists.proofs.Booleans.{eqb_swap}
-use Rattle.row_set.specs.Sets.{with_key, united}
-use Rattle.row_set.proofs.United.{among-united}
-use Rattle.tick_model.specs.declared.update.UpdateFault.TheVariants.{RemovedAbsent, AddedTaken, ModifiedAbsent, ModifiedAdded}
-use Rattle.tick_model.specs.Rules.{landed, shift_fault, update_fault}
-use Rattle.tick_model.specs.Updates.{Update}
-use Rattle.tick_laws.specs.Checked.{put_key, put_keys, keys_after}
-use Rattle.tick_laws.proofs.CheckedUpdates.{none_parts, map_none}
+use Rattle.std.{specs.Prelude.{find, option_map, length}, specs.List.AllByRecursion, specs.Option.option_or, proofs.lemmas.Bool.{or_parts, or_from}}
+use Rattle.key_lists.{specs.Keys.{is_among, IsRising, without}, proofs.Among.among_below, proofs.Every.none_pass, proofs.Booleans.eqb_swap}
+use Rattle.row_set.{specs.Sets.{with_key, united}, proofs.United.among-united}
+use Rattle.tick_model.{specs.declared.update.UpdateFault.TheVariants.{RemovedAbsent, AddedTaken, ModifiedAbsent, ModifiedAdded}, specs.Rules.{landed, shift_fault, update_fault}, specs.Updates.Update}
+use Rattle.tick_laws.{specs.Checked.{put_key, put_keys, keys_after}, proofs.CheckedUpdates.{none_parts, map_none}}
 
 -- a key that is none of the others is put among them
 with_key-put : (key : ℕ) (keys : List ℕ) → is_among key keys ≡ false → with_key key keys ≡ put_key key keys

@@ -1,19 +1,9 @@
 -- Shifts that are lawful on some of the keys.
 use Rattle.std.proofs.Common.{◌≡◌, refl, ap, ap₂, sym, ◌∙◌, subst, Bool, true, false, cond, ◌||◌, ℕ, ◌+◌, ◌^◌, ◌<◌, ◌≤◌, arith, List, [], ◌∷◌, map, filter, leb, ltb, Some, None, Option, pos, negsuc, ℤ, inl, inr}
-use Rattle.std.specs.Prelude.{IfSome, int_le, int_lt}
-use Rattle.std.specs.List.{AllByRecursion}
-use Rattle.std.proofs.lemmas.Bool.{cases_Bool, or_parts, or_from, leb-false, lt-leb, true≢false}
-use Rattle.std.proofs.lemmas.Option.{none-some}
-use Rattle.key_lists.specs.Keys.{IsRising}
-use Rattle.key_lists.proofs.Every.{every_weaker, every-filter}
-use Rattle.key_lists.proofs.Rising.{rising-filter}
-use Rattle.tick_model.specs.declared.update.ShiftRange.{ShiftRange}
-use Rattle.tick_model.specs.declared.update.UpdateFault.{UpdateFault}
-use Rattle.tick_model.specs.declared.update.UpdateFault.TheVariants.{ShiftBreaks}
-use Rattle.tick_model.specs.Shifts.{moved, as_key}
-use Rattle.tick_model.specs.Rules.{is_past, shift_fault_after, shift_fault, landed}
-use Rattle.shift_data.specs.Moves.{IsLawful}
-use Rattle.shift_data.proofs.Lawful.{not_past}
+use Rattle.std.{specs.Prelude.{IfSome, int_le, int_lt}, specs.List.AllByRecursion, proofs.lemmas.Bool.{cases_Bool, or_parts, or_from, leb-false, lt-leb, true≢false}, proofs.lemmas.Option.none-some}
+use Rattle.key_lists.{specs.Keys.IsRising, proofs.Every.{every_weaker, every-filter}, proofs.Rising.rising-filter}
+use Rattle.tick_model.{specs.declared.update.ShiftRange.ShiftRange, specs.declared.update.UpdateFault.UpdateFault, specs.declared.update.UpdateFault.TheVariants.ShiftBreaks, specs.Shifts.{moved, as_key}, specs.Rules.{is_past, shift_fault_after, shift_fault, landed}}
+use Rattle.shift_data.{specs.Moves.IsLawful, proofs.Lawful.not_past}
 use Rattle.tick_laws.proofs.CheckedUpdates.{shift_lawful}
 
 abbrev place : List ShiftRange → ℕ → ℕ

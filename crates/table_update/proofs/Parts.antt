@@ -1,9 +1,7 @@
 -- The parts of an update that two make.
 use Rattle.std.proofs.Common.{cond, List, [], ℕ}
 use Rattle.row_set.specs.Sets.{united}
-use Rattle.tick_model.specs.declared.update.ShiftRange.{ShiftRange}
-use Rattle.tick_model.specs.Changes.{is_none}
-use Rattle.tick_model.specs.Updates.{Update}
+use Rattle.tick_model.{specs.declared.update.ShiftRange.ShiftRange, specs.Changes.is_none, specs.Updates.Update}
 
 abbrev pub made : List ℕ → List ℕ → List ℕ → List ShiftRange → List ℕ → Update
 made removed added modified shifted columns = record { removed = removed; added = added; modified = modified; shifted = shifted; columns = columns }

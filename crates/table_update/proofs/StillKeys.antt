@@ -1,29 +1,13 @@
 -- What an update that moves no rows modifies, and what two such, one after the other, remove, add, modify and move, by edits of
 -- the sets of the first.
 use Rattle.std.proofs.Common.{◌≡◌, refl, ap, ap₂, sym, ◌∙◌, Bool, true, false, not, ◌&&◌, ◌||◌, ℕ, ◌^◌, arith, List, [], filter, pos, ◌+ℤ◌, None, true≢false}
-use Rattle.std.specs.List.{AllByRecursion}
-use Rattle.std.proofs.lemmas.Bool.{not-false}
-use Rattle.std.proofs.lemmas.Int.{ints}
-use Rattle.key_lists.specs.Keys.{is_among, IsRising, without}
-use Rattle.key_lists.proofs.Among.{among-filter, of_among}
-use Rattle.key_lists.proofs.Every.{every, filter_all, filter_same, map_own, map_same, none_pass}
-use Rattle.key_lists.proofs.Rising.{rising_some, rising_same}
-use Rattle.key_lists.proofs.Booleans.{or_turned}
-use Rattle.row_set.specs.Sets.{united}
-use Rattle.row_set.proofs.United.{among-united, united_rises}
-use Rattle.tick_model.specs.declared.update.KeyPair.{KeyPair}
-use Rattle.tick_model.specs.declared.update.ShiftRange.{ShiftRange}
-use Rattle.tick_model.specs.Rules.{landed, update_fault}
-use Rattle.tick_model.specs.Shifts.{moved, as_key, shifted}
-use Rattle.tick_model.specs.Sources.{same_key}
-use Rattle.tick_model.specs.Updates.{Update}
-use Rattle.tick_laws.specs.Checked.{keys_after}
-use Rattle.tick_laws.proofs.WholeUpdates.{nothing_moves}
+use Rattle.std.{specs.List.AllByRecursion, proofs.lemmas.Bool.not-false, proofs.lemmas.Int.ints}
+use Rattle.key_lists.{specs.Keys.{is_among, IsRising, without}, proofs.Among.{among-filter, of_among}, proofs.Every.{every, filter_all, filter_same, map_own, map_same, none_pass}, proofs.Rising.{rising_some, rising_same}, proofs.Booleans.or_turned}
+use Rattle.row_set.{specs.Sets.united, proofs.United.{among-united, united_rises}}
+use Rattle.tick_model.{specs.declared.update.KeyPair.KeyPair, specs.declared.update.ShiftRange.ShiftRange, specs.Rules.{landed, update_fault}, specs.Shifts.{moved, as_key, shifted}, specs.Sources.same_key, specs.Updates.Update}
+use Rattle.tick_laws.{specs.Checked.keys_after, proofs.WholeUpdates.nothing_moves}
 use Rattle.shift_data.specs.Moves.{IsLawful, pair_through, unapplied}
-use Rattle.table_update.specs.Coalesced.{kept_by_both, removed_by_both, added_by_both, modified_by_both}
-use Rattle.table_update.proofs.KeysAfter.{rules_kept}
-use Rattle.table_update.proofs.Occupied.{landed-unapplied}
-use Rattle.table_update.proofs.CoalescedKeys.{kept_keys, kept_pairs, in_between, is_apart, united_removed, united_added, united_modified}
+use Rattle.table_update.{specs.Coalesced.{kept_by_both, removed_by_both, added_by_both, modified_by_both}, proofs.KeysAfter.rules_kept, proofs.Occupied.landed-unapplied, proofs.CoalescedKeys.{kept_keys, kept_pairs, in_between, is_apart, united_removed, united_added, united_modified}}
 
 -- no range moves no key
 pub still_key : (key : ℕ) → as_key (moved [] key) ≡ key

@@ -5,11 +5,7 @@
 use Rattle.std.specs.Prelude.{◌≡◌, ℕ, ◌^◌, ◌||◌, Bool, List, [], None, map, filter, if◌then◌else◌}
 use Rattle.key_lists.specs.Keys.{is_among, without}
 use Rattle.row_set.specs.Sets.{united}
-use Rattle.tick_model.specs.declared.update.KeyPair.{KeyPair}
-use Rattle.tick_model.specs.Changes.{is_none}
-use Rattle.tick_model.specs.Rules.{landed, update_fault}
-use Rattle.tick_model.specs.Shifts.{moved, as_key, composed, shifted}
-use Rattle.tick_model.specs.Updates.{Update, kept_pair, new_keys, old_keys}
+use Rattle.tick_model.{specs.declared.update.KeyPair.KeyPair, specs.Changes.is_none, specs.Rules.{landed, update_fault}, specs.Shifts.{moved, as_key, composed, shifted}, specs.Updates.{Update, kept_pair, new_keys, old_keys}}
 use Rattle.tick_laws.specs.Checked.{keys_after}
 
 pub record Follow (old : List ℕ) (first next : Update) : Type 0 where

@@ -1,7 +1,6 @@
 -- Sets of columns.
 --     columns_of bits      the columns of a set, by the bits of a number
-use Rattle.std.specs.Prelude.{ℕ, ◌==◌, Bool, List, filter}
-use Rattle.std.specs.Int.{bit_at}
+use Rattle.std.{specs.Prelude.{ℕ, ◌==◌, Bool, List, filter}, specs.Int.bit_at}
 use Rattle.row_set.specs.Ranges.{keys_from}
 
 abbrev pub has_bit : ℕ → ℕ → Bool

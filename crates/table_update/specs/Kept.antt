@@ -1,14 +1,9 @@
 -- The rows that an update of a table keeps.
 --     places_fault survivors update      the first rule that the added and the modified keys break, where these rows stay
 --     old_modified old update      the old keys of the modified rows
-use Rattle.std.specs.Prelude.{ℕ, not, List, ◌++◌, Option, find, filter, option_map}
-use Rattle.std.specs.Option.{option_or}
+use Rattle.std.{specs.Prelude.{ℕ, not, List, ◌++◌, Option, find, filter, option_map}, specs.Option.option_or}
 use Rattle.key_lists.specs.Keys.{is_among, without}
-use Rattle.tick_model.specs.declared.update.UpdateFault.{UpdateFault}
-use Rattle.tick_model.specs.declared.update.UpdateFault.TheVariants.{AddedTaken, ModifiedAbsent, ModifiedAdded}
-use Rattle.tick_model.specs.Rules.{landed}
-use Rattle.tick_model.specs.Shifts.{moved, as_key}
-use Rattle.tick_model.specs.Updates.{Update}
+use Rattle.tick_model.{specs.declared.update.UpdateFault.UpdateFault, specs.declared.update.UpdateFault.TheVariants.{AddedTaken, ModifiedAbsent, ModifiedAdded}, specs.Rules.landed, specs.Shifts.{moved, as_key}, specs.Updates.Update}
 
 abbrev pub places_fault : List ℕ → Update → Option UpdateFault
 places_fault survivors update =

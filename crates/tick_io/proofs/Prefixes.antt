@@ -1,8 +1,6 @@
 -- Pieces that are written one after another, of the last of which maybe a prefix alone.
 use Rattle.std.proofs.Common.{◌≡◌, ◌+◌, ℕ, List, ◌++◌, length, take, drop, Option, Some, None, refl, ap, sym, subst, ◌∙◌, arith, append_assoc, length-append}
-use Rattle.std.proofs.Math.Seq.{take-add, take-append-add}
-use Rattle.std.proofs.lemmas.List.{take-append-le}
-use Rattle.std.specs.Io.KnownBytes.{append_known}
+use Rattle.std.{proofs.Math.Seq.{take-add, take-append-add}, proofs.lemmas.List.take-append-le, specs.Io.KnownBytes.append_known}
 use Rattle.tick_io.specs.Written.{AppendsPrefix}
 
 -- what was appended in two parts

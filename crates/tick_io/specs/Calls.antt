@@ -1,6 +1,5 @@
 -- The calls of an object, some of which fail by their number, from 1.
-use Rattle.std.specs.Prelude.{ℕ, Bool, List, ◌==◌, if◌then◌else◌}
-use Rattle.std.specs.List.{list_any}
+use Rattle.std.{specs.Prelude.{ℕ, Bool, List, ◌==◌, if◌then◌else◌}, specs.List.list_any}
 use Rattle.tick_io.specs.Counts.{next_count}
 
 -- the numbers of the calls that are to fail, how many calls were made, and how many of them failed

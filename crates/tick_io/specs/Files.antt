@@ -1,10 +1,6 @@
 -- Files in memory, and what a load of one answers.
-use Rattle.std.specs.Prelude.{◌≡◌, ◌||◌, ℕ, Bool, List, [], ◌∷◌, Option, None, Some, Result, Ok, Err, if◌then◌else◌, is_none, option_map, IsOk, length, map, nat_lt, String, string_bytes}
-use Rattle.std.specs.Global.{Global, Vec}
-use Rattle.std.specs.Str.{bytes_eq}
-use Rattle.tick_io.specs.Calls.{Calls, next_fails}
-use Rattle.tick_io.specs.declared.inputs.LoadFault.{LoadFault}
-use Rattle.tick_io.specs.declared.inputs.LoadFault.TheVariants.{Memory, TooLong, Failed}
+use Rattle.std.{specs.Prelude.{◌≡◌, ◌||◌, ℕ, Bool, List, [], ◌∷◌, Option, None, Some, Result, Ok, Err, if◌then◌else◌, is_none, option_map, IsOk, length, map, nat_lt, String, string_bytes}, specs.Global.{Global, Vec}, specs.Str.bytes_eq}
+use Rattle.tick_io.{specs.Calls.{Calls, next_fails}, specs.declared.inputs.LoadFault.LoadFault, specs.declared.inputs.LoadFault.TheVariants.{Memory, TooLong, Failed}}
 
 -- a name and its bytes
 pub record File : Type 0 where

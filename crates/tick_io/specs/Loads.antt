@@ -1,7 +1,6 @@
 -- What is said of a load.
 use Rattle.std.specs.Prelude.{ℕ, ⊤, Result, Ok, Err}
-use Rattle.tick_io.specs.declared.inputs.LoadFault.{LoadFault}
-use Rattle.tick_io.specs.declared.inputs.LoadFault.TheVariants.{Memory, TooLong, Failed}
+use Rattle.tick_io.{specs.declared.inputs.LoadFault.LoadFault, specs.declared.inputs.LoadFault.TheVariants.{Memory, TooLong, Failed}}
 
 -- this holds of the number of bytes seen, where a load was refused as too long
 abbrev pub IfTooLong : {T : Type 0} → Result T LoadFault → (ℕ → Type 0) → Type 0

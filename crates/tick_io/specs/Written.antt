@@ -1,6 +1,5 @@
 -- What was written to a sink.
-use Rattle.std.specs.Prelude.{◌≡◌, ◌≤◌, ℕ, List, Option, length, take}
-use Rattle.std.specs.Io.KnownBytes.{append_known}
+use Rattle.std.{specs.Prelude.{◌≡◌, ◌≤◌, ℕ, List, Option, length, take}, specs.Io.KnownBytes.append_known}
 use Rattle.tick_io.specs.Calls.{Calls}
 
 -- a prefix of the piece was appended

@@ -1,20 +1,9 @@
 -- A block that breaks no rule carries a table to a table, and its pairs are a tick's.
 use Rattle.std.proofs.Common.{◌≡◌, ◌^◌, ◌++◌, None, lit≤}
-use Rattle.std.specs.Prelude.{option_map}
-use Rattle.std.proofs.lemmas.List.{map-append}
-use Rattle.tick_model.specs.declared.feed.Block.{Block}
-use Rattle.tick_model.specs.declared.table.PlainRow.{PlainRow}
-use Rattle.tick_model.specs.declared.table.PlainTable.{PlainTable}
-use Rattle.tick_model.specs.declared.update.FeedRule.TheVariants.{Update as ByUpdate}
-use Rattle.tick_model.specs.Tables.{keys, IsRow, IsTable}
-use Rattle.tick_model.specs.Changes.{told_keys}
-use Rattle.tick_model.specs.Rules.{update_fault}
-use Rattle.tick_model.specs.Sources.{update_of, block_fault, IsBlock}
-use Rattle.tick_model.specs.Updates.{IsTick}
-use Rattle.key_lists.specs.Keys.{IsRising}
-use Rattle.key_lists.proofs.Every.{every-append}
-use Rattle.tick_laws.specs.Checked.{IsChecked, carried_tick}
-use Rattle.tick_laws.proofs.CheckedUpdates.{none_parts, map_none, tick-carry}
+use Rattle.std.{specs.Prelude.option_map, proofs.lemmas.List.map-append}
+use Rattle.tick_model.{specs.declared.feed.Block.Block, specs.declared.table.PlainRow.PlainRow, specs.declared.table.PlainTable.PlainTable, specs.declared.update.FeedRule.TheVariants.Update as ByUpdate, specs.Tables.{keys, IsRow, IsTable}, specs.Changes.told_keys, specs.Rules.update_fault, specs.Sources.{update_of, block_fault, IsBlock}, specs.Updates.IsTick}
+use Rattle.key_lists.{specs.Keys.IsRising, proofs.Every.every-append}
+use Rattle.tick_laws.{specs.Checked.{IsChecked, carried_tick}, proofs.CheckedUpdates.{none_parts, map_none, tick-carry}}
 
 -- a block that breaks no rule is checked
 pub block_checked : (table : PlainTable) (block : Block) → block_fault table block ≡ None → IsRising (keys block.added) → IsChecked (2 ^ 40) (keys table.rows) (update_of block)

@@ -1,20 +1,8 @@
 -- The update between two tables carries the old one to the new one.
 use Rattle.std.proofs.Common.{◌≡◌, refl, ap, sym, ◌∙◌, subst, Bool, Option, true, false, cond, not, ◌&&◌, ◌||◌, ℕ, ◌<◌, ◌==◌, arith, List, [], ◌∷◌, ◌++◌, map, ℤ, Some, None, true≢false, unwrap_or, ◌⊎◌, inl, inr}
-use Rattle.std.specs.Prelude.{filter, find, option_map, IfSome}
-use Rattle.std.specs.List.{AllByRecursion}
-use Rattle.std.specs.Cmp.Rules.{signed_items}
-use Rattle.std.proofs.lemmas.Bool.{le-ltb, lt-ltb, eqb-true, eq-eqb, ne_eqb, or_parts, not-false, cases_eq, or_right, false_from_ne_true}
-use Rattle.tick_model.specs.declared.table.PlainRow.{PlainRow}
-use Rattle.tick_model.specs.declared.table.PlainTable.{PlainTable}
-use Rattle.key_lists.specs.Keys.{is_among, IsRising, without}
-use Rattle.tick_model.specs.declared.update.KeyPair.{KeyPair}
-use Rattle.tick_model.specs.Tables.{keys, row_at, cells_at, same_cells}
-use Rattle.tick_model.specs.Shifts.{moved, as_key, shifted}
-use Rattle.tick_model.specs.Updates.{Tick, IsTick, old_keys, new_keys, differs, between, insert_row, removing, moved_row, shifting, adding, modifying, rows_at, carry, kept_pair, pairs, told}
-use Rattle.key_lists.proofs.Among.{among_below, among_own, among_past, among-filter, among-append, of_among}
-use Rattle.tick_model.proofs.Among.{rows_among, row_own, row_past, rest_above, each_found, row_at-filter, row_at-filter_none}
-use Rattle.key_lists.proofs.Every.{every, every_weaker, every_both, every-map, every_unmapped, every-filter, map_same, filter_same, filter_none, filter-map, map_map, map_own, filter_filter}
-use Rattle.key_lists.proofs.Booleans.{and_true}
+use Rattle.std.{specs.Prelude.{filter, find, option_map, IfSome}, specs.List.AllByRecursion, specs.Cmp.Rules.signed_items, proofs.lemmas.Bool.{le-ltb, lt-ltb, eqb-true, eq-eqb, ne_eqb, or_parts, not-false, cases_eq, or_right, false_from_ne_true}}
+use Rattle.tick_model.{specs.declared.table.PlainRow.PlainRow, specs.declared.table.PlainTable.PlainTable, specs.declared.update.KeyPair.KeyPair, specs.Tables.{keys, row_at, cells_at, same_cells}, specs.Shifts.{moved, as_key, shifted}, specs.Updates.{Tick, IsTick, old_keys, new_keys, differs, between, insert_row, removing, moved_row, shifting, adding, modifying, rows_at, carry, kept_pair, pairs, told}, proofs.Among.{rows_among, row_own, row_past, rest_above, each_found, row_at-filter, row_at-filter_none}}
+use Rattle.key_lists.{specs.Keys.{is_among, IsRising, without}, proofs.Among.{among_below, among_own, among_past, among-filter, among-append, of_among}, proofs.Every.{every, every_weaker, every_both, every-map, every_unmapped, every-filter, map_same, filter_same, filter_none, filter-map, map_map, map_own, filter_filter}, proofs.Booleans.and_true}
 use Rattle.tick_laws.proofs.Moves.{each_moved}
 
 -- the keys of the pairs, by f, stand among those of the rows, in order

@@ -1,27 +1,9 @@
 -- An update that breaks no rule leaves its keys, makes a table of a table, and keeps the pairs of a tick.
 use Rattle.std.proofs.Common.{◌≡◌, refl, ap, ap₂, sym, ◌∙◌, subst, ℕ, ◌<◌, ◌≤◌, ◌^◌, ◌==◌, arith, Bool, true, false, cond, not, ◌||◌, List, [], ◌∷◌, map, Option, Some, None, true≢false, filter, ltb, ℤ, pos, negsuc, unwrap_or, length}
-use Rattle.std.specs.Prelude.{find, option_map, IfSome, int_le}
-use Rattle.std.specs.List.{AllByRecursion}
-use Rattle.std.specs.Option.{option_or}
-use Rattle.std.proofs.lemmas.Bool.{or_parts, or_right, or_from, leb-false, ltb-true, ltb-false, eqb-true, eqb-false}
-use Rattle.std.proofs.lemmas.List.{map-id}
-use Rattle.tick_model.specs.declared.update.ShiftRange.{ShiftRange}
-use Rattle.tick_model.specs.declared.table.PlainRow.{PlainRow}
-use Rattle.tick_model.specs.declared.table.PlainTable.{PlainTable}
-use Rattle.key_lists.specs.Keys.{is_among, IsRising, without}
-use Rattle.tick_model.specs.declared.update.KeyPair.{KeyPair}
-use Rattle.tick_model.specs.Tables.{keys, row_at, IsRow, IsTable}
-use Rattle.tick_model.specs.Shifts.{moved, as_key}
-use Rattle.tick_model.specs.Updates.{IsTick, Update, carry, insert_row, removing, shifting, moved_row, adding, modifying, rows_at, kept_pair, pairs}
-use Rattle.tick_model.specs.declared.update.UpdateFault.TheVariants.{RemovedAbsent, ShiftBreaks, AddedTaken, ModifiedAbsent, ModifiedAdded}
-use Rattle.tick_model.specs.Rules.{is_past, landed, shift_fault, shift_fault_after}
-use Rattle.tick_model.specs.Changes.{told_keys}
-use Rattle.key_lists.proofs.Among.{among_below, each_among}
-use Rattle.tick_laws.specs.Checked.{put_key, put_keys, keys_after, IsChecked, carried_tick}
-use Rattle.tick_laws.proofs.ToldRows.{first_of_two}
-use Rattle.key_lists.proofs.Rising.{rising-filter}
-use Rattle.key_lists.proofs.Every.{every_weaker, every_both, every-map, every_unmapped, every-filter, filter-map, map_map, none_pass}
-use Rattle.key_lists.proofs.Booleans.{or_assoc, or_swap}
+use Rattle.std.{specs.Prelude.{find, option_map, IfSome, int_le}, specs.List.AllByRecursion, specs.Option.option_or, proofs.lemmas.Bool.{or_parts, or_right, or_from, leb-false, ltb-true, ltb-false, eqb-true, eqb-false}, proofs.lemmas.List.map-id}
+use Rattle.tick_model.{specs.declared.update.ShiftRange.ShiftRange, specs.declared.table.PlainRow.PlainRow, specs.declared.table.PlainTable.PlainTable, specs.declared.update.KeyPair.KeyPair, specs.Tables.{keys, row_at, IsRow, IsTable}, specs.Shifts.{moved, as_key}, specs.Updates.{IsTick, Update, carry, insert_row, removing, shifting, moved_row, adding, modifying, rows_at, kept_pair, pairs}, specs.declared.update.UpdateFault.TheVariants.{RemovedAbsent, ShiftBreaks, AddedTaken, ModifiedAbsent, ModifiedAdded}, specs.Rules.{is_past, landed, shift_fault, shift_fault_after}, specs.Changes.told_keys}
+use Rattle.key_lists.{specs.Keys.{is_among, IsRising, without}, proofs.Among.{among_below, each_among}, proofs.Rising.rising-filter, proofs.Every.{every_weaker, every_both, every-map, every_unmapped, every-filter, filter-map, map_map, none_pass}, proofs.Booleans.{or_assoc, or_swap}}
+use Rattle.tick_laws.{specs.Checked.{put_key, put_keys, keys_after, IsChecked, carried_tick}, proofs.ToldRows.first_of_two}
 
 pub none_parts : {A : Type 0} (a b : Option A) → option_or a b ≡ None → (a ≡ None) × (b ≡ None)
 none_parts None b h = (refl, h)

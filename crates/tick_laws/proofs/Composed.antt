@@ -1,15 +1,8 @@
 -- The pairs of two ticks, one after the other, are those of a tick.
 use Rattle.std.proofs.Common.{◌≡◌, ap, sym, ◌∙◌, subst, ℕ, ◌<◌, ◌==◌, true, List, [], ◌∷◌, Option, Some, None}
-use Rattle.std.specs.Prelude.{find, IfSome, option_map}
-use Rattle.std.specs.List.{AllByRecursion, cons_option}
-use Rattle.std.proofs.lemmas.Bool.{eqb-true}
-use Rattle.tick_model.specs.declared.table.PlainTable.{PlainTable}
-use Rattle.key_lists.specs.Keys.{is_among, IsRising}
-use Rattle.tick_model.specs.declared.update.KeyPair.{KeyPair}
-use Rattle.tick_model.specs.Tables.{keys}
-use Rattle.tick_model.specs.Shifts.{composed}
-use Rattle.tick_model.specs.Updates.{Tick, IsTick, old_keys, new_keys}
-use Rattle.key_lists.proofs.Every.{every-map, every_unmapped}
+use Rattle.std.{specs.Prelude.{find, IfSome, option_map}, specs.List.{AllByRecursion, cons_option}, proofs.lemmas.Bool.eqb-true}
+use Rattle.tick_model.{specs.declared.table.PlainTable.PlainTable, specs.declared.update.KeyPair.KeyPair, specs.Tables.keys, specs.Shifts.composed, specs.Updates.{Tick, IsTick, old_keys, new_keys}}
+use Rattle.key_lists.{specs.Keys.{is_among, IsRising}, proofs.Every.{every-map, every_unmapped}}
 use Rattle.tick_laws.proofs.Placed.{find_has, pairs_rise}
 
 -- a pair, led on by the one behind it

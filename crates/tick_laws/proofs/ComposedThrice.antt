@@ -1,12 +1,8 @@
 -- Composing the pairs of three changes.
 use Rattle.std.proofs.Common.{◌≡◌, refl, ap, sym, ◌∙◌, subst, true, false, cond, ℕ, ◌<◌, ◌==◌, arith, List, [], ◌∷◌, Option, Some, None}
-use Rattle.std.specs.Prelude.{find, filter_map}
-use Rattle.std.specs.List.{AllByRecursion, cons_option}
-use Rattle.std.proofs.lemmas.Bool.{eqb-true, ne_eqb}
-use Rattle.tick_model.specs.declared.update.KeyPair.{KeyPair}
+use Rattle.std.{specs.Prelude.{find, filter_map}, specs.List.{AllByRecursion, cons_option}, proofs.lemmas.Bool.{eqb-true, ne_eqb}}
+use Rattle.tick_model.{specs.declared.update.KeyPair.KeyPair, specs.Shifts.{onward, composed}, specs.Updates.old_keys}
 use Rattle.key_lists.specs.Keys.{IsRising}
-use Rattle.tick_model.specs.Shifts.{onward, composed}
-use Rattle.tick_model.specs.Updates.{old_keys}
 use Rattle.tick_laws.proofs.Composed.{led}
 
 abbrev found : ℕ → List KeyPair → Option KeyPair

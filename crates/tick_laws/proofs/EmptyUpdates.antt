@@ -1,16 +1,8 @@
 -- An update that is empty leaves its table as it is.
 use Rattle.std.proofs.Common.{◌≡◌, refl, ap, sym, ◌∙◌, ℕ, arith, true, false, true≢false, ◌&&◌, List, [], ◌∷◌, pos, ◌+ℤ◌}
-use Rattle.std.proofs.lemmas.Bool.{and_parts}
-use Rattle.std.proofs.lemmas.Int.{ints}
-use Rattle.std.proofs.lemmas.List.{map-id}
-use Rattle.tick_model.specs.declared.table.PlainRow.{PlainRow}
-use Rattle.tick_model.specs.declared.table.PlainTable.{PlainTable}
-use Rattle.tick_model.specs.declared.update.ShiftRange.{ShiftRange}
-use Rattle.key_lists.specs.Keys.{is_among}
-use Rattle.tick_model.specs.Shifts.{as_key}
-use Rattle.tick_model.specs.Updates.{Tick, IsTick, Update, adding, between, carry, modifying, moved_row, removing, rows_at, shifting, told}
-use Rattle.tick_model.specs.Changes.{is_empty, is_none}
-use Rattle.key_lists.proofs.Every.{every, filter_all, filter_none, map_own}
+use Rattle.std.{proofs.lemmas.Bool.and_parts, proofs.lemmas.Int.ints, proofs.lemmas.List.map-id}
+use Rattle.tick_model.{specs.declared.table.PlainRow.PlainRow, specs.declared.table.PlainTable.PlainTable, specs.declared.update.ShiftRange.ShiftRange, specs.Shifts.as_key, specs.Updates.{Tick, IsTick, Update, adding, between, carry, modifying, moved_row, removing, rows_at, shifting, told}, specs.Changes.{is_empty, is_none}}
+use Rattle.key_lists.{specs.Keys.is_among, proofs.Every.{every, filter_all, filter_none, map_own}}
 use Rattle.tick_laws.proofs.Carried.{carry-between}
 
 pub none_is : {X : Type 0} (xs : List X) → is_none xs ≡ true → xs ≡ []

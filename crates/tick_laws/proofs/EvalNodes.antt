@@ -1,21 +1,8 @@
 -- The outcomes of a plan's nodes, each from those of its inputs, and what holds of their tables where it holds of the sources and
 -- each operator keeps it.
 use Rattle.std.proofs.Common.{◌≡◌, refl, ap, ap₂, sym, ◌∙◌, subst, ℕ, ◌<◌, ◌&&◌, ◌⊎◌, inl, inr, arith, Bool, true, false, true≢false, List, [], ◌∷◌, take, length, get_or, length-take-le, Option, Some, None}
-use Rattle.std.specs.Prelude.{fold}
-use Rattle.std.specs.List.{list_all, AllByRecursion}
-use Rattle.std.proofs.lemmas.Bool.{and_parts}
-use Rattle.std.proofs.lemmas.List.{get_or-take}
-use Rattle.tick_model.specs.declared.plan.Node.{Node}
-use Rattle.tick_model.specs.declared.plan.Op.{Op}
-use Rattle.tick_model.specs.declared.plan.Op.TheVariants.{Source, Join, Merge, AsOf}
-use Rattle.tick_model.specs.declared.table.NodeFault.{NodeFault}
-use Rattle.tick_model.specs.declared.table.PlainTable.{PlainTable}
-use Rattle.tick_model.specs.AsOf.{asof_table}
-use Rattle.tick_model.specs.Join.{join_fault, join_table}
-use Rattle.tick_model.specs.Merge.{merge_fault, merge_table}
-use Rattle.tick_model.specs.Evaluation.{Outcome, Table, NoInput, has_table, table_of, table_at, outcome_at, or_fault, applied, outcome_of, eval_node, is_source, source_number}
-use Rattle.tick_model.specs.Tables.{no_table}
-use Rattle.tick_model.specs.Operators.{is_source_op, inputs_of, result, fault_of}
+use Rattle.std.{specs.Prelude.fold, specs.List.{list_all, AllByRecursion}, proofs.lemmas.Bool.and_parts, proofs.lemmas.List.get_or-take}
+use Rattle.tick_model.{specs.declared.plan.Node.Node, specs.declared.plan.Op.Op, specs.declared.plan.Op.TheVariants.{Source, Join, Merge, AsOf}, specs.declared.table.NodeFault.NodeFault, specs.declared.table.PlainTable.PlainTable, specs.AsOf.asof_table, specs.Join.{join_fault, join_table}, specs.Merge.{merge_fault, merge_table}, specs.Evaluation.{Outcome, Table, NoInput, has_table, table_of, table_at, outcome_at, or_fault, applied, outcome_of, eval_node, is_source, source_number}, specs.Tables.no_table, specs.Operators.{is_source_op, inputs_of, result, fault_of}}
 use Rattle.key_lists.proofs.Every.{every_weaker, map_same}
 use Rattle.tick_laws.proofs.Grown.{by_lesser, made_at, length-grown}
 

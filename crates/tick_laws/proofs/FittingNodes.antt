@@ -1,31 +1,9 @@
 -- At each step of a lawful run, the rows of each node fit its columns, and its change is printable.
 use Rattle.std.proofs.Common.{◌≡◌, ap, sym, ◌∙◌, subst, ℕ, zero, suc, ◌<◌, arith, true, false, List, [], ◌∷◌, length, get_or, None}
 use Rattle.std.specs.List.{AllByRecursion}
-use Rattle.tick_model.specs.declared.feed.Run.{Run}
-use Rattle.tick_model.specs.declared.plan.Node.{Node}
-use Rattle.tick_model.specs.declared.table.PlainTable.{PlainTable}
-use Rattle.tick_model.specs.Tables.{IsTable, no_table}
-use Rattle.tick_model.specs.Changes.{change_of}
-use Rattle.tick_model.specs.Evaluation.{has_table, outcome_at, table_at, is_source, source_number}
-use Rattle.tick_model.specs.Operators.{inputs_of, result, fault_of}
-use Rattle.tick_model.specs.LawfulRuns.{IsLawfulRun, has_op_ranks}
-use Rattle.tick_model.specs.Plans.{columns_at}
-use Rattle.tick_model.specs.Printable.{IsPrintable}
-use Rattle.tick_model.specs.Sources.{sources}
-use Rattle.tick_model.specs.States.{state, tick}
+use Rattle.tick_model.{specs.declared.feed.Run.Run, specs.declared.plan.Node.Node, specs.declared.table.PlainTable.PlainTable, specs.Tables.{IsTable, no_table}, specs.Changes.change_of, specs.Evaluation.{has_table, outcome_at, table_at, is_source, source_number}, specs.Operators.{inputs_of, result, fault_of}, specs.LawfulRuns.{IsLawfulRun, has_op_ranks}, specs.Plans.columns_at, specs.Printable.IsPrintable, specs.Sources.sources, specs.States.{state, tick}, specs.Numbers.HasOpNumbers}
 use Rattle.key_lists.proofs.Every.{every_weaker}
-use Rattle.tick_laws.specs.Fitting.{HasColumns}
-use Rattle.tick_model.specs.Numbers.{HasOpNumbers}
-use Rattle.tick_laws.specs.Reached.{KeepsRules, IsReached}
-use Rattle.tick_laws.proofs.EvalNodes.{each_node_has}
-use Rattle.tick_laws.proofs.FittingResults.{result_fits}
-use Rattle.tick_laws.proofs.LawfulPlans.{columns_at-node}
-use Rattle.tick_laws.proofs.LawfulSources.{source_fits, sources_bounded}
-use Rattle.tick_laws.proofs.Paired.{no_node}
-use Rattle.tick_laws.proofs.PlanTables.{IsBounded, bounded_source, bounded_operator, lesser_nodes, fitting_columns}
-use Rattle.tick_laws.proofs.PrintedChanges.{change_printable}
-use Rattle.tick_laws.proofs.ReachedTables.{bounded_at, reached_tables}
-use Rattle.tick_laws.proofs.RunTicks.{lawful_ticks}
+use Rattle.tick_laws.{specs.Fitting.HasColumns, specs.Reached.{KeepsRules, IsReached}, proofs.EvalNodes.each_node_has, proofs.FittingResults.result_fits, proofs.LawfulPlans.columns_at-node, proofs.LawfulSources.{source_fits, sources_bounded}, proofs.Paired.no_node, proofs.PlanTables.{IsBounded, bounded_source, bounded_operator, lesser_nodes, fitting_columns}, proofs.PrintedChanges.change_printable, proofs.ReachedTables.{bounded_at, reached_tables}, proofs.RunTicks.lawful_ticks}
 
 -- what holds of each node of a list holds of one of them
 each_at : (P : Node → Type 0) (nodes : List Node) (n : ℕ) → AllByRecursion P nodes → n < length nodes → P (get_or nodes n no_node)

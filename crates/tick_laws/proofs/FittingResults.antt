@@ -1,36 +1,9 @@
 -- The rows of each node of a lawful plan fit its columns, where those of its inputs fit theirs.
 use Rattle.std.proofs.Common.{◌≡◌, refl, ap, sym, ◌∙◌, ℕ, zero, suc, true, true≢false, ◌&&◌, List, [], ◌∷◌, ◌++◌, map, length, Option, Some, None, ℤ}
-use Rattle.std.specs.Prelude.{IfSome, nat_le, FitsSigned}
-use Rattle.std.specs.Int.{w64}
-use Rattle.std.specs.List.{AllByRecursion, list_all}
-use Rattle.std.proofs.lemmas.Bool.{and_parts, and_from, or_right}
-use Rattle.std.proofs.lemmas.Option.{same_Some}
-use Rattle.tick_model.specs.declared.plan.Agg.{Agg}
-use Rattle.tick_model.specs.declared.plan.Agg.TheVariants.{Count, Sum, Min, Max, First, Last}
-use Rattle.tick_model.specs.declared.plan.ColumnSpec.{ColumnSpec}
-use Rattle.tick_model.specs.declared.plan.Expr.{Expr, Cell, Number, Null, Literal, Rank, Neg', Add', Sub', Mul'}
-use Rattle.tick_model.specs.declared.plan.Kind.{Kind}
-use Rattle.tick_model.specs.declared.plan.Kind.TheVariants.{Long, Text}
-use Rattle.tick_model.specs.declared.plan.Op.{Op}
-use Rattle.tick_model.specs.declared.plan.Op.TheVariants.{Source, Keep, View, Join, Agg as AggOp, Merge, Sort, Head, Tail, AsOf}
-use Rattle.tick_model.specs.declared.table.PlainRow.{PlainRow}
-use Rattle.tick_model.specs.declared.table.PlainTable.{PlainTable}
-use Rattle.tick_model.specs.Tables.{null, is_null, cell, IsTable}
-use Rattle.tick_model.specs.Formulas.{value}
-use Rattle.tick_model.specs.Join.{taken}
-use Rattle.tick_model.specs.Agg.{key_cells, aggregate}
-use Rattle.tick_model.specs.Operators.{inputs_of, result, columns_fit}
-use Rattle.tick_model.specs.LawfulRuns.{has_ranks, has_op_ranks}
-use Rattle.tick_model.specs.Names.{same_name}
-use Rattle.tick_model.specs.Columns.{same_kind, long_alone, both_long, kind_of, is_bound, kinds_of, has_kind, same_columns, have_kinds, keep_names, follow, kind_at, agg_kind, some_of, is_test_bound, test_fits}
-use Rattle.tick_model.specs.Printable.{names_text, fits_kind, fit_columns}
+use Rattle.std.{specs.Prelude.{IfSome, nat_le, FitsSigned}, specs.Int.w64, specs.List.{AllByRecursion, list_all}, proofs.lemmas.Bool.{and_parts, and_from, or_right}, proofs.lemmas.Option.same_Some}
+use Rattle.tick_model.{specs.declared.plan.Agg.Agg, specs.declared.plan.Agg.TheVariants.{Count, Sum, Min, Max, First, Last}, specs.declared.plan.ColumnSpec.ColumnSpec, specs.declared.plan.Expr.{Expr, Cell, Number, Null, Literal, Rank, Neg', Add', Sub', Mul'}, specs.declared.plan.Kind.Kind, specs.declared.plan.Kind.TheVariants.{Long, Text}, specs.declared.plan.Op.Op, specs.declared.plan.Op.TheVariants.{Source, Keep, View, Join, Agg as AggOp, Merge, Sort, Head, Tail, AsOf}, specs.declared.table.PlainRow.PlainRow, specs.declared.table.PlainTable.PlainTable, specs.Tables.{null, is_null, cell, IsTable}, specs.Formulas.value, specs.Join.taken, specs.Agg.{key_cells, aggregate}, specs.Operators.{inputs_of, result, columns_fit}, specs.LawfulRuns.{has_ranks, has_op_ranks}, specs.Names.same_name, specs.Columns.{same_kind, long_alone, both_long, kind_of, is_bound, kinds_of, has_kind, same_columns, have_kinds, keep_names, follow, kind_at, agg_kind, some_of, is_test_bound, test_fits}, specs.Printable.{names_text, fits_kind, fit_columns}, specs.Numbers.HasOpNumbers}
 use Rattle.key_lists.proofs.Every.{every, every_weaker, every_both}
-use Rattle.tick_laws.specs.Fitting.{FitsColumns, HasColumns}
-use Rattle.tick_model.specs.Numbers.{HasOpNumbers}
-use Rattle.tick_laws.proofs.EvalNodes.{all_pass}
-use Rattle.tick_laws.proofs.Picked.{picked_every}
-use Rattle.tick_laws.proofs.ResultCells.{result_cells}
-use Rattle.tick_laws.proofs.ResultTables.{MakesRows, result_has}
+use Rattle.tick_laws.{specs.Fitting.{FitsColumns, HasColumns}, proofs.EvalNodes.all_pass, proofs.Picked.picked_every, proofs.ResultCells.result_cells, proofs.ResultTables.{MakesRows, result_has}}
 
 -- kinds that are the same
 same_kind_is : (a b : Kind) → same_kind a b ≡ true → a ≡ b

@@ -1,14 +1,8 @@
 -- A run reaches its good steps.
 use Rattle.std.proofs.Common.{◌≡◌, refl, subst, ℕ, zero, suc, ◌+◌, ◌<◌, ◌≤◌, arith, inl, inr, Bool, true, false, true≢false, cond, length, Option, Some, None}
-use Rattle.std.specs.Prelude.{find, is_some, option_map}
-use Rattle.std.specs.List.{range_with_len}
-use Rattle.std.proofs.lemmas.Bool.{cases_lt}
-use Rattle.tick_model.specs.declared.feed.Run.{Run}
-use Rattle.tick_model.specs.Sources.{batch_fault}
-use Rattle.tick_model.specs.Spoiled.{ByBatch, node_fault, publication_fault, spoiled_by, first_spoiled, step_before, good}
-use Rattle.tick_model.specs.States.{state}
-use Rattle.tick_laws.specs.Reached.{IsReached}
-use Rattle.tick_laws.proofs.CheckedUpdates.{none_parts, map_none}
+use Rattle.std.{specs.Prelude.{find, is_some, option_map}, specs.List.range_with_len, proofs.lemmas.Bool.cases_lt}
+use Rattle.tick_model.{specs.declared.feed.Run.Run, specs.Sources.batch_fault, specs.Spoiled.{ByBatch, node_fault, publication_fault, spoiled_by, first_spoiled, step_before, good}, specs.States.state}
+use Rattle.tick_laws.{specs.Reached.IsReached, proofs.CheckedUpdates.{none_parts, map_none}}
 
 -- what a search for the first number that passes has passed over
 passed_over : (p : ℕ → Bool) (a n k : ℕ) → find p (range_with_len a n) ≡ None → a ≤ k → k < a + n → p k ≡ false

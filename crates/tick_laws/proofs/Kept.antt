@@ -1,14 +1,8 @@
 -- The pairs that operators keep are those of a tick.
 use Rattle.std.proofs.Common.{◌≡◌, Bool, true, ◌&&◌, List, filter}
-use Rattle.std.specs.List.{AllByRecursion}
-use Rattle.std.proofs.lemmas.Bool.{and_parts}
-use Rattle.tick_model.specs.declared.table.PlainTable.{PlainTable}
-use Rattle.key_lists.specs.Keys.{is_among}
-use Rattle.tick_model.specs.declared.update.KeyPair.{KeyPair}
-use Rattle.tick_model.specs.Tables.{keys, IsTable}
-use Rattle.tick_model.specs.Updates.{Tick, IsTick, both_in}
-use Rattle.key_lists.proofs.Every.{every_weaker, every-map, every-filter, filter_passes}
-use Rattle.key_lists.proofs.Rising.{rising-filter}
+use Rattle.std.{specs.List.AllByRecursion, proofs.lemmas.Bool.and_parts}
+use Rattle.tick_model.{specs.declared.table.PlainTable.PlainTable, specs.declared.update.KeyPair.KeyPair, specs.Tables.{keys, IsTable}, specs.Updates.{Tick, IsTick, both_in}}
+use Rattle.key_lists.{specs.Keys.is_among, proofs.Every.{every_weaker, every-map, every-filter, filter_passes}, proofs.Rising.rising-filter}
 
 -- some of the pairs of which both rows are in the results
 pub some_both_in : (p : KeyPair → Bool) (input : Tick) (old new : PlainTable) → IsTick input → IsTable old → IsTable new → new.width ≡ old.width

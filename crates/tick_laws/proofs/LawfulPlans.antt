@@ -1,21 +1,8 @@
 -- What the test of a lawful plan says of its nodes.
 use Rattle.std.proofs.Common.{◌≡◌, refl, sym, ◌∙◌, subst, ℕ, ◌+◌, ◌*◌, ◌<◌, ◌^◌, ◌&&◌, arith, true, true≢false, List, [], ◌∷◌, length, get_or}
-use Rattle.std.specs.Prelude.{sum_by, slice_index, nat_le}
-use Rattle.std.specs.List.{AllByRecursion}
-use Rattle.std.proofs.lemmas.Bool.{and_parts}
-use Rattle.std.proofs.lemmas.List.{get_or-map, get_or_default}
-use Rattle.std.proofs.lemmas.List.Sums.{sum-map, sum_by-cons}
-use Rattle.tick_model.specs.declared.plan.ColumnSpec.{ColumnSpec}
-use Rattle.tick_model.specs.declared.plan.Node.{Node}
-use Rattle.tick_model.specs.declared.plan.Op.{Op}
-use Rattle.tick_model.specs.declared.plan.Op.TheVariants.{Source, Merge, Sort}
-use Rattle.tick_model.specs.declared.plan.Plan.{Plan}
-use Rattle.tick_model.specs.Operators.{inputs_of, columns_fit, bound_of}
-use Rattle.tick_model.specs.Plans.{is_lawful, columns_at, key_bounds}
-use Rattle.tick_model.proofs.KeyBounds.{bound_here, length-key_bounds}
-use Rattle.tick_model.proofs.LawfulNodes.{IsLawfulNode as IsNode, lawful_node}
-use Rattle.key_lists.proofs.Every.{every_weaker}
-use Rattle.key_lists.proofs.Parts.{every_from}
+use Rattle.std.{specs.Prelude.{sum_by, slice_index, nat_le}, specs.List.AllByRecursion, proofs.lemmas.Bool.and_parts, proofs.lemmas.List.{get_or-map, get_or_default}, proofs.lemmas.List.Sums.{sum-map, sum_by-cons}}
+use Rattle.tick_model.{specs.declared.plan.ColumnSpec.ColumnSpec, specs.declared.plan.Node.Node, specs.declared.plan.Op.Op, specs.declared.plan.Op.TheVariants.{Source, Merge, Sort}, specs.declared.plan.Plan.Plan, specs.Operators.{inputs_of, columns_fit, bound_of}, specs.Plans.{is_lawful, columns_at, key_bounds}, proofs.KeyBounds.{bound_here, length-key_bounds}, proofs.LawfulNodes.{IsLawfulNode as IsNode, lawful_node}}
+use Rattle.key_lists.{proofs.Every.every_weaker, proofs.Parts.every_from}
 use Rattle.tick_laws.proofs.Grown.{by_lesser}
 
 -- a bound of keys: so many regions of 65536 keys, and one at least

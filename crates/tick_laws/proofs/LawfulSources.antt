@@ -1,35 +1,9 @@
 -- The sources of a lawful run stay within their bounds and fit their columns, while no batch breaks a rule.
 use Rattle.std.proofs.Common.{◌≡◌, refl, ap, sym, ◌∙◌, subst, ℕ, zero, suc, ◌+◌, ◌<◌, ◌≤◌, ◌^◌, arith, Bool, true, false, true≢false, cond, List, [], ◌∷◌, ◌++◌, map, length, get_or, Some, None, ℤ, ltb, lit≤}
-use Rattle.std.specs.Prelude.{option_map}
-use Rattle.std.specs.List.{AllByRecursion, range_with_len}
-use Rattle.std.proofs.lemmas.Bool.{and_parts, ltb-false}
-use Rattle.std.proofs.lemmas.List.{map-id}
-use Rattle.tick_model.specs.declared.feed.Batch.{Batch}
-use Rattle.tick_model.specs.declared.feed.Block.{Block}
-use Rattle.tick_model.specs.declared.feed.Run.{Run}
-use Rattle.tick_model.specs.declared.plan.ColumnSpec.{ColumnSpec}
-use Rattle.tick_model.specs.declared.plan.Node.{Node}
-use Rattle.tick_model.specs.declared.table.PlainRow.{PlainRow}
-use Rattle.tick_model.specs.declared.table.PlainTable.{PlainTable}
-use Rattle.tick_model.specs.declared.update.FeedRule.TheVariants.{Update as ByUpdate, TooManyRows}
-use Rattle.key_lists.specs.Keys.{IsRising}
-use Rattle.tick_model.specs.Tables.{keys, IsRow, IsTable, no_table}
-use Rattle.tick_model.specs.Updates.{Tick}
-use Rattle.tick_model.specs.Evaluation.{is_source, source_number}
-use Rattle.tick_model.specs.LawfulRuns.{IsSourceRow, IsOpening, AreOpenings, sources_of, is_source_number, IsLawfulBlock, IsLawfulRun}
-use Rattle.tick_model.specs.Plans.{columns_at}
-use Rattle.tick_model.specs.Printable.{fit_columns, fits_kind}
-use Rattle.tick_model.specs.Rules.{update_fault}
-use Rattle.tick_model.specs.Sources.{IsBlock, HasTables, block_width, block_fault, too_many, record_of, blocks_fault, batch_fault, blocks_of, carry_on, carried, update_of, unchanged, opened, tick_at, after_block, after_blocks, source_ticks, sources, new_table}
-use Rattle.key_lists.proofs.Every.{every_weaker, every-map, every-append, map_map}
-use Rattle.tick_laws.specs.Bounded.{IsNodeTable, AreSourceTables}
-use Rattle.tick_laws.specs.Checked.{IsChecked}
-use Rattle.tick_laws.specs.Fitting.{FitsColumns, HasColumns}
-use Rattle.tick_laws.proofs.Blocks.{block_checked, block_told, block_tick}
-use Rattle.tick_laws.proofs.CheckedUpdates.{none_parts, map_none, keys-carry, keys_after-below, cells-carry}
-use Rattle.tick_laws.proofs.LawfulPlans.{columns_at-node}
-use Rattle.tick_laws.proofs.Paired.{no_node, Paired, paired_at, paired_each, paired_set, source_there}
-use Rattle.tick_laws.proofs.SourceTicks.{get_every, source_new}
+use Rattle.std.{specs.Prelude.option_map, specs.List.{AllByRecursion, range_with_len}, proofs.lemmas.Bool.{and_parts, ltb-false}, proofs.lemmas.List.map-id}
+use Rattle.tick_model.{specs.declared.feed.Batch.Batch, specs.declared.feed.Block.Block, specs.declared.feed.Run.Run, specs.declared.plan.ColumnSpec.ColumnSpec, specs.declared.plan.Node.Node, specs.declared.table.PlainRow.PlainRow, specs.declared.table.PlainTable.PlainTable, specs.declared.update.FeedRule.TheVariants.{Update as ByUpdate, TooManyRows}, specs.Tables.{keys, IsRow, IsTable, no_table}, specs.Updates.Tick, specs.Evaluation.{is_source, source_number}, specs.LawfulRuns.{IsSourceRow, IsOpening, AreOpenings, sources_of, is_source_number, IsLawfulBlock, IsLawfulRun}, specs.Plans.columns_at, specs.Printable.{fit_columns, fits_kind}, specs.Rules.update_fault, specs.Sources.{IsBlock, HasTables, block_width, block_fault, too_many, record_of, blocks_fault, batch_fault, blocks_of, carry_on, carried, update_of, unchanged, opened, tick_at, after_block, after_blocks, source_ticks, sources, new_table}}
+use Rattle.key_lists.{specs.Keys.IsRising, proofs.Every.{every_weaker, every-map, every-append, map_map}}
+use Rattle.tick_laws.{specs.Bounded.{IsNodeTable, AreSourceTables}, specs.Checked.IsChecked, specs.Fitting.{FitsColumns, HasColumns}, proofs.Blocks.{block_checked, block_told, block_tick}, proofs.CheckedUpdates.{none_parts, map_none, keys-carry, keys_after-below, cells-carry}, proofs.LawfulPlans.columns_at-node, proofs.Paired.{no_node, Paired, paired_at, paired_each, paired_set, source_there}, proofs.SourceTicks.{get_every, source_new}}
 
 -- the number of a source is that of a node
 pub source_number_is : (nodes : List Node) (n : ℕ) → is_source_number nodes n ≡ true → (n < length nodes) × (is_source (get_or nodes n no_node) ≡ true)

@@ -1,20 +1,8 @@
 -- Numbers of several lists in regions of their own.
 use Rattle.std.proofs.Common.{◌≡◌, refl, ap, sym, ◌∙◌, ℕ, ◌<◌, ◌≤◌, ◌+◌, ◌*◌, ◌/◌, ◌==◌, eqb, arith, true, List, [], ◌∷◌, ◌++◌, map, inl, inr}
-use Rattle.std.specs.Prelude.{fold, sum_by}
-use Rattle.std.specs.List.{AllByRecursion}
-use Rattle.std.proofs.lemmas.Bool.{or_left, or_right, or_cases, eqb-true, eq-eqb}
-use Rattle.std.proofs.lemmas.List.{map-append}
-use Rattle.std.proofs.lemmas.List.Sums.{sum_by-cons}
-use Rattle.tick_model.specs.declared.table.PlainRow.{PlainRow}
-use Rattle.tick_model.specs.declared.table.PlainTable.{PlainTable}
-use Rattle.key_lists.specs.Keys.{is_among, IsRising}
-use Rattle.tick_model.specs.declared.update.KeyPair.{KeyPair}
-use Rattle.tick_model.specs.Tables.{keys}
-use Rattle.tick_model.specs.Updates.{Tick, IsTick, old_keys, new_keys}
-use Rattle.tick_model.specs.Merge.{last_key, region, row_from, pair_from, merged_rows, merged_pairs}
-use Rattle.key_lists.proofs.Among.{among-append, each_among, of_among}
-use Rattle.key_lists.proofs.Every.{every_weaker, every-map, every-append, map_map}
-use Rattle.key_lists.proofs.Rising.{rising-append, rising-plus}
+use Rattle.std.{specs.Prelude.{fold, sum_by}, specs.List.AllByRecursion, proofs.lemmas.Bool.{or_left, or_right, or_cases, eqb-true, eq-eqb}, proofs.lemmas.List.map-append, proofs.lemmas.List.Sums.sum_by-cons}
+use Rattle.tick_model.{specs.declared.table.PlainRow.PlainRow, specs.declared.table.PlainTable.PlainTable, specs.declared.update.KeyPair.KeyPair, specs.Tables.keys, specs.Updates.{Tick, IsTick, old_keys, new_keys}, specs.Merge.{last_key, region, row_from, pair_from, merged_rows, merged_pairs}}
+use Rattle.key_lists.{specs.Keys.{is_among, IsRising}, proofs.Among.{among-append, each_among, of_among}, proofs.Every.{every_weaker, every-map, every-append, map_map}, proofs.Rising.{rising-append, rising-plus}}
 
 -- the lists' numbers, each plus the regions before it
 abbrev pub apart : {T : Type 0} → (T → List ℕ) → (T → ℕ) → ℕ → List T → List ℕ

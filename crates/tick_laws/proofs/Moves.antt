@@ -1,17 +1,8 @@
 -- The ranges of kept pairs move each old key to its new one.
 use Rattle.std.proofs.Common.{◌≡◌, refl, ap, sym, ◌∙◌, Bool, true, false, cond, not, ◌&&◌, ℕ, suc, ◌<◌, ◌≤◌, arith, List, [], ◌∷◌, pos, ◌+ℤ◌, ◌-ℤ◌, leb, Some, unwrap_or}
-use Rattle.std.specs.Prelude.{filter, find, option_map}
-use Rattle.std.specs.List.{AllByRecursion}
-use Rattle.std.specs.Ordering.{int_eq}
-use Rattle.std.specs.Cmp.{signed_Decides}
-use Rattle.std.proofs.lemmas.Bool.{le-leb, lt-leb, leb-true, and_right, and_left, and_from, and_parts}
-use Rattle.std.proofs.lemmas.Int.{ints}
-use Rattle.tick_model.specs.declared.update.ShiftRange.{ShiftRange}
-use Rattle.key_lists.specs.Keys.{IsRising}
-use Rattle.tick_model.specs.declared.update.KeyPair.{KeyPair}
-use Rattle.tick_model.specs.Shifts.{holds, delta_at, moved, as_key, delta, one, extend, stretches, shifted}
-use Rattle.tick_model.specs.Updates.{old_keys}
-use Rattle.key_lists.proofs.Every.{every, every_weaker, every_both, every_unmapped}
+use Rattle.std.{specs.Prelude.{filter, find, option_map}, specs.List.AllByRecursion, specs.Ordering.int_eq, specs.Cmp.signed_Decides, proofs.lemmas.Bool.{le-leb, lt-leb, leb-true, and_right, and_left, and_from, and_parts}, proofs.lemmas.Int.ints}
+use Rattle.tick_model.{specs.declared.update.ShiftRange.ShiftRange, specs.declared.update.KeyPair.KeyPair, specs.Shifts.{holds, delta_at, moved, as_key, delta, one, extend, stretches, shifted}, specs.Updates.old_keys}
+use Rattle.key_lists.{specs.Keys.IsRising, proofs.Every.{every, every_weaker, every_both, every_unmapped}}
 
 -- the ranges lie apart, from a first key on
 abbrev pub IsApart : ℕ → List ShiftRange → Type 0

@@ -1,27 +1,9 @@
 -- Each operator of a lawful plan keeps its table within its bounds.
 use Rattle.std.proofs.Common.{◌≡◌, ap, sym, ◌∙◌, ℕ, suc, ◌+◌, ◌*◌, ◌<◌, ◌≤◌, ◌^◌, ◌&&◌, arith, true, false, true≢false, List, [], ◌∷◌, map, length, None, sum}
-use Rattle.std.specs.Prelude.{sum_by, nat_le}
-use Rattle.std.specs.List.{list_all, AllByRecursion}
-use Rattle.std.proofs.lemmas.Bool.{and_parts}
-use Rattle.std.proofs.lemmas.List.Sums.{sum_by-cons}
-use Rattle.tick_model.specs.declared.plan.ColumnSpec.{ColumnSpec}
-use Rattle.tick_model.specs.declared.plan.Op.{Op}
-use Rattle.tick_model.specs.declared.plan.Op.TheVariants.{Merge}
-use Rattle.tick_model.specs.declared.table.PlainRow.{PlainRow}
-use Rattle.tick_model.specs.declared.table.PlainTable.{PlainTable}
-use Rattle.tick_model.specs.Tables.{IsRow, IsTable}
-use Rattle.tick_model.specs.Merge.{region, width_of}
-use Rattle.tick_model.specs.Operators.{inputs_of, result, fault_of, columns_fit, bound_of, is_source_op}
-use Rattle.tick_model.specs.Columns.{same_columns}
-use Rattle.tick_model.specs.Ready.{HaveRoom}
-use Rattle.tick_model.proofs.Results.{AreResults, IsResult, merged_room, result_is}
-use Rattle.tick_model.proofs.Widths.{same_width}
+use Rattle.std.{specs.Prelude.{sum_by, nat_le}, specs.List.{list_all, AllByRecursion}, proofs.lemmas.Bool.and_parts, proofs.lemmas.List.Sums.sum_by-cons}
+use Rattle.tick_model.{specs.declared.plan.ColumnSpec.ColumnSpec, specs.declared.plan.Op.Op, specs.declared.plan.Op.TheVariants.Merge, specs.declared.table.PlainRow.PlainRow, specs.declared.table.PlainTable.PlainTable, specs.Tables.{IsRow, IsTable}, specs.Merge.{region, width_of}, specs.Operators.{inputs_of, result, fault_of, columns_fit, bound_of, is_source_op}, specs.Columns.same_columns, specs.Ready.HaveRoom, proofs.Results.{AreResults, IsResult, merged_room, result_is}, proofs.Widths.same_width}
 use Rattle.key_lists.proofs.Every.{every_weaker, every_both, every-map, every_unmapped}
-use Rattle.tick_laws.specs.Bounded.{IsNodeTable}
-use Rattle.tick_laws.specs.Room.{HasRoom}
-use Rattle.tick_laws.proofs.EvalNodes.{all_pass}
-use Rattle.tick_laws.proofs.LawfulPlans.{IsBound}
-use Rattle.tick_laws.proofs.ResultTables.{result_table}
+use Rattle.tick_laws.{specs.Bounded.IsNodeTable, specs.Room.HasRoom, proofs.EvalNodes.all_pass, proofs.LawfulPlans.IsBound, proofs.ResultTables.result_table}
 
 -- a table within its bounds keeps to its node
 pub node_result : (width bound : ℕ) (table : PlainTable) → IsBound bound → IsNodeTable width bound table → IsResult width bound table

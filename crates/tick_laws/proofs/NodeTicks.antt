@@ -1,22 +1,9 @@
 -- Each node's change is a tick, from its table at one step to its table at the next.
 use Rattle.std.proofs.Common.{◌≡◌, refl, ap, sym, ◌∙◌, subst, ℕ, ◌<◌, inl, inr, arith, true, false, List, [], length, get_or}
-use Rattle.std.specs.Prelude.{fold}
-use Rattle.std.specs.List.{AllByRecursion}
-use Rattle.tick_model.specs.declared.plan.Node.{Node}
-use Rattle.tick_model.specs.declared.plan.Op.{Op}
-use Rattle.tick_model.specs.declared.table.PlainTable.{PlainTable}
-use Rattle.tick_model.specs.Tables.{IsTable, no_table}
-use Rattle.tick_model.specs.Updates.{Tick, IsTick}
-use Rattle.tick_model.specs.Evaluation.{Outcome, NoInput, has_table, table_of, table_at, applied, outcome_of, eval_node, source_number}
-use Rattle.tick_model.specs.Operators.{inputs_of, result, kept_by, is_source_op}
-use Rattle.tick_model.specs.Sources.{no_tick, tick_at}
-use Rattle.tick_model.specs.States.{tick_node}
+use Rattle.std.{specs.Prelude.fold, specs.List.AllByRecursion}
+use Rattle.tick_model.{specs.declared.plan.Node.Node, specs.declared.plan.Op.Op, specs.declared.table.PlainTable.PlainTable, specs.Tables.{IsTable, no_table}, specs.Updates.{Tick, IsTick}, specs.Evaluation.{Outcome, NoInput, has_table, table_of, table_at, applied, outcome_of, eval_node, source_number}, specs.Operators.{inputs_of, result, kept_by, is_source_op}, specs.Sources.{no_tick, tick_at}, specs.States.tick_node}
 use Rattle.key_lists.proofs.Every.{every_weaker}
-use Rattle.tick_laws.specs.Reached.{IsTickFrom}
-use Rattle.tick_laws.proofs.EvalNodes.{applied_has, operator_outcome, outcome_is, result_same, source_outcome}
-use Rattle.tick_laws.proofs.Grown.{by_lesser}
-use Rattle.tick_laws.proofs.OperatorTicks.{operator_keeps}
-use Rattle.tick_laws.proofs.TickNodes.{tick_cases, tick_from, tick_is}
+use Rattle.tick_laws.{specs.Reached.IsTickFrom, proofs.EvalNodes.{applied_has, operator_outcome, outcome_is, result_same, source_outcome}, proofs.Grown.by_lesser, proofs.OperatorTicks.operator_keeps, proofs.TickNodes.{tick_cases, tick_from, tick_is}}
 
 module _ (nodes : List Node) (d : Node) (olds news : List PlainTable) (own : List Tick)
     (lesser : (n : ℕ) → n < length nodes → AllByRecursion (λ input. input < n) (inputs_of (get_or nodes n d).op)) where

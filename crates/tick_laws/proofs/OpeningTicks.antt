@@ -1,32 +1,9 @@
 -- The first step of a lawful run: each node's change is a tick from an empty table, which keeps nothing.
 use Rattle.std.proofs.Common.{◌≡◌, refl, ap, sym, ◌∙◌, subst, ℕ, zero, suc, ◌+◌, ◌<◌, inl, inr, arith, true, List, [], ◌∷◌, map, length, get_or}
-use Rattle.std.specs.Prelude.{fold}
-use Rattle.std.specs.List.{AllByRecursion}
-use Rattle.tick_model.specs.declared.feed.Run.{Run}
-use Rattle.tick_model.specs.declared.plan.Node.{Node}
-use Rattle.tick_model.specs.declared.plan.Op.{Op}
-use Rattle.tick_model.specs.declared.plan.Op.TheVariants.{Merge}
-use Rattle.tick_model.specs.declared.plan.Plan.{Plan}
-use Rattle.tick_model.specs.declared.table.PlainTable.{PlainTable}
-use Rattle.tick_model.specs.declared.update.KeyPair.{KeyPair}
-use Rattle.tick_model.specs.Tables.{IsTable, no_table}
-use Rattle.tick_model.specs.Updates.{IsTick, Tick}
-use Rattle.tick_model.specs.Merge.{merged_pairs, region}
-use Rattle.tick_model.specs.Evaluation.{table_at, table_of, is_source, source_number}
-use Rattle.tick_model.specs.Operators.{inputs_of, kept_by}
-use Rattle.tick_model.specs.LawfulRuns.{IsLawfulRun}
-use Rattle.tick_model.specs.Sources.{opened, no_tick, tick_at, source_ticks, sources}
-use Rattle.tick_model.specs.States.{empty_at, state, tick, tick_node}
+use Rattle.std.{specs.Prelude.fold, specs.List.AllByRecursion}
+use Rattle.tick_model.{specs.declared.feed.Run.Run, specs.declared.plan.Node.Node, specs.declared.plan.Op.Op, specs.declared.plan.Op.TheVariants.Merge, specs.declared.plan.Plan.Plan, specs.declared.table.PlainTable.PlainTable, specs.declared.update.KeyPair.KeyPair, specs.Tables.{IsTable, no_table}, specs.Updates.{IsTick, Tick}, specs.Merge.{merged_pairs, region}, specs.Evaluation.{table_at, table_of, is_source, source_number}, specs.Operators.{inputs_of, kept_by}, specs.LawfulRuns.IsLawfulRun, specs.Sources.{opened, no_tick, tick_at, source_ticks, sources}, specs.States.{empty_at, state, tick, tick_node}}
 use Rattle.key_lists.proofs.Every.{every_weaker}
-use Rattle.tick_laws.specs.Reached.{IsReached, IsTickFrom}
-use Rattle.tick_laws.proofs.EvalNodes.{outcome_is, source_outcome}
-use Rattle.tick_laws.proofs.Grown.{by_lesser}
-use Rattle.tick_laws.proofs.TickNodes.{kept_same, tick_cases, tick_from, tick_is}
-use Rattle.tick_laws.proofs.LawfulPlans.{columns_at-node}
-use Rattle.tick_laws.proofs.LawfulSources.{lawful_tables, source_fits}
-use Rattle.tick_laws.proofs.Paired.{no_node}
-use Rattle.tick_laws.proofs.ReachedTables.{lesser_inputs, bounded_at, reached_tables}
-use Rattle.tick_laws.proofs.SourceTicks.{source_new, source_tick}
+use Rattle.tick_laws.{specs.Reached.{IsReached, IsTickFrom}, proofs.EvalNodes.{outcome_is, source_outcome}, proofs.Grown.by_lesser, proofs.TickNodes.{kept_same, tick_cases, tick_from, tick_is}, proofs.LawfulPlans.columns_at-node, proofs.LawfulSources.{lawful_tables, source_fits}, proofs.Paired.no_node, proofs.ReachedTables.{lesser_inputs, bounded_at, reached_tables}, proofs.SourceTicks.{source_new, source_tick}}
 
 -- the width of the empty table is the number of the node's columns
 width_empty : (plan : Plan) (nodes : List Node) (n : ℕ) → n < length nodes → (empty_at (record plan { nodes = nodes }) n).width ≡ length (get_or nodes n no_node).columns

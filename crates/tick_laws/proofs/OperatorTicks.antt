@@ -1,26 +1,9 @@
 -- Each operator makes a tick of its inputs' ticks.
 use Rattle.std.proofs.Common.{◌≡◌, refl, ap, sym, ◌∙◌, subst, ℕ, ◌+◌, true, List, [], ◌∷◌, map, length}
-use Rattle.std.specs.Prelude.{slice_index}
-use Rattle.std.specs.List.{AllByRecursion}
-use Rattle.tick_model.specs.declared.plan.Op.{Op}
-use Rattle.tick_model.specs.declared.plan.Op.TheVariants.{Source, View, Join, Agg, Merge, Sort, AsOf}
-use Rattle.tick_model.specs.declared.table.PlainRow.{PlainRow}
-use Rattle.tick_model.specs.declared.table.PlainTable.{PlainTable}
-use Rattle.key_lists.specs.Keys.{is_among, IsRising}
-use Rattle.tick_model.specs.Tables.{keys, cells_at, same_cells, IsTable}
-use Rattle.tick_model.specs.Updates.{Tick, IsTick, both_in, old_keys, new_keys}
-use Rattle.tick_model.specs.View.{view_row}
-use Rattle.tick_model.specs.Join.{chosen, joined, matches}
-use Rattle.tick_model.specs.AsOf.{latest, not_later}
-use Rattle.tick_model.specs.Agg.{key_cells}
-use Rattle.tick_model.specs.Operators.{inputs_of, result}
-use Rattle.tick_model.specs.Merge.{merged_rows, width_of, region}
-use Rattle.tick_laws.specs.Operated.{operated}
-use Rattle.key_lists.proofs.Every.{every_weaker, every-map, filter_all, map_map}
-use Rattle.tick_laws.proofs.Kept.{some_both_in}
-use Rattle.tick_laws.proofs.Merged.{IsPart, apart, apart_rising, apart_among, keys-merged_rows, old_keys-merged, new_keys-merged, old_part, new_part}
-use Rattle.tick_laws.proofs.Placed.{sort_keeps}
-use Rattle.tick_laws.proofs.TickNodes.{tick_from}
+use Rattle.std.{specs.Prelude.slice_index, specs.List.AllByRecursion}
+use Rattle.tick_model.{specs.declared.plan.Op.Op, specs.declared.plan.Op.TheVariants.{Source, View, Join, Agg, Merge, Sort, AsOf}, specs.declared.table.PlainRow.PlainRow, specs.declared.table.PlainTable.PlainTable, specs.Tables.{keys, cells_at, same_cells, IsTable}, specs.Updates.{Tick, IsTick, both_in, old_keys, new_keys}, specs.View.view_row, specs.Join.{chosen, joined, matches}, specs.AsOf.{latest, not_later}, specs.Agg.key_cells, specs.Operators.{inputs_of, result}, specs.Merge.{merged_rows, width_of, region}}
+use Rattle.key_lists.{specs.Keys.{is_among, IsRising}, proofs.Every.{every_weaker, every-map, filter_all, map_map}}
+use Rattle.tick_laws.{specs.Operated.operated, proofs.Kept.some_both_in, proofs.Merged.{IsPart, apart, apart_rising, apart_among, keys-merged_rows, old_keys-merged, new_keys-merged, old_part, new_part}, proofs.Placed.sort_keeps, proofs.TickNodes.tick_from}
 
 pub all_both_in : (input : Tick) (old new : PlainTable) → IsTick input → IsTable old → IsTable new → new.width ≡ old.width → IsTick (tick_from old new (both_in old new input.kept))
 all_both_in input old new h o n w = subst (λ kept. IsTick (tick_from old new kept)) (filter_all (both_in old new input.kept)) (some_both_in (λ _. true) input old new h o n w)

@@ -1,16 +1,7 @@
 -- Sources with their tables.
 use Rattle.std.proofs.Common.{◌≡◌, refl, ap, sym, ◌∙◌, subst, ℕ, zero, suc, ◌+◌, ◌<◌, arith, Bool, true, false, cond, List, [], ◌∷◌, map, take, length, get_or, set}
-use Rattle.std.specs.Prelude.{filter}
-use Rattle.std.specs.List.{AllByRecursion}
-use Rattle.std.proofs.lemmas.List.Sums.{sum_by-cons}
-use Rattle.tick_model.specs.declared.plan.Node.{Node}
-use Rattle.tick_model.specs.declared.plan.Op.TheVariants.{Source}
-use Rattle.tick_model.specs.declared.table.PlainTable.{PlainTable}
-use Rattle.tick_model.specs.Updates.{Tick}
-use Rattle.tick_model.specs.Evaluation.{is_source, source_number}
-use Rattle.tick_model.specs.Tables.{no_table}
-use Rattle.tick_model.specs.LawfulRuns.{sources_of}
-use Rattle.tick_model.specs.Sources.{new_table}
+use Rattle.std.{specs.Prelude.filter, specs.List.AllByRecursion, proofs.lemmas.List.Sums.sum_by-cons}
+use Rattle.tick_model.{specs.declared.plan.Node.Node, specs.declared.plan.Op.TheVariants.Source, specs.declared.table.PlainTable.PlainTable, specs.Updates.Tick, specs.Evaluation.{is_source, source_number}, specs.Tables.no_table, specs.LawfulRuns.sources_of, specs.Sources.new_table}
 
 -- a node for places past the end
 abbrev pub no_node : Node

@@ -1,16 +1,7 @@
 -- What holds of the row or the cell that is picked of several.
 use Rattle.std.proofs.Common.{ℕ, zero, suc, true, false, cond, List, [], ◌∷◌, Option, Some, None, ℤ}
-use Rattle.std.specs.Prelude.{IfSome, fold, int_le, int_lt}
-use Rattle.std.specs.Int.{int_min, int_max}
-use Rattle.std.specs.List.{AllByRecursion, last_or}
-use Rattle.tick_model.specs.declared.plan.Agg.TheVariants.{Min, Max, First, Last}
-use Rattle.tick_model.specs.declared.plan.Choice.{Choice}
-use Rattle.tick_model.specs.declared.plan.Choice.TheVariants.{Error, First as FirstMatch, Last as LastMatch}
-use Rattle.tick_model.specs.declared.table.PlainRow.{PlainRow}
-use Rattle.tick_model.specs.Tables.{null, is_null, cell}
-use Rattle.tick_model.specs.Join.{chosen}
-use Rattle.tick_model.specs.AsOf.{later, latest}
-use Rattle.tick_model.specs.Agg.{aggregate, column_of, present, over}
+use Rattle.std.{specs.Prelude.{IfSome, fold, int_le, int_lt}, specs.Int.{int_min, int_max}, specs.List.{AllByRecursion, last_or}}
+use Rattle.tick_model.{specs.declared.plan.Agg.TheVariants.{Min, Max, First, Last}, specs.declared.plan.Choice.Choice, specs.declared.plan.Choice.TheVariants.{Error, First as FirstMatch, Last as LastMatch}, specs.declared.table.PlainRow.PlainRow, specs.Tables.{null, is_null, cell}, specs.Join.chosen, specs.AsOf.{later, latest}, specs.Agg.{aggregate, column_of, present, over}}
 use Rattle.key_lists.proofs.Every.{every-map, every-filter}
 
 -- what holds of null and of each cell of a row holds of the cell of a column

@@ -1,21 +1,8 @@
 -- Rows in stable order: where each stands, and that pairs of equal sort cells keep their order.
 use Rattle.std.proofs.Common.{◌≡◌, refl, ap, ap₂, sym, ◌∙◌, subst, ℕ, ◌<◌, ◌≤◌, ◌+◌, ◌==◌, arith, Bool, true, false, cond, not, List, [], ◌∷◌, Option, Some, None, true≢false, inl, inr, filter, length, is_lt, ℤ, ◌||◌, unwrap_or}
-use Rattle.std.specs.Prelude.{find, filter_map, IfSome, option_map}
-use Rattle.std.specs.List.{AllByRecursion, list_all, enumerate_from, cons_option}
-use Rattle.std.specs.Cmp.{IsStrictWeakOrder, signed_Decides}
-use Rattle.std.specs.Ordering.{ordering_then, int_eq}
-use Rattle.std.proofs.lemmas.Bool.{and_parts, eqb-true, eq-eqb, ne_eqb, cases_eq}
-use Rattle.tick_model.specs.declared.plan.SortBy.{SortBy}
-use Rattle.tick_model.specs.declared.table.PlainRow.{PlainRow}
-use Rattle.key_lists.specs.Keys.{is_among, IsRising}
-use Rattle.tick_model.specs.declared.update.KeyPair.{KeyPair}
-use Rattle.tick_model.specs.Tables.{cell, cells_at, keys, row_at, IsTable}
-use Rattle.tick_model.specs.Updates.{Tick, IsTick, old_keys, new_keys}
-use Rattle.tick_model.specs.Sort.{column_cmp, sort_cmp, place, in_order, numbered, same_place, place_of, place_pair, sort_pairs, sort_table}
-use Rattle.tick_model.proofs.Among.{rest_above, each_found}
-use Rattle.key_lists.proofs.Every.{every_weaker, every_both, every-map, every_unmapped, every-filter, filter_passes}
-use Rattle.tick_model.proofs.SortOrders.{comes_before, comes_before_weak}
-use Rattle.tick_model.proofs.TableRows.{every-ordered, every-place}
+use Rattle.std.{specs.Prelude.{find, filter_map, IfSome, option_map}, specs.List.{AllByRecursion, list_all, enumerate_from, cons_option}, specs.Cmp.{IsStrictWeakOrder, signed_Decides}, specs.Ordering.{ordering_then, int_eq}, proofs.lemmas.Bool.{and_parts, eqb-true, eq-eqb, ne_eqb, cases_eq}}
+use Rattle.tick_model.{specs.declared.plan.SortBy.SortBy, specs.declared.table.PlainRow.PlainRow, specs.declared.update.KeyPair.KeyPair, specs.Tables.{cell, cells_at, keys, row_at, IsTable}, specs.Updates.{Tick, IsTick, old_keys, new_keys}, specs.Sort.{column_cmp, sort_cmp, place, in_order, numbered, same_place, place_of, place_pair, sort_pairs, sort_table}, proofs.Among.{rest_above, each_found}, proofs.SortOrders.{comes_before, comes_before_weak}, proofs.TableRows.{every-ordered, every-place}}
+use Rattle.key_lists.{specs.Keys.{is_among, IsRising}, proofs.Every.{every_weaker, every_both, every-map, every_unmapped, every-filter, filter_passes}}
 
 -- a row stands before another: its cells come first, or they tie and its key is less
 abbrev pub Stands : List SortBy → PlainRow → PlainRow → Type 0

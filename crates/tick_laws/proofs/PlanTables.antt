@@ -1,23 +1,9 @@
 -- In a lawful plan, each node's table stays within its bounds.
 use Rattle.std.proofs.Common.{◌≡◌, refl, ap, sym, ◌∙◌, subst, ℕ, ◌<◌, ◌^◌, arith, true, false, true≢false, List, [], ◌∷◌, length, get_or, None}
-use Rattle.std.specs.Prelude.{slice_index}
-use Rattle.std.specs.List.{AllByRecursion}
-use Rattle.tick_model.specs.declared.plan.Node.{Node}
-use Rattle.tick_model.specs.declared.plan.Op.{Op}
-use Rattle.tick_model.specs.declared.plan.Op.TheVariants.{Source}
-use Rattle.tick_model.specs.declared.plan.Plan.{Plan}
-use Rattle.tick_model.specs.declared.table.PlainTable.{PlainTable}
-use Rattle.tick_model.specs.Evaluation.{eval, has_table, outcome_at, table_at, is_source, source_number}
-use Rattle.tick_model.specs.Operators.{inputs_of, result, fault_of, columns_fit, bound_of, is_source_op}
-use Rattle.tick_model.specs.Tables.{no_table}
-use Rattle.tick_model.specs.LawfulRuns.{sources_of}
-use Rattle.tick_model.specs.Plans.{is_lawful, columns_at, key_bounds}
+use Rattle.std.{specs.Prelude.slice_index, specs.List.AllByRecursion}
+use Rattle.tick_model.{specs.declared.plan.Node.Node, specs.declared.plan.Op.Op, specs.declared.plan.Op.TheVariants.Source, specs.declared.plan.Plan.Plan, specs.declared.table.PlainTable.PlainTable, specs.Evaluation.{eval, has_table, outcome_at, table_at, is_source, source_number}, specs.Operators.{inputs_of, result, fault_of, columns_fit, bound_of, is_source_op}, specs.Tables.no_table, specs.LawfulRuns.sources_of, specs.Plans.{is_lawful, columns_at, key_bounds}}
 use Rattle.key_lists.proofs.Every.{every_weaker}
-use Rattle.tick_laws.specs.Bounded.{IsNodeTable, AreSourceTables}
-use Rattle.tick_laws.proofs.EvalNodes.{each_node_has}
-use Rattle.tick_laws.proofs.LawfulPlans.{IsBound, IsLawfulPlan, lawful_plan, columns_at-node, bound_is, bound_room, each_bound}
-use Rattle.tick_laws.proofs.NodeTables.{node_table}
-use Rattle.tick_laws.proofs.Paired.{no_node, Paired, paired_at, source_there}
+use Rattle.tick_laws.{specs.Bounded.{IsNodeTable, AreSourceTables}, proofs.EvalNodes.each_node_has, proofs.LawfulPlans.{IsBound, IsLawfulPlan, lawful_plan, columns_at-node, bound_is, bound_room, each_bound}, proofs.NodeTables.node_table, proofs.Paired.{no_node, Paired, paired_at, source_there}}
 
 paired_tables : (sources : List Node) (tables : List PlainTable) → AreSourceTables sources tables → Paired (λ source table. IsNodeTable (length source.columns) (2 ^ 40) table) sources tables
 paired_tables [] [] h = tt

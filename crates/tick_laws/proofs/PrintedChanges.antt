@@ -1,29 +1,9 @@
 -- The change of a tick is printable, where the rows of its new table fit the columns.
 use Rattle.std.proofs.Common.{◌≡◌, refl, ap, ap₂, sym, ◌∙◌, subst, ℕ, zero, suc, ◌+◌, ◌*◌, ◌<◌, ◌≤◌, ◌^◌, arith, Bool, true, false, cond, not, ◌&&◌, ◌||◌, List, [], ◌∷◌, map, length, length-append, add-one, ℤ, pos}
-use Rattle.std.specs.Prelude.{filter, flat_map, FitsSigned}
-use Rattle.std.specs.List.{AllByRecursion, list_any, range_with_len}
-use Rattle.std.specs.Int.{w64}
-use Rattle.std.specs.Ordering.{int_eq}
-use Rattle.std.proofs.lemmas.Int.{ints}
-use Rattle.tick_model.specs.declared.plan.ColumnSpec.{ColumnSpec}
-use Rattle.tick_model.specs.declared.table.PlainRow.{PlainRow}
-use Rattle.tick_model.specs.declared.table.PlainTable.{PlainTable}
-use Rattle.tick_model.specs.declared.update.KeyPair.{KeyPair}
-use Rattle.tick_model.specs.declared.update.ShiftRange.{ShiftRange}
-use Rattle.key_lists.specs.Keys.{is_among}
-use Rattle.tick_model.specs.Tables.{cell, cells_at, same_cells, keys, IsRow, IsTable}
-use Rattle.tick_model.specs.Shifts.{delta, one, extend, stretches}
-use Rattle.tick_model.specs.Updates.{Tick, IsTick, Update, old_keys, differs, differs_in, between}
-use Rattle.tick_model.specs.Changes.{change_of, is_none, rows_under, told_keys, told_cells}
-use Rattle.tick_model.specs.Printable.{IsShift, IsShiftRange, fit_columns, IsPrintable}
-use Rattle.key_lists.proofs.Among.{of_among}
-use Rattle.key_lists.proofs.Every.{every, every_weaker, every_both, every-map, every_unmapped, every-filter, every-append}
-use Rattle.key_lists.proofs.Rising.{rising_some}
-use Rattle.key_lists.proofs.Ranges.{range_below}
-use Rattle.tick_laws.specs.Fitting.{FitsColumns, HasColumns}
-use Rattle.tick_laws.proofs.LawfulSources.{rising_range}
-use Rattle.tick_laws.proofs.Moves.{IsApart, stretches_apart}
-use Rattle.tick_laws.proofs.ToldRows.{row_under, cells_of_row, added_rise, modified_rise, modified_apart, told_there, rows_told}
+use Rattle.std.{specs.Prelude.{filter, flat_map, FitsSigned}, specs.List.{AllByRecursion, list_any, range_with_len}, specs.Int.w64, specs.Ordering.int_eq, proofs.lemmas.Int.ints}
+use Rattle.tick_model.{specs.declared.plan.ColumnSpec.ColumnSpec, specs.declared.table.PlainRow.PlainRow, specs.declared.table.PlainTable.PlainTable, specs.declared.update.KeyPair.KeyPair, specs.declared.update.ShiftRange.ShiftRange, specs.Tables.{cell, cells_at, same_cells, keys, IsRow, IsTable}, specs.Shifts.{delta, one, extend, stretches}, specs.Updates.{Tick, IsTick, Update, old_keys, differs, differs_in, between}, specs.Changes.{change_of, is_none, rows_under, told_keys, told_cells}, specs.Printable.{IsShift, IsShiftRange, fit_columns, IsPrintable}}
+use Rattle.key_lists.{specs.Keys.is_among, proofs.Among.of_among, proofs.Every.{every, every_weaker, every_both, every-map, every_unmapped, every-filter, every-append}, proofs.Rising.rising_some, proofs.Ranges.range_below}
+use Rattle.tick_laws.{specs.Fitting.{FitsColumns, HasColumns}, proofs.LawfulSources.rising_range, proofs.Moves.{IsApart, stretches_apart}, proofs.ToldRows.{row_under, cells_of_row, added_rise, modified_rise, modified_apart, told_there, rows_told}}
 
 -- ranges that lie apart, without those that move nothing
 apart_above : (low : ℕ) (ranges : List ShiftRange) → IsApart low ranges → AllByRecursion (λ (range : ShiftRange). low ≤ range.begin) ranges

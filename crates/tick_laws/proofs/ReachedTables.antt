@@ -1,32 +1,9 @@
 -- At each step that a lawful run reaches, every node has a table.
 use Rattle.std.proofs.Common.{◌≡◌, refl, ap, sym, ◌∙◌, subst, ℕ, zero, suc, ◌+◌, ◌<◌, ◌≤◌, inl, inr, arith, Bool, true, false, true≢false, List, [], ◌∷◌, length, get_or, Option, Some, None}
-use Rattle.std.specs.Prelude.{slice_index}
-use Rattle.std.specs.List.{list_all, AllByRecursion}
-use Rattle.std.proofs.lemmas.Bool.{cases_lt}
-use Rattle.std.proofs.lemmas.List.{get_or_past}
-use Rattle.tick_model.specs.declared.feed.Run.{Run}
-use Rattle.tick_model.specs.declared.plan.Node.{Node}
-use Rattle.tick_model.specs.declared.plan.Op.{Op}
-use Rattle.tick_model.specs.declared.plan.Plan.{Plan}
-use Rattle.tick_model.specs.declared.table.NodeFault.{NodeFault}
-use Rattle.tick_model.specs.declared.table.PlainTable.{PlainTable}
-use Rattle.tick_model.specs.Tables.{IsTable, no_table}
-use Rattle.tick_model.specs.Evaluation.{Outcome, Table, Fault, NoInput, eval, has_table, table_of, table_at, outcome_at, or_fault, applied, source_number}
-use Rattle.tick_model.specs.Operators.{inputs_of, result, fault_of}
-use Rattle.tick_model.specs.LawfulRuns.{IsLawfulRun}
-use Rattle.tick_model.specs.Plans.{columns_at, is_lawful, key_bounds}
-use Rattle.tick_model.specs.Sources.{sources}
-use Rattle.tick_model.specs.Spoiled.{node_fault}
-use Rattle.tick_model.specs.States.{state, HaveTables, HasLesserInputs}
+use Rattle.std.{specs.Prelude.slice_index, specs.List.{list_all, AllByRecursion}, proofs.lemmas.Bool.cases_lt, proofs.lemmas.List.get_or_past}
+use Rattle.tick_model.{specs.declared.feed.Run.Run, specs.declared.plan.Node.Node, specs.declared.plan.Op.Op, specs.declared.plan.Plan.Plan, specs.declared.table.NodeFault.NodeFault, specs.declared.table.PlainTable.PlainTable, specs.Tables.{IsTable, no_table}, specs.Evaluation.{Outcome, Table, Fault, NoInput, eval, has_table, table_of, table_at, outcome_at, or_fault, applied, source_number}, specs.Operators.{inputs_of, result, fault_of}, specs.LawfulRuns.IsLawfulRun, specs.Plans.{columns_at, is_lawful, key_bounds}, specs.Sources.sources, specs.Spoiled.node_fault, specs.States.{state, HaveTables, HasLesserInputs}}
 use Rattle.key_lists.proofs.Every.{every_weaker, pass_all}
-use Rattle.tick_laws.specs.Bounded.{IsNodeTable}
-use Rattle.tick_laws.specs.Reached.{KeepsRules, IsReached}
-use Rattle.tick_laws.proofs.EvalNodes.{outcome_cases, length_outcomes, outcome_is}
-use Rattle.tick_laws.proofs.Grown.{by_lesser}
-use Rattle.tick_laws.proofs.LawfulPlans.{lawful_plan}
-use Rattle.tick_laws.proofs.LawfulSources.{sources_bounded}
-use Rattle.tick_laws.proofs.Paired.{no_node}
-use Rattle.tick_laws.proofs.PlanTables.{plan_tables}
+use Rattle.tick_laws.{specs.Bounded.IsNodeTable, specs.Reached.{KeepsRules, IsReached}, proofs.EvalNodes.{outcome_cases, length_outcomes, outcome_is}, proofs.Grown.by_lesser, proofs.LawfulPlans.lawful_plan, proofs.LawfulSources.sources_bounded, proofs.Paired.no_node, proofs.PlanTables.plan_tables}
 
 -- the inputs of a node of a lawful plan are lesser
 pub lesser_inputs : (plan : Plan) → is_lawful plan ≡ true → HasLesserInputs plan

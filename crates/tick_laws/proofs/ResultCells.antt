@@ -1,25 +1,9 @@
 -- The cells of each operator's rows are numbers of 64 bits, where those of its inputs are.
 use Rattle.std.proofs.Common.{ℕ, ◌≤◌, ◌^◌, arith, Bool, true, false, cond, ◌||◌, List, [], ◌∷◌, map, length, filter, Option, Some, None, ℤ, pos, neg_ℤ, ◌+ℤ◌, ◌-ℤ◌, ◌*ℤ◌, lit<}
-use Rattle.std.specs.Prelude.{FitsSigned, IfSome, fold}
-use Rattle.std.specs.Int.{w64}
-use Rattle.std.specs.List.{AllByRecursion}
-use Rattle.std.proofs.lemmas.Int.{SFits-int_wrap}
-use Rattle.tick_model.specs.declared.plan.Agg.{Agg}
-use Rattle.tick_model.specs.declared.plan.Agg.TheVariants.{Count, Sum, Min, Max, First, Last}
-use Rattle.tick_model.specs.declared.plan.Expr.{Expr, Cell, Number, Null, Literal, Rank, Neg', Add', Sub', Mul'}
-use Rattle.tick_model.specs.declared.plan.Op.{Op}
-use Rattle.tick_model.specs.declared.plan.Op.TheVariants.{View, Join, Agg as AggOp, Merge, Sort, AsOf}
-use Rattle.tick_model.specs.declared.table.PlainRow.{PlainRow}
-use Rattle.tick_model.specs.declared.table.PlainTable.{PlainTable}
-use Rattle.tick_model.specs.Tables.{null, is_null, cell, IsTable, HasCells}
-use Rattle.tick_model.specs.Formulas.{wrap, lifted, lifted2, value}
-use Rattle.tick_model.specs.Join.{taken}
-use Rattle.tick_model.specs.Agg.{key_cells, aggregate, column_of, present, sum_of}
-use Rattle.tick_model.specs.Operators.{inputs_of, result}
+use Rattle.std.{specs.Prelude.{FitsSigned, IfSome, fold}, specs.Int.w64, specs.List.AllByRecursion, proofs.lemmas.Int.SFits-int_wrap}
+use Rattle.tick_model.{specs.declared.plan.Agg.Agg, specs.declared.plan.Agg.TheVariants.{Count, Sum, Min, Max, First, Last}, specs.declared.plan.Expr.{Expr, Cell, Number, Null, Literal, Rank, Neg', Add', Sub', Mul'}, specs.declared.plan.Op.Op, specs.declared.plan.Op.TheVariants.{View, Join, Agg as AggOp, Merge, Sort, AsOf}, specs.declared.table.PlainRow.PlainRow, specs.declared.table.PlainTable.PlainTable, specs.Tables.{null, is_null, cell, IsTable, HasCells}, specs.Formulas.{wrap, lifted, lifted2, value}, specs.Join.taken, specs.Agg.{key_cells, aggregate, column_of, present, sum_of}, specs.Operators.{inputs_of, result}, specs.Numbers.{HasNumbers, HasOpNumbers}}
 use Rattle.key_lists.proofs.Every.{every, every_weaker, every-map, every-append}
-use Rattle.tick_model.specs.Numbers.{HasNumbers, HasOpNumbers}
-use Rattle.tick_laws.proofs.Picked.{cell_every, picked_every}
-use Rattle.tick_laws.proofs.ResultTables.{MakesRows, result_has}
+use Rattle.tick_laws.{proofs.Picked.{cell_every, picked_every}, proofs.ResultTables.{MakesRows, result_has}}
 
 abbrev Fits : ℤ → Type 0
 Fits = FitsSigned w64

@@ -1,34 +1,9 @@
 -- What each operator makes of tables is a table, and its rows have what is to be known of what is made of its inputs' rows.
 use Rattle.std.proofs.Common.{◌≡◌, refl, ap, ap₂, sym, ◌∙◌, subst, ℕ, zero, suc, ◌+◌, ◌<◌, ◌≤◌, ◌-◌, ◌^◌, arith, Bool, List, [], ◌∷◌, ◌++◌, map, take, drop, length, filter, length-append, Option}
-use Rattle.std.specs.Prelude.{IfSome, int_le, sum_by, ◌&&◌}
-use Rattle.std.specs.List.{AllByRecursion}
-use Rattle.std.proofs.lemmas.List.{length-map, map-id}
-use Rattle.tick_model.specs.declared.plan.Op.{Op}
-use Rattle.tick_model.specs.declared.plan.Op.TheVariants.{Source, Keep, View, Join, Agg, Merge, Sort, Head, Tail, AsOf}
-use Rattle.tick_model.specs.declared.plan.SortBy.{SortBy}
-use Rattle.tick_model.specs.declared.table.PlainRow.{PlainRow}
-use Rattle.tick_model.specs.declared.table.PlainTable.{PlainTable}
-use Rattle.key_lists.specs.Keys.{IsRising}
-use Rattle.tick_model.specs.Tables.{cell, keys, IsRow, IsTable}
-use Rattle.tick_model.specs.Formulas.{truth, value}
-use Rattle.tick_model.specs.View.{view_row}
-use Rattle.tick_model.specs.Join.{agree, chosen, joined, matches}
-use Rattle.tick_model.specs.AsOf.{latest, not_later}
-use Rattle.tick_model.specs.Agg.{agg_row, is_first, key_cells, aggregate, group_of, same_group}
-use Rattle.tick_model.specs.Merge.{merged_rows, merge_table, region, row_from, width_of}
-use Rattle.tick_model.specs.Sort.{in_order, numbered}
-use Rattle.tick_model.specs.Operators.{inputs_of, result}
-use Rattle.key_lists.proofs.Every.{every, every_weaker, every_both, every-map, every_unmapped, every-filter, every-append}
-use Rattle.key_lists.proofs.Rising.{rising-filter, rising_count}
-use Rattle.key_lists.proofs.Parts.{every-take, every-drop}
-use Rattle.tick_model.proofs.Results.{taken_width}
-use Rattle.tick_model.proofs.SortOrders.{comes_before}
-use Rattle.tick_model.proofs.TableRows.{length-ordered}
-use Rattle.tick_laws.specs.Room.{AreMergeable, HasRoom}
-use Rattle.tick_laws.proofs.Merged.{IsPart, apart, apart_rising, apart_below, keys-merged_rows, whole_part}
-use Rattle.tick_laws.proofs.OperatorTicks.{keys_mapped}
-use Rattle.tick_laws.proofs.Picked.{chosen_every, latest_every}
-use Rattle.tick_laws.proofs.Placed.{every-in_order}
+use Rattle.std.{specs.Prelude.{IfSome, int_le, sum_by, ◌&&◌}, specs.List.AllByRecursion, proofs.lemmas.List.{length-map, map-id}}
+use Rattle.tick_model.{specs.declared.plan.Op.Op, specs.declared.plan.Op.TheVariants.{Source, Keep, View, Join, Agg, Merge, Sort, Head, Tail, AsOf}, specs.declared.plan.SortBy.SortBy, specs.declared.table.PlainRow.PlainRow, specs.declared.table.PlainTable.PlainTable, specs.Tables.{cell, keys, IsRow, IsTable}, specs.Formulas.{truth, value}, specs.View.view_row, specs.Join.{agree, chosen, joined, matches}, specs.AsOf.{latest, not_later}, specs.Agg.{agg_row, is_first, key_cells, aggregate, group_of, same_group}, specs.Merge.{merged_rows, merge_table, region, row_from, width_of}, specs.Sort.{in_order, numbered}, specs.Operators.{inputs_of, result}, proofs.Results.taken_width, proofs.SortOrders.comes_before, proofs.TableRows.length-ordered}
+use Rattle.key_lists.{specs.Keys.IsRising, proofs.Every.{every, every_weaker, every_both, every-map, every_unmapped, every-filter, every-append}, proofs.Rising.{rising-filter, rising_count}, proofs.Parts.{every-take, every-drop}}
+use Rattle.tick_laws.{specs.Room.{AreMergeable, HasRoom}, proofs.Merged.{IsPart, apart, apart_rising, apart_below, keys-merged_rows, whole_part}, proofs.OperatorTicks.keys_mapped, proofs.Picked.{chosen_every, latest_every}, proofs.Placed.every-in_order}
 
 pub rising-take : {X : Type 0} (f : X → ℕ) (n : ℕ) (xs : List X) → IsRising (map f xs) → IsRising (map f (take n xs))
 rising-take f zero [] h = tt

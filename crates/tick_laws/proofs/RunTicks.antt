@@ -1,19 +1,7 @@
 -- Every node's change at every step of a run.
 use Rattle.std.proofs.Common.{◌≡◌, sym, subst, ℕ, zero, suc, ◌+◌, ◌<◌, ◌≤◌, arith, length, get_or, add-one}
-use Rattle.tick_model.specs.declared.feed.Run.{Run}
-use Rattle.tick_model.specs.declared.plan.Node.{Node}
-use Rattle.tick_model.specs.Evaluation.{source_number, table_at}
-use Rattle.tick_model.specs.LawfulRuns.{IsLawfulRun}
-use Rattle.tick_model.specs.Sources.{HasTables, sources, source_ticks, tick_at}
-use Rattle.tick_model.specs.States.{empty_at, state, tick, tick_of, ticks, HaveTables, HasLesserInputs}
-use Rattle.tick_laws.specs.Reached.{KeepsRules, IsReached, IsTickFrom, table_before}
-use Rattle.tick_laws.proofs.LawfulSources.{lawful_tables}
-use Rattle.tick_laws.proofs.NodeTicks.{each_node_tick}
-use Rattle.tick_laws.proofs.OpeningTicks.{opening_ticks}
-use Rattle.tick_laws.proofs.Paired.{no_node}
-use Rattle.tick_laws.proofs.ReachedTables.{lesser_inputs, reached_tables}
-use Rattle.tick_laws.proofs.TickNodes.{length_ticks, tick_is}
-use Rattle.tick_laws.proofs.SourceTicks.{source_tick, source_old, source_new}
+use Rattle.tick_model.{specs.declared.feed.Run.Run, specs.declared.plan.Node.Node, specs.Evaluation.{source_number, table_at}, specs.LawfulRuns.IsLawfulRun, specs.Sources.{HasTables, sources, source_ticks, tick_at}, specs.States.{empty_at, state, tick, tick_of, ticks, HaveTables, HasLesserInputs}}
+use Rattle.tick_laws.{specs.Reached.{KeepsRules, IsReached, IsTickFrom, table_before}, proofs.LawfulSources.lawful_tables, proofs.NodeTicks.each_node_tick, proofs.OpeningTicks.opening_ticks, proofs.Paired.no_node, proofs.ReachedTables.{lesser_inputs, reached_tables}, proofs.TickNodes.{length_ticks, tick_is}, proofs.SourceTicks.{source_tick, source_old, source_new}}
 
 run_ticks_suc : (run : Run) → HasTables run → HasLesserInputs run.plan → (step : ℕ) → KeepsRules run (suc step) → HaveTables run.plan (state run step) → HaveTables run.plan (state run (suc step))
     → (node : ℕ) → node < length run.plan.nodes → IsTickFrom (table_at (state run step) node) (table_at (state run (suc step)) node) (tick run (suc step) node)

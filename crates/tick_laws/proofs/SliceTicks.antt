@@ -2,26 +2,8 @@
 use Rattle.std.proofs.Common.{◌≡◌, refl, sym, ◌∙◌, subst, ℕ, zero, suc, ◌+◌, ◌<◌, arith, List, take, drop, length}
 use Rattle.std.proofs.lemmas.List.{length-map}
 use Rattle.key_lists.proofs.Parts.{every-take, every-drop}
-use Rattle.tick_model.specs.declared.feed.Run.{Run}
-use Rattle.tick_model.specs.declared.table.PlainRow.{PlainRow}
-use Rattle.tick_model.specs.declared.table.PlainTable.{PlainTable}
-use Rattle.tick_model.specs.Tables.{cell, IsRow, IsTable}
-use Rattle.tick_model.specs.Shifts.{composed}
-use Rattle.tick_model.specs.Updates.{IsTick}
-use Rattle.tick_model.specs.Changes.{change_of, changed}
-use Rattle.tick_model.specs.Evaluation.{table_at}
-use Rattle.tick_model.specs.LawfulRuns.{IsLawfulRun}
-use Rattle.tick_model.specs.Slices.{chosen_cells, kept_over, slice, slice_tick, first_tick}
-use Rattle.tick_model.specs.States.{state, tick}
-use Rattle.tick_laws.specs.Reached.{IsReached}
-use Rattle.tick_laws.proofs.Composed.{composed_tick}
-use Rattle.tick_laws.proofs.OperatorTicks.{all_both_in}
-use Rattle.tick_laws.proofs.ReachedTables.{reached_tables}
-use Rattle.tick_laws.proofs.ResultTables.{mapped_table, rising-take, rising-drop}
-use Rattle.tick_laws.proofs.RunTicks.{lawful_ticks, reached_before}
-use Rattle.tick_laws.proofs.SourceTicks.{opened_tick, unchanged_tick}
-use Rattle.tick_laws.proofs.TickNodes.{tick_from}
-use Rattle.tick_laws.proofs.ToldRows.{change-carries}
+use Rattle.tick_model.{specs.declared.feed.Run.Run, specs.declared.table.PlainRow.PlainRow, specs.declared.table.PlainTable.PlainTable, specs.Tables.{cell, IsRow, IsTable}, specs.Shifts.composed, specs.Updates.IsTick, specs.Changes.{change_of, changed}, specs.Evaluation.table_at, specs.LawfulRuns.IsLawfulRun, specs.Slices.{chosen_cells, kept_over, slice, slice_tick, first_tick}, specs.States.{state, tick}}
+use Rattle.tick_laws.{specs.Reached.IsReached, proofs.Composed.composed_tick, proofs.OperatorTicks.all_both_in, proofs.ReachedTables.reached_tables, proofs.ResultTables.{mapped_table, rising-take, rising-drop}, proofs.RunTicks.{lawful_ticks, reached_before}, proofs.SourceTicks.{opened_tick, unchanged_tick}, proofs.TickNodes.tick_from, proofs.ToldRows.change-carries}
 
 -- a slice of a table is a table
 pub slice_table : (first count : ℕ) (columns : List ℕ) (table : PlainTable) → IsTable table → IsTable (slice first count columns table)

@@ -1,24 +1,9 @@
 -- While no batch breaks a rule, each source's change is a tick.
 use Rattle.std.proofs.Common.{◌≡◌, refl, ap, sym, ◌∙◌, subst, ℕ, zero, suc, ◌≤◌, arith, List, [], ◌∷◌, map, get_or, set, None, true}
-use Rattle.std.specs.Prelude.{option_map}
-use Rattle.std.specs.List.{AllByRecursion}
-use Rattle.std.proofs.lemmas.List.{map-id}
-use Rattle.tick_model.specs.declared.feed.Batch.{Batch}
-use Rattle.tick_model.specs.declared.feed.Block.{Block}
-use Rattle.tick_model.specs.declared.feed.Run.{Run}
-use Rattle.tick_model.specs.declared.plan.Plan.{Plan}
-use Rattle.tick_model.specs.declared.table.PlainTable.{PlainTable}
-use Rattle.key_lists.specs.Keys.{is_among, IsRising}
-use Rattle.tick_model.specs.declared.update.KeyPair.{KeyPair}
-use Rattle.tick_model.specs.Tables.{keys, IsTable, no_table}
-use Rattle.tick_model.specs.Updates.{Tick, IsTick, pairs}
-use Rattle.tick_model.specs.Evaluation.{source_number}
-use Rattle.tick_model.specs.Sources.{IsBlock, HasTables, block_width, block_fault, record_of, blocks_fault, batch_fault, blocks_of, carry_on, carried, update_of, unchanged, same_key, opened, no_tick, tick_at, after_block, after_blocks, source_ticks, sources, new_table}
-use Rattle.key_lists.proofs.Among.{each_among}
-use Rattle.tick_laws.proofs.Blocks.{block_tick}
-use Rattle.tick_laws.proofs.CheckedUpdates.{none_parts, map_none}
-use Rattle.tick_laws.proofs.Composed.{composed_tick}
-use Rattle.key_lists.proofs.Every.{every-map, map_map}
+use Rattle.std.{specs.Prelude.option_map, specs.List.AllByRecursion, proofs.lemmas.List.map-id}
+use Rattle.tick_model.{specs.declared.feed.Batch.Batch, specs.declared.feed.Block.Block, specs.declared.feed.Run.Run, specs.declared.plan.Plan.Plan, specs.declared.table.PlainTable.PlainTable, specs.declared.update.KeyPair.KeyPair, specs.Tables.{keys, IsTable, no_table}, specs.Updates.{Tick, IsTick, pairs}, specs.Evaluation.source_number, specs.Sources.{IsBlock, HasTables, block_width, block_fault, record_of, blocks_fault, batch_fault, blocks_of, carry_on, carried, update_of, unchanged, same_key, opened, no_tick, tick_at, after_block, after_blocks, source_ticks, sources, new_table}}
+use Rattle.key_lists.{specs.Keys.{is_among, IsRising}, proofs.Among.each_among, proofs.Every.{every-map, map_map}}
+use Rattle.tick_laws.{proofs.Blocks.block_tick, proofs.CheckedUpdates.{none_parts, map_none}, proofs.Composed.composed_tick}
 
 -- a table that stays keeps all its rows
 pub unchanged_tick : (table : PlainTable) → IsTable table → IsTick (unchanged table)

@@ -1,44 +1,9 @@
 -- Where no input of an operator changes its table stays, too, and the update is empty.
 use Rattle.std.proofs.Common.{◌≡◌, refl, ap, ap₂, sym, ◌∙◌, subst, ℕ, ◌+◌, ◌==◌, ◌<◌, Bool, true, false, cond, not, ◌&&◌, ◌||◌, List, [], ◌∷◌, ◌++◌, map, length, true≢false, ℤ, pos, ◌+ℤ◌, arith}
-use Rattle.std.specs.Prelude.{Option, Some, None, filter, filter_map, find, option_map, slice_index}
-use Rattle.std.specs.List.{AllByRecursion, cons_option, enumerate_from, list_all}
-use Rattle.std.specs.Cmp.{signed_Decides}
-use Rattle.std.specs.Ordering.{int_eq}
-use Rattle.std.specs.Cmp.Rules.{signed_items}
-use Rattle.std.proofs.lemmas.Bool.{and_parts, eq-eqb, eqb-true, ne_eqb}
-use Rattle.std.proofs.lemmas.Int.{ints}
-use Rattle.std.proofs.lemmas.List.{append_assoc, map-append, length_push}
-use Rattle.tick_model.specs.declared.plan.SortBy.{SortBy}
-use Rattle.tick_model.specs.declared.plan.Op.{Op}
-use Rattle.tick_model.specs.declared.plan.Op.TheVariants.{Source, View, Join, Agg, Merge, Sort, AsOf}
-use Rattle.tick_model.specs.declared.table.PlainRow.{PlainRow}
-use Rattle.tick_model.specs.declared.table.PlainTable.{PlainTable}
-use Rattle.tick_model.specs.declared.update.KeyPair.{KeyPair}
-use Rattle.key_lists.specs.Keys.{is_among, IsRising, without}
-use Rattle.tick_model.specs.Tables.{IsTable, cell, cells_at, keys, row_at, same_cells}
-use Rattle.tick_model.proofs.Among.{each_found}
-use Rattle.tick_model.specs.Shifts.{as_key, moved}
-use Rattle.tick_model.specs.Sources.{same_key, unchanged}
-use Rattle.tick_model.specs.Updates.{Tick, IsTick, Update, between, both_in, kept_pair, pairs}
-use Rattle.tick_model.specs.Changes.{is_empty, is_none}
-use Rattle.tick_model.specs.Agg.{agg_row, agg_table, is_first, key_cells}
-use Rattle.tick_model.specs.AsOf.{latest, not_later}
-use Rattle.tick_model.specs.Operators.{inputs_of, result, kept_by}
-use Rattle.tick_model.specs.Join.{chosen, joined, matches}
-use Rattle.tick_model.specs.Sort.{in_order, numbered, place_of, place_pair, same_place, sort_pairs, sort_table}
-use Rattle.tick_model.specs.View.{view_row}
-use Rattle.tick_model.specs.Merge.{merged_pairs, merged_rows, pair_from, region, row_from}
-use Rattle.key_lists.proofs.Among.{each_among}
-use Rattle.key_lists.proofs.Every.{every, every_unmapped, every_weaker, every-append, every-filter, every-map, filter-map, filter_all, filter_same}
-use Rattle.key_lists.proofs.Rising.{as_filter}
-use Rattle.tick_laws.proofs.Carried.{pairs-between}
-use Rattle.tick_laws.proofs.EmptyUpdates.{none_is, unchanged_by_empty}
-use Rattle.tick_laws.proofs.OperatorTicks.{keys_mapped}
-use Rattle.tick_laws.proofs.Placed.{IsPlaced, Stands, every-in_order, in_order_placed}
-use Rattle.tick_laws.proofs.EvalNodes.{result_same}
-use Rattle.tick_laws.proofs.ResultTables.{result_has, result_table}
-use Rattle.tick_laws.proofs.TickNodes.{kept_same, tick_from}
-use Rattle.tick_laws.specs.Operated.{operated}
+use Rattle.std.{specs.Prelude.{Option, Some, None, filter, filter_map, find, option_map, slice_index}, specs.List.{AllByRecursion, cons_option, enumerate_from, list_all}, specs.Cmp.signed_Decides, specs.Ordering.int_eq, specs.Cmp.Rules.signed_items, proofs.lemmas.Bool.{and_parts, eq-eqb, eqb-true, ne_eqb}, proofs.lemmas.Int.ints, proofs.lemmas.List.{append_assoc, map-append, length_push}}
+use Rattle.tick_model.{specs.declared.plan.SortBy.SortBy, specs.declared.plan.Op.Op, specs.declared.plan.Op.TheVariants.{Source, View, Join, Agg, Merge, Sort, AsOf}, specs.declared.table.PlainRow.PlainRow, specs.declared.table.PlainTable.PlainTable, specs.declared.update.KeyPair.KeyPair, specs.Tables.{IsTable, cell, cells_at, keys, row_at, same_cells}, proofs.Among.each_found, specs.Shifts.{as_key, moved}, specs.Sources.{same_key, unchanged}, specs.Updates.{Tick, IsTick, Update, between, both_in, kept_pair, pairs}, specs.Changes.{is_empty, is_none}, specs.Agg.{agg_row, agg_table, is_first, key_cells}, specs.AsOf.{latest, not_later}, specs.Operators.{inputs_of, result, kept_by}, specs.Join.{chosen, joined, matches}, specs.Sort.{in_order, numbered, place_of, place_pair, same_place, sort_pairs, sort_table}, specs.View.view_row, specs.Merge.{merged_pairs, merged_rows, pair_from, region, row_from}}
+use Rattle.key_lists.{specs.Keys.{is_among, IsRising, without}, proofs.Among.each_among, proofs.Every.{every, every_unmapped, every_weaker, every-append, every-filter, every-map, filter-map, filter_all, filter_same}, proofs.Rising.as_filter}
+use Rattle.tick_laws.{proofs.Carried.pairs-between, proofs.EmptyUpdates.{none_is, unchanged_by_empty}, proofs.OperatorTicks.keys_mapped, proofs.Placed.{IsPlaced, Stands, every-in_order, in_order_placed}, proofs.EvalNodes.result_same, proofs.ResultTables.{result_has, result_table}, proofs.TickNodes.{kept_same, tick_from}, specs.Operated.operated}
 
 abbrev pub IsStill : Tick → Type 0
 IsStill tick = tick ≡ unchanged tick.old

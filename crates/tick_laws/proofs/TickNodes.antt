@@ -1,19 +1,7 @@
 -- The ticks of a plan's nodes, each from those of its inputs.
 use Rattle.std.proofs.Common.{◌≡◌, refl, ap, ◌∙◌, ℕ, ◌<◌, ◌⊎◌, inl, inr, arith, true, false, List, [], take, length, get_or, length-take-le}
-use Rattle.std.specs.Prelude.{fold}
-use Rattle.std.specs.List.{AllByRecursion}
-use Rattle.std.proofs.lemmas.List.{get_or-take}
-use Rattle.tick_model.specs.declared.plan.Node.{Node}
-use Rattle.tick_model.specs.declared.plan.Op.{Op}
-use Rattle.tick_model.specs.declared.plan.Op.TheVariants.{Source, Merge}
-use Rattle.tick_model.specs.declared.table.PlainTable.{PlainTable}
-use Rattle.tick_model.specs.declared.update.KeyPair.{KeyPair}
-use Rattle.tick_model.specs.Updates.{Tick}
-use Rattle.tick_model.specs.Merge.{merge_pairs}
-use Rattle.tick_model.specs.Evaluation.{source_number}
-use Rattle.tick_model.specs.Operators.{inputs_of, kept_by, is_source_op}
-use Rattle.tick_model.specs.Sources.{no_tick, tick_at}
-use Rattle.tick_model.specs.States.{tick_of, tick_node}
+use Rattle.std.{specs.Prelude.fold, specs.List.AllByRecursion, proofs.lemmas.List.get_or-take}
+use Rattle.tick_model.{specs.declared.plan.Node.Node, specs.declared.plan.Op.Op, specs.declared.plan.Op.TheVariants.{Source, Merge}, specs.declared.table.PlainTable.PlainTable, specs.declared.update.KeyPair.KeyPair, specs.Updates.Tick, specs.Merge.merge_pairs, specs.Evaluation.source_number, specs.Operators.{inputs_of, kept_by, is_source_op}, specs.Sources.{no_tick, tick_at}, specs.States.{tick_of, tick_node}}
 use Rattle.key_lists.proofs.Every.{every_weaker, map_same}
 use Rattle.tick_laws.proofs.Grown.{made_at, length-grown}
 

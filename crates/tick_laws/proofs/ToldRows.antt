@@ -1,22 +1,8 @@
 -- The rows that a change tells, as cells one after the other, are rows of the new table.
 use Rattle.std.proofs.Common.{◌≡◌, refl, ap, ap₂, sym, ◌∙◌, subst, Bool, true, false, cond, not, ◌&&◌, ◌||◌, ℕ, ◌==◌, List, [], ◌∷◌, ◌++◌, map, ℤ, take, drop, length, append-nil, Some, unwrap_or, true≢false}
-use Rattle.std.specs.Prelude.{filter, option_map, flat_map}
-use Rattle.std.specs.List.{AllByRecursion}
-use Rattle.std.proofs.Math.Seq.{take-append_seam, drop-append_seam}
-use Rattle.std.proofs.lemmas.List.Elements.{filter-append}
-use Rattle.std.proofs.lemmas.Bool.{not-true}
-use Rattle.std.proofs.lemmas.List.{map-id}
-use Rattle.tick_model.specs.declared.table.PlainRow.{PlainRow}
-use Rattle.tick_model.specs.declared.table.PlainTable.{PlainTable}
-use Rattle.key_lists.specs.Keys.{is_among, IsRising, without}
-use Rattle.tick_model.specs.declared.update.KeyPair.{KeyPair}
-use Rattle.tick_model.specs.Tables.{keys, row_at, cells_at, IsRow}
-use Rattle.tick_model.specs.Sources.{same_key}
-use Rattle.tick_model.specs.Updates.{Tick, IsTick, new_keys, differs, between, adding, shifting, removing, modifying, rows_at, told}
-use Rattle.tick_model.specs.Changes.{rows_under, told_cells, change_of, changed}
-use Rattle.key_lists.proofs.Among.{each_among, among-append, among-filter, of_among}
-use Rattle.key_lists.proofs.Every.{every, every_weaker, every-map, every_unmapped, every-filter, every-append, map_map, filter-map, filter_same, filter_none, filter_all, filter_in, filter_passes}
-use Rattle.key_lists.proofs.Rising.{rising-filter, rising_some}
+use Rattle.std.{specs.Prelude.{filter, option_map, flat_map}, specs.List.AllByRecursion, proofs.Math.Seq.{take-append_seam, drop-append_seam}, proofs.lemmas.List.Elements.filter-append, proofs.lemmas.Bool.not-true, proofs.lemmas.List.map-id}
+use Rattle.tick_model.{specs.declared.table.PlainRow.PlainRow, specs.declared.table.PlainTable.PlainTable, specs.declared.update.KeyPair.KeyPair, specs.Tables.{keys, row_at, cells_at, IsRow}, specs.Sources.same_key, specs.Updates.{Tick, IsTick, new_keys, differs, between, adding, shifting, removing, modifying, rows_at, told}, specs.Changes.{rows_under, told_cells, change_of, changed}}
+use Rattle.key_lists.{specs.Keys.{is_among, IsRising, without}, proofs.Among.{each_among, among-append, among-filter, of_among}, proofs.Every.{every, every_weaker, every-map, every_unmapped, every-filter, every-append, map_map, filter-map, filter_same, filter_none, filter_all, filter_in, filter_passes}, proofs.Rising.{rising-filter, rising_some}}
 use Rattle.tick_laws.proofs.Carried.{within_from, named_rows, carry-between}
 
 -- the row of a table under a key

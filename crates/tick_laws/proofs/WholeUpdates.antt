@@ -1,22 +1,8 @@
 -- The update of a tick that keeps nothing, and of one that changes nothing.
 use Rattle.std.proofs.Common.{◌≡◌, refl, ap, ◌∙◌, true, false, cond, not, ◌||◌, ℕ, arith, List, [], ◌∷◌, map, pos, ◌-ℤ◌}
-use Rattle.std.specs.Prelude.{filter}
-use Rattle.std.specs.List.{AllByRecursion, list_any, range_with_len}
-use Rattle.std.specs.Ordering.{int_eq}
-use Rattle.std.specs.Cmp.{signed_Decides}
-use Rattle.std.specs.Cmp.Rules.{signed_items}
-use Rattle.std.proofs.lemmas.Int.{ints}
-use Rattle.std.proofs.lemmas.List.{map-id}
-use Rattle.tick_model.specs.declared.table.PlainTable.{PlainTable}
-use Rattle.tick_model.specs.declared.update.KeyPair.{KeyPair}
-use Rattle.tick_model.specs.declared.update.ShiftRange.{ShiftRange}
-use Rattle.key_lists.specs.Keys.{is_among, without}
-use Rattle.tick_model.specs.Tables.{keys, cell, cells_at}
-use Rattle.tick_model.specs.Shifts.{delta, one, extend, stretches, shifted}
-use Rattle.tick_model.specs.Sources.{same_key, unchanged}
-use Rattle.tick_model.specs.Updates.{Update, new_keys, differs, differs_in, between}
-use Rattle.key_lists.proofs.Among.{each_among}
-use Rattle.key_lists.proofs.Every.{every, every_weaker, every-map, filter_all, filter_none, map_map}
+use Rattle.std.{specs.Prelude.filter, specs.List.{AllByRecursion, list_any, range_with_len}, specs.Ordering.int_eq, specs.Cmp.signed_Decides, specs.Cmp.Rules.signed_items, proofs.lemmas.Int.ints, proofs.lemmas.List.map-id}
+use Rattle.tick_model.{specs.declared.table.PlainTable.PlainTable, specs.declared.update.KeyPair.KeyPair, specs.declared.update.ShiftRange.ShiftRange, specs.Tables.{keys, cell, cells_at}, specs.Shifts.{delta, one, extend, stretches, shifted}, specs.Sources.{same_key, unchanged}, specs.Updates.{Update, new_keys, differs, differs_in, between}}
+use Rattle.key_lists.{specs.Keys.{is_among, without}, proofs.Among.each_among, proofs.Every.{every, every_weaker, every-map, filter_all, filter_none, map_map}}
 use Rattle.tick_laws.specs.Replaced.{replaced, whole_update, no_update}
 
 -- the parts of an update

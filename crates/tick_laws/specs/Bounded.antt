@@ -1,11 +1,8 @@
 -- Tables within their bounds.
 --     IsNodeTable width bound table      a table of this width, with keys below the bound and not too many rows
 --     AreSourceTables sources tables      one such table for each source
-use Rattle.std.specs.Prelude.{◌≡◌, ℕ, ◌^◌, ◌<◌, ◌≤◌, List, [], ◌∷◌, length}
-use Rattle.std.specs.List.{AllByRecursion}
-use Rattle.tick_model.specs.declared.plan.Node.{Node}
-use Rattle.tick_model.specs.declared.table.PlainTable.{PlainTable}
-use Rattle.tick_model.specs.Tables.{IsTable, keys}
+use Rattle.std.{specs.Prelude.{◌≡◌, ℕ, ◌^◌, ◌<◌, ◌≤◌, List, [], ◌∷◌, length}, specs.List.AllByRecursion}
+use Rattle.tick_model.{specs.declared.plan.Node.Node, specs.declared.table.PlainTable.PlainTable, specs.Tables.{IsTable, keys}}
 
 pub record IsNodeTable (width bound : ℕ) (table : PlainTable) : Type 0 where
   pub is_table : IsTable table

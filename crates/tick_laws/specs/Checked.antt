@@ -3,10 +3,7 @@
 --     IsChecked limit old update      it breaks no rule on the old keys, and its added keys rise
 use Rattle.std.specs.Prelude.{◌≡◌, ℕ, List, [], ◌∷◌, None, nat_lt, if◌then◌else◌}
 use Rattle.key_lists.specs.Keys.{IsRising, without}
-use Rattle.tick_model.specs.declared.table.PlainRow.{PlainRow}
-use Rattle.tick_model.specs.declared.table.PlainTable.{PlainTable}
-use Rattle.tick_model.specs.Rules.{landed, update_fault}
-use Rattle.tick_model.specs.Updates.{Tick, Update, carry, pairs}
+use Rattle.tick_model.{specs.declared.table.PlainRow.PlainRow, specs.declared.table.PlainTable.PlainTable, specs.Rules.{landed, update_fault}, specs.Updates.{Tick, Update, carry, pairs}}
 
 -- a key, and keys, put among others in order
 abbrev pub put_key : ℕ → List ℕ → List ℕ

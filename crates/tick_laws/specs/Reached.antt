@@ -4,13 +4,7 @@
 --     table_before run step node      the node's table before the step: empty before the opening
 --     IsTickFrom old new tick      a tick from the one table to the other
 use Rattle.std.specs.Prelude.{◌≡◌, ℕ, zero, suc, ◌≤◌, None}
-use Rattle.tick_model.specs.declared.feed.Run.{Run}
-use Rattle.tick_model.specs.declared.table.PlainTable.{PlainTable}
-use Rattle.tick_model.specs.Evaluation.{table_at}
-use Rattle.tick_model.specs.Sources.{batch_fault}
-use Rattle.tick_model.specs.Spoiled.{node_fault}
-use Rattle.tick_model.specs.States.{empty_at, state}
-use Rattle.tick_model.specs.Updates.{IsTick, Tick}
+use Rattle.tick_model.{specs.declared.feed.Run.Run, specs.declared.table.PlainTable.PlainTable, specs.Evaluation.table_at, specs.Sources.batch_fault, specs.Spoiled.node_fault, specs.States.{empty_at, state}, specs.Updates.{IsTick, Tick}}
 
 abbrev pub KeepsRules : Run → ℕ → Type 0
 KeepsRules run step = (s : ℕ) → s ≤ step → batch_fault run s ≡ None

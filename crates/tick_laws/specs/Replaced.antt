@@ -2,10 +2,7 @@
 --     replaced old new      the tick that keeps nothing
 --     followed first second      two ticks, one after the other
 use Rattle.std.specs.Prelude.{[]}
-use Rattle.tick_model.specs.declared.table.PlainTable.{PlainTable}
-use Rattle.tick_model.specs.Tables.{keys}
-use Rattle.tick_model.specs.Shifts.{composed}
-use Rattle.tick_model.specs.Updates.{Tick, Update}
+use Rattle.tick_model.{specs.declared.table.PlainTable.PlainTable, specs.Tables.keys, specs.Shifts.composed, specs.Updates.{Tick, Update}}
 
 abbrev pub replaced : PlainTable → PlainTable → Tick
 replaced old new = record { old = old; new = new; kept = [] }

@@ -1,11 +1,7 @@
 -- When there are keys enough for the rows that an operator makes.
 --     HasRoom op table      a merge's inputs have one width, and their regions end at 2 ^ 62 or before
-use Rattle.std.specs.Prelude.{◌≡◌, ℕ, ◌^◌, ◌≤◌, List, map, sum_by}
-use Rattle.std.specs.List.{AllByRecursion}
-use Rattle.tick_model.specs.declared.plan.Op.{Op}
-use Rattle.tick_model.specs.declared.plan.Op.TheVariants.{Merge}
-use Rattle.tick_model.specs.declared.table.PlainTable.{PlainTable}
-use Rattle.tick_model.specs.Merge.{region, width_of}
+use Rattle.std.{specs.Prelude.{◌≡◌, ℕ, ◌^◌, ◌≤◌, List, map, sum_by}, specs.List.AllByRecursion}
+use Rattle.tick_model.{specs.declared.plan.Op.Op, specs.declared.plan.Op.TheVariants.Merge, specs.declared.table.PlainTable.PlainTable, specs.Merge.{region, width_of}}
 
 -- tables that can be merged
 pub record AreMergeable (tables : List PlainTable) : Type 0 where

@@ -1,13 +1,8 @@
 -- Rows under their keys.
 use Rattle.std.proofs.Common.{◌≡◌, refl, ap, sym, ◌∙◌, Bool, true, false, cond, ℕ, ◌<◌, arith, List, [], ◌∷◌, ◌==◌, Some, None, true≢false}
-use Rattle.std.specs.Prelude.{filter}
-use Rattle.std.specs.List.{AllByRecursion}
-use Rattle.std.proofs.lemmas.Bool.{ne_eqb, eq-eqb}
-use Rattle.key_lists.specs.Keys.{is_among, IsRising}
-use Rattle.key_lists.proofs.Among.{each_among}
-use Rattle.key_lists.proofs.Every.{every_both, every_unmapped}
-use Rattle.tick_model.specs.declared.table.PlainRow.{PlainRow}
-use Rattle.tick_model.specs.Tables.{keys, row_at}
+use Rattle.std.{specs.Prelude.filter, specs.List.AllByRecursion, proofs.lemmas.Bool.{ne_eqb, eq-eqb}}
+use Rattle.key_lists.{specs.Keys.{is_among, IsRising}, proofs.Among.each_among, proofs.Every.{every_both, every_unmapped}}
+use Rattle.tick_model.{specs.declared.table.PlainRow.PlainRow, specs.Tables.{keys, row_at}}
 
 -- each row's key is among the keys
 pub rows_among : (rows : List PlainRow) → AllByRecursion (λ row. is_among row.key (keys rows) ≡ true) rows

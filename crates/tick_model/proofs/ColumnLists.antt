@@ -1,13 +1,8 @@
 -- Columns against others and against kinds, a part at a time.
 use Rattle.std.proofs.Common.{◌≡◌, refl, ap, sym, ◌∙◌, Bool, true, false, ◌&&◌, ◌==◌, ℕ, ◌<◌, ◌≤◌, arith, List, [], ◌∷◌, ◌++◌, map, length, take, drop, Option, inl, inr, drop-cons, eq-eqb}
-use Rattle.std.proofs.lemmas.Bool.{ne_eqb, cases_lt}
-use Rattle.std.proofs.lemmas.List.{drop_all, length-map}
+use Rattle.std.{proofs.lemmas.Bool.{ne_eqb, cases_lt}, proofs.lemmas.List.{drop_all, length-map}}
 use Rattle.key_lists.proofs.Booleans.{and_false}
-use Rattle.tick_model.specs.declared.plan.ColumnSpec.{ColumnSpec}
-use Rattle.tick_model.specs.declared.plan.Kind.{Kind}
-use Rattle.tick_model.specs.declared.plan.Kind.TheVariants.{Long}
-use Rattle.tick_model.specs.Names.{same_name}
-use Rattle.tick_model.specs.Columns.{same_kind, has_kind, same_columns, have_kinds, follow}
+use Rattle.tick_model.{specs.declared.plan.ColumnSpec.ColumnSpec, specs.declared.plan.Kind.Kind, specs.declared.plan.Kind.TheVariants.Long, specs.Names.same_name, specs.Columns.{same_kind, has_kind, same_columns, have_kinds, follow}}
 
 no_column : ColumnSpec
 no_column = record { name = []; kind = Long }

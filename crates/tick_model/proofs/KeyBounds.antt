@@ -1,19 +1,8 @@
 -- The key bounds of a plan's nodes, one node after the other.
 use Rattle.std.proofs.Common.{◌≡◌, refl, ap, sym, ◌∙◌, Bool, true, false, ◌&&◌, ℕ, zero, suc, ◌+◌, ◌<◌, ◌≤◌, arith, List, [], ◌∷◌, ◌++◌, length, take, get_or, append_assoc, length-append, length-take}
-use Rattle.std.specs.Prelude.{fold, nat_lt}
-use Rattle.std.specs.List.{All, AllByRecursion, list_all}
-use Rattle.std.proofs.lemmas.Bool.{le-ltb}
-use Rattle.std.proofs.lemmas.Bool.Decides.{Decides-by_and, Decides-ltb}
-use Rattle.std.proofs.lemmas.List.{append-nil, get_or_append_left}
-use Rattle.std.proofs.Math.Seq.{get_or-append_seam}
-use Rattle.key_lists.proofs.Every.{every_weaker}
-use Rattle.key_lists.proofs.Booleans.{and_false}
-use Rattle.std.proofs.lemmas.List.Folds.{list_all-append}
-use Rattle.std.proofs.lemmas.List.Sums.{fold_more}
-use Rattle.tick_model.specs.declared.plan.Node.{Node}
-use Rattle.tick_model.specs.Operators.{inputs_of, bound_of}
-use Rattle.tick_model.specs.Plans.{with_bound, key_bounds}
-use Rattle.tick_model.proofs.Results.{bound_same}
+use Rattle.std.{specs.Prelude.{fold, nat_lt}, specs.List.{All, AllByRecursion, list_all}, proofs.lemmas.Bool.le-ltb, proofs.lemmas.Bool.Decides.{Decides-by_and, Decides-ltb}, proofs.lemmas.List.{append-nil, get_or_append_left}, proofs.Math.Seq.get_or-append_seam, proofs.lemmas.List.Folds.list_all-append, proofs.lemmas.List.Sums.fold_more}
+use Rattle.key_lists.{proofs.Every.every_weaker, proofs.Booleans.and_false}
+use Rattle.tick_model.{specs.declared.plan.Node.Node, specs.Operators.{inputs_of, bound_of}, specs.Plans.{with_bound, key_bounds}, proofs.Results.bound_same}
 
 -- later nodes put their bounds behind
 pub bounds_go_on : (nodes : List Node) (bounds : List ℕ) → (others : List ℕ) × (fold with_bound bounds nodes ≡ bounds ++ others)

@@ -1,16 +1,7 @@
 -- What the nodes of a lawful plan keep to.
 use Rattle.std.proofs.Common.{◌≡◌, sym, subst, Bool, true, ◌&&◌, ℕ, zero, suc, ◌+◌, ◌^◌, ◌<◌, ◌≤◌, arith, List, [], ◌∷◌, length, map, get_or}
-use Rattle.std.specs.Prelude.{nat_lt, nat_le}
-use Rattle.std.specs.List.{list_all, enumerate_from, AllByRecursion}
-use Rattle.std.proofs.lemmas.Bool.{and_parts, leb-true, ltb-true}
-use Rattle.tick_model.specs.declared.plan.ColumnSpec.{ColumnSpec}
-use Rattle.tick_model.specs.declared.plan.Node.{Node}
-use Rattle.tick_model.specs.declared.plan.Plan.{Plan}
-use Rattle.tick_model.specs.declared.plan.Published.{Published}
-use Rattle.tick_model.specs.Operators.{inputs_of, columns_fit}
-use Rattle.tick_model.specs.Names.{is_name, are_distinct}
-use Rattle.tick_model.specs.Plans.{is_lawful, node_lawful, key_bounds, columns_at, rises, number_distinct, publication_lawful, published_words}
-use Rattle.tick_model.proofs.KeyBounds.{key_bound, bound_below}
+use Rattle.std.{specs.Prelude.{nat_lt, nat_le}, specs.List.{list_all, enumerate_from, AllByRecursion}, proofs.lemmas.Bool.{and_parts, leb-true, ltb-true}}
+use Rattle.tick_model.{specs.declared.plan.ColumnSpec.ColumnSpec, specs.declared.plan.Node.Node, specs.declared.plan.Plan.Plan, specs.declared.plan.Published.Published, specs.Operators.{inputs_of, columns_fit}, specs.Names.{is_name, are_distinct}, specs.Plans.{is_lawful, node_lawful, key_bounds, columns_at, rises, number_distinct, publication_lawful, published_words}, proofs.KeyBounds.{key_bound, bound_below}}
 
 -- lesser inputs, columns that fit, at most 32, and a bound below 2 ^ 62
 pub record IsLawfulNode (nodes : List Node) (n : ℕ) (node : Node) : Type 0 where

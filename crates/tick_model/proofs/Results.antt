@@ -1,38 +1,8 @@
 -- What a node's table keeps to, where the tables of its inputs do.
 use Rattle.std.proofs.Common.{true≢false, ◌≡◌, refl, ap, ap₂, sym, ◌∙◌, subst, Bool, true, false, cond, ◌&&◌, ℕ, suc, ◌+◌, ◌-◌, ◌*◌, ◌^◌, ◌<◌, ◌≤◌, arith, List, [], ◌∷◌, ◌++◌, length, map, take, filter, sum, Option, Some, None, length-append, length-drop, length-take}
-use Rattle.std.specs.Prelude.{nat_lt, nat_le, is_some}
-use Rattle.std.specs.List.{AllByRecursion, sum_by, list_all}
-use Rattle.std.proofs.lemmas.Bool.{and_parts, leb-true, ltb-false}
-use Rattle.std.proofs.lemmas.List.{length-map}
-use Rattle.std.proofs.lemmas.List.Sums.{length-filter, count_by-le-length, sum_by-cons}
-use Rattle.key_lists.proofs.Every.{every_weaker, every-map, every-filter, every-append, all_from, map_same}
-use Rattle.key_lists.proofs.Parts.{every-take, every-drop}
-use Rattle.tick_model.specs.declared.plan.Agg.{Agg}
-use Rattle.tick_model.specs.declared.plan.ColumnSpec.{ColumnSpec}
-use Rattle.tick_model.specs.declared.plan.Expr.{Expr}
-use Rattle.tick_model.specs.declared.plan.Kind.TheVariants.{Long}
-use Rattle.tick_model.specs.declared.plan.Op.{Op}
-use Rattle.tick_model.specs.declared.plan.Op.TheVariants.{Source, Keep, View, Join, Agg as AggOp, Merge, Sort, Head, Tail, AsOf}
-use Rattle.tick_model.specs.declared.plan.Pred.{Pred}
-use Rattle.tick_model.specs.declared.plan.SortBy.{SortBy}
-use Rattle.tick_model.specs.declared.table.NodeFault.TheVariants.{TooManyRows}
-use Rattle.tick_model.specs.declared.table.PlainRow.{PlainRow}
-use Rattle.tick_model.specs.declared.table.PlainTable.{PlainTable}
-use Rattle.tick_model.specs.Formulas.{truth, value}
-use Rattle.tick_model.specs.Where.{where_table}
-use Rattle.tick_model.specs.View.{view_row, view_table}
-use Rattle.tick_model.specs.Join.{taken, joined, chosen, matches}
-use Rattle.tick_model.specs.AsOf.{latest, not_later}
-use Rattle.tick_model.specs.Tables.{cell, null}
-use Rattle.tick_model.specs.Agg.{key_cells, group_of, aggregate, agg_row, is_first, agg_table}
-use Rattle.tick_model.specs.Merge.{last_key, region, row_from, merged_rows, merge_table, merge_fault}
-use Rattle.tick_model.specs.Sort.{in_order, sort_table}
-use Rattle.tick_model.specs.HeadTail.{head_table, tail_table}
-use Rattle.tick_model.specs.Columns.{kinds_of, kind_of, kind_at, agg_kind, test_fits, is_bound, is_test_bound, same_columns, have_kinds, keep_names, follow, some_of, same_kind_at, has_kind}
-use Rattle.tick_model.specs.Operators.{columns_fit, bound_of, inputs_of, is_source_op, result, fault_of}
-use Rattle.tick_model.specs.Ready.{HaveRoom}
-use Rattle.tick_model.proofs.TableRows.{every-ordered, length-ordered, length-numbered, numbered_whole, numbered_below, last_below, region_within}
-use Rattle.tick_model.proofs.Widths.{same_width, kinds_width, follow_width}
+use Rattle.std.{specs.Prelude.{nat_lt, nat_le, is_some}, specs.List.{AllByRecursion, sum_by, list_all}, proofs.lemmas.Bool.{and_parts, leb-true, ltb-false}, proofs.lemmas.List.length-map, proofs.lemmas.List.Sums.{length-filter, count_by-le-length, sum_by-cons}}
+use Rattle.key_lists.{proofs.Every.{every_weaker, every-map, every-filter, every-append, all_from, map_same}, proofs.Parts.{every-take, every-drop}}
+use Rattle.tick_model.{specs.declared.plan.Agg.Agg, specs.declared.plan.ColumnSpec.ColumnSpec, specs.declared.plan.Expr.Expr, specs.declared.plan.Kind.TheVariants.Long, specs.declared.plan.Op.Op, specs.declared.plan.Op.TheVariants.{Source, Keep, View, Join, Agg as AggOp, Merge, Sort, Head, Tail, AsOf}, specs.declared.plan.Pred.Pred, specs.declared.plan.SortBy.SortBy, specs.declared.table.NodeFault.TheVariants.TooManyRows, specs.declared.table.PlainRow.PlainRow, specs.declared.table.PlainTable.PlainTable, specs.Formulas.{truth, value}, specs.Where.where_table, specs.View.{view_row, view_table}, specs.Join.{taken, joined, chosen, matches}, specs.AsOf.{latest, not_later}, specs.Tables.{cell, null}, specs.Agg.{key_cells, group_of, aggregate, agg_row, is_first, agg_table}, specs.Merge.{last_key, region, row_from, merged_rows, merge_table, merge_fault}, specs.Sort.{in_order, sort_table}, specs.HeadTail.{head_table, tail_table}, specs.Columns.{kinds_of, kind_of, kind_at, agg_kind, test_fits, is_bound, is_test_bound, same_columns, have_kinds, keep_names, follow, some_of, same_kind_at, has_kind}, specs.Operators.{columns_fit, bound_of, inputs_of, is_source_op, result, fault_of}, specs.Ready.HaveRoom, proofs.TableRows.{every-ordered, length-ordered, length-numbered, numbered_whole, numbered_below, last_below, region_within}, proofs.Widths.{same_width, kinds_width, follow_width}}
 
 -- the table has the node's width and at most 4,194,304 rows, whole ones, and keys below the node's bound, which is a multiple of 65,536
 pub record IsResult (width bound : ℕ) (table : PlainTable) : Type 0 where

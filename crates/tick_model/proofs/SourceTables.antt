@@ -1,19 +1,7 @@
 -- Tables that may be the sources of a plan, one after the other.
 use Rattle.std.proofs.Common.{◌≡◌, refl, ap, sym, ◌∙◌, subst, true, false, cond, ◌&&◌, ◌==◌, ℕ, zero, suc, ◌+◌, ◌^◌, ◌<◌, ◌≤◌, arith, List, [], ◌∷◌, length, take, drop, filter, get_or, inl, inr, drop-cons, eq-eqb, true≢false}
-use Rattle.std.specs.Prelude.{nat_lt, nat_le}
-use Rattle.std.specs.List.{list_all, AllByRecursion}
-use Rattle.std.proofs.lemmas.Bool.{and_parts, eqb-true, leb-true, ltb-true, ne_eqb, cases_lt}
-use Rattle.std.proofs.lemmas.List.{drop_all}
-use Rattle.std.proofs.lemmas.List.Sums.{sum_by-cons}
-use Rattle.tick_model.specs.declared.plan.Node.{Node}
-use Rattle.tick_model.specs.declared.table.PlainRow.{PlainRow}
-use Rattle.tick_model.specs.declared.table.PlainTable.{PlainTable}
-use Rattle.tick_model.specs.Tables.{keys, no_table}
-use Rattle.tick_model.specs.Plans.{rises}
-use Rattle.tick_model.specs.Evaluation.{is_source, source_number}
-use Rattle.tick_model.specs.Fits.{is_source_row, is_source_table, are_source_tables}
-use Rattle.tick_model.specs.Ready.{table_in}
-use Rattle.tick_model.proofs.Results.{IsResult}
+use Rattle.std.{specs.Prelude.{nat_lt, nat_le}, specs.List.{list_all, AllByRecursion}, proofs.lemmas.Bool.{and_parts, eqb-true, leb-true, ltb-true, ne_eqb, cases_lt}, proofs.lemmas.List.drop_all, proofs.lemmas.List.Sums.sum_by-cons}
+use Rattle.tick_model.{specs.declared.plan.Node.Node, specs.declared.table.PlainRow.PlainRow, specs.declared.table.PlainTable.PlainTable, specs.Tables.{keys, no_table}, specs.Plans.rises, specs.Evaluation.{is_source, source_number}, specs.Fits.{is_source_row, is_source_table, are_source_tables}, specs.Ready.table_in, proofs.Results.IsResult}
 
 -- past the last source there may be no tables
 pub no_tables_left : (n : ℕ) (tables : List PlainTable) → n ≤ length tables → are_source_tables [] (drop n tables) ≡ (n == length tables)

@@ -1,11 +1,6 @@
 -- A list in stable order is the only one: what a stable sort leaves is `ordered`.
 use Rattle.std.proofs.Common.{◌≡◌, refl, ap, sym, ◌∙◌, subst, Bool, true, false, cond, not, ◌&&◌, ℕ, suc, ◌<◌, arith, List, [], ◌∷◌, true≢false, length, get_or, filter}
-use Rattle.std.specs.List.{AllByRecursion}
-use Rattle.std.specs.List.Sorted.{IsSortedBy, ties, IsStableBy}
-use Rattle.std.specs.Cmp.{IsStrictWeakOrder}
-use Rattle.std.proofs.lemmas.Bool.{and_parts, not-true}
-use Rattle.std.proofs.lemmas.List.Elements.{recursion_from_All}
-use Rattle.std.proofs.lemmas.List.Sorted.{sorted_far}
+use Rattle.std.{specs.List.AllByRecursion, specs.List.Sorted.{IsSortedBy, ties, IsStableBy}, specs.Cmp.IsStrictWeakOrder, proofs.lemmas.Bool.{and_parts, not-true}, proofs.lemmas.List.Elements.recursion_from_All, proofs.lemmas.List.Sorted.sorted_far}
 use Rattle.tick_model.specs.Sort.{place, ordered}
 use Rattle.key_lists.proofs.Every.{every_weaker, every-filter}
 

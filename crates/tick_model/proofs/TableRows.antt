@@ -1,11 +1,7 @@
 -- What holds of the rows of operators' tables, where it holds of their inputs' rows.
 use Rattle.std.proofs.Common.{◌≡◌, refl, ap, ◌∙◌, Bool, true, false, cond, ℕ, suc, ◌+◌, ◌*◌, ◌<◌, ◌≤◌, arith, List, [], ◌∷◌, length}
-use Rattle.std.specs.Prelude.{fold}
-use Rattle.std.specs.List.{AllByRecursion}
-use Rattle.tick_model.specs.declared.table.PlainRow.{PlainRow}
-use Rattle.tick_model.specs.declared.table.PlainTable.{PlainTable}
-use Rattle.tick_model.specs.Merge.{last_key, region}
-use Rattle.tick_model.specs.Sort.{place, ordered, numbered}
+use Rattle.std.{specs.Prelude.fold, specs.List.AllByRecursion}
+use Rattle.tick_model.{specs.declared.table.PlainRow.PlainRow, specs.declared.table.PlainTable.PlainTable, specs.Merge.{last_key, region}, specs.Sort.{place, ordered, numbered}}
 
 -- a list in order
 pub every-place : {X : Type 0} (P : X → Type 0) (less : X → X → Bool) (x : X) (xs : List X) → P x → AllByRecursion P xs → AllByRecursion P (place less x xs)

@@ -1,17 +1,7 @@
 -- How many columns a node has, and that its formulas are within its input's.
 use Rattle.std.proofs.Common.{◌≡◌, refl, ap, sym, ◌∙◌, Bool, true, ◌&&◌, ◌||◌, ℕ, suc, ◌+◌, ◌<◌, arith, List, [], ◌∷◌, length, map, Option, Some, None, true≢false}
-use Rattle.std.specs.Prelude.{slice_get, is_some}
-use Rattle.std.specs.List.{list_all, AllByRecursion}
-use Rattle.std.proofs.lemmas.Bool.{and_parts}
-use Rattle.std.proofs.lemmas.Option.{slice_get_within}
-use Rattle.tick_model.specs.declared.plan.ColumnSpec.{ColumnSpec}
-use Rattle.tick_model.specs.declared.plan.Expr.{Expr, Cell, Number, Null, Literal, Rank, Neg', Add', Sub', Mul'}
-use Rattle.tick_model.specs.declared.plan.Kind.{Kind}
-use Rattle.tick_model.specs.declared.plan.Kind.TheVariants.{Long, Text}
-use Rattle.tick_model.specs.declared.plan.Pred.{Pred, Compare, And', Or', Not'}
-use Rattle.tick_model.specs.Formulas.{IsWithin, IsTestWithin}
-use Rattle.tick_model.specs.Names.{same_name}
-use Rattle.tick_model.specs.Columns.{same_kind, has_kind, long_alone, both_long, kind_of, is_null_alone, kinds_meet, test_fits, is_bound, is_test_bound, same_columns, have_kinds, follow}
+use Rattle.std.{specs.Prelude.{slice_get, is_some}, specs.List.{list_all, AllByRecursion}, proofs.lemmas.Bool.and_parts, proofs.lemmas.Option.slice_get_within}
+use Rattle.tick_model.{specs.declared.plan.ColumnSpec.ColumnSpec, specs.declared.plan.Expr.{Expr, Cell, Number, Null, Literal, Rank, Neg', Add', Sub', Mul'}, specs.declared.plan.Kind.Kind, specs.declared.plan.Kind.TheVariants.{Long, Text}, specs.declared.plan.Pred.{Pred, Compare, And', Or', Not'}, specs.Formulas.{IsWithin, IsTestWithin}, specs.Names.same_name, specs.Columns.{same_kind, has_kind, long_alone, both_long, kind_of, is_null_alone, kinds_meet, test_fits, is_bound, is_test_bound, same_columns, have_kinds, follow}}
 
 -- the same columns are as many
 pub same_width : (xs ys : List ColumnSpec) → same_columns xs ys ≡ true → length xs ≡ length ys

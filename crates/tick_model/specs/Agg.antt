@@ -1,15 +1,6 @@
 -- One row for each group of rows with equal key cells, under the key of its first row.
-use Rattle.std.specs.Prelude.{Option, Some, unwrap_or, if◌then◌else◌, ℕ, ◌+◌, ◌==◌, Bool, false, not, List, [], ◌∷◌, ◌++◌, map, filter, fold, find, length, ℤ, pos, ◌+ℤ◌}
-use Rattle.std.specs.Option.{option_map_or}
-use Rattle.std.specs.Int.{int_min, int_max}
-use Rattle.tick_model.specs.declared.plan.Agg.{Agg}
-use Rattle.tick_model.specs.declared.plan.Agg.TheVariants.{Count, Sum, Min, Max, First, Last}
-use Rattle.tick_model.specs.declared.table.PlainRow.{PlainRow}
-use Rattle.tick_model.specs.declared.table.PlainTable.{PlainTable}
-use Rattle.tick_model.specs.Tables.{null, is_null, cell, cells_at, same_cells}
-use Rattle.tick_model.specs.declared.update.KeyPair.{KeyPair}
-use Rattle.tick_model.specs.Formulas.{wrap}
-use Rattle.tick_model.specs.Updates.{Tick, both_in}
+use Rattle.std.{specs.Prelude.{Option, Some, unwrap_or, if◌then◌else◌, ℕ, ◌+◌, ◌==◌, Bool, false, not, List, [], ◌∷◌, ◌++◌, map, filter, fold, find, length, ℤ, pos, ◌+ℤ◌}, specs.Option.option_map_or, specs.Int.{int_min, int_max}}
+use Rattle.tick_model.{specs.declared.plan.Agg.Agg, specs.declared.plan.Agg.TheVariants.{Count, Sum, Min, Max, First, Last}, specs.declared.table.PlainRow.PlainRow, specs.declared.table.PlainTable.PlainTable, specs.Tables.{null, is_null, cell, cells_at, same_cells}, specs.declared.update.KeyPair.KeyPair, specs.Formulas.wrap, specs.Updates.{Tick, both_in}}
 
 -- the key cells of a row
 abbrev pub key_cells : List ℕ → List ℤ → List ℤ

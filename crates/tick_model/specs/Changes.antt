@@ -3,10 +3,7 @@
 --     change_of tick      the change between the tables of a tick: the cells are those of the added rows and then of the modified ones
 --     changed table change      the table that a change makes
 use Rattle.std.specs.Prelude.{ℕ, Bool, true, false, ◌&&◌, List, [], ◌∷◌, ◌++◌, take, drop, flat_map, ℤ}
-use Rattle.tick_model.specs.declared.table.PlainRow.{PlainRow}
-use Rattle.tick_model.specs.declared.table.PlainTable.{PlainTable}
-use Rattle.tick_model.specs.Tables.{cells_at}
-use Rattle.tick_model.specs.Updates.{Tick, Update, between, carry}
+use Rattle.tick_model.{specs.declared.table.PlainRow.PlainRow, specs.declared.table.PlainTable.PlainTable, specs.Tables.cells_at, specs.Updates.{Tick, Update, between, carry}}
 
 pub record Change : Type 0 where
   pub update : Update

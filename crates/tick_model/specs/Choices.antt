@@ -1,7 +1,6 @@
 -- The steps at which callers take snapshots.
 --     IsChoice callers snaps last choice      each caller's steps never fall, none is past the last good step, and the last one is that step
-use Rattle.std.specs.Prelude.{◌≡◌, ℕ, ◌+◌, ◌≤◌, List, [], ◌∷◌, length, slice_index_or}
-use Rattle.std.specs.List.{AllByRecursion}
+use Rattle.std.{specs.Prelude.{◌≡◌, ℕ, ◌+◌, ◌≤◌, List, [], ◌∷◌, length, slice_index_or}, specs.List.AllByRecursion}
 
 -- each is at most those after it
 abbrev pub NeverFalls : List ℕ → Type 0

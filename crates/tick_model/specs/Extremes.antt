@@ -1,6 +1,5 @@
 -- The least and the greatest cell of a column, cell by cell.
-use Rattle.std.specs.Prelude.{Option, Some, ℤ, if◌then◌else◌}
-use Rattle.std.specs.Option.{option_map_or}
+use Rattle.std.{specs.Prelude.{Option, Some, ℤ, if◌then◌else◌}, specs.Option.option_map_or}
 use Rattle.tick_model.specs.Tables.{is_null}
 
 -- what f has made of the cells so far, with one cell more, which counts where it holds something

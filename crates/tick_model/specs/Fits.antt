@@ -1,14 +1,7 @@
 -- Whether tables may be the sources of a plan.
 --     fit_sources plan sources      one table for each source, in order of the nodes' numbers: of its width, with at most 4,194,304 rows, whole ones, under rising keys below 2 ^ 40
-use Rattle.std.specs.Prelude.{ℕ, ◌^◌, ◌==◌, ◌&&◌, Bool, true, false, List, [], ◌∷◌, length, filter, nat_lt, nat_le}
-use Rattle.std.specs.List.{list_all}
-use Rattle.tick_model.specs.declared.plan.Node.{Node}
-use Rattle.tick_model.specs.declared.plan.Plan.{Plan}
-use Rattle.tick_model.specs.declared.table.PlainRow.{PlainRow}
-use Rattle.tick_model.specs.declared.table.PlainTable.{PlainTable}
-use Rattle.tick_model.specs.Tables.{keys}
-use Rattle.tick_model.specs.Plans.{rises}
-use Rattle.tick_model.specs.Evaluation.{is_source}
+use Rattle.std.{specs.Prelude.{ℕ, ◌^◌, ◌==◌, ◌&&◌, Bool, true, false, List, [], ◌∷◌, length, filter, nat_lt, nat_le}, specs.List.list_all}
+use Rattle.tick_model.{specs.declared.plan.Node.Node, specs.declared.plan.Plan.Plan, specs.declared.table.PlainRow.PlainRow, specs.declared.table.PlainTable.PlainTable, specs.Tables.keys, specs.Plans.rises, specs.Evaluation.is_source}
 
 abbrev pub is_source_row : ℕ → PlainRow → Bool
 is_source_row width row = nat_lt row.key (2 ^ 40) && (length row.cells == width)

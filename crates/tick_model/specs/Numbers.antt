@@ -1,12 +1,7 @@
 -- The numbers of formulas.
 --     HasNumbers expr, HasOpNumbers op, HasPlanNumbers plan      each number and each rank is one of 64 bits
-use Rattle.std.specs.Prelude.{FitsSigned}
-use Rattle.std.specs.List.{AllByRecursion}
-use Rattle.std.specs.Int.{w64}
-use Rattle.tick_model.specs.declared.plan.Expr.{Expr, Cell, Number, Null, Literal, Rank, Neg', Add', Sub', Mul'}
-use Rattle.tick_model.specs.declared.plan.Op.{Op}
-use Rattle.tick_model.specs.declared.plan.Op.TheVariants.{View}
-use Rattle.tick_model.specs.declared.plan.Plan.{Plan}
+use Rattle.std.{specs.Prelude.FitsSigned, specs.List.AllByRecursion, specs.Int.w64}
+use Rattle.tick_model.{specs.declared.plan.Expr.{Expr, Cell, Number, Null, Literal, Rank, Neg', Add', Sub', Mul'}, specs.declared.plan.Op.Op, specs.declared.plan.Op.TheVariants.View, specs.declared.plan.Plan.Plan}
 
 abbrev pub HasNumbers : Expr → Type 0
 HasNumbers (Cell column) = Unit {0}

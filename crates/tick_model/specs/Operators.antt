@@ -7,28 +7,8 @@
 --     result_width op widths      how many columns its table has, from those of its inputs in order
 --     bound_of op bound      a number greater than each of its keys, from those of the nodes
 --     IsReady op tables      it may be applied to the tables of the nodes before it: its inputs are there, its formulas are within their rows, and their keys have room
-use Rattle.std.specs.Prelude.{ℕ, ◌+◌, ◌^◌, ◌<◌, ◌&&◌, Bool, true, false, List, [], ◌∷◌, ◌++◌, map, length, Option, None, nat_le, slice_index, sum, is_some}
-use Rattle.std.specs.List.{All, list_all}
-use Rattle.tick_model.specs.declared.plan.ColumnSpec.{ColumnSpec}
-use Rattle.tick_model.specs.declared.plan.Kind.TheVariants.{Long}
-use Rattle.tick_model.specs.declared.plan.Op.{Op}
-use Rattle.tick_model.specs.declared.plan.Op.TheVariants.{Source, Keep, View, Join, Agg, Merge, Sort, Head, Tail, AsOf}
-use Rattle.tick_model.specs.declared.table.NodeFault.{NodeFault}
-use Rattle.tick_model.specs.declared.table.PlainTable.{PlainTable}
-use Rattle.tick_model.specs.declared.update.KeyPair.{KeyPair}
-use Rattle.tick_model.specs.Agg.{agg_pairs, agg_table}
-use Rattle.tick_model.specs.AsOf.{asof_table}
-use Rattle.tick_model.specs.Columns.{agg_kind, follow, has_kind, have_kinds, is_bound, is_test_bound, keep_names, kind_at, kind_of, kinds_of, same_columns, same_kind_at, some_of, test_fits}
-use Rattle.tick_model.specs.Formulas.{IsTestWithin, IsWithin}
-use Rattle.tick_model.specs.HeadTail.{head_table, tail_table}
-use Rattle.tick_model.specs.Join.{join_fault, join_table}
-use Rattle.tick_model.specs.Merge.{merge_fault, merge_pairs, merge_table}
-use Rattle.tick_model.specs.Ready.{AreMergeable, IsWhole, table_in}
-use Rattle.tick_model.specs.Sort.{sort_pairs, sort_table}
-use Rattle.tick_model.specs.Tables.{no_table}
-use Rattle.tick_model.specs.Updates.{Tick, both_in}
-use Rattle.tick_model.specs.View.{view_table}
-use Rattle.tick_model.specs.Where.{where_table}
+use Rattle.std.{specs.Prelude.{ℕ, ◌+◌, ◌^◌, ◌<◌, ◌&&◌, Bool, true, false, List, [], ◌∷◌, ◌++◌, map, length, Option, None, nat_le, slice_index, sum, is_some}, specs.List.{All, list_all}}
+use Rattle.tick_model.{specs.declared.plan.ColumnSpec.ColumnSpec, specs.declared.plan.Kind.TheVariants.Long, specs.declared.plan.Op.Op, specs.declared.plan.Op.TheVariants.{Source, Keep, View, Join, Agg, Merge, Sort, Head, Tail, AsOf}, specs.declared.table.NodeFault.NodeFault, specs.declared.table.PlainTable.PlainTable, specs.declared.update.KeyPair.KeyPair, specs.Agg.{agg_pairs, agg_table}, specs.AsOf.asof_table, specs.Columns.{agg_kind, follow, has_kind, have_kinds, is_bound, is_test_bound, keep_names, kind_at, kind_of, kinds_of, same_columns, same_kind_at, some_of, test_fits}, specs.Formulas.{IsTestWithin, IsWithin}, specs.HeadTail.{head_table, tail_table}, specs.Join.{join_fault, join_table}, specs.Merge.{merge_fault, merge_pairs, merge_table}, specs.Ready.{AreMergeable, IsWhole, table_in}, specs.Sort.{sort_pairs, sort_table}, specs.Tables.no_table, specs.Updates.{Tick, both_in}, specs.View.view_table, specs.Where.where_table}
 
 abbrev pub is_source_op : Op → Bool
 is_source_op op = elim op [ Source ↦ true | _ ↦ false ]

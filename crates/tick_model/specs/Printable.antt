@@ -1,17 +1,9 @@
 -- The changes that can be printed.
 --     IsShift shifts      ranges that ascend, are disjoint, and move their rows
 --     IsPrintable columns texts change      a change of a table with these columns whose text tells it
-use Rattle.std.specs.Prelude.{◌≡◌, ℕ, ◌-◌, ◌*◌, ◌^◌, ◌<◌, ◌≤◌, ◌&&◌, ◌||◌, Bool, true, false, List, [], ◌∷◌, ◌++◌, length, ℤ, pos, negsuc, ◌<ℤ◌, nat_lt, FitsSigned}
-use Rattle.std.specs.List.{AllByRecursion}
-use Rattle.std.specs.Int.{w64}
-use Rattle.std.specs.Ordering.{int_eq}
+use Rattle.std.{specs.Prelude.{◌≡◌, ℕ, ◌-◌, ◌*◌, ◌^◌, ◌<◌, ◌≤◌, ◌&&◌, ◌||◌, Bool, true, false, List, [], ◌∷◌, ◌++◌, length, ℤ, pos, negsuc, ◌<ℤ◌, nat_lt, FitsSigned}, specs.List.AllByRecursion, specs.Int.w64, specs.Ordering.int_eq}
 use Rattle.key_lists.specs.Keys.{is_among, IsRising}
-use Rattle.tick_model.specs.declared.plan.ColumnSpec.{ColumnSpec}
-use Rattle.tick_model.specs.declared.plan.Kind.{Kind}
-use Rattle.tick_model.specs.declared.plan.Kind.TheVariants.{Long, Text}
-use Rattle.tick_model.specs.declared.update.ShiftRange.{ShiftRange}
-use Rattle.tick_model.specs.Tables.{is_null}
-use Rattle.tick_model.specs.Changes.{Change, rows_under, told_keys, is_none}
+use Rattle.tick_model.{specs.declared.plan.ColumnSpec.ColumnSpec, specs.declared.plan.Kind.Kind, specs.declared.plan.Kind.TheVariants.{Long, Text}, specs.declared.update.ShiftRange.ShiftRange, specs.Tables.is_null, specs.Changes.{Change, rows_under, told_keys, is_none}}
 
 abbrev pub IsShift : List ShiftRange → Type 0
 IsShift [] = Unit {0}

@@ -1,11 +1,8 @@
 -- When a merge may be applied to the tables of the nodes before it.
 --     table_in tables node      the table of a node
 --     AreMergeable tables inputs      the inputs are there, and their keys have room
-use Rattle.std.specs.Prelude.{◌≡◌, ℕ, ◌+◌, ◌^◌, ◌<◌, ◌≤◌, List, [], ◌∷◌, length, map, slice_index_or}
-use Rattle.std.specs.List.{All}
-use Rattle.tick_model.specs.declared.table.PlainTable.{PlainTable}
-use Rattle.tick_model.specs.Merge.{last_key, region}
-use Rattle.tick_model.specs.Tables.{no_table}
+use Rattle.std.{specs.Prelude.{◌≡◌, ℕ, ◌+◌, ◌^◌, ◌<◌, ◌≤◌, List, [], ◌∷◌, length, map, slice_index_or}, specs.List.All}
+use Rattle.tick_model.{specs.declared.table.PlainTable.PlainTable, specs.Merge.{last_key, region}, specs.Tables.no_table}
 
 abbrev pub table_in : List PlainTable → ℕ → PlainTable
 table_in tables node = slice_index_or tables node no_table

@@ -1,14 +1,9 @@
 -- The rules of an update, in the order in which they are tried.
 --     shift_fault limit shifts keys      the least key that a shift leads past the limit, or not past the one before it
 --     update_fault limit old update      the first rule that an update of a table with these keys breaks, with the least key that shows it
-use Rattle.std.specs.Prelude.{ℕ, Bool, not, List, [], ◌∷◌, ◌++◌, Option, Some, None, map, find, ℤ, pos, int_lt, int_le, option_map, ◌||◌, if◌then◌else◌}
-use Rattle.std.specs.Option.{option_or}
+use Rattle.std.{specs.Prelude.{ℕ, Bool, not, List, [], ◌∷◌, ◌++◌, Option, Some, None, map, find, ℤ, pos, int_lt, int_le, option_map, ◌||◌, if◌then◌else◌}, specs.Option.option_or}
 use Rattle.key_lists.specs.Keys.{is_among, without}
-use Rattle.tick_model.specs.declared.update.ShiftRange.{ShiftRange}
-use Rattle.tick_model.specs.declared.update.UpdateFault.{UpdateFault}
-use Rattle.tick_model.specs.declared.update.UpdateFault.TheVariants.{RemovedAbsent, ShiftBreaks, AddedTaken, ModifiedAbsent, ModifiedAdded}
-use Rattle.tick_model.specs.Shifts.{moved, as_key}
-use Rattle.tick_model.specs.Updates.{Update}
+use Rattle.tick_model.{specs.declared.update.ShiftRange.ShiftRange, specs.declared.update.UpdateFault.UpdateFault, specs.declared.update.UpdateFault.TheVariants.{RemovedAbsent, ShiftBreaks, AddedTaken, ModifiedAbsent, ModifiedAdded}, specs.Shifts.{moved, as_key}, specs.Updates.Update}
 
 -- a number that is no key below the limit
 abbrev pub is_past : ℕ → ℤ → Bool

@@ -2,10 +2,8 @@
 --     moved shifts key      the number that a key moves to
 --     shifted kept      the ranges of the pairs whose keys differ
 --     composed kept next      the pairs of two changes, one after the other
-use Rattle.std.specs.Prelude.{ℕ, ◌==◌, ◌&&◌, Bool, not, List, [], ◌∷◌, Option, filter, find, filter_map, ℤ, pos, negsuc, ◌+ℤ◌, ◌-ℤ◌, nat_le, if◌then◌else◌, option_map, unwrap_or}
-use Rattle.std.specs.Ordering.{int_eq}
-use Rattle.tick_model.specs.declared.update.KeyPair.{KeyPair}
-use Rattle.tick_model.specs.declared.update.ShiftRange.{ShiftRange}
+use Rattle.std.{specs.Prelude.{ℕ, ◌==◌, ◌&&◌, Bool, not, List, [], ◌∷◌, Option, filter, find, filter_map, ℤ, pos, negsuc, ◌+ℤ◌, ◌-ℤ◌, nat_le, if◌then◌else◌, option_map, unwrap_or}, specs.Ordering.int_eq}
+use Rattle.tick_model.{specs.declared.update.KeyPair.KeyPair, specs.declared.update.ShiftRange.ShiftRange}
 
 abbrev pub holds : ShiftRange → ℕ → Bool
 holds range key = nat_le range.begin key && nat_le key range.end

@@ -1,15 +1,6 @@
 -- A range of positions of a table, and the messages that carry it from one step to another.
 use Rattle.std.specs.Prelude.{ℕ, ◌+◌, zero, suc, List, map, take, drop, length}
-use Rattle.tick_model.specs.declared.feed.Run.{Run}
-use Rattle.tick_model.specs.declared.table.PlainRow.{PlainRow}
-use Rattle.tick_model.specs.declared.table.PlainTable.{PlainTable}
-use Rattle.tick_model.specs.Tables.{cell, keys}
-use Rattle.tick_model.specs.declared.update.KeyPair.{KeyPair}
-use Rattle.tick_model.specs.Shifts.{composed}
-use Rattle.tick_model.specs.Updates.{Tick, both_in}
-use Rattle.tick_model.specs.Evaluation.{table_at}
-use Rattle.tick_model.specs.Sources.{opened, same_key}
-use Rattle.tick_model.specs.States.{state, tick}
+use Rattle.tick_model.{specs.declared.feed.Run.Run, specs.declared.table.PlainRow.PlainRow, specs.declared.table.PlainTable.PlainTable, specs.Tables.{cell, keys}, specs.declared.update.KeyPair.KeyPair, specs.Shifts.composed, specs.Updates.{Tick, both_in}, specs.Evaluation.table_at, specs.Sources.{opened, same_key}, specs.States.{state, tick}}
 
 abbrev pub chosen_cells : List ℕ → PlainRow → PlainRow
 chosen_cells columns row = record row { cells = map (cell row.cells) columns }

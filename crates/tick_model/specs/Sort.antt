@@ -1,15 +1,6 @@
 -- The rows in stable order by their sort cells, under the keys 0, 1, 2 and so on.
-use Rattle.std.specs.Prelude.{ℕ, ◌+◌, ◌==◌, Bool, List, [], ◌∷◌, Option, filter, filter_map, find, ℤ, if◌then◌else◌, option_map}
-use Rattle.std.specs.List.{list_all, enumerate_from, position_or_len}
-use Rattle.std.specs.Ordering.{int_cmp, int_eq, is_lt, ordering_then}
-use Rattle.std.specs.declared.cmp.Ordering.{Ordering}
-use Rattle.std.specs.declared.cmp.Ordering.TheVariants.{Equal}
-use Rattle.tick_model.specs.declared.plan.SortBy.{SortBy}
-use Rattle.tick_model.specs.declared.table.PlainRow.{PlainRow}
-use Rattle.tick_model.specs.declared.table.PlainTable.{PlainTable}
-use Rattle.tick_model.specs.Tables.{cell, cells_at}
-use Rattle.tick_model.specs.declared.update.KeyPair.{KeyPair}
-use Rattle.tick_model.specs.Updates.{Tick}
+use Rattle.std.{specs.Prelude.{ℕ, ◌+◌, ◌==◌, Bool, List, [], ◌∷◌, Option, filter, filter_map, find, ℤ, if◌then◌else◌, option_map}, specs.List.{list_all, enumerate_from, position_or_len}, specs.Ordering.{int_cmp, int_eq, is_lt, ordering_then}, specs.declared.cmp.Ordering.Ordering, specs.declared.cmp.Ordering.TheVariants.Equal}
+use Rattle.tick_model.{specs.declared.plan.SortBy.SortBy, specs.declared.table.PlainRow.PlainRow, specs.declared.table.PlainTable.PlainTable, specs.Tables.{cell, cells_at}, specs.declared.update.KeyPair.KeyPair, specs.Updates.Tick}
 
 -- how the cells of a row stand to another's, by the first sort column in which they differ
 abbrev pub column_cmp : SortBy → ℤ → ℤ → Ordering

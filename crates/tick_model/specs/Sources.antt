@@ -1,23 +1,8 @@
 -- The sources, as the blocks of a feed change them, one after the other.
 --     source_ticks run step      each source's table before and after the step, with the rows that stay
-use Rattle.std.specs.Prelude.{ℕ, ◌+◌, ◌-◌, ◌^◌, ◌==◌, ◌&&◌, zero, suc, Bool, List, [], ◌∷◌, ◌++◌, Option, Some, None, map, flat_map, length, nat_lt, nat_le, slice_set, option_map, if◌then◌else◌, slice_index_or}
-use Rattle.std.specs.Option.{option_or}
-use Rattle.std.specs.List.{range_with_len, position_or_len, AllByRecursion}
-use Rattle.tick_model.specs.declared.feed.Block.{Block}
-use Rattle.tick_model.specs.declared.update.KeyRange.{KeyRange}
-use Rattle.tick_model.specs.declared.feed.Run.{Run}
-use Rattle.tick_model.specs.declared.plan.Plan.{Plan}
-use Rattle.tick_model.specs.declared.table.PlainTable.{PlainTable}
+use Rattle.std.{specs.Prelude.{ℕ, ◌+◌, ◌-◌, ◌^◌, ◌==◌, ◌&&◌, zero, suc, Bool, List, [], ◌∷◌, ◌++◌, Option, Some, None, map, flat_map, length, nat_lt, nat_le, slice_set, option_map, if◌then◌else◌, slice_index_or}, specs.Option.option_or, specs.List.{range_with_len, position_or_len, AllByRecursion}}
+use Rattle.tick_model.{specs.declared.feed.Block.Block, specs.declared.update.KeyRange.KeyRange, specs.declared.feed.Run.Run, specs.declared.plan.Plan.Plan, specs.declared.table.PlainTable.PlainTable, specs.declared.update.KeyPair.KeyPair, specs.Tables.{keys, IsRow, IsTable, no_table}, specs.Shifts.{holds, composed}, specs.Updates.{Tick, Update, carry, pairs}, specs.Evaluation.source_number, specs.Rules.update_fault, specs.declared.update.FeedRule.FeedRule, specs.declared.update.FeedRule.TheVariants.{Update as ByUpdate, TooManyRows}, specs.declared.update.UpdateFault.TheVariants.{RemovedAbsent, ShiftBreaks, AddedTaken, ModifiedAbsent, ModifiedAdded, Memory}}
 use Rattle.key_lists.specs.Keys.{IsRising}
-use Rattle.tick_model.specs.declared.update.KeyPair.{KeyPair}
-use Rattle.tick_model.specs.Tables.{keys, IsRow, IsTable, no_table}
-use Rattle.tick_model.specs.Shifts.{holds, composed}
-use Rattle.tick_model.specs.Updates.{Tick, Update, carry, pairs}
-use Rattle.tick_model.specs.Evaluation.{source_number}
-use Rattle.tick_model.specs.Rules.{update_fault}
-use Rattle.tick_model.specs.declared.update.FeedRule.{FeedRule}
-use Rattle.tick_model.specs.declared.update.FeedRule.TheVariants.{Update as ByUpdate, TooManyRows}
-use Rattle.tick_model.specs.declared.update.UpdateFault.TheVariants.{RemovedAbsent, ShiftBreaks, AddedTaken, ModifiedAbsent, ModifiedAdded, Memory}
 
 abbrev pub is_within : KeyRange → ℕ → Bool
 is_within range key = nat_le range.first key && nat_le key range.last

@@ -1,14 +1,6 @@
 -- The steps of a run that are good, and why the first other one is spoiled.
-use Rattle.std.specs.Prelude.{ℕ, ◌+◌, zero, suc, List, [], ◌∷◌, Option, Some, None, find, length, nat_lt, if◌then◌else◌, is_some, option_map}
-use Rattle.std.specs.List.{range_with_len}
-use Rattle.std.specs.Option.{option_or}
-use Rattle.tick_model.specs.declared.feed.Run.{Run}
-use Rattle.tick_model.specs.declared.plan.Published.{Published}
-use Rattle.tick_model.specs.declared.table.NodeFault.{NodeFault}
-use Rattle.tick_model.specs.Evaluation.{Outcome, Table, Fault, NoInput, table_at}
-use Rattle.tick_model.specs.declared.update.FeedRule.{FeedRule}
-use Rattle.tick_model.specs.Sources.{batch_fault}
-use Rattle.tick_model.specs.States.{state}
+use Rattle.std.{specs.Prelude.{ℕ, ◌+◌, zero, suc, List, [], ◌∷◌, Option, Some, None, find, length, nat_lt, if◌then◌else◌, is_some, option_map}, specs.List.range_with_len, specs.Option.option_or}
+use Rattle.tick_model.{specs.declared.feed.Run.Run, specs.declared.plan.Published.Published, specs.declared.table.NodeFault.NodeFault, specs.Evaluation.{Outcome, Table, Fault, NoInput, table_at}, specs.declared.update.FeedRule.FeedRule, specs.Sources.batch_fault, specs.States.state}
 
 -- by a record of the batch and its rule, by a node and its fault, by the number of a published table and its rows
 pub data Cause : Type 0 where

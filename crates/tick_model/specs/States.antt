@@ -1,16 +1,6 @@
 -- Each node's table at a step, and its change since the step before.
-use Rattle.std.specs.Prelude.{if◌then◌else◌, ℕ, zero, suc, List, [], ◌∷◌, ◌++◌, fold, length, ◌≡◌, ◌<◌, true, slice_index_or}
-use Rattle.std.specs.List.{AllByRecursion}
-use Rattle.tick_model.specs.Tables.{IsTable}
-use Rattle.tick_model.specs.declared.feed.Run.{Run}
-use Rattle.tick_model.specs.declared.plan.Op.{Op}
-use Rattle.tick_model.specs.declared.plan.Node.{Node}
-use Rattle.tick_model.specs.declared.plan.Plan.{Plan}
-use Rattle.tick_model.specs.declared.table.PlainTable.{PlainTable}
-use Rattle.tick_model.specs.Updates.{Tick}
-use Rattle.tick_model.specs.Evaluation.{Outcome, eval, source_number, table_at, has_table, outcome_at}
-use Rattle.tick_model.specs.Operators.{inputs_of, is_source_op, kept_by}
-use Rattle.tick_model.specs.Sources.{source_ticks, sources, tick_at}
+use Rattle.std.{specs.Prelude.{if◌then◌else◌, ℕ, zero, suc, List, [], ◌∷◌, ◌++◌, fold, length, ◌≡◌, ◌<◌, true, slice_index_or}, specs.List.AllByRecursion}
+use Rattle.tick_model.{specs.Tables.IsTable, specs.declared.feed.Run.Run, specs.declared.plan.Op.Op, specs.declared.plan.Node.Node, specs.declared.plan.Plan.Plan, specs.declared.table.PlainTable.PlainTable, specs.Updates.Tick, specs.Evaluation.{Outcome, eval, source_number, table_at, has_table, outcome_at}, specs.Operators.{inputs_of, is_source_op, kept_by}, specs.Sources.{source_ticks, sources, tick_at}}
 
 abbrev pub state : Run → ℕ → List Outcome
 state run step = eval run.plan (sources run step)

@@ -6,14 +6,9 @@
 --     cells_at key rows      the cells of the row under a key
 --     IsTable table      whole rows under rising keys
 --     HasCells table      its cells are numbers of 64 bits
-use Rattle.std.specs.Prelude.{◌≡◌, ℕ, ◌-◌, ◌^◌, ◌<◌, ◌==◌, Bool, List, [], length, map, find, Option, ℤ, negsuc, FitsSigned, option_map, unwrap_or, slice_index_or}
-use Rattle.std.specs.List.{AllByRecursion}
-use Rattle.std.specs.Int.{w64}
-use Rattle.std.specs.Ordering.{int_eq}
-use Rattle.std.specs.Cmp.Lexicographic.{pointwise}
+use Rattle.std.{specs.Prelude.{◌≡◌, ℕ, ◌-◌, ◌^◌, ◌<◌, ◌==◌, Bool, List, [], length, map, find, Option, ℤ, negsuc, FitsSigned, option_map, unwrap_or, slice_index_or}, specs.List.AllByRecursion, specs.Int.w64, specs.Ordering.int_eq, specs.Cmp.Lexicographic.pointwise}
 use Rattle.key_lists.specs.Keys.{IsRising}
-use Rattle.tick_model.specs.declared.table.PlainRow.{PlainRow}
-use Rattle.tick_model.specs.declared.table.PlainTable.{PlainTable}
+use Rattle.tick_model.{specs.declared.table.PlainRow.PlainRow, specs.declared.table.PlainTable.PlainTable}
 
 -- the cell that holds nothing
 abbrev pub null : ℤ

@@ -4,23 +4,9 @@
 --     updates_text run last      the changes of the printed nodes, up to a step
 --     snapshots_text run choice      the snapshots at the steps that a choice gives
 --     summary_text run step      how many records the changes have, and how many rows each node has at a step
-use Rattle.std.specs.Prelude.{ℕ, ◌+◌, ◌*◌, ◌%◌, ◌==◌, ◌||◌, Bool, List, [], ◌∷◌, ◌++◌, map, flat_map, drop, length, ℤ, codes, slice_index_or, if◌then◌else◌}
-use Rattle.std.specs.List.{list_any, range_with_len}
-use Rattle.std.specs.Fmt.{decimal, signed_decimal}
+use Rattle.std.{specs.Prelude.{ℕ, ◌+◌, ◌*◌, ◌%◌, ◌==◌, ◌||◌, Bool, List, [], ◌∷◌, ◌++◌, map, flat_map, drop, length, ℤ, codes, slice_index_or, if◌then◌else◌}, specs.List.{list_any, range_with_len}, specs.Fmt.{decimal, signed_decimal}}
 use Rattle.key_lists.specs.Keys.{runs}
-use Rattle.tick_model.specs.declared.feed.Run.{Run}
-use Rattle.tick_model.specs.declared.plan.ColumnSpec.{ColumnSpec}
-use Rattle.tick_model.specs.declared.plan.Kind.{Kind}
-use Rattle.tick_model.specs.declared.plan.Kind.TheVariants.{Long, Text}
-use Rattle.tick_model.specs.declared.plan.Node.{Node}
-use Rattle.tick_model.specs.declared.plan.Published.{Published}
-use Rattle.tick_model.specs.declared.table.PlainRow.{PlainRow}
-use Rattle.tick_model.specs.declared.update.ShiftRange.{ShiftRange}
-use Rattle.tick_model.specs.Tables.{is_null}
-use Rattle.tick_model.specs.Shifts.{as_key}
-use Rattle.tick_model.specs.Changes.{Change, rows_under, change_of, is_empty}
-use Rattle.tick_model.specs.Evaluation.{table_at}
-use Rattle.tick_model.specs.States.{state, tick}
+use Rattle.tick_model.{specs.declared.feed.Run.Run, specs.declared.plan.ColumnSpec.ColumnSpec, specs.declared.plan.Kind.Kind, specs.declared.plan.Kind.TheVariants.{Long, Text}, specs.declared.plan.Node.Node, specs.declared.plan.Published.Published, specs.declared.table.PlainRow.PlainRow, specs.declared.update.ShiftRange.ShiftRange, specs.Tables.is_null, specs.Shifts.as_key, specs.Changes.{Change, rows_under, change_of, is_empty}, specs.Evaluation.table_at, specs.States.{state, tick}}
 
 -- The fields of a record, joined by commas and ended by a line feed. A field that holds a comma, a double quote, a carriage return or a
 -- line feed stands in double quotes, with each double quote in it doubled.

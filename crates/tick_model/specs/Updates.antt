@@ -2,16 +2,9 @@
 --     between tick      the update between the old and the new table of a tick
 --     carry old update cells      the table that an update makes of an old one, where cells has the new rows
 --     pairs old update      the pairs that an update keeps
-use Rattle.std.specs.Prelude.{◌≡◌, ℕ, ◌&&◌, Bool, not, List, [], ◌∷◌, ◌++◌, map, filter, nat_lt, if◌then◌else◌, IsTrue, unwrap_or}
-use Rattle.std.specs.List.{list_any, AllByRecursion, range_with_len}
-use Rattle.std.specs.Ordering.{int_eq}
-use Rattle.tick_model.specs.declared.table.PlainRow.{PlainRow}
-use Rattle.tick_model.specs.declared.table.PlainTable.{PlainTable}
-use Rattle.tick_model.specs.declared.update.ShiftRange.{ShiftRange}
+use Rattle.std.{specs.Prelude.{◌≡◌, ℕ, ◌&&◌, Bool, not, List, [], ◌∷◌, ◌++◌, map, filter, nat_lt, if◌then◌else◌, IsTrue, unwrap_or}, specs.List.{list_any, AllByRecursion, range_with_len}, specs.Ordering.int_eq}
+use Rattle.tick_model.{specs.declared.table.PlainRow.PlainRow, specs.declared.table.PlainTable.PlainTable, specs.declared.update.ShiftRange.ShiftRange, specs.declared.update.KeyPair.KeyPair, specs.Tables.{cell, same_cells, keys, row_at, cells_at, IsTable}, specs.Shifts.{moved, as_key, shifted}}
 use Rattle.key_lists.specs.Keys.{is_among, IsRising, without}
-use Rattle.tick_model.specs.declared.update.KeyPair.{KeyPair}
-use Rattle.tick_model.specs.Tables.{cell, same_cells, keys, row_at, cells_at, IsTable}
-use Rattle.tick_model.specs.Shifts.{moved, as_key, shifted}
 
 -- an old and a new table, and the rows that stay
 pub record Tick : Type 0 where

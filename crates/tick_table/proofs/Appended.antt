@@ -1,27 +1,11 @@
 -- Rows whose keys all come behind those of the others.
 use Rattle.std.proofs.Common.{◌≡◌, refl, ap, ap₂, sym, ◌∙◌, subst, Bool, true, false, cond, not, ◌||◌, ◌&&◌, ◌==◌, ℕ, ◌+◌, ◌*◌, ◌<◌, ◌≤◌, arith, List, [], ◌∷◌, ◌++◌, append_assoc, append-nil, length, map, take, drop, ltb, ltb-true, unwrap_or, Some, ℤ}
-use Rattle.std.specs.Prelude.{filter, slice_get, Option}
-use Rattle.std.specs.Bool.{OnTrue}
-use Rattle.std.specs.List.{AllByRecursion, range_with_len}
-use Rattle.std.proofs.Math.Nat.{add-mul}
-use Rattle.std.proofs.lemmas.List.{drop-drop, drop-take, map-append, take-take}
-use Rattle.std.proofs.lemmas.Bool.{eqb-true}
-use Rattle.key_lists.specs.Keys.{is_among, IsRising, without}
-use Rattle.key_lists.proofs.Among.{among-append, among-filter, of_among}
-use Rattle.key_lists.proofs.Booleans.{or_false}
-use Rattle.key_lists.proofs.Every.{every_weaker, map_same}
-use Rattle.key_lists.proofs.Ranges.{each_from}
-use Rattle.key_lists.proofs.Rising.{rising-append, rising_same, rising_some}
+use Rattle.std.{specs.Prelude.{filter, slice_get, Option}, specs.Bool.OnTrue, specs.List.{AllByRecursion, range_with_len}, proofs.Math.Nat.add-mul, proofs.lemmas.List.{drop-drop, drop-take, map-append, take-take}, proofs.lemmas.Bool.eqb-true}
+use Rattle.key_lists.{specs.Keys.{is_among, IsRising, without}, proofs.Among.{among-append, among-filter, of_among}, proofs.Booleans.or_false, proofs.Every.{every_weaker, map_same}, proofs.Ranges.each_from, proofs.Rising.{rising-append, rising_same, rising_some}}
 use Rattle.row_set.specs.Sets.{count_below}
 use Rattle.tick_laws.proofs.ResultCells.{length-filter_most}
-use Rattle.tick_model.specs.declared.table.PlainRow.{PlainRow}
-use Rattle.tick_model.specs.Changes.{rows_under}
-use Rattle.tick_model.specs.Tables.{keys}
-use Rattle.tick_table.specs.Placed.{paired, put_row, put_rows}
-use Rattle.tick_table.specs.Slots.{slot_cells, slot_list}
-use Rattle.tick_table.proofs.Paired.{count_without, keys-paired, put_behind}
-use Rattle.tick_table.proofs.Puts.{keys-rows_under}
-use Rattle.tick_table.proofs.SlotCells.{slot_fits}
+use Rattle.tick_model.{specs.declared.table.PlainRow.PlainRow, specs.Changes.rows_under, specs.Tables.keys}
+use Rattle.tick_table.{specs.Placed.{paired, put_row, put_rows}, specs.Slots.{slot_cells, slot_list}, proofs.Paired.{count_without, keys-paired, put_behind}, proofs.Puts.keys-rows_under, proofs.SlotCells.slot_fits}
 
 -- all pass where as many pass as there are
 pass_as_many : (p : ℕ → Bool) (xs : List ℕ) → length (filter p xs) ≡ length xs → AllByRecursion (λ x. p x ≡ true) xs

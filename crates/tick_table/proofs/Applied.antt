@@ -1,34 +1,12 @@
 -- A ticking table to which a change is applied: what it keeps, and what it shows.
 use Rattle.std.proofs.Common.{◌≡◌, refl, ap, ap₂, sym, ◌∙◌, subst, Bool, true, false, cond, not, ◌&&◌, ◌||◌, ℕ, ◌+◌, ◌*◌, ◌<◌, ◌≤◌, ◌^◌, arith, List, [], ◌∷◌, ◌++◌, length, map, drop, ℤ, None, Some, unwrap_or, length-append, length-drop, length-take}
-use Rattle.std.specs.Prelude.{flat_map, option_map}
-use Rattle.std.specs.List.{AllByRecursion}
-use Rattle.std.proofs.Math.Nat.{suc-mul}
-use Rattle.std.proofs.lemmas.Bool.{not-false, or_from}
-use Rattle.key_lists.specs.Keys.{is_among, IsRising, without}
-use Rattle.key_lists.proofs.Among.{among-append, among-filter, apart_back, each_among, of_among}
-use Rattle.key_lists.proofs.Booleans.{or_false}
-use Rattle.key_lists.proofs.Every.{every_both, every_unmapped, every_weaker, every-append, every-filter, every-map, map_map, map_own, map_same, none_pass}
+use Rattle.std.{specs.Prelude.{flat_map, option_map}, specs.List.AllByRecursion, proofs.Math.Nat.suc-mul, proofs.lemmas.Bool.{not-false, or_from}}
+use Rattle.key_lists.{specs.Keys.{is_among, IsRising, without}, proofs.Among.{among-append, among-filter, apart_back, each_among, of_among}, proofs.Booleans.or_false, proofs.Every.{every_both, every_unmapped, every_weaker, every-append, every-filter, every-map, map_map, map_own, map_same, none_pass}}
 use Rattle.row_set.specs.Sets.{IsKeySet}
-use Rattle.tick_model.specs.declared.table.PlainRow.{PlainRow}
-use Rattle.tick_model.specs.declared.table.PlainTable.{PlainTable}
-use Rattle.tick_model.specs.declared.update.ShiftRange.{ShiftRange}
-use Rattle.tick_model.specs.Changes.{Change, changed, rows_under, told_keys}
-use Rattle.tick_model.specs.Rules.{landed, update_fault}
-use Rattle.tick_model.specs.Shifts.{as_key, moved}
-use Rattle.tick_model.specs.Tables.{IsRow, IsTable, cells_at, keys, row_at}
-use Rattle.tick_model.specs.Updates.{Update, carry, moved_row, removing, shifting}
-use Rattle.tick_model.proofs.Among.{each_found}
-use Rattle.table_update.proofs.KeysAfter.{KeepsRules, rules_kept}
-use Rattle.table_update.proofs.LawfulParts.{places_rise}
-use Rattle.tick_laws.specs.Checked.{IsChecked, keys_after}
-use Rattle.tick_laws.proofs.CheckedUpdates.{table-carry}
-use Rattle.tick_laws.proofs.ToldRows.{cells_of_row, rows_under-told}
-use Rattle.tick_table.specs.Kept.{IsKept, cells_before, row_before, table_before, table_now}
-use Rattle.tick_table.specs.Placed.{Placed, paired, put_rows, stayed, stepped}
-use Rattle.tick_table.proofs.CarriedRows.{keys-removing, keys-told, rows_step}
-use Rattle.tick_table.proofs.Paired.{at_mapped, keys-paired, paired-map, row_of}
-use Rattle.tick_table.proofs.TableColumns.{length-mapped}
-use Rattle.tick_table.proofs.Told.{AreOnce, at_put_rows, at_stayed, once-append, once-rising, told_own}
+use Rattle.tick_model.{specs.declared.table.PlainRow.PlainRow, specs.declared.table.PlainTable.PlainTable, specs.declared.update.ShiftRange.ShiftRange, specs.Changes.{Change, changed, rows_under, told_keys}, specs.Rules.{landed, update_fault}, specs.Shifts.{as_key, moved}, specs.Tables.{IsRow, IsTable, cells_at, keys, row_at}, specs.Updates.{Update, carry, moved_row, removing, shifting}, proofs.Among.each_found}
+use Rattle.table_update.{proofs.KeysAfter.{KeepsRules, rules_kept}, proofs.LawfulParts.places_rise}
+use Rattle.tick_laws.{specs.Checked.{IsChecked, keys_after}, proofs.CheckedUpdates.table-carry, proofs.ToldRows.{cells_of_row, rows_under-told}}
+use Rattle.tick_table.{specs.Kept.{IsKept, cells_before, row_before, table_before, table_now}, specs.Placed.{Placed, paired, put_rows, stayed, stepped}, proofs.CarriedRows.{keys-removing, keys-told, rows_step}, proofs.Paired.{at_mapped, keys-paired, paired-map, row_of}, proofs.TableColumns.length-mapped, proofs.Told.{AreOnce, at_put_rows, at_stayed, once-append, once-rising, told_own}}
 
 -- rows whose cells stand one after the other are whole
 whole-rows_under : (width : ℕ) (ks : List ℕ) (cells : List ℤ) → length ks * width ≤ length cells → AllByRecursion (λ row. length row.cells ≡ width) (rows_under width ks cells)

@@ -1,36 +1,13 @@
 -- What a ticking table tells of its rows, now and before the step.
 use Rattle.std.proofs.Common.{◌≡◌, refl, ap, ap₂, sym, ◌∙◌, subst, true, false, cond, not, ℕ, zero, suc, ◌+◌, ◌*◌, ◌<◌, ◌≤◌, ◌^◌, arith, List, [], ◌∷◌, ◌++◌, length, length-drop, take, drop, get_or, ℤ, zero-mul}
-use Rattle.std.specs.Prelude.{Err, Ok, flat_map, map}
-use Rattle.std.specs.List.{AllByRecursion}
-use Rattle.std.proofs.lemmas.Bool.{not-true, or_right}
-use Rattle.std.proofs.lemmas.List.{get_or-map, map-id, take-append-drop}
-use Rattle.key_lists.specs.Keys.{is_among, IsRising, without}
-use Rattle.key_lists.proofs.Among.{each_among}
-use Rattle.key_lists.proofs.Every.{every_both, every-filter, filter_all, filter_passes, filter_same, map_map}
-use Rattle.key_lists.proofs.Parts.{every_at}
+use Rattle.std.{specs.Prelude.{Err, Ok, flat_map, map}, specs.List.AllByRecursion, proofs.lemmas.Bool.{not-true, or_right}, proofs.lemmas.List.{get_or-map, map-id, take-append-drop}}
+use Rattle.key_lists.{specs.Keys.{is_among, IsRising, without}, proofs.Among.each_among, proofs.Every.{every_both, every-filter, filter_all, filter_passes, filter_same, map_map}, proofs.Parts.every_at}
 use Rattle.row_set.specs.Sets.{count_below, found}
 use Rattle.shift_data.proofs.Asked.{lands_inside}
-use Rattle.table_update.specs.Kept.{old_modified}
-use Rattle.table_update.proofs.KeysAfter.{rules_kept}
-use Rattle.table_update.proofs.Occupied.{landed-unapplied}
-use Rattle.tick_model.specs.declared.table.PlainRow.{PlainRow}
-use Rattle.tick_model.specs.declared.update.ShiftRange.{ShiftRange}
-use Rattle.tick_model.specs.Changes.{rows_under, told_keys}
-use Rattle.tick_model.specs.Rules.{is_past, landed}
-use Rattle.tick_model.specs.Shifts.{as_key, delta_at, moved}
-use Rattle.tick_model.specs.Tables.{cells_at, keys}
-use Rattle.tick_model.specs.Updates.{Update}
-use Rattle.tick_laws.specs.Replaced.{no_update}
-use Rattle.tick_laws.proofs.CheckedUpdates.{among-put_keys}
-use Rattle.tick_table.specs.Kept.{IsKept, cells_before, row_before, shown}
-use Rattle.tick_table.specs.Placed.{Placed, paired}
-use Rattle.tick_table.specs.Ticking.{Ticking}
-use Rattle.tick_table.proofs.Applied.{among-map, among-without, modified_stay, removed_own}
-use Rattle.tick_table.proofs.Found.{found_err, found_ok, found_place}
-use Rattle.tick_table.proofs.Paired.{at_mapped, at_paired, at_place, at_under, keys-paired, place_below}
-use Rattle.tick_table.proofs.Puts.{rest_next}
-use Rattle.tick_table.proofs.SlotCells.{slot_fits}
-use Rattle.tick_table.proofs.TableColumns.{length-mapped}
+use Rattle.table_update.{specs.Kept.old_modified, proofs.KeysAfter.rules_kept, proofs.Occupied.landed-unapplied}
+use Rattle.tick_model.{specs.declared.table.PlainRow.PlainRow, specs.declared.update.ShiftRange.ShiftRange, specs.Changes.{rows_under, told_keys}, specs.Rules.{is_past, landed}, specs.Shifts.{as_key, delta_at, moved}, specs.Tables.{cells_at, keys}, specs.Updates.Update}
+use Rattle.tick_laws.{specs.Replaced.no_update, proofs.CheckedUpdates.among-put_keys}
+use Rattle.tick_table.{specs.Kept.{IsKept, cells_before, row_before, shown}, specs.Placed.{Placed, paired}, specs.Ticking.Ticking, proofs.Applied.{among-map, among-without, modified_stay, removed_own}, proofs.Found.{found_err, found_ok, found_place}, proofs.Paired.{at_mapped, at_paired, at_place, at_under, keys-paired, place_below}, proofs.Puts.rest_next, proofs.SlotCells.slot_fits, proofs.TableColumns.length-mapped}
 
 told_flat : (width : ℕ) (rows : List PlainRow) (ks : List ℕ) (cells : List ℤ) → length cells ≡ length ks * width → AllByRecursion (λ row. cells_at row.key rows ≡ row.cells) (rows_under width ks cells) → cells ≡ flat_map (λ key. cells_at key rows) ks
 told_flat width rows [] [] whole h = refl

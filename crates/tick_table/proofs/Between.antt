@@ -1,29 +1,9 @@
 -- The update between two tables breaks no rule of updates, and leaves the keys of the new table.
 use Rattle.std.proofs.Common.{◌≡◌, refl, ap, ap₂, sym, ◌∙◌, true, false, cond, not, ◌&&◌, ◌||◌, ℕ, suc, ◌<◌, ◌^◌, arith, List, [], ◌∷◌, ◌++◌, Some, None, pos, leb}
-use Rattle.std.specs.Prelude.{filter, find, option_map, int_le, int_lt}
-use Rattle.std.specs.List.{AllByRecursion}
-use Rattle.std.specs.Option.{option_or}
-use Rattle.std.proofs.lemmas.Bool.{lt-leb, or_from, not-true}
-use Rattle.std.proofs.lemmas.List.{map-id}
-use Rattle.key_lists.specs.Keys.{is_among, IsRising, without}
-use Rattle.key_lists.proofs.Among.{among-append, among-filter, each_among, of_among}
-use Rattle.key_lists.proofs.Every.{every_weaker, every_both, every-map, every_unmapped, every-filter, filter_passes, map_map, find_none}
-use Rattle.key_lists.proofs.Rising.{rising_some}
-use Rattle.tick_model.specs.declared.table.PlainRow.{PlainRow}
-use Rattle.tick_model.specs.declared.update.KeyPair.{KeyPair}
-use Rattle.tick_model.specs.declared.update.ShiftRange.{ShiftRange}
-use Rattle.tick_model.specs.declared.update.UpdateFault.TheVariants.{RemovedAbsent, ShiftBreaks, AddedTaken, ModifiedAbsent, ModifiedAdded}
-use Rattle.tick_model.specs.declared.table.PlainTable.{PlainTable}
-use Rattle.tick_model.specs.Changes.{change_of, rows_under, told_keys}
-use Rattle.tick_model.specs.Rules.{is_past, landed, shift_fault, shift_fault_after, update_fault}
-use Rattle.tick_model.specs.Shifts.{moved}
-use Rattle.tick_model.specs.Tables.{IsRow, keys}
-use Rattle.tick_model.specs.Updates.{IsTick, Tick, Update, between, differs, kept_pair, new_keys, old_keys, pairs}
-use Rattle.tick_laws.specs.Checked.{IsChecked, keys_after}
-use Rattle.tick_laws.proofs.Carried.{pairs-between}
-use Rattle.tick_laws.proofs.CheckedUpdates.{keys-carry}
-use Rattle.tick_laws.proofs.Moves.{each_lands}
-use Rattle.tick_laws.proofs.ToldRows.{change-carries}
+use Rattle.std.{specs.Prelude.{filter, find, option_map, int_le, int_lt}, specs.List.AllByRecursion, specs.Option.option_or, proofs.lemmas.Bool.{lt-leb, or_from, not-true}, proofs.lemmas.List.map-id}
+use Rattle.key_lists.{specs.Keys.{is_among, IsRising, without}, proofs.Among.{among-append, among-filter, each_among, of_among}, proofs.Every.{every_weaker, every_both, every-map, every_unmapped, every-filter, filter_passes, map_map, find_none}, proofs.Rising.rising_some}
+use Rattle.tick_model.{specs.declared.table.PlainRow.PlainRow, specs.declared.update.KeyPair.KeyPair, specs.declared.update.ShiftRange.ShiftRange, specs.declared.update.UpdateFault.TheVariants.{RemovedAbsent, ShiftBreaks, AddedTaken, ModifiedAbsent, ModifiedAdded}, specs.declared.table.PlainTable.PlainTable, specs.Changes.{change_of, rows_under, told_keys}, specs.Rules.{is_past, landed, shift_fault, shift_fault_after, update_fault}, specs.Shifts.moved, specs.Tables.{IsRow, keys}, specs.Updates.{IsTick, Tick, Update, between, differs, kept_pair, new_keys, old_keys, pairs}}
+use Rattle.tick_laws.{specs.Checked.{IsChecked, keys_after}, proofs.Carried.pairs-between, proofs.CheckedUpdates.keys-carry, proofs.Moves.each_lands, proofs.ToldRows.change-carries}
 use Rattle.tick_table.proofs.Puts.{keys-rows_under}
 
 -- pairs whose old keys move to their new ones, which are keys and rise, break no order

@@ -1,23 +1,11 @@
 -- The rows that an update leaves are those that it makes of a table.
 use Rattle.std.proofs.Common.{◌≡◌, refl, ap, ap₂, sym, ◌∙◌, subst, Bool, true, false, not, ◌||◌, ℕ, ◌*◌, ◌^◌, List, [], ◌++◌, length, drop, ℤ, append-nil}
-use Rattle.std.specs.List.{AllByRecursion}
-use Rattle.std.proofs.lemmas.List.Elements.{filter-append}
-use Rattle.std.proofs.lemmas.Bool.{not-false}
-use Rattle.key_lists.specs.Keys.{is_among, IsRising, without}
-use Rattle.key_lists.proofs.Among.{each_among, among-append, apart_back}
-use Rattle.key_lists.proofs.Every.{every_weaker, every_unmapped, filter_same, filter_none, filter_all, filter-map, none_pass}
+use Rattle.std.{specs.List.AllByRecursion, proofs.lemmas.List.Elements.filter-append, proofs.lemmas.Bool.not-false}
+use Rattle.key_lists.{specs.Keys.{is_among, IsRising, without}, proofs.Among.{each_among, among-append, apart_back}, proofs.Every.{every_weaker, every_unmapped, filter_same, filter_none, filter_all, filter-map, none_pass}}
 use Rattle.table_update.proofs.KeysAfter.{rules_kept}
-use Rattle.tick_model.specs.declared.table.PlainRow.{PlainRow}
-use Rattle.tick_model.specs.declared.table.PlainTable.{PlainTable}
-use Rattle.tick_model.specs.Changes.{rows_under, told_keys}
-use Rattle.tick_model.specs.Rules.{landed}
-use Rattle.tick_model.specs.Tables.{keys}
-use Rattle.tick_model.specs.Updates.{Update, rows_at, carry, removing, shifting, adding, modifying}
-use Rattle.tick_laws.specs.Checked.{IsChecked}
-use Rattle.tick_laws.proofs.CheckedUpdates.{modified_not_added, keys_after-rise, keys-stay, keys-carry, keys-modifying}
-use Rattle.tick_table.specs.Placed.{put_rows, stepped}
-use Rattle.tick_table.proofs.NewKeys.{among-adding}
-use Rattle.tick_table.proofs.Puts.{put_rows-append, put_rows-new, put_rows-known, keys-rows_under, rows_under-append}
+use Rattle.tick_model.{specs.declared.table.PlainRow.PlainRow, specs.declared.table.PlainTable.PlainTable, specs.Changes.{rows_under, told_keys}, specs.Rules.landed, specs.Tables.keys, specs.Updates.{Update, rows_at, carry, removing, shifting, adding, modifying}}
+use Rattle.tick_laws.{specs.Checked.IsChecked, proofs.CheckedUpdates.{modified_not_added, keys_after-rise, keys-stay, keys-carry, keys-modifying}}
+use Rattle.tick_table.{specs.Placed.{put_rows, stepped}, proofs.NewKeys.among-adding, proofs.Puts.{put_rows-append, put_rows-new, put_rows-known, keys-rows_under, rows_under-append}}
 
 -- all rows of a list have keys of a list, or none has
 rows_at-all : (ks : List ℕ) (rows : List PlainRow) → keys rows ≡ ks → rows_at ks rows ≡ rows

@@ -1,26 +1,10 @@
 -- One row more that is taken out, put in or replaced, as a walk along rising keys comes to its key.
 use Rattle.std.proofs.Common.{map, ◌≡◌, ap, ap₂, sym, ◌∙◌, subst, true, false, not, ℕ, ◌+◌, ◌<◌, ◌≤◌, arith, List, [], ◌∷◌, ◌++◌, length, get_or, set, ℤ, unwrap_or}
-use Rattle.std.specs.Prelude.{flat_map, option_map}
-use Rattle.std.specs.List.{AllByRecursion, insert, remove}
-use Rattle.std.proofs.lemmas.List.{length-set}
-use Rattle.std.proofs.lemmas.List.Edits.{length-insert, length-remove}
-use Rattle.key_lists.specs.Keys.{is_among, IsRising, without}
-use Rattle.key_lists.proofs.Among.{among_above, among_below}
-use Rattle.key_lists.proofs.Every.{every_weaker}
-use Rattle.key_lists.proofs.Parts.{every_back, every_front}
-use Rattle.key_lists.proofs.Rising.{rising_some}
-use Rattle.row_set.specs.Sets.{count_below}
-use Rattle.row_set.proofs.Windows.{rising_back, rising_before, rising_front}
-use Rattle.tick_model.specs.declared.table.PlainRow.{PlainRow}
-use Rattle.tick_model.specs.Tables.{cells_at}
-use Rattle.tick_model.specs.Updates.{removing}
-use Rattle.tick_model.proofs.Among.{row_at-filter}
-use Rattle.tick_table.specs.declared.stepping.RowPlace.{RowPlace}
-use Rattle.tick_table.specs.Placed.{IsRowPlace, paired, put_row}
-use Rattle.tick_table.proofs.Applied.{among-without}
-use Rattle.tick_table.proofs.Paired.{at_place, count_left, count_without, paired-insert, paired-remove, paired-set, place_below, removing-last, row_of, without-first, without-last, without_shorter}
-use Rattle.tick_table.proofs.TableColumns.{length-mapped}
-use Rattle.tick_table.proofs.Told.{at_put_row, flat_map-same}
+use Rattle.std.{specs.Prelude.{flat_map, option_map}, specs.List.{AllByRecursion, insert, remove}, proofs.lemmas.List.length-set, proofs.lemmas.List.Edits.{length-insert, length-remove}}
+use Rattle.key_lists.{specs.Keys.{is_among, IsRising, without}, proofs.Among.{among_above, among_below}, proofs.Every.every_weaker, proofs.Parts.{every_back, every_front}, proofs.Rising.rising_some}
+use Rattle.row_set.{specs.Sets.count_below, proofs.Windows.{rising_back, rising_before, rising_front}}
+use Rattle.tick_model.{specs.declared.table.PlainRow.PlainRow, specs.Tables.cells_at, specs.Updates.removing, proofs.Among.row_at-filter}
+use Rattle.tick_table.{specs.declared.stepping.RowPlace.RowPlace, specs.Placed.{IsRowPlace, paired, put_row}, proofs.Applied.among-without, proofs.Paired.{at_place, count_left, count_without, paired-insert, paired-remove, paired-set, place_below, removing-last, row_of, without-first, without-last, without_shorter}, proofs.TableColumns.length-mapped, proofs.Told.{at_put_row, flat_map-same}}
 
 -- a walk along some keys of rows has come to this one: those are behind it, and those are still to come
 pub record IsComeTo (rows behind : List ℕ) (key : ℕ) (others : List ℕ) : Type 0 where

@@ -1,21 +1,10 @@
 -- The change of a tick makes an exact table.
 use Rattle.std.proofs.Common.{◌≡◌, ap, ap₂, sym, ◌∙◌, subst, true, ℕ, ◌+◌, ◌*◌, ◌^◌, suc, arith, List, [], ◌∷◌, None, length, length-append}
-use Rattle.std.proofs.Math.Nat.{suc-mul}
-use Rattle.std.specs.Prelude.{flat_map}
-use Rattle.std.specs.List.{AllByRecursion}
+use Rattle.std.{proofs.Math.Nat.suc-mul, specs.Prelude.flat_map, specs.List.AllByRecursion}
 use Rattle.key_lists.specs.Keys.{is_among}
-use Rattle.tick_model.specs.declared.table.PlainTable.{PlainTable}
-use Rattle.tick_model.specs.declared.update.KeyPair.{KeyPair}
-use Rattle.tick_model.specs.Changes.{change_of, changed, told_keys}
-use Rattle.tick_model.specs.Rules.{update_fault}
-use Rattle.tick_model.specs.Tables.{cells_at, keys}
-use Rattle.tick_model.specs.Updates.{Tick, IsTick, Update, between}
-use Rattle.tick_laws.proofs.Carried.{pairs-between}
-use Rattle.tick_laws.proofs.ToldRows.{change-carries, told_there}
-use Rattle.tick_table.specs.Ticking.{Ticking}
-use Rattle.tick_table.specs.Exact.{IsExact, tick_of, ticking}
-use Rattle.tick_table.proofs.Between.{between_lawful}
-use Rattle.tick_table.proofs.WholeRows.{row_whole}
+use Rattle.tick_model.{specs.declared.table.PlainTable.PlainTable, specs.declared.update.KeyPair.KeyPair, specs.Changes.{change_of, changed, told_keys}, specs.Rules.update_fault, specs.Tables.{cells_at, keys}, specs.Updates.{Tick, IsTick, Update, between}}
+use Rattle.tick_laws.{proofs.Carried.pairs-between, proofs.ToldRows.{change-carries, told_there}}
+use Rattle.tick_table.{specs.Ticking.Ticking, specs.Exact.{IsExact, tick_of, ticking}, proofs.Between.between_lawful, proofs.WholeRows.row_whole}
 
 pub tick_again : (tick : Tick) → IsTick tick → tick_of (ticking tick) ≡ tick
 tick_again tick h = ap (λ (kept : List KeyPair). let again : Tick = record { old = tick.old; new = tick.new; kept = kept } in again) (pairs-between tick h)

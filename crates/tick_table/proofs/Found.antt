@@ -1,7 +1,6 @@
 -- What the position says that a search for a key gives.
 use Rattle.std.proofs.Common.{◌≡◌, refl, ap, ap₂, sym, ◌∙◌, Bool, true, false, cond, ℕ, ◌<◌, arith, List, length, get_or, true≢false}
-use Rattle.std.specs.Prelude.{Result, Ok, Err}
-use Rattle.std.specs.Result.{is_ok}
+use Rattle.std.{specs.Prelude.{Result, Ok, Err}, specs.Result.is_ok}
 use Rattle.key_lists.specs.Keys.{is_among, IsRising}
 use Rattle.row_set.specs.Sets.{count_below, found}
 use Rattle.tick_table.proofs.Paired.{place_below, place_key}

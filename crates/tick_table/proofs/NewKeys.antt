@@ -1,11 +1,8 @@
 -- The keys of rows that are added and found.
 use Rattle.std.proofs.Common.{◌≡◌, refl, ap, ◌∙◌, true, false, cond, ◌||◌, ◌==◌, ℕ, List, [], ◌∷◌, Some, ltb, unwrap_or}
 use Rattle.std.proofs.lemmas.Bool.{eqb-true}
-use Rattle.key_lists.specs.Keys.{is_among}
-use Rattle.key_lists.proofs.Booleans.{or_assoc, or_swap}
-use Rattle.tick_model.specs.declared.table.PlainRow.{PlainRow}
-use Rattle.tick_model.specs.Tables.{keys, row_at}
-use Rattle.tick_model.specs.Updates.{insert_row, adding}
+use Rattle.key_lists.{specs.Keys.is_among, proofs.Booleans.{or_assoc, or_swap}}
+use Rattle.tick_model.{specs.declared.table.PlainRow.PlainRow, specs.Tables.{keys, row_at}, specs.Updates.{insert_row, adding}}
 
 pub among-insert_row : (key : ℕ) (row : PlainRow) (rows : List PlainRow) → is_among key (keys (insert_row row rows)) ≡ ((row.key == key) || is_among key (keys rows))
 among-insert_row key row [] = refl

@@ -1,16 +1,8 @@
 -- Slots of which no two rows have one: as rows are taken out, put in and replaced.
 use Rattle.std.proofs.Common.{◌≡◌, refl, ap, ap₂, sym, ◌∙◌, subst, cond, ℕ, zero, suc, ◌+◌, ◌<◌, ◌≤◌, arith, List, [], ◌∷◌, ◌++◌, append_assoc, length, length-append, map, take, drop, get_or, set, reverse, ℤ, ◌==◌, inl, inr}
-use Rattle.std.specs.List.{AllByRecursion, insert, range_with_len, remove}
-use Rattle.std.proofs.Math.Seq.{get_or-append_seam}
-use Rattle.std.proofs.lemmas.Bool.{cases_eq, cases_lt, eq-eqb, ne_eqb}
-use Rattle.std.proofs.lemmas.List.{drop-map, get_or-map, get_or-set_other, get_or-set_same, get_or_append_left, length_push, length-map, length-set, map-append, reverse-append, take-map}
-use Rattle.std.proofs.lemmas.List.Sorted.{IsPermutation-reverse, sum_by-IsPermutation}
-use Rattle.std.proofs.lemmas.List.Sums.{sum_by-append, sum_by-cons, sum_by-insert, sum_by-remove}
-use Rattle.key_lists.proofs.Every.{every_both, every_weaker, every-append, map_same}
-use Rattle.key_lists.proofs.Parts.{every_at, every_front, every_insert, every_remove}
-use Rattle.key_lists.proofs.Ranges.{range_below}
-use Rattle.tick_table.specs.Placed.{AreOwn, cells_of, uses}
-use Rattle.tick_table.specs.Slots.{AreSlots, IsFilled, SlotCells}
+use Rattle.std.{specs.List.{AllByRecursion, insert, range_with_len, remove}, proofs.Math.Seq.get_or-append_seam, proofs.lemmas.Bool.{cases_eq, cases_lt, eq-eqb, ne_eqb}, proofs.lemmas.List.{drop-map, get_or-map, get_or-set_other, get_or-set_same, get_or_append_left, length_push, length-map, length-set, map-append, reverse-append, take-map}, proofs.lemmas.List.Sorted.{IsPermutation-reverse, sum_by-IsPermutation}, proofs.lemmas.List.Sums.{sum_by-append, sum_by-cons, sum_by-insert, sum_by-remove}}
+use Rattle.key_lists.{proofs.Every.{every_both, every_weaker, every-append, map_same}, proofs.Parts.{every_at, every_front, every_insert, every_remove}, proofs.Ranges.range_below}
+use Rattle.tick_table.{specs.Placed.{AreOwn, cells_of, uses}, specs.Slots.{AreSlots, IsFilled, SlotCells}}
 
 abbrev is_used : ℕ → ℕ → ℕ
 is_used slot other = cond (other == slot) 1 0

@@ -1,22 +1,10 @@
 -- Rows under rising keys, by the positions of these.
 use Rattle.std.proofs.Common.{◌≡◌, refl, ap, ap₂, sym, ◌∙◌, Bool, true, false, cond, not, ◌&&◌, ◌||◌, ℕ, zero, suc, ◌+◌, ◌*◌, ◌<◌, ◌≤◌, arith, List, [], ◌∷◌, ◌++◌, length, map, take, drop, get_or, set, ℤ, ltb, ◌==◌, inl, inr, Some, unwrap_or, true≢false, zero-mul}
-use Rattle.std.specs.Prelude.{filter, option_map}
-use Rattle.std.specs.List.{AllByRecursion, insert, remove}
-use Rattle.std.proofs.lemmas.Bool.{cases_eq, ne_eqb, eq-eqb, lt-ltb, le-ltb, ltb-false, not-false}
-use Rattle.key_lists.specs.Keys.{is_among, IsRising, without}
-use Rattle.key_lists.proofs.Among.{among-append, among_above, of_among}
-use Rattle.key_lists.proofs.Booleans.{neither}
-use Rattle.key_lists.proofs.Every.{every, every_weaker, filter_all, filter_filter, filter_in, filter_same, filter_swap}
-use Rattle.key_lists.proofs.Parts.{every_at}
-use Rattle.key_lists.proofs.Rising.{as_filter}
-use Rattle.row_set.specs.Sets.{count_below}
-use Rattle.row_set.proofs.Lookups.{count_none}
-use Rattle.tick_model.specs.declared.table.PlainRow.{PlainRow}
-use Rattle.tick_model.specs.Changes.{rows_under}
-use Rattle.tick_model.specs.Tables.{cells_at, keys, row_at}
-use Rattle.tick_model.specs.Updates.{removing}
-use Rattle.tick_table.specs.Placed.{paired, put_row}
-use Rattle.tick_table.proofs.Puts.{rest_next}
+use Rattle.std.{specs.Prelude.{filter, option_map}, specs.List.{AllByRecursion, insert, remove}, proofs.lemmas.Bool.{cases_eq, ne_eqb, eq-eqb, lt-ltb, le-ltb, ltb-false, not-false}}
+use Rattle.key_lists.{specs.Keys.{is_among, IsRising, without}, proofs.Among.{among-append, among_above, of_among}, proofs.Booleans.neither, proofs.Every.{every, every_weaker, filter_all, filter_filter, filter_in, filter_same, filter_swap}, proofs.Parts.every_at, proofs.Rising.as_filter}
+use Rattle.row_set.{specs.Sets.count_below, proofs.Lookups.count_none}
+use Rattle.tick_model.{specs.declared.table.PlainRow.PlainRow, specs.Changes.rows_under, specs.Tables.{cells_at, keys, row_at}, specs.Updates.removing}
+use Rattle.tick_table.{specs.Placed.{paired, put_row}, proofs.Puts.rest_next}
 
 abbrev pub row_of : ℕ → List ℤ → PlainRow
 row_of key cells = record { key = key; cells = cells }

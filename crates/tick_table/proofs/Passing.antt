@@ -1,14 +1,8 @@
 -- Keys that are found in one pass over a set.
 use Rattle.std.proofs.Common.{◌≡◌, ap, sym, ◌∙◌, subst, Bool, cond, ℕ, ◌+◌, ◌^◌, ◌<◌, ◌≤◌, arith, List, ◌∷◌, length}
-use Rattle.std.specs.Iterator.{YieldsFirst}
-use Rattle.std.specs.List.{AllByRecursion}
-use Rattle.std.specs.Prelude.{Option, None, Some, Result, Ok, Err}
-use Rattle.key_lists.specs.Keys.{is_among, IsRising}
-use Rattle.key_lists.proofs.Among.{among_below, among_own}
-use Rattle.key_lists.proofs.Every.{every, every_weaker}
-use Rattle.key_lists.proofs.Rising.{rising_count}
-use Rattle.row_set.specs.Sets.{IsKeySet, count_below, found}
-use Rattle.row_set.proofs.Lookups.{count_none}
+use Rattle.std.{specs.Iterator.YieldsFirst, specs.List.AllByRecursion, specs.Prelude.{Option, None, Some, Result, Ok, Err}}
+use Rattle.key_lists.{specs.Keys.{is_among, IsRising}, proofs.Among.{among_below, among_own}, proofs.Every.{every, every_weaker}, proofs.Rising.rising_count}
+use Rattle.row_set.{specs.Sets.{IsKeySet, count_below, found}, proofs.Lookups.count_none}
 use Rattle.tick_table.specs.Places.{IsPassing, found_behind, upcoming}
 
 abbrev answer : Bool → ℕ → Result ℕ ℕ

@@ -1,18 +1,9 @@
 -- Rows that are put among others one after the other: as they are found, and as they are added and modified.
 use Rattle.std.proofs.Common.{◌≡◌, refl, ap, ap₂, sym, ◌∙◌, subst, Bool, true, false, cond, ◌||◌, ℕ, suc, ◌+◌, ◌*◌, ◌<◌, ◌≤◌, arith, List, [], ◌∷◌, ◌++◌, length, length-drop, take, drop, Some, None, ℤ, ltb, ◌==◌, unwrap_or, inl, inr, zero-mul, true≢false}
-use Rattle.std.specs.List.{AllByRecursion}
-use Rattle.std.proofs.Math.Nat.{suc-mul}
-use Rattle.std.proofs.lemmas.List.{drop-drop}
-use Rattle.std.proofs.lemmas.Bool.{cases_lt, ne_eqb, eq-eqb, eqb-true, eqb-false, lt-ltb, or_parts, or_from, le-ltb}
+use Rattle.std.{specs.List.AllByRecursion, proofs.Math.Nat.suc-mul, proofs.lemmas.List.drop-drop, proofs.lemmas.Bool.{cases_lt, ne_eqb, eq-eqb, eqb-true, eqb-false, lt-ltb, or_parts, or_from, le-ltb}}
 use Rattle.tick_laws.proofs.CheckedUpdates.{keys-modifying}
-use Rattle.key_lists.specs.Keys.{is_among, IsRising}
-use Rattle.key_lists.proofs.Among.{among_below}
-use Rattle.key_lists.proofs.Every.{every_both, every_weaker, every_unmapped, map_map, map_own, map_same, every}
-use Rattle.key_lists.proofs.Booleans.{or_swap, or_twice}
-use Rattle.tick_model.specs.declared.table.PlainRow.{PlainRow}
-use Rattle.tick_model.specs.Changes.{rows_under}
-use Rattle.tick_model.specs.Tables.{keys, row_at}
-use Rattle.tick_model.specs.Updates.{insert_row, adding, modifying}
+use Rattle.key_lists.{specs.Keys.{is_among, IsRising}, proofs.Among.among_below, proofs.Every.{every_both, every_weaker, every_unmapped, map_map, map_own, map_same, every}, proofs.Booleans.{or_swap, or_twice}}
+use Rattle.tick_model.{specs.declared.table.PlainRow.PlainRow, specs.Changes.rows_under, specs.Tables.{keys, row_at}, specs.Updates.{insert_row, adding, modifying}}
 use Rattle.tick_table.specs.Placed.{put_row, put_rows}
 
 -- the keys after a row was put

@@ -1,15 +1,7 @@
 -- The cells of slots: as the cells of one are written, and as a new one comes.
 use Rattle.std.proofs.Common.{◌≡◌, refl, ap, ap₂, sym, zero, suc, map, ◌∙◌, ℕ, ◌+◌, ◌*◌, ◌<◌, ◌≤◌, arith, List, [], ◌∷◌, ◌++◌, length, take, drop, get_or, set, ℤ, inl, inr, length-append, length-drop}
-use Rattle.std.specs.List.{range_with_len}
-use Rattle.std.proofs.Math.Nat.{add-mul, mul-suc}
-use Rattle.std.proofs.Math.Seq.{drop-append-add}
-use Rattle.std.proofs.lemmas.Bool.{cases_lt}
-use Rattle.std.proofs.lemmas.Nat.{row_fits}
-use Rattle.std.proofs.lemmas.List.{drop-take, drop_at, take_at, take_all, take-append-le, length-map, length-set, map-append, length-take-le, get_or-set_same, get_or-set_other, get_or_append_left, get_or_push, length_push, same_lists}
-use Rattle.std.proofs.lemmas.List.FromFn.{length-range_with_len, get_or-map-range_with_len}
-use Rattle.std.proofs.lemmas.Slice.{take-put_mid_below, drop-put_mid}
-use Rattle.key_lists.proofs.Every.{every_weaker, map_same}
-use Rattle.key_lists.proofs.Ranges.{each_from, range-append}
+use Rattle.std.{specs.List.range_with_len, proofs.Math.Nat.{add-mul, mul-suc}, proofs.Math.Seq.drop-append-add, proofs.lemmas.Bool.cases_lt, proofs.lemmas.Nat.row_fits, proofs.lemmas.List.{drop-take, drop_at, take_at, take_all, take-append-le, length-map, length-set, map-append, length-take-le, get_or-set_same, get_or-set_other, get_or_append_left, get_or_push, length_push, same_lists}, proofs.lemmas.List.FromFn.{length-range_with_len, get_or-map-range_with_len}, proofs.lemmas.Slice.{take-put_mid_below, drop-put_mid}}
+use Rattle.key_lists.{proofs.Every.{every_weaker, map_same}, proofs.Ranges.{each_from, range-append}}
 use borrow.Rule.Slice.PartMut.{put_mid}
 use Rattle.tick_table.specs.Slots.{IsFilled, IsSlotList, SlotCells, slot_cells, slot_list}
 

@@ -1,21 +1,9 @@
 -- The cells of rows after others were put among them, and after they moved.
 use Rattle.std.proofs.Common.{◌≡◌, refl, ap, ap₂, sym, ◌∙◌, true, false, cond, not, ◌&&◌, ◌||◌, ℕ, ◌<◌, arith, List, [], ◌∷◌, ◌++◌, Some, ℤ, ltb, ◌==◌, inl, inr, unwrap_or, true≢false}
-use Rattle.std.specs.Prelude.{flat_map, option_map}
-use Rattle.std.specs.List.{AllByRecursion}
-use Rattle.std.proofs.lemmas.Bool.{cases_eq, eqb-true, eqb-false, ltb-true, ne_eqb, or_from, or_parts}
-use Rattle.key_lists.specs.Keys.{is_among, IsRising}
-use Rattle.key_lists.proofs.Among.{among-append, among-filter, among_below, of_among}
-use Rattle.key_lists.proofs.Every.{every_unmapped}
-use Rattle.tick_model.specs.declared.table.PlainRow.{PlainRow}
-use Rattle.tick_model.specs.declared.update.ShiftRange.{ShiftRange}
-use Rattle.tick_model.specs.Rules.{landed}
-use Rattle.tick_model.specs.Shifts.{as_key, moved}
-use Rattle.tick_model.specs.Tables.{cells_at, keys, row_at}
-use Rattle.tick_model.specs.Updates.{Update, moved_row, removing, shifting}
-use Rattle.tick_model.proofs.Among.{row_at-filter}
-use Rattle.tick_table.specs.Placed.{put_row, put_rows, stayed}
-use Rattle.tick_table.proofs.CarriedRows.{keys-removing}
-use Rattle.tick_table.proofs.Paired.{at_first, at_later}
+use Rattle.std.{specs.Prelude.{flat_map, option_map}, specs.List.AllByRecursion, proofs.lemmas.Bool.{cases_eq, eqb-true, eqb-false, ltb-true, ne_eqb, or_from, or_parts}}
+use Rattle.key_lists.{specs.Keys.{is_among, IsRising}, proofs.Among.{among-append, among-filter, among_below, of_among}, proofs.Every.every_unmapped}
+use Rattle.tick_model.{specs.declared.table.PlainRow.PlainRow, specs.declared.update.ShiftRange.ShiftRange, specs.Rules.landed, specs.Shifts.{as_key, moved}, specs.Tables.{cells_at, keys, row_at}, specs.Updates.{Update, moved_row, removing, shifting}, proofs.Among.row_at-filter}
+use Rattle.tick_table.{specs.Placed.{put_row, put_rows, stayed}, proofs.CarriedRows.keys-removing, proofs.Paired.{at_first, at_later}}
 
 -- another row than the one that is put keeps its cells
 pub at_put_row : (key : ℕ) (row : PlainRow) (rows : List PlainRow) → (row.key ≡ key → ⊥) → cells_at key (put_row row rows) ≡ cells_at key rows

@@ -1,9 +1,7 @@
 -- The rows of a table are whole.
 use Rattle.std.proofs.Common.{◌≡◌, ℕ, true, length}
-use Rattle.key_lists.specs.Keys.{is_among}
-use Rattle.key_lists.proofs.Every.{every_weaker}
-use Rattle.tick_model.specs.declared.table.PlainTable.{PlainTable}
-use Rattle.tick_model.specs.Tables.{cells_at, keys, IsRow, IsTable}
+use Rattle.key_lists.{specs.Keys.is_among, proofs.Every.every_weaker}
+use Rattle.tick_model.{specs.declared.table.PlainTable.PlainTable, specs.Tables.{cells_at, keys, IsRow, IsTable}}
 use Rattle.tick_laws.proofs.ToldRows.{cells_of_row}
 
 -- the row under a key has the table's width

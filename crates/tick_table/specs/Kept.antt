@@ -2,19 +2,11 @@
 --     cells_before rows placed update key      the cells that the row under a key had before the step
 --     shown rows before placed update      the table now and before, with the update
 --     IsKept rows before placed update told      the keys now and before, the cells, the last update and what it tells belong together
-use Rattle.std.specs.Prelude.{◌≡◌, ℕ, ◌*◌, ◌^◌, ◌≤◌, List, None, length, map, if◌then◌else◌, ℤ}
-use Rattle.std.specs.List.{AllByRecursion}
+use Rattle.std.{specs.Prelude.{◌≡◌, ℕ, ◌*◌, ◌^◌, ◌≤◌, List, None, length, map, if◌then◌else◌, ℤ}, specs.List.AllByRecursion}
 use Rattle.key_lists.specs.Keys.{is_among}
 use Rattle.tick_laws.specs.Checked.{keys_after}
-use Rattle.tick_model.specs.declared.table.PlainRow.{PlainRow}
-use Rattle.tick_model.specs.declared.table.PlainTable.{PlainTable}
-use Rattle.tick_model.specs.Changes.{rows_under, told_keys}
-use Rattle.tick_model.specs.Rules.{update_fault}
-use Rattle.tick_model.specs.Shifts.{as_key, moved}
-use Rattle.tick_model.specs.Tables.{IsTable, cells_at}
-use Rattle.tick_model.specs.Updates.{Update}
-use Rattle.tick_table.specs.Placed.{Placed, paired}
-use Rattle.tick_table.specs.Ticking.{Ticking}
+use Rattle.tick_model.{specs.declared.table.PlainRow.PlainRow, specs.declared.table.PlainTable.PlainTable, specs.Changes.{rows_under, told_keys}, specs.Rules.update_fault, specs.Shifts.{as_key, moved}, specs.Tables.{IsTable, cells_at}, specs.Updates.Update}
+use Rattle.tick_table.{specs.Placed.{Placed, paired}, specs.Ticking.Ticking}
 
 abbrev pub table_now : List ℕ → Placed → PlainTable
 table_now rows placed = record { width = placed.width; rows = paired rows placed.rows }

@@ -7,14 +7,11 @@
 --     stayed update rows      the rows that an update does not remove, where it moves them
 --     stepped update told rows      the rows after an update, where these are told
 --     IsRowPlace rows place      the place is that of a row
-use Rattle.std.specs.Prelude.{◌≡◌, ℕ, ◌+◌, ◌≤◌, ◌==◌, true, List, [], ◌∷◌, length, map, nat_lt, if◌then◌else◌, ℤ, slice_index_or}
-use Rattle.std.specs.List.{sum_by}
+use Rattle.std.{specs.Prelude.{◌≡◌, ℕ, ◌+◌, ◌≤◌, ◌==◌, true, List, [], ◌∷◌, length, map, nat_lt, if◌then◌else◌, ℤ, slice_index_or}, specs.List.sum_by}
 use Rattle.key_lists.specs.Keys.{is_among}
 use Rattle.row_set.specs.Sets.{count_below}
-use Rattle.tick_model.specs.declared.table.PlainRow.{PlainRow}
-use Rattle.tick_model.specs.Updates.{Update, removing, shifting}
-use Rattle.tick_table.specs.declared.stepping.RowPlace.{RowPlace}
-use Rattle.tick_table.specs.Slots.{AreSlots, SlotCells}
+use Rattle.tick_model.{specs.declared.table.PlainRow.PlainRow, specs.Updates.{Update, removing, shifting}}
+use Rattle.tick_table.{specs.declared.stepping.RowPlace.RowPlace, specs.Slots.{AreSlots, SlotCells}}
 
 -- what contracts see of rows by position: their cells, those of the rows that the step took out, and those that it replaced
 pub record Placed : Type 0 where

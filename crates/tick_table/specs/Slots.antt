@@ -3,8 +3,7 @@
 --     slot_list width count cells      the cells of each of the first slots
 --     AreSlots count slots      they are numbers of the first slots
 --     IsFilled row old new slot      a slot that was free, or else a new one, has the cells of the row
-use Rattle.std.specs.Prelude.{◌≡◌, ℕ, ◌*◌, ◌<◌, ◌≤◌, ◌⊎◌, List, [], ◌∷◌, ◌++◌, length, map, take, drop, ℤ, slice_index_or}
-use Rattle.std.specs.List.{AllByRecursion, range_with_len}
+use Rattle.std.{specs.Prelude.{◌≡◌, ℕ, ◌*◌, ◌<◌, ◌≤◌, ◌⊎◌, List, [], ◌∷◌, ◌++◌, length, map, take, drop, ℤ, slice_index_or}, specs.List.{AllByRecursion, range_with_len}}
 
 -- the cells of each slot, and the slots that are free
 pub record SlotCells : Type 0 where

@@ -2,8 +2,7 @@
 --     no_rows width      the table of this width without rows
 --     fresh width      a ticking table that has no rows, before or now
 use Rattle.std.specs.Prelude.{ℕ, []}
-use Rattle.tick_model.specs.declared.table.PlainTable.{PlainTable}
-use Rattle.tick_model.specs.Updates.{Update}
+use Rattle.tick_model.{specs.declared.table.PlainTable.PlainTable, specs.Updates.Update}
 use Rattle.tick_laws.specs.Replaced.{no_update}
 
 -- what contracts see of a ticking table

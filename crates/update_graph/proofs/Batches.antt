@@ -1,27 +1,12 @@
 -- What a batch changes of the sources, from one step to the next.
 use Rattle.std.proofs.Common.{◌≡◌, refl, ap, ap₂, sym, ◌∙◌, subst, add-one, ℕ, zero, suc, ◌+◌, ◌<◌, arith, inl, inr, List, [], ◌∷◌, map, length, get_or, None}
-use Rattle.std.specs.Borrow.{Bor}
-use Rattle.std.proofs.Math.ListN.{get_or-map as get_or_map}
-use Rattle.std.proofs.lemmas.Bool.{cases_lt}
-use Rattle.std.proofs.lemmas.List.{get_or-map, length-map, map-id}
+use Rattle.std.{specs.Borrow.Bor, proofs.Math.ListN.get_or-map as get_or_map, proofs.lemmas.Bool.cases_lt, proofs.lemmas.List.{get_or-map, length-map, map-id}}
 use Rattle.key_lists.proofs.Every.{map_map}
 use Rattle.table_operator.specs.Inputs.{news, tables}
-use Rattle.tick_laws.specs.Bounded.{AreSourceTables}
-use Rattle.tick_laws.specs.Reached.{IsReached}
-use Rattle.tick_laws.proofs.LawfulSources.{sources_bounded}
-use Rattle.tick_laws.proofs.SourceTicks.{source_old}
-use Rattle.tick_model.specs.declared.feed.Batch.{Batch}
-use Rattle.tick_model.specs.declared.feed.Run.{Run}
-use Rattle.tick_model.specs.declared.plan.Node.{Node}
-use Rattle.tick_model.specs.declared.table.PlainTable.{PlainTable}
-use Rattle.tick_model.specs.Tables.{no_table, keys}
-use Rattle.tick_model.specs.LawfulRuns.{IsLawfulRun, sources_of}
-use Rattle.tick_model.specs.Sources.{after_blocks, batch_fault, blocks_fault, blocks_of, new_table, no_tick, opened, source_ticks, sources, tick_at, unchanged}
-use Rattle.tick_model.specs.Updates.{Tick}
-use Rattle.tick_table.specs.Exact.{ticking}
-use Rattle.tick_table.specs.Ticking.{Ticking}
-use Rattle.update_graph.specs.Entered.{IsEntered}
-use Rattle.update_graph.specs.Graphs.{sources_shown}
+use Rattle.tick_laws.{specs.Bounded.AreSourceTables, specs.Reached.IsReached, proofs.LawfulSources.sources_bounded, proofs.SourceTicks.source_old}
+use Rattle.tick_model.{specs.declared.feed.Batch.Batch, specs.declared.feed.Run.Run, specs.declared.plan.Node.Node, specs.declared.table.PlainTable.PlainTable, specs.Tables.{no_table, keys}, specs.LawfulRuns.{IsLawfulRun, sources_of}, specs.Sources.{after_blocks, batch_fault, blocks_fault, blocks_of, new_table, no_tick, opened, source_ticks, sources, tick_at, unchanged}, specs.Updates.Tick}
+use Rattle.tick_table.{specs.Exact.ticking, specs.Ticking.Ticking}
+use Rattle.update_graph.{specs.Entered.IsEntered, specs.Graphs.sources_shown}
 
 -- at the opening
 pub entered_first : (run : Run) → IsLawfulRun run → IsEntered run 0

@@ -1,22 +1,10 @@
 -- The change of a tick may be applied to the tick's old table.
 use Rattle.std.proofs.Common.{◌≡◌, ap, ap₂, sym, ◌∙◌, subst, ℕ, ◌+◌, ◌*◌, ◌^◌, ◌<◌, ◌≤◌, arith, List, [], ◌∷◌, ◌++◌, map, take, length, get_or, None}
-use Rattle.std.specs.Arc.{arc_value}
-use Rattle.std.specs.List.{AllByRecursion, zip}
-use Rattle.std.specs.declared.alloc.Global.{Global}
-use Rattle.std.specs.declared.sync.Arc.{Arc}
-use Rattle.std.proofs.lemmas.List.{get_or-map, length-map, map-append, map_more, take_all}
+use Rattle.std.{specs.Arc.arc_value, specs.List.{AllByRecursion, zip}, specs.declared.alloc.Global.Global, specs.declared.sync.Arc.Arc, proofs.lemmas.List.{get_or-map, length-map, map-append, map_more, take_all}, proofs.lemmas.Slice.Zip.{get_or-zip, length-zip}}
 use Rattle.key_lists.proofs.Every.{all_from}
-use Rattle.std.proofs.lemmas.Slice.Zip.{get_or-zip, length-zip}
 use Rattle.table_operator.specs.Inputs.{news, tables}
-use Rattle.tick_model.specs.declared.table.PlainTable.{PlainTable}
-use Rattle.tick_model.specs.Changes.{Change, change_of, told_keys}
-use Rattle.tick_model.specs.Tables.{no_table, keys}
-use Rattle.tick_model.specs.Rules.{update_fault}
-use Rattle.tick_model.specs.Sources.{no_tick}
-use Rattle.tick_model.specs.Updates.{IsTick, Tick}
-use Rattle.tick_table.specs.Exact.{ticking}
-use Rattle.tick_table.specs.Ticking.{Ticking}
-use Rattle.tick_table.proofs.ExactAgain.{change_whole, exact_again, exact_lawful}
+use Rattle.tick_model.{specs.declared.table.PlainTable.PlainTable, specs.Changes.{Change, change_of, told_keys}, specs.Tables.{no_table, keys}, specs.Rules.update_fault, specs.Sources.no_tick, specs.Updates.{IsTick, Tick}}
+use Rattle.tick_table.{specs.Exact.ticking, specs.Ticking.Ticking, proofs.ExactAgain.{change_whole, exact_again, exact_lawful}}
 
 pub change_lawful : (tick : Tick) → IsTick tick → (table : PlainTable) → table ≡ tick.old → (change : Change) → change ≡ change_of tick → update_fault (2 ^ 62) (keys table.rows) change.update ≡ None
 change_lawful tick h table e change f = ap₂ (λ (t : PlainTable) (c : Change). update_fault (2 ^ 62) (keys t.rows) c.update) e f ∙ exact_lawful (ticking tick) (exact_again tick h)

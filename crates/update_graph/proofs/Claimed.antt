@@ -3,21 +3,9 @@ use Rattle.std.proofs.Common.{◌≡◌, ap, sym, ◌∙◌, subst, ℕ, ◌+◌
 use Rattle.std.proofs.lemmas.List.{get_or_default}
 use mathlib.Core.Option.{some}
 use lib.ListN.{get_elem?}
-use Rattle.graph_words.specs.declared.graph.Edge.{Edge}
-use Rattle.graph_words.specs.declared.graph.Plan.{Plan}
-use Rattle.graph_words.specs.Marks.{inputs}
-use Rattle.tick_model.specs.declared.feed.Run.{Run}
-use Rattle.tick_model.specs.declared.plan.Node.{Node}
-use Rattle.tick_model.specs.Evaluation.{is_source}
-use Rattle.tick_model.specs.Operators.{inputs_of}
-use Rattle.update_graph.specs.Crews.{StepView}
-use Rattle.update_graph.specs.Edges.{edges_of, froms_to}
-use Rattle.update_graph.specs.Entered.{IsEntered}
-use Rattle.update_graph.specs.Holdings.{IsClaimed, IsForStep}
-use Rattle.update_graph.specs.Tags.{Kept, Tag, is_operator, named, no_node, op_at, tag}
-use Rattle.update_graph.proofs.ClaimedWorks.{as_tag}
-use Rattle.update_graph.proofs.PlanEdges.{edge_ends, edge_into, few_edges, goes_to_operator, input_froms, no_inputs}
-use Rattle.update_graph.proofs.PlanLimits.{few_nodes}
+use Rattle.graph_words.{specs.declared.graph.Edge.Edge, specs.declared.graph.Plan.Plan, specs.Marks.inputs}
+use Rattle.tick_model.{specs.declared.feed.Run.Run, specs.declared.plan.Node.Node, specs.Evaluation.is_source, specs.Operators.inputs_of}
+use Rattle.update_graph.{specs.Crews.StepView, specs.Edges.{edges_of, froms_to}, specs.Entered.IsEntered, specs.Holdings.{IsClaimed, IsForStep}, specs.Tags.{Kept, Tag, is_operator, named, no_node, op_at, tag}, proofs.ClaimedWorks.as_tag, proofs.PlanEdges.{edge_ends, edge_into, few_edges, goes_to_operator, input_froms, no_inputs}, proofs.PlanLimits.few_nodes}
 
 -- claims for a step of a run
 module _ (run : Run) (plan : Plan Kept) (s : IsForStep run plan) where

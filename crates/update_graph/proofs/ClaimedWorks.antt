@@ -1,19 +1,11 @@
 -- The works of a step, as claims take them and give them back.
 use Rattle.std.proofs.Common.{◌≡◌, refl, ap, ap₂, sym, ◌∙◌, subst, ℕ, zero, suc, ◌+◌, ◌-◌, ◌≤◌, ◌==◌, arith, true, List, [], ◌∷◌, map, length, get_or}
-use Rattle.std.specs.List.{range_with_len}
-use Rattle.std.proofs.lemmas.Bool.{eqb-true}
-use Rattle.std.proofs.lemmas.List.{length-map}
-use Rattle.std.proofs.lemmas.List.FromFn.{length-map-range_with_len}
+use Rattle.std.{specs.List.range_with_len, proofs.lemmas.Bool.eqb-true, proofs.lemmas.List.length-map, proofs.lemmas.List.FromFn.length-map-range_with_len}
 use mathlib.Core.Option.{some, some-injective, some-ne-none}
 use lib.ListN.{get_elem?}
-use Rattle.graph_words.specs.declared.graph.Plan.{Plan}
-use Rattle.graph_words.specs.Rule.{IsTagged, tags as tags_by}
+use Rattle.graph_words.{specs.declared.graph.Plan.Plan, specs.Rule.{IsTagged, tags as tags_by}}
 use Rattle.tick_model.specs.declared.feed.Run.{Run}
-use Rattle.update_graph.specs.Edges.{edges_of}
-use Rattle.update_graph.specs.Entered.{IsEntered}
-use Rattle.update_graph.specs.Holdings.{IsClaimed}
-use Rattle.update_graph.specs.Stands.{Follows}
-use Rattle.update_graph.specs.Tags.{Kept, Tag, named, tag, tags}
+use Rattle.update_graph.{specs.Edges.edges_of, specs.Entered.IsEntered, specs.Holdings.IsClaimed, specs.Stands.Follows, specs.Tags.{Kept, Tag, named, tag, tags}}
 
 -- what a work names, and what it may become
 abbrev pub names : Rattle.graph_words.specs.Rule.Tags Run Kept

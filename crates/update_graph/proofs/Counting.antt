@@ -1,16 +1,9 @@
 -- How much a step of an operator reads, in the words of the run.
 use Rattle.std.proofs.Common.{◌≡◌, refl, sym, ap, ◌∙◌, subst, ℕ, zero, suc, ◌+◌, ◌<◌, ◌≤◌, ◌&&◌, inl, inr, arith, Bool, true, false, true≢false, List, [], ◌∷◌, ◌++◌, length, get_or, Option, Some, None}
-use Rattle.std.specs.Prelude.{option_to_list, slice_index}
-use Rattle.std.specs.List.{AllByRecursion, flat_map, range_with_len, sum_by}
-use Rattle.std.proofs.lemmas.Bool.{cases_lt}
-use Rattle.std.proofs.lemmas.List.{get_or_append_left, get_or_push, length_push}
-use Rattle.std.proofs.lemmas.List.Sums.{sum_by-cons}
+use Rattle.std.{specs.Prelude.{option_to_list, slice_index}, specs.List.{AllByRecursion, flat_map, range_with_len, sum_by}, proofs.lemmas.Bool.cases_lt, proofs.lemmas.List.{get_or_append_left, get_or_push, length_push}, proofs.lemmas.List.Sums.sum_by-cons}
 use Rattle.key_lists.proofs.Every.{every-filter, every_both, filter_passes, pass_all}
 use Rattle.tick_model.specs.declared.feed.Run.{Run}
-use Rattle.update_graph.specs.Graphs.{HaveStepped, most_in, read_in, reads_at}
-use Rattle.update_graph.specs.Stands.{HasStepped, all_defined, is_defined, most_reads}
-use Rattle.update_graph.specs.Tags.{Tag, is_operator, operators}
-use Rattle.update_graph.proofs.Numbering.{range_all}
+use Rattle.update_graph.{specs.Graphs.{HaveStepped, most_in, read_in, reads_at}, specs.Stands.{HasStepped, all_defined, is_defined, most_reads}, specs.Tags.{Tag, is_operator, operators}, proofs.Numbering.range_all}
 
 -- one step more, which read no more than it may
 pub stepped_once : (run : Run) (steps node count : ℕ) (reads : List ℕ) → HasStepped run steps node reads → count ≤ most_reads run steps node → HasStepped run (steps + 1) node (reads ++ count ∷ [])

@@ -1,31 +1,13 @@
 -- What a seat has while a crew's hand works a node.
 use Rattle.std.proofs.Common.{◌≡◌, ◌≢◌, ℕ, ◌+◌, ◌<◌, sym, refl, ap, ◌∙◌, subst, arith, inl, inr, Option, Some, None, List, [], ◌++◌, length, append-nil, append_assoc, eqb, false, get_or}
-use Rattle.std.specs.Prelude.{◌⊎◌, option_to_list}
-use Rattle.std.specs.List.{list_any}
-use Rattle.std.proofs.lemmas.Bool.{eqb-false, or_cases}
-use Rattle.std.proofs.lemmas.List.Folds.{list_any-append}
-use Rattle.std.proofs.lemmas.Option.{same_Some, none-some}
+use Rattle.std.{specs.Prelude.{◌⊎◌, option_to_list}, specs.List.list_any, proofs.lemmas.Bool.{eqb-false, or_cases}, proofs.lemmas.List.Folds.list_any-append, proofs.lemmas.Option.{same_Some, none-some}}
 use mathlib.Core.Logic.{dite}
 use mathlib.Core.Option.{some, some-injective}
 use native.Mathlib.Decide.{ℕ_discrete}
 use lib.ListN.{get_elem?}
-use Rattle.graph_words.specs.declared.graph.Edge.{Edge}
-use Rattle.graph_words.specs.declared.graph.Plan.{Plan}
-use Rattle.graph_words.specs.declared.table.Mark.TheVariants.{Unmarked, Untaken, PutBack, Delivered}
-use Rattle.graph_words.specs.declared.table.View.{View}
-use Rattle.graph_words.specs.Marks.{IsHadMark, at, put}
-use Rattle.graph_words.specs.Seats.{Has}
-use Rattle.graph_words.proofs.Marks.{at_put, at_put_else, some_input, below_of}
-use Rattle.steal_workers.specs.Holdings.{IsReady, IsSettled, KeepsOthers}
-use Rattle.steal_workers.specs.Lists.{IsListed}
-use Rattle.steal_workers.proofs.Listing.{listed_cases, listed_first, listed_last, true_false}
-use Rattle.steal_workers.proofs.Holding.{has_mark}
-use Rattle.update_graph.specs.Edges.{comes_from}
-use Rattle.update_graph.specs.Steps.{IsDelivered, IsHandedOver, IsHanding, IsListing, IsWorked}
-use Rattle.update_graph.specs.Tags.{Kept}
-use Rattle.update_graph.proofs.Handing.{apart, had_marked, late_apart, out_at, still_untaken, untouched_still}
-use Rattle.update_graph.proofs.PlanEdges.{item_there}
-use Rattle.update_graph.proofs.Walking.{no_edge}
+use Rattle.graph_words.{specs.declared.graph.Edge.Edge, specs.declared.graph.Plan.Plan, specs.declared.table.Mark.TheVariants.{Unmarked, Untaken, PutBack, Delivered}, specs.declared.table.View.View, specs.Marks.{IsHadMark, at, put}, specs.Seats.Has, proofs.Marks.{at_put, at_put_else, some_input, below_of}}
+use Rattle.steal_workers.{specs.Holdings.{IsReady, IsSettled, KeepsOthers}, specs.Lists.IsListed, proofs.Listing.{listed_cases, listed_first, listed_last, true_false}, proofs.Holding.has_mark}
+use Rattle.update_graph.{specs.Edges.comes_from, specs.Steps.{IsDelivered, IsHandedOver, IsHanding, IsListing, IsWorked}, specs.Tags.Kept, proofs.Handing.{apart, had_marked, late_apart, out_at, still_untaken, untouched_still}, proofs.PlanEdges.item_there, proofs.Walking.no_edge}
 
 -- what is listed in either of two lists
 pub listed_either : (xs ys : List ℕ) (m : ℕ) → IsListed (xs ++ ys) m → IsListed xs m ⊎ IsListed ys m

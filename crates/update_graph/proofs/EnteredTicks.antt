@@ -1,33 +1,10 @@
 -- At a step that a run enters, the change of each node that has a table is a tick from its table before the step to its table after it.
 use Rattle.std.proofs.Common.{◌≡◌, refl, ap, sym, ◌∙◌, subst, add-one, ℕ, zero, suc, ◌+◌, ◌<◌, inl, inr, arith, Bool, true, false, List, [], ◌∷◌, map, length, get_or, None}
-use Rattle.std.specs.List.{AllByRecursion}
-use Rattle.std.proofs.lemmas.Bool.{cases_lt}
-use Rattle.tick_model.specs.declared.feed.Run.{Run}
-use Rattle.tick_model.specs.declared.plan.Node.{Node}
-use Rattle.tick_model.specs.declared.plan.Op.{Op}
-use Rattle.tick_model.specs.declared.table.PlainTable.{PlainTable}
-use Rattle.tick_model.specs.Evaluation.{applied, has_table, is_source, outcome_at, outcome_of, source_number, table_at, table_of}
-use Rattle.tick_model.specs.Operators.{fault_of, inputs_of, result, kept_by, is_source_op}
-use Rattle.tick_model.specs.Tables.{no_table, IsTable}
-use Rattle.tick_model.specs.LawfulRuns.{IsLawfulRun}
-use Rattle.tick_model.specs.Sources.{no_tick, opened, source_ticks, sources, tick_at}
-use Rattle.tick_model.specs.States.{empty_at, state, tick, tick_of, ticks}
-use Rattle.tick_model.specs.Updates.{IsTick, Tick}
+use Rattle.std.{specs.List.AllByRecursion, proofs.lemmas.Bool.cases_lt}
+use Rattle.tick_model.{specs.declared.feed.Run.Run, specs.declared.plan.Node.Node, specs.declared.plan.Op.Op, specs.declared.table.PlainTable.PlainTable, specs.Evaluation.{applied, has_table, is_source, outcome_at, outcome_of, source_number, table_at, table_of}, specs.Operators.{fault_of, inputs_of, result, kept_by, is_source_op}, specs.Tables.{no_table, IsTable}, specs.LawfulRuns.IsLawfulRun, specs.Sources.{no_tick, opened, source_ticks, sources, tick_at}, specs.States.{empty_at, state, tick, tick_of, ticks}, specs.Updates.{IsTick, Tick}}
 use Rattle.key_lists.proofs.Every.{every_weaker}
-use Rattle.tick_laws.specs.Operated.{operated}
-use Rattle.tick_laws.specs.Reached.{IsReached, IsTickFrom, table_before}
-use Rattle.tick_laws.proofs.EvalNodes.{applied_has, operator_outcome, outcome_is, result_same, source_outcome}
-use Rattle.tick_laws.proofs.LawfulSources.{lawful_tables, source_fits}
-use Rattle.tick_laws.proofs.OperatorTicks.{operator_keeps}
-use Rattle.tick_laws.proofs.ReachedTables.{bounded_at, lesser_inputs, reached_tables}
-use Rattle.tick_laws.proofs.RunTicks.{tick_of_inputs}
-use Rattle.tick_laws.proofs.SourceTicks.{source_new, source_old, source_tick}
-use Rattle.tick_laws.proofs.TickNodes.{tick_cases, tick_from}
-use Rattle.tick_laws.proofs.OpeningTicks.{opened_width, empty_is}
-use Rattle.update_graph.specs.Entered.{IsEntered}
-use Rattle.update_graph.specs.Stands.{is_defined}
-use Rattle.update_graph.specs.Tags.{no_node, node_at, op_at}
-use Rattle.update_graph.proofs.OperatorLaws.{begin_result}
+use Rattle.tick_laws.{specs.Operated.operated, specs.Reached.{IsReached, IsTickFrom, table_before}, proofs.EvalNodes.{applied_has, operator_outcome, outcome_is, result_same, source_outcome}, proofs.LawfulSources.{lawful_tables, source_fits}, proofs.OperatorTicks.operator_keeps, proofs.ReachedTables.{bounded_at, lesser_inputs, reached_tables}, proofs.RunTicks.tick_of_inputs, proofs.SourceTicks.{source_new, source_old, source_tick}, proofs.TickNodes.{tick_cases, tick_from}, proofs.OpeningTicks.{opened_width, empty_is}}
+use Rattle.update_graph.{specs.Entered.IsEntered, specs.Stands.is_defined, specs.Tags.{no_node, node_at, op_at}, proofs.OperatorLaws.begin_result}
 
 -- the step before one that a run enters is reached
 pub reached_one : (run : Run) (step : ℕ) → IsEntered run (suc step) → IsReached run step

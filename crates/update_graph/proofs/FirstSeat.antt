@@ -5,27 +5,10 @@ use mathlib.Core.Logic.{dite}
 use mathlib.Core.Option.{some}
 use native.Mathlib.Decide.{ℕ_discrete}
 use lib.ListN.{get_elem?}
-use Rattle.graph_words.specs.declared.graph.Edge.{Edge}
-use Rattle.graph_words.specs.declared.graph.Plan.{Plan}
-use Rattle.graph_words.specs.declared.table.Mark.TheVariants.{Untaken, Taken, PutBack}
-use Rattle.graph_words.specs.declared.table.View.{View}
-use Rattle.graph_words.specs.Marks.{IsHadMark, at, inputs, start_mark}
-use Rattle.graph_words.specs.Seats.{Has}
-use Rattle.graph_words.specs.Views.{first_view, mark_node}
-use Rattle.graph_words.proofs.Marks.{at_put, at_put_else, below_of}
-use Rattle.graph_words.proofs.Opens.{at_starts}
-use Rattle.steal_workers.specs.Holdings.{IsHeld, IsNew, IsReady, IsSettled, SourcesBack}
-use Rattle.steal_workers.specs.Lists.{IsListed}
-use Rattle.steal_workers.proofs.Listing.{listed_first, listed_second, true_false}
-use Rattle.steal_workers.proofs.Holding.{has_mark}
+use Rattle.graph_words.{specs.declared.graph.Edge.Edge, specs.declared.graph.Plan.Plan, specs.declared.table.Mark.TheVariants.{Untaken, Taken, PutBack}, specs.declared.table.View.View, specs.Marks.{IsHadMark, at, inputs, start_mark}, specs.Seats.Has, specs.Views.{first_view, mark_node}, proofs.Marks.{at_put, at_put_else, below_of}, proofs.Opens.at_starts}
+use Rattle.steal_workers.{specs.Holdings.{IsHeld, IsNew, IsReady, IsSettled, SourcesBack}, specs.Lists.IsListed, proofs.Listing.{listed_first, listed_second, true_false}, proofs.Holding.has_mark}
 use Rattle.tick_model.specs.declared.feed.Run.{Run}
-use Rattle.update_graph.specs.Edges.{edges_of}
-use Rattle.update_graph.specs.Holdings.{IsClaimed, IsOpened, IsUnopened}
-use Rattle.update_graph.specs.Steps.{IsHanding, IsListing}
-use Rattle.update_graph.specs.Tags.{Kept, is_operator}
-use Rattle.update_graph.proofs.Claimed.{source_claimed}
-use Rattle.update_graph.proofs.CrewNodes.{listed_either}
-use Rattle.update_graph.proofs.PlanEdges.{no_inputs, source_inputs}
+use Rattle.update_graph.{specs.Edges.edges_of, specs.Holdings.{IsClaimed, IsOpened, IsUnopened}, specs.Steps.{IsHanding, IsListing}, specs.Tags.{Kept, is_operator}, proofs.Claimed.source_claimed, proofs.CrewNodes.listed_either, proofs.PlanEdges.{no_inputs, source_inputs}}
 
 start_none : (n : ℕ) → IsHadMark (start_mark n) → n ≡ 0
 start_none zero has = refl

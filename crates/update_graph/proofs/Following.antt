@@ -1,22 +1,11 @@
 -- What is kept of the nodes follows what was kept of them the step before: what was read in the earlier steps stands as it was.
 use Rattle.std.proofs.Common.{◌≡◌, refl, ap, sym, ◌∙◌, subst, ℕ, zero, suc, ◌<◌, arith, true, false, true≢false, List, [], ◌∷◌, ◌++◌, map, length, get_or, None}
-use Rattle.std.proofs.lemmas.List.{get_or-map}
-use Rattle.std.specs.Prelude.{IfOk, Result, Ok, Err}
+use Rattle.std.{proofs.lemmas.List.get_or-map, specs.Prelude.{IfOk, Result, Ok, Err}}
 use mathlib.Core.Option.{some-injective, some-ne-none}
-use Rattle.graph_words.specs.declared.graph.Plan.{Plan}
-use Rattle.graph_words.specs.Rule.{FollowsGiven, IsGiven}
+use Rattle.graph_words.{specs.declared.graph.Plan.Plan, specs.Rule.{FollowsGiven, IsGiven}}
 use Rattle.tick_laws.proofs.ReachedTables.{reached_tables}
-use Rattle.tick_model.specs.declared.feed.Run.{Run}
-use Rattle.tick_model.specs.Spoiled.{node_fault}
-use Rattle.tick_model.specs.States.{state}
-use Rattle.update_graph.specs.Entered.{IsEntered}
-use Rattle.update_graph.specs.Graphs.{SteppedOnce}
-use Rattle.update_graph.specs.Stands.{Follows, ForEach, HasReadOnce, is_defined}
-use Rattle.update_graph.specs.Sweeps.{GrowsBy}
-use Rattle.update_graph.specs.Tags.{Kept, Tag, all_reads, is_operator, named, tag, tags}
-use Rattle.update_graph.proofs.ClaimedWorks.{count_works, whole_works, work_at}
-use Rattle.update_graph.proofs.PlanEdges.{item_there}
-use Rattle.update_graph.proofs.Sweeping.{reached_here}
+use Rattle.tick_model.{specs.declared.feed.Run.Run, specs.Spoiled.node_fault, specs.States.state}
+use Rattle.update_graph.{specs.Entered.IsEntered, specs.Graphs.SteppedOnce, specs.Stands.{Follows, ForEach, HasReadOnce, is_defined}, specs.Sweeps.GrowsBy, specs.Tags.{Kept, Tag, all_reads, is_operator, named, tag, tags}, proofs.ClaimedWorks.{count_works, whole_works, work_at}, proofs.PlanEdges.item_there, proofs.Sweeping.reached_here}
 
 -- the first step
 pub one_read : (reads : List ℕ) → length reads ≡ 1 → HasReadOnce [] reads

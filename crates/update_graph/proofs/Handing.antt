@@ -1,23 +1,10 @@
 -- The view of a seat while it works a node, one edge at a time.
 use Rattle.std.proofs.Common.{◌≡◌, ◌≢◌, ℕ, ◌+◌, ◌<◌, Bool, true, false, sym, refl, ap, ap₂, ◌∙◌, subst, arith, Option, Some, None, List, [], ◌∷◌, ◌++◌, length, map, take, get_or}
-use Rattle.std.proofs.lemmas.Bool.{eqb-false, eqb-true}
-use Rattle.std.proofs.lemmas.List.{map_push}
-use Rattle.std.proofs.lemmas.Option.{same_Some, none-some}
+use Rattle.std.{proofs.lemmas.Bool.{eqb-false, eqb-true}, proofs.lemmas.List.map_push, proofs.lemmas.Option.{same_Some, none-some}}
 use mathlib.Core.Option.{some, some-injective}
 use lib.ListN.{get_elem?}
-use Rattle.graph_words.specs.declared.graph.Edge.{Edge}
-use Rattle.graph_words.specs.declared.graph.Plan.{Plan}
-use Rattle.graph_words.specs.declared.table.Mark.{Mark}
-use Rattle.graph_words.specs.declared.table.Mark.TheVariants.{Unmarked, Untaken, Taken, PutBack, Delivered}
-use Rattle.graph_words.specs.declared.table.View.{View}
-use Rattle.graph_words.specs.Marks.{IsHadMark, at, put}
-use Rattle.graph_words.specs.Views.{IsUntouched, gets, mark_in, mark_late, mark_node, mark_out}
-use Rattle.graph_words.proofs.Marks.{at_put, at_put_else}
-use Rattle.update_graph.specs.Edges.{froms_to, goes_to}
-use Rattle.update_graph.specs.Steps.{IsBegun, IsDelivered, IsTaking, IsWorked}
-use Rattle.update_graph.specs.Tags.{Kept, Tag}
-use Rattle.update_graph.proofs.PlanEdges.{item_there, froms_more, froms_same}
-use Rattle.update_graph.proofs.Walking.{no_edge}
+use Rattle.graph_words.{specs.declared.graph.Edge.Edge, specs.declared.graph.Plan.Plan, specs.declared.table.Mark.Mark, specs.declared.table.Mark.TheVariants.{Unmarked, Untaken, Taken, PutBack, Delivered}, specs.declared.table.View.View, specs.Marks.{IsHadMark, at, put}, specs.Views.{IsUntouched, gets, mark_in, mark_late, mark_node, mark_out}, proofs.Marks.{at_put, at_put_else}}
+use Rattle.update_graph.{specs.Edges.{froms_to, goes_to}, specs.Steps.{IsBegun, IsDelivered, IsTaking, IsWorked}, specs.Tags.{Kept, Tag}, proofs.PlanEdges.{item_there, froms_more, froms_same}, proofs.Walking.no_edge}
 
 -- shares are taken
 module _ (edges : List Edge) (u : View Kept) (node : ℕ) where

@@ -1,12 +1,10 @@
 -- The lists of edge numbers that are kept for each node.
 use Rattle.std.proofs.Common.{◌≡◌, ℕ, zero, suc, ◌+◌, ◌<◌, sym, ap, ◌∙◌, subst, refl, arith, Bool, true, false, cond, List, [], ◌∷◌, ◌++◌, length, take, get_or, set, append-nil, eqb, eq-eqb, ne_eqb}
-use Rattle.std.proofs.lemmas.List.{length-take-le, take_more}
+use Rattle.std.{proofs.lemmas.List.{length-take-le, take_more}, specs.Global.Vec}
 use mathlib.Core.Logic.{dite}
 use native.Mathlib.Decide.{ℕ_discrete}
-use Rattle.std.specs.Global.{Vec}
 use Rattle.graph_words.specs.declared.graph.Edge.{Edge}
-use Rattle.update_graph.specs.Edges.{AreNumbers, numbers_at, numbers_of}
-use Rattle.update_graph.proofs.Walking.{no_edge}
+use Rattle.update_graph.{specs.Edges.{AreNumbers, numbers_at, numbers_of}, proofs.Walking.no_edge}
 
 pub empty_more : (lists : List (Vec ℕ)) (list : Vec ℕ) → ((n : ℕ) → numbers_at lists n ≡ []) → list.items ≡ [] → (n : ℕ) → numbers_at (lists ++ list ∷ []) n ≡ []
 empty_more [] list h none zero = none

@@ -1,18 +1,11 @@
 -- The numbers of nodes, counted and listed.
 use Rattle.std.proofs.Common.{◌≡◌, ◌≢◌, refl, ap, ap₂, sym, ◌∙◌, ℕ, zero, suc, ◌+◌, ◌<◌, ◌==◌, arith, Bool, true, false, cond, List, [], ◌∷◌, ◌++◌, append-nil, take, length, get_or}
-use Rattle.std.specs.Prelude.{count_by, filter}
-use Rattle.std.specs.List.{AllByRecursion, range_with_len}
-use Rattle.std.proofs.lemmas.Bool.{eq-eqb, ne_eqb}
-use Rattle.std.proofs.lemmas.List.{take_more, map-id}
-use Rattle.std.proofs.lemmas.List.Elements.{filter-append}
-use Rattle.std.proofs.lemmas.List.FromFn.{map-range_with_len_more}
-use Rattle.std.proofs.lemmas.List.Sums.{sum_by-append, sum_by-cons}
+use Rattle.std.{specs.Prelude.{count_by, filter}, specs.List.{AllByRecursion, range_with_len}, proofs.lemmas.Bool.{eq-eqb, ne_eqb}, proofs.lemmas.List.{take_more, map-id}, proofs.lemmas.List.Elements.filter-append, proofs.lemmas.List.FromFn.map-range_with_len_more, proofs.lemmas.List.Sums.{sum_by-append, sum_by-cons}}
 use mathlib.Core.Logic.{dite}
 use mathlib.Core.Option.{some, some-injective, some-ne-none}
 use native.Mathlib.Decide.{ℕ_discrete}
 use lib.ListN.{get_elem?}
-use Rattle.tick_model.specs.declared.plan.Node.{Node}
-use Rattle.tick_model.specs.Evaluation.{is_source, source_number}
+use Rattle.tick_model.{specs.declared.plan.Node.Node, specs.Evaluation.{is_source, source_number}}
 use Rattle.update_graph.specs.Tags.{no_node}
 
 pub range_more : (n : ℕ) → range_with_len 0 (n + 1) ≡ range_with_len 0 n ++ n ∷ []

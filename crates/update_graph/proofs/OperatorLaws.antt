@@ -2,21 +2,9 @@
 use Rattle.std.proofs.Common.{◌≡◌, ap, sym, ◌∙◌, ℕ, ◌<◌, map, length, false}
 use Rattle.std.specs.Prelude.{slice_index}
 use Rattle.table_operator.specs.Made.{HasKeys}
-use Rattle.operators.specs.Operating.{CanBeMade}
-use Rattle.operators.specs.Planned.{input_widths}
-use Rattle.operators.proofs.Each.{empty_result}
-use Rattle.operators.proofs.Planning.{empty_inputs, empty_node, planned_node}
-use Rattle.operators.proofs.Roomy.{roomy_node}
-use Rattle.tick_laws.specs.Bounded.{IsNodeTable}
-use Rattle.tick_laws.specs.Operated.{EachInput}
-use Rattle.tick_laws.proofs.ReachedTables.{lesser_inputs}
-use Rattle.tick_model.specs.declared.feed.Run.{Run}
-use Rattle.tick_model.specs.declared.table.PlainTable.{PlainTable}
-use Rattle.tick_model.specs.Evaluation.{is_source}
-use Rattle.tick_model.specs.Operators.{inputs_of, result}
-use Rattle.tick_model.specs.LawfulRuns.{IsLawfulRun}
-use Rattle.tick_model.specs.Plans.{columns_at, key_bounds}
-use Rattle.tick_model.specs.States.{empty_at}
+use Rattle.operators.{specs.Operating.CanBeMade, specs.Planned.input_widths, proofs.Each.empty_result, proofs.Planning.{empty_inputs, empty_node, planned_node}, proofs.Roomy.roomy_node}
+use Rattle.tick_laws.{specs.Bounded.IsNodeTable, specs.Operated.EachInput, proofs.ReachedTables.lesser_inputs}
+use Rattle.tick_model.{specs.declared.feed.Run.Run, specs.declared.table.PlainTable.PlainTable, specs.Evaluation.is_source, specs.Operators.{inputs_of, result}, specs.LawfulRuns.IsLawfulRun, specs.Plans.{columns_at, key_bounds}, specs.States.empty_at}
 use Rattle.tick_table.specs.Ticking.{no_rows}
 use Rattle.update_graph.specs.Tags.{no_node, node_at, op_at}
 

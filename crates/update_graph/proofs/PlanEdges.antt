@@ -1,26 +1,13 @@
 -- The edges of a lawful plan.
 use Rattle.std.proofs.Common.{◌≡◌, ◌≢◌, refl, ap, ap₂, sym, ◌∙◌, subst, ℕ, zero, suc, ◌+◌, ◌*◌, ◌^◌, ◌<◌, ◌≤◌, ◌==◌, ◌&&◌, arith, Bool, true, false, true≢false, cond, List, [], ◌∷◌, ◌++◌, append-nil, append_assoc, length, length-append, take, get_or, eq-eqb, ne_eqb}
-use Rattle.std.specs.Prelude.{nat_le}
-use Rattle.std.specs.List.{AllByRecursion, list_all}
-use Rattle.std.proofs.lemmas.Bool.{and_parts, eqb-true, leb-true, not-true, not-false}
-use Rattle.std.proofs.lemmas.List.{length-take-le, take_more}
+use Rattle.std.{specs.Prelude.nat_le, specs.List.{AllByRecursion, list_all}, proofs.lemmas.Bool.{and_parts, eqb-true, leb-true, not-true, not-false}, proofs.lemmas.List.{length-take-le, take_more}}
 use mathlib.Core.Option.{some, some-injective, some-ne-none}
 use lib.ListN.{get_elem?}
-use Rattle.graph_words.specs.declared.graph.Edge.{Edge}
-use Rattle.graph_words.specs.Marks.{inputs, when}
-use Rattle.graph_words.proofs.Marks.{some_input}
+use Rattle.graph_words.{specs.declared.graph.Edge.Edge, specs.Marks.{inputs, when}, proofs.Marks.some_input}
 use Rattle.key_lists.proofs.Every.{every_weaker, every-append}
 use Rattle.tick_laws.proofs.LawfulPlans.{lawful_plan}
-use Rattle.tick_model.specs.declared.feed.Run.{Run}
-use Rattle.tick_model.specs.declared.plan.ColumnSpec.{ColumnSpec}
-use Rattle.tick_model.specs.declared.plan.Node.{Node}
-use Rattle.tick_model.specs.Operators.{inputs_of, is_source_op}
-use Rattle.tick_model.specs.LawfulRuns.{IsLawfulRun}
-use Rattle.tick_model.proofs.Results.{HasInputs, has_inputs, source_inputs as op_source_inputs}
-use Rattle.tick_model.specs.Plans.{columns_at}
-use Rattle.update_graph.specs.Edges.{edges_from, edges_of, froms_to, input_edges}
-use Rattle.update_graph.specs.Tags.{is_operator, no_node, node_at, op_at}
-use Rattle.update_graph.proofs.PlanLimits.{few_nodes}
+use Rattle.tick_model.{specs.declared.feed.Run.Run, specs.declared.plan.ColumnSpec.ColumnSpec, specs.declared.plan.Node.Node, specs.Operators.{inputs_of, is_source_op}, specs.LawfulRuns.IsLawfulRun, proofs.Results.{HasInputs, has_inputs, source_inputs as op_source_inputs}, specs.Plans.columns_at}
+use Rattle.update_graph.{specs.Edges.{edges_from, edges_of, froms_to, input_edges}, specs.Tags.{is_operator, no_node, node_at, op_at}, proofs.PlanLimits.few_nodes}
 
 -- a node with input edges has one
 abbrev pub IsInto : ℕ → List Edge → Type 0

@@ -1,15 +1,8 @@
 -- How much a lawful plan has.
 use Rattle.std.proofs.Common.{◌≡◌, ℕ, zero, suc, ◌+◌, ◌<◌, ◌≤◌, arith, true, List, [], ◌∷◌, length, get_or}
-use Rattle.std.specs.Prelude.{nat_le}
-use Rattle.std.specs.List.{AllByRecursion, enumerate_from, list_all}
-use Rattle.std.proofs.lemmas.Bool.{and_parts, leb-true}
+use Rattle.std.{specs.Prelude.nat_le, specs.List.{AllByRecursion, enumerate_from, list_all}, proofs.lemmas.Bool.{and_parts, leb-true}}
 use Rattle.key_lists.proofs.Every.{every-filter}
-use Rattle.tick_model.specs.declared.feed.Run.{Run}
-use Rattle.tick_model.specs.declared.plan.Node.{Node}
-use Rattle.tick_model.specs.declared.table.PlainTable.{PlainTable}
-use Rattle.tick_model.specs.Evaluation.{is_source}
-use Rattle.tick_model.specs.LawfulRuns.{AreOpenings, IsLawfulRun, sources_of}
-use Rattle.tick_model.specs.Plans.{node_lawful}
+use Rattle.tick_model.{specs.declared.feed.Run.Run, specs.declared.plan.Node.Node, specs.declared.table.PlainTable.PlainTable, specs.Evaluation.is_source, specs.LawfulRuns.{AreOpenings, IsLawfulRun, sources_of}, specs.Plans.node_lawful}
 use Rattle.update_graph.specs.Tags.{no_node, node_at}
 
 -- a node has from 1 to 32 columns

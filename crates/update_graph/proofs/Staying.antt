@@ -1,31 +1,11 @@
 -- A node none of whose inputs changes in a step.
 use Rattle.std.proofs.Common.{◌≡◌, ap, sym, ◌∙◌, ℕ, ◌<◌, true, false, List, [], map, length, None}
-use Rattle.std.specs.Prelude.{flat_map}
-use Rattle.std.specs.List.{AllByRecursion}
+use Rattle.std.{specs.Prelude.flat_map, specs.List.AllByRecursion}
 use Rattle.key_lists.proofs.Every.{every_both, every_weaker, map_same}
-use Rattle.tick_model.specs.declared.feed.Run.{Run}
-use Rattle.tick_model.specs.declared.plan.Op.{Op}
-use Rattle.tick_model.specs.declared.table.PlainTable.{PlainTable}
-use Rattle.tick_model.specs.Changes.{Change, change_of, is_empty, told_keys}
-use Rattle.tick_model.specs.Evaluation.{is_source, table_at}
-use Rattle.tick_model.specs.Operators.{fault_of, inputs_of}
-use Rattle.tick_model.specs.Sources.{unchanged}
-use Rattle.tick_model.specs.States.{state, tick}
-use Rattle.tick_model.specs.Tables.{IsTable, cells_at}
-use Rattle.tick_model.specs.Updates.{Tick, Update}
-use Rattle.tick_laws.specs.Operated.{operated}
-use Rattle.tick_laws.specs.Reached.{IsTickFrom, table_before}
-use Rattle.tick_laws.specs.Replaced.{no_update}
-use Rattle.tick_laws.proofs.WholeUpdates.{between-unchanged}
-use Rattle.tick_table.specs.Exact.{IsExact, tick_of, ticking}
-use Rattle.tick_table.specs.Ticking.{Ticking}
-use Rattle.update_graph.specs.Entered.{IsEntered}
-use Rattle.update_graph.specs.Stands.{Stays, is_defined}
-use Rattle.update_graph.specs.Tags.{node_at, op_at}
-use Rattle.update_graph.proofs.EnteredTicks.{entered_inputs}
-use Rattle.tick_laws.proofs.EvalNodes.{fault_same}
-use Rattle.tick_laws.proofs.StillTicks.{IsStill, operator_stays, still_by_empty}
-use Rattle.update_graph.proofs.StepInputs.{has, operated_own, own_tick}
+use Rattle.tick_model.{specs.declared.feed.Run.Run, specs.declared.plan.Op.Op, specs.declared.table.PlainTable.PlainTable, specs.Changes.{Change, change_of, is_empty, told_keys}, specs.Evaluation.{is_source, table_at}, specs.Operators.{fault_of, inputs_of}, specs.Sources.unchanged, specs.States.{state, tick}, specs.Tables.{IsTable, cells_at}, specs.Updates.{Tick, Update}}
+use Rattle.tick_laws.{specs.Operated.operated, specs.Reached.{IsTickFrom, table_before}, specs.Replaced.no_update, proofs.WholeUpdates.between-unchanged, proofs.EvalNodes.fault_same, proofs.StillTicks.{IsStill, operator_stays, still_by_empty}}
+use Rattle.tick_table.{specs.Exact.{IsExact, tick_of, ticking}, specs.Ticking.Ticking}
+use Rattle.update_graph.{specs.Entered.IsEntered, specs.Stands.{Stays, is_defined}, specs.Tags.{node_at, op_at}, proofs.EnteredTicks.entered_inputs, proofs.StepInputs.{has, operated_own, own_tick}}
 
 pub no_change : (table : PlainTable) → let none : Change = record { update = no_update; cells = [] } in none ≡ change_of (unchanged table)
 no_change table = sym (ap (λ (update : Update). let change : Change = record { update = update; cells = flat_map (λ key. cells_at key table.rows) (told_keys update) } in change) (between-unchanged table))

@@ -1,37 +1,13 @@
 -- What the inputs of a node hand to it at a step that a run enters, and what its operator makes of them.
 use Rattle.std.proofs.Common.{◌≡◌, refl, ap, ap₂, sym, ◌∙◌, subst, ℕ, ◌+◌, ◌*◌, ◌<◌, ◌≤◌, arith, Bool, true, false, List, [], ◌∷◌, map, length, Option, Some, None, Vec, Global}
-use Rattle.std.specs.Prelude.{slice_index, sum, IfOk, Ok, Result, option_map}
-use Rattle.std.specs.List.{AllByRecursion, list_all}
-use Rattle.std.specs.declared.sync.Arc.{Arc}
-use Rattle.std.proofs.lemmas.Bool.{not-true}
-use Rattle.std.proofs.lemmas.List.Folds.{list_all-map}
+use Rattle.std.{specs.Prelude.{slice_index, sum, IfOk, Ok, Result, option_map}, specs.List.{AllByRecursion, list_all}, specs.declared.sync.Arc.Arc, proofs.lemmas.Bool.not-true, proofs.lemmas.List.Folds.list_all-map}
 use Rattle.key_lists.proofs.Every.{every-map, every_unmapped, every_weaker, map_map, map_same, pass_all}
-use Rattle.table_operator.specs.Inputs.{counted_in, news, olds, tables}
-use Rattle.table_operator.specs.Made.{HasKeys}
-use Rattle.operators.specs.Inputs.{AreTables, AreTicks}
-use Rattle.operators.specs.Planned.{input_widths}
-use Rattle.tick_model.specs.declared.feed.Run.{Run}
-use Rattle.tick_model.specs.declared.plan.Op.{Op}
-use Rattle.tick_model.specs.declared.table.NodeFault.{NodeFault}
-use Rattle.tick_model.specs.declared.table.PlainTable.{PlainTable}
-use Rattle.tick_model.specs.Changes.{Change, change_of}
-use Rattle.tick_model.specs.Evaluation.{Outcome, Fault, NoInput, applied, has_table, is_source, or_fault, outcome_at, table_at}
-use Rattle.tick_model.specs.Operators.{fault_of, inputs_of, result, result_width}
-use Rattle.tick_model.specs.Plans.{columns_at, key_bounds}
-use Rattle.tick_model.specs.States.{state, tick}
-use Rattle.tick_model.specs.Updates.{Tick}
-use Rattle.tick_laws.specs.Bounded.{IsNodeTable}
-use Rattle.tick_laws.specs.Operated.{operated}
-use Rattle.tick_laws.specs.Reached.{IsTickFrom, table_before}
-use Rattle.tick_laws.proofs.ReachedTables.{bounded_at}
-use Rattle.tick_table.specs.Exact.{IsExact, counted, tick_of}
-use Rattle.tick_table.specs.Ticking.{Ticking}
-use Rattle.tick_table.proofs.ExactAgain.{exact_again, tick_again}
-use Rattle.update_graph.specs.Entered.{IsEntered}
-use Rattle.update_graph.specs.Stands.{AreHanded, is_defined, most_reads, most_tried, room_for, shown}
-use Rattle.update_graph.specs.Tags.{Tag, is_operator, node_at, op_at, tag}
-use Rattle.update_graph.proofs.EnteredTicks.{entered_inputs, entered_tick, lesser, made, operated_is, operator_outcome_at}
-use Rattle.update_graph.proofs.OperatorLaws.{have_keys}
+use Rattle.table_operator.{specs.Inputs.{counted_in, news, olds, tables}, specs.Made.HasKeys}
+use Rattle.operators.{specs.Inputs.{AreTables, AreTicks}, specs.Planned.input_widths}
+use Rattle.tick_model.{specs.declared.feed.Run.Run, specs.declared.plan.Op.Op, specs.declared.table.NodeFault.NodeFault, specs.declared.table.PlainTable.PlainTable, specs.Changes.{Change, change_of}, specs.Evaluation.{Outcome, Fault, NoInput, applied, has_table, is_source, or_fault, outcome_at, table_at}, specs.Operators.{fault_of, inputs_of, result, result_width}, specs.Plans.{columns_at, key_bounds}, specs.States.{state, tick}, specs.Updates.Tick}
+use Rattle.tick_laws.{specs.Bounded.IsNodeTable, specs.Operated.operated, specs.Reached.{IsTickFrom, table_before}, proofs.ReachedTables.bounded_at}
+use Rattle.tick_table.{specs.Exact.{IsExact, counted, tick_of}, specs.Ticking.Ticking, proofs.ExactAgain.{exact_again, tick_again}}
+use Rattle.update_graph.{specs.Entered.IsEntered, specs.Stands.{AreHanded, is_defined, most_reads, most_tried, room_for, shown}, specs.Tags.{Tag, is_operator, node_at, op_at, tag}, proofs.EnteredTicks.{entered_inputs, entered_tick, lesser, made, operated_is, operator_outcome_at}, proofs.OperatorLaws.have_keys}
 
 -- what an operator makes, by cases
 abbrev made_of : Bool → Option NodeFault → PlainTable → Outcome

@@ -1,48 +1,14 @@
 -- A step's nodes, one more at a time.
 use Rattle.std.proofs.Common.{◌≡◌, refl, ap, ap₂, sym, ◌∙◌, subst, ℕ, suc, ◌+◌, ◌<◌, ◌≤◌, ◌==◌, arith, inl, inr, Bool, true, false, cond, not, List, [], ◌∷◌, ◌++◌, map, drop, length, get_or, Option, Some, None}
-use Rattle.std.specs.Arc.{arc_value}
-use Rattle.std.specs.Prelude.{count_by, filter, option_map}
-use Rattle.std.specs.List.{range_with_len}
-use Rattle.std.specs.declared.alloc.Global.{Global}
-use Rattle.std.specs.declared.sync.Arc.{Arc}
-use Rattle.std.proofs.Math.Seq.{drop-cons}
-use Rattle.std.proofs.lemmas.Bool.{cases_lt}
-use Rattle.std.proofs.lemmas.List.{drop_all, get_or-map, get_or_past, length-map, map_push}
-use Rattle.std.proofs.lemmas.List.FromFn.{get_or-map-range_with_len, length-map-range_with_len, map-range_with_len_more}
+use Rattle.std.{specs.Arc.arc_value, specs.Prelude.{count_by, filter, option_map}, specs.List.range_with_len, specs.declared.alloc.Global.Global, specs.declared.sync.Arc.Arc, proofs.Math.Seq.drop-cons, proofs.lemmas.Bool.cases_lt, proofs.lemmas.List.{drop_all, get_or-map, get_or_past, length-map, map_push}, proofs.lemmas.List.FromFn.{get_or-map-range_with_len, length-map-range_with_len, map-range_with_len_more, get_or-range_with_len, length-range_with_len}, proofs.lemmas.List.Kept.AllPairs-filter}
 use Rattle.table_operator.specs.Inputs.{tables}
-use Rattle.tick_laws.specs.Bounded.{AreSourceTables}
-use Rattle.tick_laws.specs.Reached.{IsReached}
-use Rattle.tick_laws.proofs.EvalNodes.{length_outcomes}
-use Rattle.tick_laws.proofs.LawfulSources.{sources_bounded}
-use Rattle.tick_laws.proofs.Paired.{source_there}
-use Rattle.tick_model.specs.declared.feed.Run.{Run}
-use Rattle.tick_model.specs.declared.plan.Node.{Node}
-use Rattle.tick_model.specs.declared.table.NodeFault.{NodeFault}
-use Rattle.tick_model.specs.declared.table.PlainTable.{PlainTable}
-use Rattle.tick_model.specs.Evaluation.{Outcome, Table, Fault, NoInput, is_source, outcome_at, source_number}
-use Rattle.tick_model.specs.LawfulRuns.{IsLawfulRun, sources_of}
-use Rattle.tick_model.specs.Sources.{new_table, no_tick, source_ticks, sources}
-use Rattle.tick_model.specs.Spoiled.{ByNode, Cause, node_fault}
-use Rattle.tick_model.specs.States.{state}
-use Rattle.tick_table.specs.Exact.{ticking}
-use Rattle.tick_table.specs.Ticking.{Ticking}
+use Rattle.tick_laws.{specs.Bounded.AreSourceTables, specs.Reached.IsReached, proofs.EvalNodes.length_outcomes, proofs.LawfulSources.sources_bounded, proofs.Paired.source_there}
+use Rattle.tick_model.{specs.declared.feed.Run.Run, specs.declared.plan.Node.Node, specs.declared.table.NodeFault.NodeFault, specs.declared.table.PlainTable.PlainTable, specs.Evaluation.{Outcome, Table, Fault, NoInput, is_source, outcome_at, source_number}, specs.LawfulRuns.{IsLawfulRun, sources_of}, specs.Sources.{new_table, no_tick, source_ticks, sources}, specs.Spoiled.{ByNode, Cause, node_fault}, specs.States.state}
+use Rattle.tick_table.{specs.Exact.ticking, specs.Ticking.Ticking}
 use mathlib.Core.Option.{some, some-injective}
 use lib.ListN.{get_elem?}
-use Rattle.std.proofs.lemmas.List.FromFn.{get_or-range_with_len, length-range_with_len}
-use Rattle.std.proofs.lemmas.List.Kept.{AllPairs-filter}
-use Rattle.graph_words.specs.declared.graph.Edge.{Edge}
-use Rattle.graph_words.specs.Seats.{HasEachOnce}
-use Rattle.graph_words.proofs.Marks.{below_of}
-use Rattle.update_graph.specs.Edges.{edges_of}
-use Rattle.update_graph.specs.Entered.{IsEntered}
-use Rattle.update_graph.specs.Faults.{fault_in}
-use Rattle.update_graph.specs.Graphs.{RanInOrder, RanOnce, reads_at, sources_shown}
-use Rattle.update_graph.specs.Stands.{HasStepped, is_defined, shown}
-use Rattle.update_graph.specs.Tags.{Kept, Tag, all_reads, is_operator, named, no_node, node_at, operators, tag, tags}
-use Rattle.update_graph.proofs.ClaimedWorks.{count_works}
-use Rattle.update_graph.proofs.EnteredTicks.{source_table_at, tick_of_source}
-use Rattle.update_graph.proofs.PlanEdges.{edge_ends, item_there}
-use Rattle.update_graph.proofs.Numbering.{count_filter, count_none, count_only}
+use Rattle.graph_words.{specs.declared.graph.Edge.Edge, specs.Seats.HasEachOnce, proofs.Marks.below_of}
+use Rattle.update_graph.{specs.Edges.edges_of, specs.Entered.IsEntered, specs.Faults.fault_in, specs.Graphs.{RanInOrder, RanOnce, reads_at, sources_shown}, specs.Stands.{HasStepped, is_defined, shown}, specs.Tags.{Kept, Tag, all_reads, is_operator, named, no_node, node_at, operators, tag, tags}, proofs.ClaimedWorks.count_works, proofs.EnteredTicks.{source_table_at, tick_of_source}, proofs.PlanEdges.{edge_ends, item_there}, proofs.Numbering.{count_filter, count_none, count_only}}
 
 -- one more tag
 pub tags_more : (run : Run) (step n : ℕ) (before after : List Tag) (next : Tag) → after ≡ before ++ next ∷ [] → before ≡ tags run step n → next ≡ tag run step n → after ≡ tags run step (n + 1)

@@ -4,8 +4,7 @@ use Rattle.std.proofs.lemmas.List.{drop_all}
 use mathlib.Core.Option.{some, some-injective}
 use lib.ListN.{get_elem?}
 use Rattle.graph_words.specs.declared.graph.Edge.{Edge}
-use Rattle.update_graph.specs.Edges.{numbers_of}
-use Rattle.update_graph.proofs.PlanEdges.{item_there}
+use Rattle.update_graph.{specs.Edges.numbers_of, proofs.PlanEdges.item_there}
 
 abbrev pub no_edge : Edge
 no_edge = record { from = 0; to = 0; port = 0 }

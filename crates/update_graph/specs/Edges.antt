@@ -6,12 +6,9 @@
 --     goes_to node edge, comes_from node edge      whether the edge goes to the node, or from it
 --     numbers_of test number edges      the numbers of the edges that pass a test, the first of which has this number
 --     AreNumbers test edges lists      the list of each node has the numbers of the edges that pass its test
-use Rattle.std.specs.Prelude.{◌≡◌, ℕ, ◌+◌, ◌==◌, Bool, List, [], ◌∷◌, ◌++◌, if◌then◌else◌, map, slice_index_or}
-use Rattle.std.specs.Global.{Vec}
+use Rattle.std.{specs.Prelude.{◌≡◌, ℕ, ◌+◌, ◌==◌, Bool, List, [], ◌∷◌, ◌++◌, if◌then◌else◌, map, slice_index_or}, specs.Global.Vec}
 use Rattle.graph_words.specs.declared.graph.Edge.{Edge}
-use Rattle.tick_model.specs.declared.plan.Node.{Node}
-use Rattle.tick_model.specs.declared.plan.Plan.{Plan}
-use Rattle.tick_model.specs.Operators.{inputs_of}
+use Rattle.tick_model.{specs.declared.plan.Node.Node, specs.declared.plan.Plan.Plan, specs.Operators.inputs_of}
 
 abbrev pub input_edges : ℕ → ℕ → List ℕ → List Edge
 input_edges node port [] = []

@@ -2,10 +2,7 @@
 --     IsEntered run step      the run is lawful, no batch up to the step breaks a rule, and no node spoils a step before it
 use Rattle.std.specs.Prelude.{◌≡◌, ℕ, ◌<◌, ◌≤◌, None, length}
 use Rattle.tick_laws.specs.Reached.{KeepsRules}
-use Rattle.tick_model.specs.declared.feed.Run.{Run}
-use Rattle.tick_model.specs.LawfulRuns.{IsLawfulRun}
-use Rattle.tick_model.specs.Spoiled.{node_fault}
-use Rattle.tick_model.specs.States.{state}
+use Rattle.tick_model.{specs.declared.feed.Run.Run, specs.LawfulRuns.IsLawfulRun, specs.Spoiled.node_fault, specs.States.state}
 
 pub record IsEntered (run : Run) (step : ℕ) : Type 0 where
   pub lawful : IsLawfulRun run

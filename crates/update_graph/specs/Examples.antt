@@ -3,20 +3,7 @@
 --     beside      a source, and its rows above 0, those above 1 and those above 2
 --     joins      two sources, and two joins of the first with the second, each of which finds two rows where one is wanted
 use Rattle.std.specs.Prelude.{ℕ, List, [], ◌∷◌, pos}
-use Rattle.tick_model.specs.declared.feed.Block.{Block}
-use Rattle.tick_model.specs.declared.feed.Run.{Run}
-use Rattle.tick_model.specs.declared.plan.Choice.TheVariants.{Error}
-use Rattle.tick_model.specs.declared.plan.ColumnSpec.{ColumnSpec}
-use Rattle.tick_model.specs.declared.plan.Comparison.TheVariants.{Gt}
-use Rattle.tick_model.specs.declared.plan.Expr.{Cell, Number}
-use Rattle.tick_model.specs.declared.plan.Kind.TheVariants.{Long}
-use Rattle.tick_model.specs.declared.plan.Node.{Node}
-use Rattle.tick_model.specs.declared.plan.Op.{Op}
-use Rattle.tick_model.specs.declared.plan.Op.TheVariants.{Source, Keep, Join}
-use Rattle.tick_model.specs.declared.plan.Plan.{Plan}
-use Rattle.tick_model.specs.declared.plan.Pred.{Compare}
-use Rattle.tick_model.specs.declared.table.PlainRow.{PlainRow}
-use Rattle.tick_model.specs.declared.table.PlainTable.{PlainTable}
+use Rattle.tick_model.{specs.declared.feed.Block.Block, specs.declared.feed.Run.Run, specs.declared.plan.Choice.TheVariants.Error, specs.declared.plan.ColumnSpec.ColumnSpec, specs.declared.plan.Comparison.TheVariants.Gt, specs.declared.plan.Expr.{Cell, Number}, specs.declared.plan.Kind.TheVariants.Long, specs.declared.plan.Node.Node, specs.declared.plan.Op.Op, specs.declared.plan.Op.TheVariants.{Source, Keep, Join}, specs.declared.plan.Plan.Plan, specs.declared.plan.Pred.Compare, specs.declared.table.PlainRow.PlainRow, specs.declared.table.PlainTable.PlainTable}
 
 -- a column of numbers, named by a byte
 abbrev pub number_column : ℕ → ColumnSpec

@@ -12,30 +12,15 @@
 --     AreSources run step tables      these are the tables of the sources, in order of the nodes
 --     IsBase run step base      what a graph keeps beside its nodes is of this step
 --     IsGraph run step base works      all that it keeps is
-use Rattle.std.specs.Prelude.{◌≡◌, ℕ, ◌+◌, ◌==◌, ◌<◌, ◌≤◌, AllPairs, List, [], None, count_by, length, map, if◌then◌else◌, slice_index, slice_index_or, true}
+use Rattle.std.{specs.Prelude.{◌≡◌, ℕ, ◌+◌, ◌==◌, ◌<◌, ◌≤◌, AllPairs, List, [], None, count_by, length, map, if◌then◌else◌, slice_index, slice_index_or, true}, specs.List.sum_by, specs.declared.alloc.Global.Global, specs.declared.sync.Arc.Arc}
 use mathlib.Core.Option.{some}
 use lib.ListN.{get_elem?}
-use Rattle.std.specs.List.{sum_by}
-use Rattle.std.specs.declared.alloc.Global.{Global}
-use Rattle.std.specs.declared.sync.Arc.{Arc}
 use Rattle.graph_words.specs.declared.graph.Edge.{Edge}
 use Rattle.table_operator.specs.Inputs.{tables}
 use Rattle.tick_laws.specs.Reached.{IsReached}
-use Rattle.tick_model.specs.declared.feed.Run.{Run}
-use Rattle.tick_model.specs.declared.plan.Node.{Node}
-use Rattle.tick_model.specs.declared.plan.Plan.{Plan}
-use Rattle.tick_model.specs.Evaluation.{is_source}
-use Rattle.tick_model.specs.LawfulRuns.{IsLawfulRun}
-use Rattle.tick_model.specs.Sources.{batch_fault, source_ticks, sources as sources_at}
-use Rattle.tick_model.specs.Spoiled.{node_fault}
-use Rattle.tick_model.specs.States.{state}
-use Rattle.tick_model.specs.Tables.{keys as keys_of}
-use Rattle.tick_table.specs.Exact.{ticking}
-use Rattle.tick_table.specs.Ticking.{Ticking}
-use Rattle.update_graph.specs.declared.graph.Base.{Base}
-use Rattle.update_graph.specs.Edges.{edges_of}
-use Rattle.update_graph.specs.Stands.{HasReadOnce, HasStepped, most_reads}
-use Rattle.update_graph.specs.Tags.{Kept, all_reads, is_operator, named, no_node, operators, tags}
+use Rattle.tick_model.{specs.declared.feed.Run.Run, specs.declared.plan.Node.Node, specs.declared.plan.Plan.Plan, specs.Evaluation.is_source, specs.LawfulRuns.IsLawfulRun, specs.Sources.{batch_fault, source_ticks, sources as sources_at}, specs.Spoiled.node_fault, specs.States.state, specs.Tables.keys as keys_of}
+use Rattle.tick_table.{specs.Exact.ticking, specs.Ticking.Ticking}
+use Rattle.update_graph.{specs.declared.graph.Base.Base, specs.Edges.edges_of, specs.Stands.{HasReadOnce, HasStepped, most_reads}, specs.Tags.{Kept, all_reads, is_operator, named, no_node, operators, tags}}
 
 pub record GraphView : Type 0 where
   pub run : Run

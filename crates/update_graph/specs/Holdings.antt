@@ -3,15 +3,10 @@
 --     IsClaimed run plan      and they have all its nodes
 --     IsOpened run plan view count xs      of the first so many nodes the sources are settled; the seat has all sources and the nodes on the list, which are ready, and nothing else
 use Rattle.std.specs.Prelude.{◌≡◌, ◌⊎◌, ℕ, ◌+◌, ◌<◌, ◌≤◌, List, false, length}
-use Rattle.graph_words.specs.declared.graph.Plan.{Plan}
-use Rattle.graph_words.specs.declared.table.View.{View}
-use Rattle.graph_words.specs.Seats.{Has}
-use Rattle.steal_workers.specs.Holdings.{IsNew, IsReady, IsSettled}
-use Rattle.steal_workers.specs.Lists.{IsListed}
+use Rattle.graph_words.{specs.declared.graph.Plan.Plan, specs.declared.table.View.View, specs.Seats.Has}
+use Rattle.steal_workers.{specs.Holdings.{IsNew, IsReady, IsSettled}, specs.Lists.IsListed}
 use Rattle.tick_model.specs.declared.feed.Run.{Run}
-use Rattle.update_graph.specs.Edges.{edges_of}
-use Rattle.update_graph.specs.Entered.{IsEntered}
-use Rattle.update_graph.specs.Tags.{Kept, is_operator, named, tag}
+use Rattle.update_graph.{specs.Edges.edges_of, specs.Entered.IsEntered, specs.Tags.{Kept, is_operator, named, tag}}
 
 pub record IsForStep (run : Run) (plan : Plan Kept) : Type 0 where
   pub entered : IsEntered run (plan.first.value.step + 1)

@@ -15,29 +15,15 @@
 --     IsReady run tables steps node operator table      the operator is the node's, has taken so many steps, and stands for its inputs' tables; the table is the node's own
 --     reads_of state      what the operator of a node has read in each of its steps, and nothing where it has no table
 --     IsKept run step node state      what is kept of the node is of this step
-use Rattle.std.specs.Prelude.{◌≡◌, ℕ, ◌+◌, ◌*◌, ◌<◌, ◌≤◌, Bool, true, false, List, [], ◌∷◌, ◌++◌, length, map, slice_index, sum, Option, Some, None}
-use Rattle.std.specs.Arc.{arc_value}
-use Rattle.std.specs.List.{AllByRecursion, list_all}
-use Rattle.std.specs.declared.alloc.Global.{Global}
-use Rattle.std.specs.declared.sync.Arc.{Arc}
+use Rattle.std.{specs.Prelude.{◌≡◌, ℕ, ◌+◌, ◌*◌, ◌<◌, ◌≤◌, Bool, true, false, List, [], ◌∷◌, ◌++◌, length, map, slice_index, sum, Option, Some, None}, specs.Arc.arc_value, specs.List.{AllByRecursion, list_all}, specs.declared.alloc.Global.Global, specs.declared.sync.Arc.Arc}
 use mathlib.Core.Option.{some}
 use lib.ListN.{get_elem?}
 use Rattle.table_operator.specs.Inputs.{counted_in, tables}
-use Rattle.operators.specs.Operating.{Operating, StandsFor}
-use Rattle.operators.specs.Planned.{input_widths}
+use Rattle.operators.{specs.Operating.{Operating, StandsFor}, specs.Planned.input_widths}
 use Rattle.tick_laws.specs.Operated.{operated}
-use Rattle.tick_model.specs.declared.feed.Run.{Run}
-use Rattle.tick_model.specs.declared.table.PlainTable.{PlainTable}
-use Rattle.tick_model.specs.Changes.{change_of, is_empty}
-use Rattle.tick_model.specs.Evaluation.{Fault, NoInput, has_table, outcome_at, source_number, table_at}
-use Rattle.tick_model.specs.Operators.{inputs_of, result_width}
-use Rattle.tick_model.specs.States.{state, tick}
-use Rattle.tick_model.specs.Updates.{Update}
-use Rattle.tick_table.specs.Exact.{counted, ticking}
-use Rattle.tick_table.specs.Ticking.{Ticking}
-use Rattle.update_graph.specs.declared.work.State.{State}
-use Rattle.update_graph.specs.declared.work.State.TheVariants.{Source, Defined, Failed, Undefined}
-use Rattle.update_graph.specs.Tags.{Kept, Tag, is_operator, op_at}
+use Rattle.tick_model.{specs.declared.feed.Run.Run, specs.declared.table.PlainTable.PlainTable, specs.Changes.{change_of, is_empty}, specs.Evaluation.{Fault, NoInput, has_table, outcome_at, source_number, table_at}, specs.Operators.{inputs_of, result_width}, specs.States.{state, tick}, specs.Updates.Update}
+use Rattle.tick_table.{specs.Exact.{counted, ticking}, specs.Ticking.Ticking}
+use Rattle.update_graph.{specs.declared.work.State.State, specs.declared.work.State.TheVariants.{Source, Defined, Failed, Undefined}, specs.Tags.{Kept, Tag, is_operator, op_at}}
 
 abbrev pub is_defined : Run → ℕ → ℕ → Bool
 is_defined run step node = has_table (outcome_at (state run step) node)

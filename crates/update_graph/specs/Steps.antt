@@ -9,15 +9,8 @@
 use Rattle.std.specs.Prelude.{◌≡◌, ◌≢◌, ◌⊎◌, ℕ, ◌<◌, ◌≤◌, List, ◌++◌, Option, Some, option_to_list}
 use mathlib.Core.Option.{some}
 use lib.ListN.{get_elem?}
-use Rattle.graph_words.specs.declared.graph.Edge.{Edge}
-use Rattle.graph_words.specs.declared.graph.Plan.{Plan}
-use Rattle.graph_words.specs.declared.table.Mark.TheVariants.{Unmarked, Untaken, Taken, PutBack, Delivered}
-use Rattle.graph_words.specs.declared.table.View.{View}
-use Rattle.graph_words.specs.Marks.{at, put}
-use Rattle.graph_words.specs.Seats.{Has}
-use Rattle.graph_words.specs.Views.{IsUntouched}
-use Rattle.steal_workers.specs.Holdings.{IsReady}
-use Rattle.steal_workers.specs.Lists.{IsListed}
+use Rattle.graph_words.{specs.declared.graph.Edge.Edge, specs.declared.graph.Plan.Plan, specs.declared.table.Mark.TheVariants.{Unmarked, Untaken, Taken, PutBack, Delivered}, specs.declared.table.View.View, specs.Marks.{at, put}, specs.Seats.Has, specs.Views.IsUntouched}
+use Rattle.steal_workers.{specs.Holdings.IsReady, specs.Lists.IsListed}
 use Rattle.update_graph.specs.Tags.{Kept}
 
 pub record IsTaking (edges : List Edge) (old new : View Kept) (node count : ℕ) : Type 0 where

@@ -7,13 +7,8 @@
 --     node_at run node, op_at run node      a node of the plan, which is a source past the last one, and its operator
 --     is_operator run node      whether it has an operator
 --     operators run count      those of the first so many nodes that have one
-use Rattle.std.specs.Prelude.{ℕ, Bool, not, List, [], filter, map, slice_index_or}
-use Rattle.std.specs.List.{range_with_len}
-use Rattle.tick_model.specs.declared.feed.Run.{Run}
-use Rattle.tick_model.specs.declared.plan.Node.{Node}
-use Rattle.tick_model.specs.declared.plan.Op.{Op}
-use Rattle.tick_model.specs.declared.plan.Op.TheVariants.{Source}
-use Rattle.tick_model.specs.Evaluation.{is_source}
+use Rattle.std.{specs.Prelude.{ℕ, Bool, not, List, [], filter, map, slice_index_or}, specs.List.range_with_len}
+use Rattle.tick_model.{specs.declared.feed.Run.Run, specs.declared.plan.Node.Node, specs.declared.plan.Op.Op, specs.declared.plan.Op.TheVariants.Source, specs.Evaluation.is_source}
 
 pub record Tag : Type 0 where
   pub run : Run

@@ -1,13 +1,7 @@
 -- The records of a change that adds rows alone.
 use Rattle.std.proofs.Common.{◌≡◌, refl, ap, ◌∙◌, ℕ, ◌<◌, arith, List, [], ◌∷◌, length, drop, map}
-use Rattle.std.specs.Prelude.{ℤ, codes, flat_map}
-use Rattle.std.specs.List.{AllByRecursion}
-use Rattle.std.proofs.lemmas.List.{append-nil, take_at, drop_at}
-use Rattle.tick_model.specs.declared.plan.ColumnSpec.{ColumnSpec}
-use Rattle.tick_model.specs.declared.table.PlainRow.{PlainRow}
-use Rattle.tick_model.specs.Changes.{rows_under}
-use Rattle.tick_model.specs.Tables.{keys}
-use Rattle.tick_model.specs.Texts.{change_records, row_record, step_record}
+use Rattle.std.{specs.Prelude.{ℤ, codes, flat_map}, specs.List.AllByRecursion, proofs.lemmas.List.{append-nil, take_at, drop_at}}
+use Rattle.tick_model.{specs.declared.plan.ColumnSpec.ColumnSpec, specs.declared.table.PlainRow.PlainRow, specs.Changes.rows_under, specs.Tables.keys, specs.Texts.{change_records, row_record, step_record}}
 use Rattle.update_text.specs.Added.{adding_alone}
 
 abbrev all_cells : List PlainRow → List ℤ

@@ -1,14 +1,8 @@
 -- Texts that rise and names that are distinct are apart.
 use Rattle.std.proofs.Common.{◌≡◌, ap, sym, ◌∙◌, true, false, true≢false, not, ℕ, List, [], ◌∷◌}
-use Rattle.std.specs.List.{AllByRecursion}
-use Rattle.std.specs.Ordering.{nat_cmp, is_lt, ordering_reverse}
-use Rattle.std.specs.declared.cmp.Ordering.{Ordering}
-use Rattle.std.specs.declared.cmp.Ordering.TheVariants.{Less, Equal, Greater}
-use Rattle.std.specs.Cmp.Lexicographic.{slice_cmp, nat_list_cmp_total, bytes_decides}
-use Rattle.std.proofs.lemmas.Bool.{or_parts, and_parts, not-true}
+use Rattle.std.{specs.List.AllByRecursion, specs.Ordering.{nat_cmp, is_lt, ordering_reverse}, specs.declared.cmp.Ordering.Ordering, specs.declared.cmp.Ordering.TheVariants.{Less, Equal, Greater}, specs.Cmp.Lexicographic.{slice_cmp, nat_list_cmp_total, bytes_decides}, proofs.lemmas.Bool.{or_parts, and_parts, not-true}}
 use Rattle.key_lists.proofs.Every.{every_weaker}
-use Rattle.tick_model.specs.LawfulRuns.{AreTexts, is_before}
-use Rattle.tick_model.specs.Names.{are_distinct, is_one_of, same_name}
+use Rattle.tick_model.{specs.LawfulRuns.{AreTexts, is_before}, specs.Names.{are_distinct, is_one_of, same_name}}
 use Rattle.update_text.proofs.Backwards.{AreApart}
 
 -- what is its own reverse is not less

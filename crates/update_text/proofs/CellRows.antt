@@ -1,11 +1,7 @@
 -- The cells of a row from a place on.
 use Rattle.std.proofs.Common.{◌≡◌, refl, ap, sym, ◌∙◌, ℕ, ◌+◌, ◌<◌, List, [], ◌∷◌, length, drop, map, get_or, arith, inl, inr}
-use Rattle.std.specs.Int.{w64, cast_signed}
-use Rattle.std.specs.Prelude.{ℤ, min}
-use Rattle.std.proofs.lemmas.Bool.{cases_lt}
-use Rattle.std.proofs.lemmas.List.{drop_more, drop_all, get_or-map, length-map}
-use Rattle.tick_model.specs.declared.plan.ColumnSpec.{ColumnSpec}
-use Rattle.tick_model.specs.Texts.{cell_text, cell_texts}
+use Rattle.std.{specs.Int.{w64, cast_signed}, specs.Prelude.{ℤ, min}, proofs.lemmas.Bool.cases_lt, proofs.lemmas.List.{drop_more, drop_all, get_or-map, length-map}}
+use Rattle.tick_model.{specs.declared.plan.ColumnSpec.ColumnSpec, specs.Texts.{cell_text, cell_texts}}
 
 -- without cells
 none_there : (texts : List (List ℕ)) (columns : List ColumnSpec) → cell_texts texts columns [] ≡ []

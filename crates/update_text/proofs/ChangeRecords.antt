@@ -1,19 +1,9 @@
 -- The records of a change, part by part.
 use Rattle.std.proofs.Common.{◌≡◌, refl, ap, sym, ◌∙◌, Bool, true, false, cond, ◌||◌, ℕ, zero, suc, ◌+◌, ◌-◌, ◌*◌, ◌<◌, ◌≤◌, arith, List, [], ◌∷◌, ◌++◌, length, map, drop, get_or, append_assoc, length-append, eq-eqb, ne_eqb, inl, inr}
-use Rattle.std.specs.Prelude.{ℤ, codes, filter, flat_map, ◌==◌}
-use Rattle.std.specs.List.{AllByRecursion, range_with_len}
-use Rattle.std.proofs.lemmas.Bool.{cases_eq, cond-false}
-use Rattle.std.proofs.lemmas.Grind.{flat_map-append}
-use Rattle.std.proofs.lemmas.List.{get_or-map, length-map}
-use Rattle.key_lists.specs.Keys.{is_among, IsRising, run_with, runs}
-use Rattle.key_lists.proofs.Every.{every_weaker, map_map}
-use Rattle.key_lists.proofs.Rising.{as_filter}
-use Rattle.row_set.specs.declared.ranges.Range.{Range}
-use Rattle.row_set.specs.Ranges.{preceded, ranges_of}
-use Rattle.row_set.proofs.Held.{range_rises}
-use Rattle.tick_model.specs.declared.plan.ColumnSpec.{ColumnSpec}
-use Rattle.tick_model.specs.Changes.{Change, is_empty, is_none, rows_under}
-use Rattle.tick_model.specs.Texts.{change_records, column_name, columns_record, comma_before, records_text, removed_record, row_record, shift_record, step_record}
+use Rattle.std.{specs.Prelude.{ℤ, codes, filter, flat_map, ◌==◌}, specs.List.{AllByRecursion, range_with_len}, proofs.lemmas.Bool.{cases_eq, cond-false}, proofs.lemmas.Grind.flat_map-append, proofs.lemmas.List.{get_or-map, length-map}}
+use Rattle.key_lists.{specs.Keys.{is_among, IsRising, run_with, runs}, proofs.Every.{every_weaker, map_map}, proofs.Rising.as_filter}
+use Rattle.row_set.{specs.declared.ranges.Range.Range, specs.Ranges.{preceded, ranges_of}, proofs.Held.range_rises}
+use Rattle.tick_model.{specs.declared.plan.ColumnSpec.ColumnSpec, specs.Changes.{Change, is_empty, is_none, rows_under}, specs.Texts.{change_records, column_name, columns_record, comma_before, records_text, removed_record, row_record, shift_record, step_record}}
 use Rattle.update_text.specs.Told.{parts_shown, range_record, records_of}
 
 abbrev Record : Type 0

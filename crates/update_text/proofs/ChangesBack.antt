@@ -1,35 +1,10 @@
 -- A text of a change is of one change.
 use Rattle.std.proofs.Common.{◌≡◌, refl, ap, sym, ◌∙◌, subst, Bool, false, cond, ℕ, ◌-◌, ◌*◌, ◌^◌, ◌<◌, arith, List, [], ◌∷◌, ◌++◌, length, map, drop}
-use Rattle.std.specs.Prelude.{ℤ, pos, negsuc, ◌<ℤ◌, codes, filter, flat_map}
-use Rattle.std.specs.Int.Signed.{mag}
-use Rattle.std.specs.List.{AllByRecursion}
-use Rattle.std.specs.Fmt.{decimal, signed_decimal}
-use Rattle.std.proofs.lemmas.Bool.{cond-false}
-use Rattle.std.proofs.lemmas.Fmt.{decimal_injective, signed_decimal_injective}
-use Rattle.std.proofs.lemmas.Int.{ints}
-use Rattle.std.proofs.lemmas.List.{append-nil, length-map}
-use Rattle.std.proofs.lemmas.List.Elements.{filter-append}
+use Rattle.std.{specs.Prelude.{ℤ, pos, negsuc, ◌<ℤ◌, codes, filter, flat_map}, specs.Int.Signed.mag, specs.List.AllByRecursion, specs.Fmt.{decimal, signed_decimal}, proofs.lemmas.Bool.cond-false, proofs.lemmas.Fmt.{decimal_injective, signed_decimal_injective}, proofs.lemmas.Int.ints, proofs.lemmas.List.{append-nil, length-map}, proofs.lemmas.List.Elements.filter-append}
 use Rattle.tick_table.proofs.Puts.{keys-rows_under}
-use Rattle.tick_model.specs.declared.plan.ColumnSpec.{ColumnSpec}
-use Rattle.tick_model.specs.declared.table.PlainRow.{PlainRow}
-use Rattle.tick_model.specs.declared.update.ShiftRange.{ShiftRange}
-use Rattle.key_lists.specs.Keys.{runs}
-use Rattle.key_lists.proofs.Every.{every, every-map, every-append}
-use Rattle.key_lists.proofs.Parts.{every_front, every_back}
-use Rattle.tick_model.specs.Changes.{Change, rows_under, told_keys, is_none, is_empty}
-use Rattle.tick_model.specs.LawfulRuns.{AreTexts}
-use Rattle.tick_model.specs.Names.{same_name}
-use Rattle.tick_model.specs.Printable.{IsPrintable, IsShiftRange}
-use Rattle.tick_model.specs.Tables.{keys}
-use Rattle.tick_model.specs.Texts.{change_records, column_name, columns_record, removed_record, row_record, shift_record, step_record, told_records, records_text}
-use Rattle.update_text.specs.OneToOne.{UpdateTextIsOneToOne}
-use Rattle.update_text.proofs.Apart.{names_apart}
-use Rattle.update_text.proofs.Backwards.{AreApart, first_same, rest_same, unmapped, place_same, some_is_none, filter_passed, filter_missed}
-use Rattle.update_text.proofs.Quoting.{records_same}
-use Rattle.update_text.specs.Reading.{IsToldRow}
-use Rattle.update_text.proofs.RowsBack.{row_same}
-use Rattle.update_text.proofs.RowsUnder.{rows_under-append, cells_under, told_under}
-use Rattle.update_text.proofs.RunsBack.{runs_same, runs_below}
+use Rattle.tick_model.{specs.declared.plan.ColumnSpec.ColumnSpec, specs.declared.table.PlainRow.PlainRow, specs.declared.update.ShiftRange.ShiftRange, specs.Changes.{Change, rows_under, told_keys, is_none, is_empty}, specs.LawfulRuns.AreTexts, specs.Names.same_name, specs.Printable.{IsPrintable, IsShiftRange}, specs.Tables.keys, specs.Texts.{change_records, column_name, columns_record, removed_record, row_record, shift_record, step_record, told_records, records_text}}
+use Rattle.key_lists.{specs.Keys.runs, proofs.Every.{every, every-map, every-append}, proofs.Parts.{every_front, every_back}}
+use Rattle.update_text.{specs.OneToOne.UpdateTextIsOneToOne, proofs.Apart.names_apart, proofs.Backwards.{AreApart, first_same, rest_same, unmapped, place_same, some_is_none, filter_passed, filter_missed}, proofs.Quoting.records_same, specs.Reading.IsToldRow, proofs.RowsBack.row_same, proofs.RowsUnder.{rows_under-append, cells_under, told_under}, proofs.RunsBack.{runs_same, runs_below}}
 
 abbrev Record : Type 0
 Record = List (List ℕ)

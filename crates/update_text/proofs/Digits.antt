@@ -1,13 +1,6 @@
 -- Decimals need no quotes.
 use Rattle.std.proofs.Common.{◌≡◌, refl, ap, ◌∙◌, ℕ, ◌<◌, ◌≤◌, ◌^◌, false, ◌||◌, List, [], ◌∷◌, ◌==◌, arith, suc}
-use Rattle.std.specs.List.{list_any}
-use Rattle.std.specs.Char.{digit_value}
-use Rattle.std.specs.Str.Parse.{AllDigits}
-use Rattle.std.specs.Fmt.{decimal, signed_decimal}
-use Rattle.std.specs.Prelude.{ℤ, pos, negsuc}
-use Rattle.std.proofs.lemmas.Bool.{ne_eqb}
-use Rattle.std.proofs.lemmas.Bool.Decides.{nat_tests}
-use Rattle.std.proofs.lemmas.Fmt.{decimal_is_IsNumeral}
+use Rattle.std.{specs.List.list_any, specs.Char.digit_value, specs.Str.Parse.AllDigits, specs.Fmt.{decimal, signed_decimal}, specs.Prelude.{ℤ, pos, negsuc}, proofs.lemmas.Bool.ne_eqb, proofs.lemmas.Bool.Decides.nat_tests, proofs.lemmas.Fmt.decimal_is_IsNumeral}
 use lib.Signed.{mag}
 use Rattle.tick_model.specs.Texts.{needs_quotes, field_text}
 

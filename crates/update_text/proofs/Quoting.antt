@@ -1,10 +1,7 @@
 -- A text of records is of one list of records.
 use Rattle.std.proofs.Common.{◌≡◌, refl, ap, sym, ◌∙◌, true, false, true≢false, cond, ℕ, arith, List, [], ◌∷◌, ◌++◌, append_assoc, inl, inr}
-use Rattle.std.specs.Prelude.{flat_map, ◌⊎◌}
-use Rattle.std.specs.List.{list_any, AllByRecursion}
-use Rattle.std.proofs.lemmas.Bool.{or_parts, cases_eq, eq-eqb, ne_eqb}
-use Rattle.tick_model.specs.Changes.{is_none}
-use Rattle.tick_model.specs.Texts.{needs_quotes, doubled, field_text, comma_before, fields_text, record_text, records_text}
+use Rattle.std.{specs.Prelude.{flat_map, ◌⊎◌}, specs.List.{list_any, AllByRecursion}, proofs.lemmas.Bool.{or_parts, cases_eq, eq-eqb, ne_eqb}}
+use Rattle.tick_model.{specs.Changes.is_none, specs.Texts.{needs_quotes, doubled, field_text, comma_before, fields_text, record_text, records_text}}
 use Rattle.update_text.proofs.Backwards.{first_same, rest_same, cons_same, ended_is_none}
 
 abbrev IsPlain : List ℕ → Type 0

@@ -1,18 +1,10 @@
 -- Ranges of removed keys and of rows that move, read back.
 use Rattle.std.proofs.Common.{◌≡◌, refl, ap, sym, ◌∙◌, subst, Bool, true, false, true≢false, cond, ℕ, suc, ◌+◌, ◌-◌, ◌<◌, ◌≤◌, arith, List, [], ◌∷◌, ◌++◌, length}
-use Rattle.std.specs.Prelude.{ℤ, pos, Option, Some, None, nat_lt, nat_le, slice_get}
-use Rattle.std.specs.Option.{option_or}
-use Rattle.std.specs.Ordering.{int_eq}
-use Rattle.std.specs.List.{AllByRecursion, range_with_len}
-use Rattle.std.proofs.lemmas.Bool.{ltb-true, leb-true}
-use Rattle.key_lists.proofs.Every.{every-append}
-use Rattle.key_lists.proofs.Parts.{every_front, every_back}
+use Rattle.std.{specs.Prelude.{ℤ, pos, Option, Some, None, nat_lt, nat_le, slice_get}, specs.Option.option_or, specs.Ordering.int_eq, specs.List.{AllByRecursion, range_with_len}, proofs.lemmas.Bool.{ltb-true, leb-true}}
+use Rattle.key_lists.{proofs.Every.every-append, proofs.Parts.{every_front, every_back}}
 use Rattle.row_set.specs.Ranges.{keys_from}
-use Rattle.shift_data.specs.declared.shifts.ShiftFault.{ShiftFault}
-use Rattle.shift_data.specs.declared.shifts.ShiftFault.TheVariants.{Backward, NotAscending, ZeroDelta}
-use Rattle.shift_data.specs.Pushes.{not_past, push_fault}
-use Rattle.tick_model.specs.declared.update.ShiftRange.{ShiftRange}
-use Rattle.tick_model.specs.Printable.{IsShift}
+use Rattle.shift_data.{specs.declared.shifts.ShiftFault.ShiftFault, specs.declared.shifts.ShiftFault.TheVariants.{Backward, NotAscending, ZeroDelta}, specs.Pushes.{not_past, push_fault}}
+use Rattle.tick_model.{specs.declared.update.ShiftRange.ShiftRange, specs.Printable.IsShift}
 
 pub run_first : (first last : ℕ) → first ≤ last → keys_from first last ≡ first ∷ range_with_len (first + 1) (last - first)
 run_first first last h = let e : last + 1 - first ≡ suc (last - first) = omega arith in ap (range_with_len first) e

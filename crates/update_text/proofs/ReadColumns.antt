@@ -1,20 +1,8 @@
 -- The record of the modified columns, read back.
 use Rattle.std.proofs.Common.{◌≡◌, refl, ap, sym, ◌∙◌, true, false, true≢false, cond, ℕ, ◌<◌, arith, List, [], ◌∷◌, ◌++◌, length, map, get_or}
-use Rattle.std.specs.Prelude.{nat_eq, Option, Some, None, Result, nat_lt, Ok, Err}
-use Rattle.std.specs.Cmp.Lexicographic.{pointwise, bytes_decides}
-use Rattle.std.specs.List.{position_or_len}
-use Rattle.std.proofs.lemmas.Bool.{lt-ltb}
-use Rattle.std.proofs.lemmas.List.{append-nil, get_or-map, length-map}
-use Rattle.std.proofs.lemmas.List.Sums.{position_or_len_is}
-use Rattle.tick_model.specs.declared.plan.ColumnSpec.{ColumnSpec}
-use Rattle.tick_model.specs.declared.plan.Kind.TheVariants.{Long}
-use Rattle.tick_model.specs.Names.{are_distinct}
-use Rattle.tick_model.specs.Texts.{column_name, columns_record, records_text, record_text}
-use Rattle.update_text.specs.declared.printed.PrintedFault.{PrintedFault}
-use Rattle.update_text.specs.Reading.{Gives, has_comma, has_tag, next_fields}
-use Rattle.update_text.proofs.Apart.{names_apart}
-use Rattle.update_text.proofs.Backwards.{place_same}
-use Rattle.update_text.proofs.ReadRows.{tagged_text}
+use Rattle.std.{specs.Prelude.{nat_eq, Option, Some, None, Result, nat_lt, Ok, Err}, specs.Cmp.Lexicographic.{pointwise, bytes_decides}, specs.List.position_or_len, proofs.lemmas.Bool.lt-ltb, proofs.lemmas.List.{append-nil, get_or-map, length-map}, proofs.lemmas.List.Sums.position_or_len_is}
+use Rattle.tick_model.{specs.declared.plan.ColumnSpec.ColumnSpec, specs.declared.plan.Kind.TheVariants.Long, specs.Names.are_distinct, specs.Texts.{column_name, columns_record, records_text, record_text}}
+use Rattle.update_text.{specs.declared.printed.PrintedFault.PrintedFault, specs.Reading.{Gives, has_comma, has_tag, next_fields}, proofs.Apart.names_apart, proofs.Backwards.place_same, proofs.ReadRows.tagged_text}
 
 abbrev pub blank : ColumnSpec
 blank = record { name = []; kind = Long }

@@ -1,12 +1,8 @@
 -- Fields, read back from the text that they begin.
 use Rattle.std.proofs.Common.{◌≡◌, refl, ap, sym, ◌∙◌, subst, Bool, true, false, true≢false, cond, ◌||◌, ◌&&◌, ◌==◌, ℕ, suc, ◌+◌, ◌<◌, ◌≤◌, arith, List, [], ◌∷◌, ◌++◌, length, append_assoc, inl, inr, eq-eqb, ne_eqb}
-use Rattle.std.specs.Prelude.{flat_map, not, Option, Some, None, unwrap_or, MatchResult, nat_lt}
-use Rattle.std.specs.List.{list_any, position_or_len}
-use Rattle.std.proofs.lemmas.Bool.{or_parts, or_from, cases_eq, ltb-false}
+use Rattle.std.{specs.Prelude.{flat_map, not, Option, Some, None, unwrap_or, MatchResult, nat_lt}, specs.List.{list_any, position_or_len}, proofs.lemmas.Bool.{or_parts, or_from, cases_eq, ltb-false}}
 use Rattle.tick_model.specs.Texts.{needs_quotes, doubled, field_text, comma_before}
-use Rattle.update_text.specs.Reading.{begins_with_end, has_tag, is_end, next_fields}
-use Rattle.update_text.proofs.Backwards.{first_same, rest_same, cons_same, some_is_none}
-use Rattle.update_text.proofs.Quoting.{doubled_cases, inner, quoted, quoted_before}
+use Rattle.update_text.{specs.Reading.{begins_with_end, has_tag, is_end, next_fields}, proofs.Backwards.{first_same, rest_same, cons_same, some_is_none}, proofs.Quoting.{doubled_cases, inner, quoted, quoted_before}}
 
 -- a byte that needs no quotes ends no field
 plain_no_end : (byte : ℕ) → needs_quotes byte ≡ false → is_end byte ≡ false

@@ -1,39 +1,10 @@
 -- Rows, their cells and their keys, read back.
 use Rattle.std.proofs.Common.{◌≡◌, refl, ap, sym, ◌∙◌, subst, true, false, true≢false, cond, ◌&&◌, ◌==◌, ℕ, zero, suc, ◌+◌, ◌-◌, ◌<◌, ◌≤◌, arith, List, [], ◌∷◌, ◌++◌, length, take, drop, get_or, map, append_assoc, inl, inr, eq-eqb, eqb-true}
-use Rattle.std.specs.Prelude.{ℤ, FitsSigned, Some, None, Result, Ok, Err, ◌⊎◌, slice_get}
-use Rattle.std.specs.Int.{w64}
-use Rattle.std.specs.List.{AllByRecursion, range_with_len}
-use Rattle.std.specs.List.Sorted.{IsBinarySearchResult, IsSearchInRange}
-use Rattle.std.specs.Result.{result_ok, IsErrAnd}
-use Rattle.std.specs.Ordering.{nat_cmp, is_lt, ordering_index, ordering_reverse}
-use Rattle.std.specs.Cmp.Lexicographic.{slice_cmp, nat_list_cmp_total}
-use Rattle.std.specs.declared.cmp.Ordering.{Ordering}
-use Rattle.std.specs.declared.cmp.Ordering.TheVariants.{Less, Equal, Greater}
-use Rattle.std.proofs.lemmas.Bool.{and_parts, or_from, cases_eq, cases_lt}
-use Rattle.std.proofs.lemmas.Bool.Decides.{Decides-int_eq}
-use Rattle.std.proofs.lemmas.List.{drop_more, get_or_default, take_more}
-use Rattle.std.proofs.lemmas.Option.{same_Some}
-use Rattle.key_lists.specs.Keys.{IsRising, is_among}
-use Rattle.key_lists.proofs.Among.{among-append}
-use Rattle.key_lists.proofs.Every.{every_weaker}
-use Rattle.key_lists.proofs.Rising.{rising-append, rising_same}
-use Rattle.key_lists.proofs.Booleans.{or_turned}
-use Rattle.row_set.specs.Ranges.{keys_from}
-use Rattle.row_set.specs.Sets.{last_key, united}
-use Rattle.row_set.proofs.Held.{range_rises}
-use Rattle.row_set.proofs.United.{among-united, united_rises}
-use Rattle.tick_model.specs.declared.plan.ColumnSpec.{ColumnSpec}
-use Rattle.tick_model.specs.declared.plan.Kind.{Kind}
-use Rattle.tick_model.specs.LawfulRuns.{AreTexts, is_before}
-use Rattle.tick_model.specs.Printable.{fits_kind, fit_columns}
-use Rattle.tick_model.specs.Tables.{is_null, null}
-use Rattle.tick_model.specs.Texts.{cell_text, cell_texts, known_cell_text, needs_quotes, records_text, record_text}
-use Rattle.update_text.specs.declared.printed.PrintedFault.{PrintedFault}
-use Rattle.update_text.specs.declared.printed.PrintedFault.TheVariants.{Memory}
-use Rattle.update_text.specs.Reading.{AreAhead, Gives, has_tag, next_fields}
-use Rattle.update_text.proofs.Digits.{field_text-plain}
-use Rattle.update_text.proofs.Quoting.{record_before}
-use Rattle.update_text.proofs.RowsBack.{known_is_some}
+use Rattle.std.{specs.Prelude.{ℤ, FitsSigned, Some, None, Result, Ok, Err, ◌⊎◌, slice_get}, specs.Int.w64, specs.List.{AllByRecursion, range_with_len}, specs.List.Sorted.{IsBinarySearchResult, IsSearchInRange}, specs.Result.{result_ok, IsErrAnd}, specs.Ordering.{nat_cmp, is_lt, ordering_index, ordering_reverse}, specs.Cmp.Lexicographic.{slice_cmp, nat_list_cmp_total}, specs.declared.cmp.Ordering.Ordering, specs.declared.cmp.Ordering.TheVariants.{Less, Equal, Greater}, proofs.lemmas.Bool.{and_parts, or_from, cases_eq, cases_lt}, proofs.lemmas.Bool.Decides.Decides-int_eq, proofs.lemmas.List.{drop_more, get_or_default, take_more}, proofs.lemmas.Option.same_Some}
+use Rattle.key_lists.{specs.Keys.{IsRising, is_among}, proofs.Among.among-append, proofs.Every.every_weaker, proofs.Rising.{rising-append, rising_same}, proofs.Booleans.or_turned}
+use Rattle.row_set.{specs.Ranges.keys_from, specs.Sets.{last_key, united}, proofs.Held.range_rises, proofs.United.{among-united, united_rises}}
+use Rattle.tick_model.{specs.declared.plan.ColumnSpec.ColumnSpec, specs.declared.plan.Kind.Kind, specs.LawfulRuns.{AreTexts, is_before}, specs.Printable.{fits_kind, fit_columns}, specs.Tables.{is_null, null}, specs.Texts.{cell_text, cell_texts, known_cell_text, needs_quotes, records_text, record_text}}
+use Rattle.update_text.{specs.declared.printed.PrintedFault.PrintedFault, specs.declared.printed.PrintedFault.TheVariants.Memory, specs.Reading.{AreAhead, Gives, has_tag, next_fields}, proofs.Digits.field_text-plain, proofs.Quoting.record_before, proofs.RowsBack.known_is_some}
 
 -- an earlier text is less than a later one
 before_later : (text : List ℕ) (texts : List (List ℕ)) (k : ℕ) → AllByRecursion (λ later. is_before text later ≡ true) texts → k < length texts → is_before text (get_or texts k []) ≡ true

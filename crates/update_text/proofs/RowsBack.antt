@@ -1,25 +1,8 @@
 -- A row's record is of one row.
 use Rattle.std.proofs.Common.{◌≡◌, refl, ap, sym, ◌∙◌, true, false, true≢false, cond, ◌||◌, ℕ, zero, suc, ◌^◌, ◌<◌, arith, List, [], ◌∷◌, length, get_or}
-use Rattle.std.specs.Prelude.{ℤ, pos, negsuc, FitsSigned}
-use Rattle.std.specs.Int.{w64}
-use Rattle.std.specs.List.{AllByRecursion}
-use Rattle.std.specs.Fmt.{decimal, signed_decimal}
-use Rattle.std.proofs.lemmas.Bool.{and_parts, ltb-true}
-use Rattle.std.proofs.lemmas.Bool.Decides.{Decides-int_eq}
-use Rattle.std.proofs.lemmas.Fmt.{decimal_nonempty, decimal_injective, signed_decimal_injective}
-use Rattle.tick_model.specs.declared.plan.ColumnSpec.{ColumnSpec}
-use Rattle.tick_model.specs.declared.plan.Kind.{Kind}
-use Rattle.tick_model.specs.declared.plan.Kind.TheVariants.{Long, Text}
-use Rattle.tick_model.specs.declared.table.PlainRow.{PlainRow}
-use Rattle.tick_model.specs.Changes.{is_none}
-use Rattle.tick_model.specs.LawfulRuns.{AreTexts}
-use Rattle.tick_model.specs.Printable.{fits_kind, fit_columns, names_text}
-use Rattle.tick_model.specs.Shifts.{as_key}
-use Rattle.tick_model.specs.Tables.{is_null, null}
-use Rattle.tick_model.specs.Texts.{cell_text, cell_texts, known_cell_text, row_record}
-use Rattle.update_text.specs.Reading.{IsToldRow}
-use Rattle.update_text.proofs.Apart.{texts_apart}
-use Rattle.update_text.proofs.Backwards.{AreApart, first_same, rest_same, cons_same, some_is_none, place_same}
+use Rattle.std.{specs.Prelude.{ℤ, pos, negsuc, FitsSigned}, specs.Int.w64, specs.List.AllByRecursion, specs.Fmt.{decimal, signed_decimal}, proofs.lemmas.Bool.{and_parts, ltb-true}, proofs.lemmas.Bool.Decides.Decides-int_eq, proofs.lemmas.Fmt.{decimal_nonempty, decimal_injective, signed_decimal_injective}}
+use Rattle.tick_model.{specs.declared.plan.ColumnSpec.ColumnSpec, specs.declared.plan.Kind.Kind, specs.declared.plan.Kind.TheVariants.{Long, Text}, specs.declared.table.PlainRow.PlainRow, specs.Changes.is_none, specs.LawfulRuns.AreTexts, specs.Printable.{fits_kind, fit_columns, names_text}, specs.Shifts.as_key, specs.Tables.{is_null, null}, specs.Texts.{cell_text, cell_texts, known_cell_text, row_record}}
+use Rattle.update_text.{specs.Reading.IsToldRow, proofs.Apart.texts_apart, proofs.Backwards.{AreApart, first_same, rest_same, cons_same, some_is_none, place_same}}
 
 -- a rank's text is not empty
 text_is_some : (texts : List (List ℕ)) (k : ℕ) → AreTexts texts → k < length texts → get_or texts k [] ≡ [] → ⊥

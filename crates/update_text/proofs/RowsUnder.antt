@@ -1,14 +1,8 @@
 -- Rows under their keys, with their cells one after the other.
 use Rattle.std.proofs.Common.{◌≡◌, refl, ap, ◌∙◌, true, ℕ, ◌+◌, ◌*◌, ◌^◌, ◌<◌, arith, List, [], ◌∷◌, ◌++◌, length, length-drop, take, drop}
-use Rattle.std.specs.Prelude.{ℤ, flat_map, FitsSigned}
-use Rattle.std.specs.Int.{w64}
-use Rattle.std.specs.List.{AllByRecursion}
-use Rattle.std.proofs.lemmas.List.{drop-drop, take-append-drop}
+use Rattle.std.{specs.Prelude.{ℤ, flat_map, FitsSigned}, specs.Int.w64, specs.List.AllByRecursion, proofs.lemmas.List.{drop-drop, take-append-drop}}
 use Rattle.key_lists.proofs.Parts.{every-take, every-drop}
-use Rattle.tick_model.specs.declared.plan.ColumnSpec.{ColumnSpec}
-use Rattle.tick_model.specs.declared.table.PlainRow.{PlainRow}
-use Rattle.tick_model.specs.Changes.{rows_under}
-use Rattle.tick_model.specs.Printable.{fit_columns}
+use Rattle.tick_model.{specs.declared.plan.ColumnSpec.ColumnSpec, specs.declared.table.PlainRow.PlainRow, specs.Changes.rows_under, specs.Printable.fit_columns}
 use Rattle.update_text.specs.Reading.{IsToldRow}
 
 pub rows_under-append : (width : ℕ) (ks ls : List ℕ) (cells : List ℤ) →

@@ -1,8 +1,6 @@
 -- The longest runs of keys are of one list of keys.
 use Rattle.std.proofs.Common.{◌≡◌, refl, ap, sym, ◌∙◌, true, false, cond, ℕ, suc, ◌+◌, ◌-◌, ◌<◌, ◌≤◌, arith, List, [], ◌∷◌, ◌++◌}
-use Rattle.std.specs.Prelude.{flat_map, ◌==◌}
-use Rattle.std.specs.List.{range_with_len, AllByRecursion}
-use Rattle.std.proofs.lemmas.Bool.{eqb-true}
+use Rattle.std.{specs.Prelude.{flat_map, ◌==◌}, specs.List.{range_with_len, AllByRecursion}, proofs.lemmas.Bool.eqb-true}
 use Rattle.key_lists.specs.Keys.{run_with, runs}
 
 abbrev pub IsOrdered : (ℕ × ℕ) → Type 0

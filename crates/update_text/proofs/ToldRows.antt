@@ -1,16 +1,9 @@
 -- The rows that the words of a table tell.
 use Rattle.std.proofs.Common.{◌≡◌, refl, ap, sym, ◌∙◌, subst, ℕ, suc, ◌+◌, ◌-◌, ◌*◌, ◌<◌, ◌≤◌, List, [], ◌∷◌, ◌++◌, length, take, drop, map, get_or, arith, length-append, length-drop, add-one}
-use Rattle.std.specs.Prelude.{ℤ, flat_map, FitsSigned}
-use Rattle.std.specs.Int.{w64, cast_signed, cast_unsigned}
-use Rattle.std.specs.List.{AllByRecursion}
-use Rattle.std.proofs.lemmas.List.{take_at, drop_at, length-map, take_all}
-use Rattle.std.proofs.Math.Facts.{to_z-of_z}
+use Rattle.std.{specs.Prelude.{ℤ, flat_map, FitsSigned}, specs.Int.{w64, cast_signed, cast_unsigned}, specs.List.AllByRecursion, proofs.lemmas.List.{take_at, drop_at, length-map, take_all}, proofs.Math.Facts.to_z-of_z}
 use Rattle.key_lists.proofs.Every.{every_weaker, map_map, map_own}
-use Rattle.tick_model.specs.declared.table.PlainRow.{PlainRow}
-use Rattle.tick_model.specs.declared.table.PlainTable.{PlainTable}
-use Rattle.tick_model.specs.Words.{row_words}
-use Rattle.update_text.specs.declared.shown.Shown.{Shown}
-use Rattle.update_text.specs.Snapshots.{AreWordsOf, row_told, rows_told}
+use Rattle.tick_model.{specs.declared.table.PlainRow.PlainRow, specs.declared.table.PlainTable.PlainTable, specs.Words.row_words}
+use Rattle.update_text.{specs.declared.shown.Shown.Shown, specs.Snapshots.{AreWordsOf, row_told, rows_told}}
 
 cells_told : (cells : List ℤ) → AllByRecursion (FitsSigned w64) cells → map (cast_signed w64) (map (cast_unsigned w64) cells) ≡ cells
 cells_told cells fit =

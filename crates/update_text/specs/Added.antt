@@ -2,10 +2,7 @@
 --     adding_alone rows      the change that adds these rows
 --     added_records step shown texts rows      its records, none where there are no rows
 use Rattle.std.specs.Prelude.{ℕ, [], List, flat_map}
-use Rattle.tick_model.specs.declared.table.PlainRow.{PlainRow}
-use Rattle.tick_model.specs.Tables.{keys}
-use Rattle.tick_model.specs.Changes.{Change}
-use Rattle.tick_model.specs.Texts.{change_records}
+use Rattle.tick_model.{specs.declared.table.PlainRow.PlainRow, specs.Tables.keys, specs.Changes.Change, specs.Texts.change_records}
 use Rattle.update_text.specs.declared.shown.Shown.{Shown}
 
 abbrev pub adding_alone : List PlainRow → Change

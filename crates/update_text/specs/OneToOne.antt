@@ -2,12 +2,7 @@
 --     change_text step name columns texts change      the text of a change
 --     UpdateTextIsOneToOne      a text is of one change, at one step, of a table of one name
 use Rattle.std.specs.Prelude.{◌≡◌, ℕ, ◌^◌, ◌<◌, true, false, List, map}
-use Rattle.tick_model.specs.declared.plan.ColumnSpec.{ColumnSpec}
-use Rattle.tick_model.specs.Changes.{Change, is_empty}
-use Rattle.tick_model.specs.LawfulRuns.{AreTexts}
-use Rattle.tick_model.specs.Names.{are_distinct}
-use Rattle.tick_model.specs.Printable.{IsPrintable}
-use Rattle.tick_model.specs.Texts.{change_records, records_text}
+use Rattle.tick_model.{specs.declared.plan.ColumnSpec.ColumnSpec, specs.Changes.{Change, is_empty}, specs.LawfulRuns.AreTexts, specs.Names.are_distinct, specs.Printable.IsPrintable, specs.Texts.{change_records, records_text}}
 
 abbrev pub change_text : ℕ → List ℕ → List ColumnSpec → List (List ℕ) → Change → List ℕ
 change_text step name columns texts change = records_text (change_records step name columns texts change)

@@ -9,20 +9,11 @@
 --     AreTold columns texts added modified change      a change whose added and modified rows are these
 --     IsConsistent update      the parts of an update that belong together
 --     is_run run, run_keys run      a run of keys, and the keys of it
-use Rattle.std.specs.Prelude.{◌≡◌, ℕ, ◌^◌, ◌<◌, ◌≤◌, ◌==◌, ◌&&◌, ◌||◌, Bool, true, false, List, [], ◌∷◌, ◌++◌, length, map, flat_map, Result, MatchResult, ℤ, FitsSigned}
-use Rattle.std.specs.Int.{w64}
-use Rattle.std.specs.List.{AllByRecursion}
+use Rattle.std.{specs.Prelude.{◌≡◌, ℕ, ◌^◌, ◌<◌, ◌≤◌, ◌==◌, ◌&&◌, ◌||◌, Bool, true, false, List, [], ◌∷◌, ◌++◌, length, map, flat_map, Result, MatchResult, ℤ, FitsSigned}, specs.Int.w64, specs.List.AllByRecursion}
 use Rattle.key_lists.specs.Keys.{is_among, IsRising}
 use Rattle.row_set.specs.Ranges.{keys_from}
-use Rattle.tick_model.specs.declared.plan.ColumnSpec.{ColumnSpec}
-use Rattle.tick_model.specs.declared.table.PlainRow.{PlainRow}
-use Rattle.tick_model.specs.Changes.{Change, is_none}
-use Rattle.tick_model.specs.Printable.{fit_columns}
-use Rattle.tick_model.specs.Tables.{keys}
-use Rattle.tick_model.specs.Texts.{comma_before, records_text}
-use Rattle.tick_model.specs.Updates.{Update}
-use Rattle.update_text.specs.declared.printed.PrintedFault.{PrintedFault}
-use Rattle.update_text.specs.declared.printed.PrintedFault.TheVariants.{Memory}
+use Rattle.tick_model.{specs.declared.plan.ColumnSpec.ColumnSpec, specs.declared.table.PlainRow.PlainRow, specs.Changes.{Change, is_none}, specs.Printable.fit_columns, specs.Tables.keys, specs.Texts.{comma_before, records_text}, specs.Updates.Update}
+use Rattle.update_text.{specs.declared.printed.PrintedFault.PrintedFault, specs.declared.printed.PrintedFault.TheVariants.Memory}
 
 abbrev pub Gives : {T : Type 0} → Result T PrintedFault → (T → Type 0) → Type 0
 Gives result P = MatchResult result P (λ fault. fault ≡ Memory)

@@ -4,20 +4,10 @@
 --     snapshot_shown caller call step shown texts rows      the records of a snapshot
 --     snapshot_text shown texts snapshot      their text
 --     IsSnapshot columns texts snapshot      rows of these columns under rising keys, at a step of 64 bits
-use Rattle.std.specs.Prelude.{◌≡◌, ℕ, ◌^◌, ◌<◌, zero, suc, List, [], ◌∷◌, codes, map, take, drop, length}
-use Rattle.std.specs.Fmt.{decimal}
-use Rattle.std.specs.Int.{w64, cast_signed}
-use Rattle.std.specs.List.{AllByRecursion}
+use Rattle.std.{specs.Prelude.{◌≡◌, ℕ, ◌^◌, ◌<◌, zero, suc, List, [], ◌∷◌, codes, map, take, drop, length}, specs.Fmt.decimal, specs.Int.{w64, cast_signed}, specs.List.AllByRecursion}
 use Rattle.key_lists.specs.Keys.{IsRising}
-use Rattle.tick_model.specs.declared.plan.ColumnSpec.{ColumnSpec}
-use Rattle.tick_model.specs.declared.table.PlainRow.{PlainRow}
-use Rattle.tick_model.specs.declared.table.PlainTable.{PlainTable}
-use Rattle.tick_model.specs.Tables.{HasCells, keys}
-use Rattle.tick_model.specs.Texts.{records_text, snapshot_of}
-use Rattle.tick_model.specs.Words.{words}
-use Rattle.update_text.specs.declared.printed.Snapshot.{Snapshot}
-use Rattle.update_text.specs.declared.shown.Shown.{Shown}
-use Rattle.update_text.specs.Reading.{IsToldRow}
+use Rattle.tick_model.{specs.declared.plan.ColumnSpec.ColumnSpec, specs.declared.table.PlainRow.PlainRow, specs.declared.table.PlainTable.PlainTable, specs.Tables.{HasCells, keys}, specs.Texts.{records_text, snapshot_of}, specs.Words.words}
+use Rattle.update_text.{specs.declared.printed.Snapshot.Snapshot, specs.declared.shown.Shown.Shown, specs.Reading.IsToldRow}
 
 -- the words are those of this table, whose rows have a cell for each column, and whose cells are numbers of 64 bits
 pub record AreWordsOf (shown : Shown) (told : List ℕ) (table : PlainTable) : Type 0 where

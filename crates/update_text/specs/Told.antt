@@ -7,12 +7,7 @@
 use Rattle.std.specs.Prelude.{ℕ, ℤ, ◌+◌, ◌*◌, ◌++◌, List, codes, drop, flat_map, length, map, if◌then◌else◌}
 use Rattle.key_lists.specs.Keys.{runs}
 use Rattle.row_set.specs.declared.ranges.Range.{Range}
-use Rattle.tick_model.specs.declared.table.PlainRow.{PlainRow}
-use Rattle.tick_model.specs.declared.plan.ColumnSpec.{ColumnSpec}
-use Rattle.tick_model.specs.Changes.{Change, is_none, rows_under, told_keys}
-use Rattle.tick_model.specs.Tables.{cells_at}
-use Rattle.tick_model.specs.Texts.{change_records, columns_record, removed_record, row_record, shift_record}
-use Rattle.tick_model.specs.Updates.{Update}
+use Rattle.tick_model.{specs.declared.table.PlainRow.PlainRow, specs.declared.plan.ColumnSpec.ColumnSpec, specs.Changes.{Change, is_none, rows_under, told_keys}, specs.Tables.cells_at, specs.Texts.{change_records, columns_record, removed_record, row_record, shift_record}, specs.Updates.Update}
 use Rattle.tick_table.specs.Ticking.{Ticking}
 use Rattle.update_text.specs.declared.shown.Shown.{Shown}
 

@@ -1,11 +1,8 @@
 -- The steps of the examples are ticks.
 use Rattle.std.proofs.Common.{◌≡◌, refl, lit<, lit≤, []}
-use Rattle.tick_model.specs.Changes.{change_of}
-use Rattle.tick_model.specs.Updates.{IsTick}
-use Rattle.tick_table.specs.Exact.{IsExact, ticking}
-use Rattle.tick_table.proofs.ExactAgain.{exact_again, tick_again}
-use Rattle.viewport.specs.Examples.{arrival, first_two, insertion}
-use Rattle.viewport.specs.Slices.{IsSlice}
+use Rattle.tick_model.{specs.Changes.change_of, specs.Updates.IsTick}
+use Rattle.tick_table.{specs.Exact.{IsExact, ticking}, proofs.ExactAgain.{exact_again, tick_again}}
+use Rattle.viewport.{specs.Examples.{arrival, first_two, insertion}, specs.Slices.IsSlice}
 
 pub is_arrival : IsTick arrival
 is_arrival = record {

@@ -1,39 +1,15 @@
 -- What became of some rows of a table over one more step.
 use Rattle.std.proofs.Common.{◌≡◌, refl, ap, ap₂, sym, ◌∙◌, subst, Bool, true, false, cond, not, ◌&&◌, ◌||◌, ◌++◌, ℕ, ◌^◌, ◌==◌, List, [], ◌∷◌, map, filter, Some, None, Option}
-use Rattle.std.specs.Prelude.{find, option_map}
-use Rattle.std.specs.List.{AllByRecursion, cons_option}
-use Rattle.std.specs.Option.{option_or}
-use Rattle.std.proofs.lemmas.Bool.{eqb-true}
-use Rattle.key_lists.specs.Keys.{is_among, IsRising, without}
-use Rattle.key_lists.proofs.Among.{among-filter, each_among, of_among}
-use Rattle.key_lists.proofs.Every.{every_unmapped, every_weaker, filter_passes, find_none}
-use Rattle.key_lists.proofs.Rising.{rising_same, rising_some}
+use Rattle.std.{specs.Prelude.{find, option_map}, specs.List.{AllByRecursion, cons_option}, specs.Option.option_or, proofs.lemmas.Bool.eqb-true}
+use Rattle.key_lists.{specs.Keys.{is_among, IsRising, without}, proofs.Among.{among-filter, each_among, of_among}, proofs.Every.{every_unmapped, every_weaker, filter_passes, find_none}, proofs.Rising.{rising_same, rising_some}}
 use Rattle.row_changes.specs.Parts.{tick_along}
 use Rattle.row_set.specs.Sets.{united}
 use Rattle.shift_data.specs.Moves.{IsLawful}
-use Rattle.table_update.specs.Coalesced.{coalesced, key_pairs, kept_by_both}
-use Rattle.table_update.proofs.CoalescedKeys.{united_added, united_modified}
-use Rattle.table_update.proofs.KeysAfter.{rules_kept}
-use Rattle.table_update.proofs.LawfulParts.{lawful_some}
-use Rattle.tick_laws.specs.Checked.{keys_after, put_keys}
-use Rattle.tick_laws.proofs.Carried.{pairs-between}
-use Rattle.tick_laws.proofs.Composed.{composed_tick}
-use Rattle.tick_model.specs.declared.table.PlainTable.{PlainTable}
-use Rattle.tick_model.specs.declared.update.KeyPair.{KeyPair}
-use Rattle.tick_model.specs.declared.update.UpdateFault.{UpdateFault}
-use Rattle.tick_model.specs.declared.update.UpdateFault.TheVariants.{RemovedAbsent, AddedTaken, ModifiedAbsent, ModifiedAdded}
-use Rattle.tick_model.specs.Rules.{landed, shift_fault, update_fault}
-use Rattle.tick_model.specs.Shifts.{as_key, composed, moved, shifted}
-use Rattle.tick_model.specs.Tables.{keys}
-use Rattle.tick_model.specs.Updates.{IsTick, Update, between, kept_pair, new_keys, old_keys, pairs}
-use Rattle.tick_table.specs.Exact.{IsExact, tick_of}
-use Rattle.tick_table.specs.Ticking.{Ticking}
-use Rattle.tick_table.proofs.Between.{between_lawful, new_keys-pairs, shift_keeps_order}
-use Rattle.viewport.specs.declared.slice.Slice.{Slice}
-use Rattle.viewport.specs.Passing.{passing}
-use Rattle.viewport.specs.Slices.{IsSlice, narrowed}
-use Rattle.viewport.specs.Standing.{IsStanding, kept_tick}
-use Rattle.viewport.proofs.SliceTables.{narrowed_keys, narrowed_table}
+use Rattle.table_update.{specs.Coalesced.{coalesced, key_pairs, kept_by_both}, proofs.CoalescedKeys.{united_added, united_modified}, proofs.KeysAfter.rules_kept, proofs.LawfulParts.lawful_some}
+use Rattle.tick_laws.{specs.Checked.{keys_after, put_keys}, proofs.Carried.pairs-between, proofs.Composed.composed_tick}
+use Rattle.tick_model.{specs.declared.table.PlainTable.PlainTable, specs.declared.update.KeyPair.KeyPair, specs.declared.update.UpdateFault.UpdateFault, specs.declared.update.UpdateFault.TheVariants.{RemovedAbsent, AddedTaken, ModifiedAbsent, ModifiedAdded}, specs.Rules.{landed, shift_fault, update_fault}, specs.Shifts.{as_key, composed, moved, shifted}, specs.Tables.keys, specs.Updates.{IsTick, Update, between, kept_pair, new_keys, old_keys, pairs}}
+use Rattle.tick_table.{specs.Exact.{IsExact, tick_of}, specs.Ticking.Ticking, proofs.Between.{between_lawful, new_keys-pairs, shift_keeps_order}}
+use Rattle.viewport.{specs.declared.slice.Slice.Slice, specs.Passing.passing, specs.Slices.{IsSlice, narrowed}, specs.Standing.{IsStanding, kept_tick}, proofs.SliceTables.{narrowed_keys, narrowed_table}}
 
 -- an update that adds and modifies nothing breaks no rule where it removes and moves as it may
 pub bare_lawful : (old : List ℕ) (update : Update) → find (λ key. not (is_among key old)) update.removed ≡ None → shift_fault (2 ^ 62) update.shifted (without update.removed old) ≡ None

@@ -1,18 +1,10 @@
 -- How many rows a message reads.
 use Rattle.std.proofs.Common.{refl, ap, not, ℕ, ◌+◌, ◌*◌, ◌≤◌, arith, List, length}
-use Rattle.std.proofs.Math.Nat.{mul-le-mul_left}
-use Rattle.std.proofs.lemmas.List.{length-map}
-use Rattle.std.proofs.lemmas.List.Filters.{length-filter_both}
-use Rattle.key_lists.specs.Keys.{is_among}
-use Rattle.key_lists.proofs.Rising.{as_filter}
-use Rattle.row_changes.specs.Parts.{AreParts, Parts}
-use Rattle.row_changes.proofs.Comparing.{length-pairs_of}
+use Rattle.std.{proofs.Math.Nat.mul-le-mul_left, proofs.lemmas.List.length-map, proofs.lemmas.List.Filters.length-filter_both}
+use Rattle.key_lists.{specs.Keys.is_among, proofs.Rising.as_filter}
+use Rattle.row_changes.{specs.Parts.{AreParts, Parts}, proofs.Comparing.length-pairs_of}
 use Rattle.tick_laws.proofs.ResultCells.{length-filter_most}
-use Rattle.tick_model.specs.declared.table.PlainRow.{PlainRow}
-use Rattle.tick_model.specs.declared.table.PlainTable.{PlainTable}
-use Rattle.tick_model.specs.declared.update.KeyPair.{KeyPair}
-use Rattle.tick_model.specs.Tables.{keys}
-use Rattle.tick_model.specs.Updates.{new_keys}
+use Rattle.tick_model.{specs.declared.table.PlainRow.PlainRow, specs.declared.table.PlainTable.PlainTable, specs.declared.update.KeyPair.KeyPair, specs.Tables.keys, specs.Updates.new_keys}
 
 module _ (old new : PlainTable) (parts : Parts) (kept : List KeyPair) (h : AreParts old new parts kept) where
   abbrev staying : List ℕ

@@ -1,34 +1,14 @@
 -- The rows of a message, and what stands after it.
 use Rattle.std.proofs.Common.{◌≡◌, refl, ap, ap₂, sym, ◌∙◌, subst, true, false, not, ◌&&◌, ℕ, ◌^◌, List, map, length, None, true≢false}
-use Rattle.std.specs.List.{AllByRecursion}
-use Rattle.std.proofs.lemmas.List.{length-map}
-use Rattle.key_lists.specs.Keys.{is_among, without}
-use Rattle.key_lists.proofs.Among.{each_among}
-use Rattle.key_lists.proofs.Every.{every, every-filter, every-map, every_unmapped, every_weaker, filter_all, filter_same, filter-map, map_map, map_own}
-use Rattle.row_changes.specs.Parts.{AreCompared, AreParts, Parts, tick_along}
-use Rattle.row_changes.proofs.Comparing.{pairs_of-keys}
+use Rattle.std.{specs.List.AllByRecursion, proofs.lemmas.List.length-map}
+use Rattle.key_lists.{specs.Keys.{is_among, without}, proofs.Among.each_among, proofs.Every.{every, every-filter, every-map, every_unmapped, every_weaker, filter_all, filter_same, filter-map, map_map, map_own}}
+use Rattle.row_changes.{specs.Parts.{AreCompared, AreParts, Parts, tick_along}, proofs.Comparing.pairs_of-keys}
 use Rattle.shift_data.specs.Moves.{IsLawful, pairs_of, unapplied}
-use Rattle.table_update.specs.Coalesced.{key_pairs}
-use Rattle.table_update.proofs.KeysAfter.{rules_kept}
-use Rattle.tick_laws.specs.Replaced.{no_update}
-use Rattle.tick_laws.proofs.Carried.{pairs-between}
-use Rattle.tick_laws.proofs.OperatorTicks.{all_both_in}
-use Rattle.tick_laws.proofs.SourceTicks.{unchanged_tick}
-use Rattle.tick_laws.proofs.WholeUpdates.{between-unchanged}
-use Rattle.tick_model.specs.declared.table.PlainTable.{PlainTable}
-use Rattle.tick_model.specs.declared.update.KeyPair.{KeyPair}
-use Rattle.tick_model.specs.declared.update.ShiftRange.{ShiftRange}
-use Rattle.tick_model.specs.Rules.{landed, update_fault}
-use Rattle.tick_model.specs.Shifts.{as_key, moved, shifted}
-use Rattle.tick_model.specs.Sources.{same_key, unchanged}
-use Rattle.tick_model.specs.Tables.{IsTable, keys}
-use Rattle.tick_model.specs.Updates.{IsTick, Update, both_in, differs, kept_pair, new_keys, old_keys, pairs}
-use Rattle.tick_table.specs.Ticking.{no_rows}
-use Rattle.tick_table.proofs.Between.{between_lawful}
-use Rattle.viewport.specs.declared.slice.Slice.{Slice}
-use Rattle.viewport.specs.Slices.{IsSlice, cut, narrowed}
-use Rattle.viewport.specs.Standing.{IsStanding, kept_tick}
-use Rattle.viewport.proofs.SliceTables.{cut_table, cut_there, narrowed_keys, narrowed_table}
+use Rattle.table_update.{specs.Coalesced.key_pairs, proofs.KeysAfter.rules_kept}
+use Rattle.tick_laws.{specs.Replaced.no_update, proofs.Carried.pairs-between, proofs.OperatorTicks.all_both_in, proofs.SourceTicks.unchanged_tick, proofs.WholeUpdates.between-unchanged}
+use Rattle.tick_model.{specs.declared.table.PlainTable.PlainTable, specs.declared.update.KeyPair.KeyPair, specs.declared.update.ShiftRange.ShiftRange, specs.Rules.{landed, update_fault}, specs.Shifts.{as_key, moved, shifted}, specs.Sources.{same_key, unchanged}, specs.Tables.{IsTable, keys}, specs.Updates.{IsTick, Update, both_in, differs, kept_pair, new_keys, old_keys, pairs}}
+use Rattle.tick_table.{specs.Ticking.no_rows, proofs.Between.between_lawful}
+use Rattle.viewport.{specs.declared.slice.Slice.Slice, specs.Slices.{IsSlice, cut, narrowed}, specs.Standing.{IsStanding, kept_tick}, proofs.SliceTables.{cut_table, cut_there, narrowed_keys, narrowed_table}}
 
 module _ (slice : Slice) (last table : PlainTable) (kept : Update) (s : IsStanding slice last table kept) (t : IsTable table) where
   abbrev before : List ℕ

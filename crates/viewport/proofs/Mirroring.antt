@@ -1,20 +1,9 @@
 -- A mirror takes the changes of ticks.
 use Rattle.std.proofs.Common.{◌≡◌, refl, ap, sym, ◌∙◌, cond, ℕ, ◌*◌, ◌^◌, None, Some, Option, length, inl, inr, ◌⊎◌}
-use Rattle.std.specs.Prelude.{option_map}
-use Rattle.std.specs.Option.{option_or}
-use Rattle.std.proofs.lemmas.Bool.{eq-eqb}
-use Rattle.tick_model.specs.declared.table.PlainTable.{PlainTable}
-use Rattle.tick_model.specs.declared.update.UpdateFault.{UpdateFault}
-use Rattle.tick_model.specs.declared.update.UpdateFault.TheVariants.{Memory as NoMemory, RemovedAbsent, ShiftBreaks, AddedTaken, ModifiedAbsent, ModifiedAdded}
-use Rattle.tick_model.specs.Changes.{Change, change_of, told_keys}
-use Rattle.tick_model.specs.Rules.{update_fault}
-use Rattle.tick_model.specs.Tables.{keys}
-use Rattle.tick_model.specs.Updates.{Tick, IsTick}
-use Rattle.tick_table.proofs.Between.{between_lawful}
-use Rattle.tick_table.proofs.ExactAgain.{change_whole}
-use Rattle.viewport.specs.declared.mirror.MirrorFault.{MirrorFault}
-use Rattle.viewport.specs.declared.mirror.MirrorFault.TheVariants.{Memory, Update as ByUpdate, CellCount}
-use Rattle.viewport.specs.Mirrored.{count_fault, fault_of, mirror_fault}
+use Rattle.std.{specs.Prelude.option_map, specs.Option.option_or, proofs.lemmas.Bool.eq-eqb}
+use Rattle.tick_model.{specs.declared.table.PlainTable.PlainTable, specs.declared.update.UpdateFault.UpdateFault, specs.declared.update.UpdateFault.TheVariants.{Memory as NoMemory, RemovedAbsent, ShiftBreaks, AddedTaken, ModifiedAbsent, ModifiedAdded}, specs.Changes.{Change, change_of, told_keys}, specs.Rules.update_fault, specs.Tables.keys, specs.Updates.{Tick, IsTick}}
+use Rattle.tick_table.{proofs.Between.between_lawful, proofs.ExactAgain.change_whole}
+use Rattle.viewport.{specs.declared.mirror.MirrorFault.MirrorFault, specs.declared.mirror.MirrorFault.TheVariants.{Memory, Update as ByUpdate, CellCount}, specs.Mirrored.{count_fault, fault_of, mirror_fault}}
 
 pub whole_counts : (width : ℕ) (change : Change) → length change.cells ≡ length (told_keys change.update) * width → count_fault width change ≡ None
 whole_counts width change whole =

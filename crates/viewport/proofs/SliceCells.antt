@@ -1,16 +1,10 @@
 -- The rows of a slice are the table's, with the chosen columns.
 use Rattle.std.proofs.Common.{◌≡◌, refl, ap, sym, ◌∙◌, Bool, true, false, cond, ◌||◌, ℕ, zero, suc, ◌<◌, List, [], ◌∷◌, map, take, drop, Some, Option, ◌==◌, true≢false}
 use Rattle.std.specs.Prelude.{option_map, unwrap_or}
-use Rattle.key_lists.specs.Keys.{is_among, IsRising}
-use Rattle.key_lists.proofs.Among.{of_among}
+use Rattle.key_lists.{specs.Keys.{is_among, IsRising}, proofs.Among.of_among}
 use Rattle.tick_laws.proofs.OperatorTicks.{keys_mapped}
-use Rattle.tick_model.specs.declared.table.PlainRow.{PlainRow}
-use Rattle.tick_model.specs.declared.table.PlainTable.{PlainTable}
-use Rattle.tick_model.specs.Slices.{chosen_cells}
-use Rattle.tick_model.specs.Tables.{IsTable, cell, cells_at, keys, row_at}
-use Rattle.tick_model.proofs.Among.{row_past}
-use Rattle.viewport.specs.declared.slice.Slice.{Slice}
-use Rattle.viewport.specs.Slices.{cut}
+use Rattle.tick_model.{specs.declared.table.PlainRow.PlainRow, specs.declared.table.PlainTable.PlainTable, specs.Slices.chosen_cells, specs.Tables.{IsTable, cell, cells_at, keys, row_at}, proofs.Among.row_past}
+use Rattle.viewport.{specs.declared.slice.Slice.Slice, specs.Slices.cut}
 
 -- a row of the first ones, and a row of those behind a position
 pub record IsHere (key : ℕ) (some rows : List PlainRow) : Type 0 where

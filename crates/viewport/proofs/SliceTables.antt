@@ -1,20 +1,10 @@
 -- Slices of a table, and the table with some of its columns, are tables.
 use Rattle.std.proofs.Common.{◌≡◌, refl, ap, sym, ◌∙◌, subst, true, ℕ, ◌+◌, ◌≤◌, ◌<◌, arith, List, [], ◌∷◌, take, drop, length}
-use Rattle.std.specs.List.{AllByRecursion}
-use Rattle.std.proofs.lemmas.List.{drop-map, length-map, take-map}
-use Rattle.key_lists.specs.Keys.{is_among, IsRising}
-use Rattle.key_lists.proofs.Among.{each_among}
-use Rattle.key_lists.proofs.Every.{every, every_weaker}
-use Rattle.tick_laws.proofs.OperatorTicks.{keys_mapped}
-use Rattle.key_lists.proofs.Parts.{every-take, every-drop}
-use Rattle.tick_laws.proofs.ResultTables.{mapped_table}
-use Rattle.tick_laws.proofs.SliceTicks.{slice_table}
-use Rattle.tick_model.specs.declared.table.PlainRow.{PlainRow}
-use Rattle.tick_model.specs.declared.table.PlainTable.{PlainTable}
-use Rattle.tick_model.specs.Slices.{chosen_cells}
-use Rattle.tick_model.specs.Tables.{IsTable, cell, keys}
-use Rattle.viewport.specs.declared.slice.Slice.{Slice}
-use Rattle.viewport.specs.Slices.{AreColumns, cut, narrowed}
+use Rattle.std.{specs.List.AllByRecursion, proofs.lemmas.List.{drop-map, length-map, take-map}}
+use Rattle.key_lists.{specs.Keys.{is_among, IsRising}, proofs.Among.each_among, proofs.Every.{every, every_weaker}, proofs.Parts.{every-take, every-drop}}
+use Rattle.tick_laws.{proofs.OperatorTicks.keys_mapped, proofs.ResultTables.mapped_table, proofs.SliceTicks.slice_table}
+use Rattle.tick_model.{specs.declared.table.PlainRow.PlainRow, specs.declared.table.PlainTable.PlainTable, specs.Slices.chosen_cells, specs.Tables.{IsTable, cell, keys}}
+use Rattle.viewport.{specs.declared.slice.Slice.Slice, specs.Slices.{AreColumns, cut, narrowed}}
 
 pub narrowed_keys : (columns : List ℕ) (table : PlainTable) → keys (narrowed columns table).rows ≡ keys table.rows
 narrowed_keys columns table = keys_mapped (chosen_cells columns) table.rows (λ row. refl)

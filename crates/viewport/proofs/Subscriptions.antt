@@ -1,36 +1,11 @@
 -- What a subscription tells of a run, and what a mirror makes of it.
 use Rattle.std.proofs.Common.{◌≡◌, refl, ap, ap₂, sym, ◌∙◌, Bool, true, false, cond, ◌&&◌, ℕ, suc, ◌+◌, ◌<◌, ◌≤◌, ◌==◌, add-zero, arith, List, [], ◌∷◌, map, filter, length, Some, None, Option}
-use Rattle.std.specs.Prelude.{find}
-use Rattle.std.specs.List.{cons_option}
-use Rattle.key_lists.specs.Keys.{is_among}
-use Rattle.key_lists.proofs.Every.{every, filter_filter, filter_same, filter-map}
-use Rattle.key_lists.proofs.Rising.{as_filter}
-use Rattle.tick_laws.specs.Reached.{IsReached}
-use Rattle.tick_laws.proofs.Composed.{led}
-use Rattle.tick_laws.proofs.ReachedTables.{reached_tables}
-use Rattle.tick_laws.proofs.RunTicks.{lawful_ticks, reached_before}
-use Rattle.tick_laws.proofs.SliceTicks.{slice_carries, slice_first_tick, slice_is_tick}
-use Rattle.tick_laws.proofs.ToldRows.{change-carries}
-use Rattle.tick_model.specs.declared.feed.Run.{Run}
-use Rattle.tick_model.specs.declared.table.PlainTable.{PlainTable}
-use Rattle.tick_model.specs.declared.update.KeyPair.{KeyPair}
-use Rattle.tick_model.specs.Changes.{change_of, changed}
-use Rattle.tick_model.specs.Evaluation.{table_at}
-use Rattle.tick_model.specs.LawfulRuns.{IsLawfulRun}
-use Rattle.tick_model.specs.Shifts.{composed}
-use Rattle.tick_model.specs.Slices.{first_tick, kept_over, slice_tick}
-use Rattle.tick_model.specs.Sources.{same_key}
-use Rattle.tick_model.specs.States.{state, tick}
-use Rattle.tick_model.specs.Tables.{IsTable, keys}
-use Rattle.tick_model.specs.Updates.{Tick}
+use Rattle.std.{specs.Prelude.find, specs.List.cons_option}
+use Rattle.key_lists.{specs.Keys.is_among, proofs.Every.{every, filter_filter, filter_same, filter-map}, proofs.Rising.as_filter}
+use Rattle.tick_laws.{specs.Reached.IsReached, proofs.Composed.led, proofs.ReachedTables.reached_tables, proofs.RunTicks.{lawful_ticks, reached_before}, proofs.SliceTicks.{slice_carries, slice_first_tick, slice_is_tick}, proofs.ToldRows.change-carries}
+use Rattle.tick_model.{specs.declared.feed.Run.Run, specs.declared.table.PlainTable.PlainTable, specs.declared.update.KeyPair.KeyPair, specs.Changes.{change_of, changed}, specs.Evaluation.table_at, specs.LawfulRuns.IsLawfulRun, specs.Shifts.composed, specs.Slices.{first_tick, kept_over, slice_tick}, specs.Sources.same_key, specs.States.{state, tick}, specs.Tables.{IsTable, keys}, specs.Updates.Tick}
 use Rattle.tick_table.specs.Ticking.{no_rows}
-use Rattle.viewport.specs.declared.slice.Slice.{Slice}
-use Rattle.viewport.specs.Mirrored.{mirrored, unless}
-use Rattle.viewport.specs.Slices.{cut}
-use Rattle.viewport.specs.Subscribed.{last_step, later_messages, messages, watching_at}
-use Rattle.viewport.specs.Watching.{Watching, message_tick, passed, started}
-use Rattle.viewport.proofs.Mirroring.{tick_taken}
-use Rattle.viewport.proofs.SliceTables.{cut_table, cut_there}
+use Rattle.viewport.{specs.declared.slice.Slice.Slice, specs.Mirrored.{mirrored, unless}, specs.Slices.cut, specs.Subscribed.{last_step, later_messages, messages, watching_at}, specs.Watching.{Watching, message_tick, passed, started}, proofs.Mirroring.tick_taken, proofs.SliceTables.{cut_table, cut_there}}
 
 -- some pairs, chosen by their old keys, and led on
 module _ (p : ℕ → Bool) (next : List KeyPair) where

@@ -4,12 +4,7 @@
 --     first_two      the first two rows
 --     adding_of added shifted cells      a change that adds rows and moves others
 use Rattle.std.specs.Prelude.{ℕ, List, [], ◌∷◌, ℤ, pos}
-use Rattle.tick_model.specs.declared.table.PlainRow.{PlainRow}
-use Rattle.tick_model.specs.declared.table.PlainTable.{PlainTable}
-use Rattle.tick_model.specs.declared.update.KeyPair.{KeyPair}
-use Rattle.tick_model.specs.declared.update.ShiftRange.{ShiftRange}
-use Rattle.tick_model.specs.Changes.{Change}
-use Rattle.tick_model.specs.Updates.{Tick}
+use Rattle.tick_model.{specs.declared.table.PlainRow.PlainRow, specs.declared.table.PlainTable.PlainTable, specs.declared.update.KeyPair.KeyPair, specs.declared.update.ShiftRange.ShiftRange, specs.Changes.Change, specs.Updates.Tick}
 use Rattle.viewport.specs.declared.slice.Slice.{Slice}
 
 abbrev pub row : ℕ → ℕ → PlainRow

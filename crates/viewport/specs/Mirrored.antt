@@ -2,16 +2,9 @@
 --     fault_of fault      what a mirror answers where the check of an update gives this fault
 --     mirror_fault table change      why a change cannot be taken, where the mirror has these rows
 --     mirrored table changes      the rows after changes, one after the other, or none where one of them cannot be taken
-use Rattle.std.specs.Prelude.{ℕ, ◌*◌, ◌^◌, ◌==◌, List, [], ◌∷◌, length, Option, Some, None, option_map, if◌then◌else◌}
-use Rattle.std.specs.Option.{option_or}
-use Rattle.tick_model.specs.declared.table.PlainTable.{PlainTable}
-use Rattle.tick_model.specs.declared.update.UpdateFault.{UpdateFault}
-use Rattle.tick_model.specs.declared.update.UpdateFault.TheVariants.{Memory as NoMemory}
-use Rattle.tick_model.specs.Changes.{Change, changed, told_keys}
-use Rattle.tick_model.specs.Rules.{update_fault}
-use Rattle.tick_model.specs.Tables.{keys}
-use Rattle.viewport.specs.declared.mirror.MirrorFault.{MirrorFault}
-use Rattle.viewport.specs.declared.mirror.MirrorFault.TheVariants.{Memory, Update as ByUpdate, CellCount}
+use Rattle.std.{specs.Prelude.{ℕ, ◌*◌, ◌^◌, ◌==◌, List, [], ◌∷◌, length, Option, Some, None, option_map, if◌then◌else◌}, specs.Option.option_or}
+use Rattle.tick_model.{specs.declared.table.PlainTable.PlainTable, specs.declared.update.UpdateFault.UpdateFault, specs.declared.update.UpdateFault.TheVariants.Memory as NoMemory, specs.Changes.{Change, changed, told_keys}, specs.Rules.update_fault, specs.Tables.keys}
+use Rattle.viewport.{specs.declared.mirror.MirrorFault.MirrorFault, specs.declared.mirror.MirrorFault.TheVariants.{Memory, Update as ByUpdate, CellCount}}
 
 abbrev pub fault_of : UpdateFault → MirrorFault
 fault_of NoMemory = Memory

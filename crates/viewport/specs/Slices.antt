@@ -2,11 +2,9 @@
 --     cut slice table      the rows at its positions, with its columns alone
 --     narrowed columns table      all rows, with these columns alone
 --     IsSlice width slice      one that may be asked of a table of this width
-use Rattle.std.specs.Prelude.{ℕ, ◌<◌, ◌≤◌, List, length, map}
-use Rattle.std.specs.List.{AllByRecursion}
+use Rattle.std.{specs.Prelude.{ℕ, ◌<◌, ◌≤◌, List, length, map}, specs.List.AllByRecursion}
 use Rattle.key_lists.specs.Keys.{IsRising}
-use Rattle.tick_model.specs.declared.table.PlainTable.{PlainTable}
-use Rattle.tick_model.specs.Slices.{chosen_cells, slice}
+use Rattle.tick_model.{specs.declared.table.PlainTable.PlainTable, specs.Slices.{chosen_cells, slice}}
 use Rattle.viewport.specs.declared.slice.Slice.{Slice}
 
 abbrev pub cut : Slice → PlainTable → PlainTable

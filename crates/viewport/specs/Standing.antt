@@ -4,13 +4,8 @@
 use Rattle.std.specs.Prelude.{◌≡◌, ◌^◌, List, [], None}
 use Rattle.row_changes.specs.Parts.{tick_along}
 use Rattle.table_update.specs.Coalesced.{key_pairs}
-use Rattle.tick_model.specs.declared.table.PlainTable.{PlainTable}
-use Rattle.tick_model.specs.declared.update.KeyPair.{KeyPair}
-use Rattle.tick_model.specs.Rules.{update_fault}
-use Rattle.tick_model.specs.Tables.{keys}
-use Rattle.tick_model.specs.Updates.{Tick, IsTick, Update}
-use Rattle.viewport.specs.declared.slice.Slice.{Slice}
-use Rattle.viewport.specs.Slices.{IsSlice, narrowed}
+use Rattle.tick_model.{specs.declared.table.PlainTable.PlainTable, specs.declared.update.KeyPair.KeyPair, specs.Rules.update_fault, specs.Tables.keys, specs.Updates.{Tick, IsTick, Update}}
+use Rattle.viewport.{specs.declared.slice.Slice.Slice, specs.Slices.{IsSlice, narrowed}}
 
 abbrev pub kept_tick : Slice → PlainTable → PlainTable → List KeyPair → Tick
 kept_tick slice last table = tick_along last (narrowed slice.columns table)

@@ -4,15 +4,8 @@
 --     last_step step steps      the step of the last of them
 use Rattle.std.specs.Prelude.{ℕ, ◌+◌, List, [], ◌∷◌, filter}
 use Rattle.key_lists.specs.Keys.{is_among}
-use Rattle.tick_model.specs.declared.feed.Run.{Run}
-use Rattle.tick_model.specs.Changes.{Change, change_of}
-use Rattle.tick_model.specs.Evaluation.{table_at}
-use Rattle.tick_model.specs.Slices.{first_tick, kept_over, slice_tick}
-use Rattle.tick_model.specs.States.{state}
-use Rattle.tick_model.specs.Tables.{keys}
-use Rattle.viewport.specs.declared.slice.Slice.{Slice}
-use Rattle.viewport.specs.Slices.{cut}
-use Rattle.viewport.specs.Watching.{Watching}
+use Rattle.tick_model.{specs.declared.feed.Run.Run, specs.Changes.{Change, change_of}, specs.Evaluation.table_at, specs.Slices.{first_tick, kept_over, slice_tick}, specs.States.state, specs.Tables.keys}
+use Rattle.viewport.{specs.declared.slice.Slice.Slice, specs.Slices.cut, specs.Watching.Watching}
 
 abbrev pub watching_at : Run → ℕ → Slice → ℕ → ℕ → Watching
 watching_at run node slice step more =

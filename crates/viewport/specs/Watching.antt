@@ -4,14 +4,8 @@
 --     passed watching tick      after a step of the table
 --     message_tick watching      the tick of the next message, from the rows that the last one left to the slice now, along the rows that were kept and are in both
 use Rattle.std.specs.Prelude.{List, map}
-use Rattle.tick_model.specs.declared.table.PlainTable.{PlainTable}
-use Rattle.tick_model.specs.declared.update.KeyPair.{KeyPair}
-use Rattle.tick_model.specs.Shifts.{composed}
-use Rattle.tick_model.specs.Sources.{same_key}
-use Rattle.tick_model.specs.Tables.{keys}
-use Rattle.tick_model.specs.Updates.{Tick, both_in}
-use Rattle.viewport.specs.declared.slice.Slice.{Slice}
-use Rattle.viewport.specs.Slices.{cut}
+use Rattle.tick_model.{specs.declared.table.PlainTable.PlainTable, specs.declared.update.KeyPair.KeyPair, specs.Shifts.composed, specs.Sources.same_key, specs.Tables.keys, specs.Updates.{Tick, both_in}}
+use Rattle.viewport.{specs.declared.slice.Slice.Slice, specs.Slices.cut}
 
 pub record Watching : Type 0 where
   pub slice : Slice

@@ -1,15 +1,9 @@
 -- The messages that are still to come, step by step.
 use Rattle.std.proofs.Common.{◌≡◌, refl, sym, ap, ◌∙◌, ℕ, zero, suc, ◌+◌, ◌-◌, ◌<◌, ◌≤◌, ◌==◌, ◌++◌, arith, Bool, true, false, cond, List, [], ◌∷◌, Option, Some, None}
-use Rattle.std.proofs.lemmas.Bool.{eq-eqb, ne_eqb}
-use Rattle.std.proofs.lemmas.Grind.{flat_map-append}
-use Rattle.std.proofs.lemmas.List.{append-nil}
+use Rattle.std.{proofs.lemmas.Bool.{eq-eqb, ne_eqb}, proofs.lemmas.Grind.flat_map-append, proofs.lemmas.List.append-nil}
 use Rattle.replay.specs.ToCome.{good_steps}
-use Rattle.tick_model.specs.declared.feed.Run.{Run}
-use Rattle.tick_model.specs.Spoiled.{first_spoiled, step_before}
-use Rattle.tick_model.specs.Texts.{record_text, records_text}
-use Rattle.watched_run.specs.declared.watch.Watch.{Watch}
-use Rattle.watched_run.specs.Messages.{first_records, gaps, later_records, message_records, watch_text}
-use Rattle.watched_run.specs.ToCome.{rest_text, text_from}
+use Rattle.tick_model.{specs.declared.feed.Run.Run, specs.Spoiled.{first_spoiled, step_before}, specs.Texts.{record_text, records_text}}
+use Rattle.watched_run.{specs.declared.watch.Watch.Watch, specs.Messages.{first_records, gaps, later_records, message_records, watch_text}, specs.ToCome.{rest_text, text_from}}
 
 module _ (run : Run) (watch : Watch) where
   abbrev later : ℕ → List ℕ → List ℕ

@@ -2,15 +2,10 @@
 use Rattle.std.proofs.Common.{◌≡◌, sym, ap, ◌∙◌, subst, ℕ, suc, ◌+◌, ◌<◌, ◌≤◌, ◌^◌, arith, length, Option, Some, None}
 use Rattle.std.specs.Prelude.{MatchOption}
 use Rattle.tick_laws.specs.Reached.{IsReached}
-use Rattle.tick_model.specs.declared.feed.Run.{Run}
-use Rattle.tick_model.specs.Evaluation.{table_at}
-use Rattle.tick_model.specs.LawfulRuns.{IsLawfulRun}
-use Rattle.tick_model.specs.States.{state, tick}
-use Rattle.tick_table.specs.Exact.{ticking}
-use Rattle.tick_table.specs.Ticking.{Ticking}
+use Rattle.tick_model.{specs.declared.feed.Run.Run, specs.Evaluation.table_at, specs.LawfulRuns.IsLawfulRun, specs.States.{state, tick}}
+use Rattle.tick_table.{specs.Exact.ticking, specs.Ticking.Ticking}
 use Rattle.replay.proofs.TablesInTurn.{table_now}
-use Rattle.watched_run.specs.declared.watch.Watch.{Watch}
-use Rattle.watched_run.specs.Messages.{IsWatch}
+use Rattle.watched_run.{specs.declared.watch.Watch.Watch, specs.Messages.IsWatch}
 
 module _ (run : Run) (watch : Watch) (w : IsWatch run watch) where
   pub node_of : (other : Run) → other ≡ run → watch.node < length other.plan.nodes

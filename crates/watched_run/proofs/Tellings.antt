@@ -1,25 +1,12 @@
 -- One message, to the mirror and in print.
 use Rattle.std.proofs.Common.{◌≡◌, refl, sym, ap, ◌∙◌, subst, ℕ, List, length, inl, inr, ◌⊎◌, Option, Some, None}
 use Rattle.tick_laws.proofs.PrintedChanges.{change_printable}
-use Rattle.tick_model.specs.declared.plan.ColumnSpec.{ColumnSpec}
-use Rattle.tick_model.specs.declared.table.PlainTable.{PlainTable}
-use Rattle.tick_model.specs.Changes.{Change, change_of}
-use Rattle.tick_model.specs.Printable.{IsPrintable}
-use Rattle.tick_model.specs.Texts.{change_records}
-use Rattle.tick_model.specs.Updates.{IsTick, Tick}
-use Rattle.tick_table.specs.Exact.{ticking}
-use Rattle.tick_table.specs.Ticking.{Ticking}
-use Rattle.update_text.specs.Told.{told_change}
-use Rattle.update_text.specs.declared.fault.WriteFault.{WriteFault}
-use Rattle.update_text.specs.declared.fault.WriteFault.TheVariants.{Memory as OutOfMemory, Failed}
-use Rattle.replay.specs.declared.outcome.Outcome.{Outcome}
-use Rattle.replay.specs.declared.outcome.Outcome.TheVariants.{Done, Memory, Kept, Feed, Node, Publish, Write}
-use Rattle.replay.specs.Outcomes.{IsTold}
-use Rattle.replay.specs.Stopped.{outcome_of_write}
-use Rattle.viewport.specs.declared.mirror.MirrorFault.{MirrorFault}
+use Rattle.tick_model.{specs.declared.plan.ColumnSpec.ColumnSpec, specs.declared.table.PlainTable.PlainTable, specs.Changes.{Change, change_of}, specs.Printable.IsPrintable, specs.Texts.change_records, specs.Updates.{IsTick, Tick}}
+use Rattle.tick_table.{specs.Exact.ticking, specs.Ticking.Ticking}
+use Rattle.update_text.{specs.Told.told_change, specs.declared.fault.WriteFault.WriteFault, specs.declared.fault.WriteFault.TheVariants.{Memory as OutOfMemory, Failed}}
+use Rattle.replay.{specs.declared.outcome.Outcome.Outcome, specs.declared.outcome.Outcome.TheVariants.{Done, Memory, Kept, Feed, Node, Publish, Write}, specs.Outcomes.IsTold, specs.Stopped.outcome_of_write}
+use Rattle.viewport.{specs.declared.mirror.MirrorFault.MirrorFault, specs.Mirrored.mirror_fault, proofs.Mirroring.tick_taken}
 use Rattle.viewport.specs.declared.mirror.MirrorFault.TheVariants as faults
-use Rattle.viewport.specs.Mirrored.{mirror_fault}
-use Rattle.viewport.proofs.Mirroring.{tick_taken}
 use Rattle.watched_run.specs.Told.{IsMessage}
 
 -- a failed write is no cause, and neither is want of memory

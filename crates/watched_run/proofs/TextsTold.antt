@@ -1,28 +1,10 @@
 -- What is written of the messages, step by step.
 use Rattle.std.proofs.Common.{◌≡◌, refl, sym, ap, ◌∙◌, subst, ℕ, zero, suc, ◌+◌, ◌<◌, ◌≤◌, ◌++◌, add-one, append_assoc, arith, length, List, [], Option, Some, None}
-use Rattle.std.specs.Prelude.{unwrap_or}
-use Rattle.std.specs.Io.KnownBytes.{append_known}
-use Rattle.tick_io.specs.Written.{AppendsPrefix}
-use Rattle.tick_io.proofs.Prefixes.{append_known-append_known, prefix_after, prefix_longer}
-use Rattle.tick_model.specs.declared.feed.Run.{Run}
-use Rattle.tick_model.specs.Spoiled.{first_spoiled, good, step_before}
-use Rattle.tick_model.specs.Texts.{records_text}
-use Rattle.replay.specs.declared.outcome.Outcome.{Outcome}
-use Rattle.replay.specs.declared.outcome.Outcome.TheVariants.{Done, Memory, Kept, Feed, Node, Publish, Write}
-use Rattle.replay.specs.Causes.{IsCause}
-use Rattle.replay.specs.Outcomes.{IsEnd}
-use Rattle.replay.specs.Standing.{IsGood}
-use Rattle.replay.specs.ToCome.{good_steps}
-use Rattle.replay.proofs.Exits.{nothing_appended}
-use Rattle.replay.proofs.Spoils.{AreGoodBefore, cause_spoils, good_before_next, none_good, none_is}
-use Rattle.replay.proofs.TextsToCome.{good_before}
-use Rattle.watched_run.specs.declared.steps.Watching.{Watching}
-use Rattle.watched_run.specs.declared.watch.Watch.{Watch}
-use Rattle.watched_run.specs.Messages.{first_records, message_records, watch_text}
-use Rattle.watched_run.specs.Standing.{GoesOn}
-use Rattle.watched_run.specs.Stopped.{IsStopped}
-use Rattle.watched_run.specs.ToCome.{rest_text, text_from, watch_until}
-use Rattle.watched_run.proofs.Gaps.{text_due, text_rests, text_waits, text_whole}
+use Rattle.std.{specs.Prelude.unwrap_or, specs.Io.KnownBytes.append_known}
+use Rattle.tick_io.{specs.Written.AppendsPrefix, proofs.Prefixes.{append_known-append_known, prefix_after, prefix_longer}}
+use Rattle.tick_model.{specs.declared.feed.Run.Run, specs.Spoiled.{first_spoiled, good, step_before}, specs.Texts.records_text}
+use Rattle.replay.{specs.declared.outcome.Outcome.Outcome, specs.declared.outcome.Outcome.TheVariants.{Done, Memory, Kept, Feed, Node, Publish, Write}, specs.Causes.IsCause, specs.Outcomes.IsEnd, specs.Standing.IsGood, specs.ToCome.good_steps, proofs.Exits.nothing_appended, proofs.Spoils.{AreGoodBefore, cause_spoils, good_before_next, none_good, none_is}, proofs.TextsToCome.good_before}
+use Rattle.watched_run.{specs.declared.steps.Watching.Watching, specs.declared.watch.Watch.Watch, specs.Messages.{first_records, message_records, watch_text}, specs.Standing.GoesOn, specs.Stopped.IsStopped, specs.ToCome.{rest_text, text_from, watch_until}, proofs.Gaps.{text_due, text_rests, text_waits, text_whole}}
 
 -- what spoils a step is no end of all steps
 pub stopped : (run : Run) (step : ℕ) (outcome : Outcome) → IsCause run step outcome → IsEnd run outcome → IsStopped run outcome

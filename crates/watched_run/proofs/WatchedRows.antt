@@ -1,40 +1,12 @@
 -- The watched rows of a run, and the changes that its messages tell.
 use Rattle.std.proofs.Common.{◌≡◌, refl, sym, ap, ◌∙◌, subst, ℕ, zero, suc, ◌+◌, ◌<◌, ◌≤◌, add-one, arith, List, map, take, drop, length, ℤ}
-use Rattle.std.specs.List.{AllByRecursion, range_with_len}
-use Rattle.std.proofs.lemmas.List.FromFn.{fill_by_all, length-range_with_len}
-use Rattle.key_lists.specs.Keys.{IsRising}
-use Rattle.key_lists.proofs.Every.{every-map, every_weaker}
-use Rattle.key_lists.proofs.Parts.{every-take, every-drop}
-use Rattle.tick_laws.specs.Fitting.{FitsColumns, HasColumns}
-use Rattle.tick_laws.specs.Reached.{IsReached, table_before}
-use Rattle.tick_laws.proofs.FittingNodes.{node_fits}
-use Rattle.tick_laws.proofs.LawfulSources.{length-fit_columns, rising_range}
-use Rattle.tick_laws.proofs.ReachedTables.{bounded_at, reached_tables}
-use Rattle.tick_laws.proofs.RunTicks.{lawful_ticks, reached_before}
-use Rattle.tick_laws.proofs.SliceTicks.{slice_carries, slice_first_tick, slice_is_tick}
-use Rattle.tick_laws.proofs.ToldRows.{change-carries}
-use Rattle.tick_model.specs.declared.feed.Run.{Run}
-use Rattle.tick_model.specs.declared.plan.ColumnSpec.{ColumnSpec}
-use Rattle.tick_model.specs.declared.table.PlainRow.{PlainRow}
-use Rattle.tick_model.specs.declared.table.PlainTable.{PlainTable}
-use Rattle.tick_model.specs.Changes.{Change, change_of, changed}
-use Rattle.tick_model.specs.Evaluation.{table_at}
-use Rattle.tick_model.specs.LawfulRuns.{IsLawfulRun}
-use Rattle.tick_model.specs.Slices.{chosen_cells, first_tick, slice_tick}
-use Rattle.tick_model.specs.States.{state, tick}
-use Rattle.tick_model.specs.Tables.{cell, null}
-use Rattle.tick_model.specs.Texts.{columns_at}
-use Rattle.tick_table.specs.Exact.{IsExact, tick_of, ticking}
-use Rattle.tick_table.specs.Ticking.{Ticking, no_rows}
-use Rattle.tick_table.proofs.ExactAgain.{exact_again, tick_again}
-use Rattle.viewport.specs.declared.slice.Slice.{Slice}
-use Rattle.viewport.specs.Slices.{IsSlice, cut}
-use Rattle.viewport.specs.Subscribed.{watching_at}
-use Rattle.viewport.specs.Watching.{Watching, message_tick, passed, started}
-use Rattle.viewport.proofs.Subscriptions.{message_is, pass_follows, start_follows}
-use Rattle.watched_run.specs.declared.watch.Watch.{Watch}
-use Rattle.watched_run.specs.Messages.{IsWatch, slice_of, slice_with}
-use Rattle.watched_run.specs.Told.{IsMessage}
+use Rattle.std.{specs.List.{AllByRecursion, range_with_len}, proofs.lemmas.List.FromFn.{fill_by_all, length-range_with_len}}
+use Rattle.key_lists.{specs.Keys.IsRising, proofs.Every.{every-map, every_weaker}, proofs.Parts.{every-take, every-drop}}
+use Rattle.tick_laws.{specs.Fitting.{FitsColumns, HasColumns}, specs.Reached.{IsReached, table_before}, proofs.FittingNodes.node_fits, proofs.LawfulSources.{length-fit_columns, rising_range}, proofs.ReachedTables.{bounded_at, reached_tables}, proofs.RunTicks.{lawful_ticks, reached_before}, proofs.SliceTicks.{slice_carries, slice_first_tick, slice_is_tick}, proofs.ToldRows.change-carries}
+use Rattle.tick_model.{specs.declared.feed.Run.Run, specs.declared.plan.ColumnSpec.ColumnSpec, specs.declared.table.PlainRow.PlainRow, specs.declared.table.PlainTable.PlainTable, specs.Changes.{Change, change_of, changed}, specs.Evaluation.table_at, specs.LawfulRuns.IsLawfulRun, specs.Slices.{chosen_cells, first_tick, slice_tick}, specs.States.{state, tick}, specs.Tables.{cell, null}, specs.Texts.columns_at}
+use Rattle.tick_table.{specs.Exact.{IsExact, tick_of, ticking}, specs.Ticking.{Ticking, no_rows}, proofs.ExactAgain.{exact_again, tick_again}}
+use Rattle.viewport.{specs.declared.slice.Slice.Slice, specs.Slices.{IsSlice, cut}, specs.Subscribed.watching_at, specs.Watching.{Watching, message_tick, passed, started}, proofs.Subscriptions.{message_is, pass_follows, start_follows}}
+use Rattle.watched_run.{specs.declared.watch.Watch.Watch, specs.Messages.{IsWatch, slice_of, slice_with}, specs.Told.IsMessage}
 
 -- all cells of a row, column by column
 cells_all : (cells : List ℤ) → map (cell cells) (range_with_len 0 (length cells)) ≡ cells

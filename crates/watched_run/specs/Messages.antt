@@ -2,15 +2,9 @@
 --     IsWatch run watch      the node is one of the run, and the numbers are in their ranges
 --     gaps every more left      the steps from each message to the next, where so many were taken since the last one, and so many are left to the last good step
 --     watch_text run watch last      the text of the messages up to a step: at the opening, after each so many steps, and at this step
-use Rattle.std.specs.Prelude.{ℕ, ◌+◌, ◌<◌, ◌≤◌, ◌==◌, zero, suc, List, [], ◌∷◌, ◌++◌, length, if◌then◌else◌}
-use Rattle.std.specs.List.{range_with_len}
-use Rattle.tick_model.specs.declared.feed.Run.{Run}
-use Rattle.tick_model.specs.Changes.{change_of}
-use Rattle.tick_model.specs.Slices.{first_tick, slice_tick}
-use Rattle.tick_model.specs.Texts.{change_records, columns_at, name_at, records_text}
-use Rattle.tick_model.specs.Updates.{Tick}
-use Rattle.viewport.specs.declared.slice.Slice.{Slice}
-use Rattle.viewport.specs.Slices.{cut}
+use Rattle.std.{specs.Prelude.{ℕ, ◌+◌, ◌<◌, ◌≤◌, ◌==◌, zero, suc, List, [], ◌∷◌, ◌++◌, length, if◌then◌else◌}, specs.List.range_with_len}
+use Rattle.tick_model.{specs.declared.feed.Run.Run, specs.Changes.change_of, specs.Slices.{first_tick, slice_tick}, specs.Texts.{change_records, columns_at, name_at, records_text}, specs.Updates.Tick}
+use Rattle.viewport.{specs.declared.slice.Slice.Slice, specs.Slices.cut}
 use Rattle.watched_run.specs.declared.watch.Watch.{Watch}
 
 pub record IsWatch (run : Run) (watch : Watch) : Type 0 where

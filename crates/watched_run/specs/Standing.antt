@@ -2,20 +2,11 @@
 --     IsTeller run watch teller      its messages up to the last one are told, and it has taken in the steps since
 --     IsWatchedAt run watch step watching      so it is at this step, which is good, and no message is due
 --     GoesOn run watch all old new watching      a part of the text that was to come was written, and the rest of it is to come
-use Rattle.std.specs.Prelude.{◌≡◌, ℕ, ◌+◌, ◌<◌, ◌++◌, List, Option}
-use Rattle.std.specs.Io.KnownBytes.{append_known}
-use Rattle.replay.specs.Printed.{printed_of}
-use Rattle.replay.specs.Standing.{IsGood}
-use Rattle.tick_model.specs.declared.feed.Run.{Run}
-use Rattle.tick_model.specs.Evaluation.{table_at}
-use Rattle.tick_model.specs.States.{state}
-use Rattle.viewport.specs.Slices.{cut}
-use Rattle.viewport.specs.Subscribed.{watching_at}
-use Rattle.watched_run.specs.declared.steps.Watching.{Watching}
-use Rattle.watched_run.specs.declared.teller.Teller.{Teller}
-use Rattle.watched_run.specs.declared.watch.Watch.{Watch}
-use Rattle.watched_run.specs.Messages.{slice_of}
-use Rattle.watched_run.specs.ToCome.{text_from}
+use Rattle.std.{specs.Prelude.{◌≡◌, ℕ, ◌+◌, ◌<◌, ◌++◌, List, Option}, specs.Io.KnownBytes.append_known}
+use Rattle.replay.{specs.Printed.printed_of, specs.Standing.IsGood}
+use Rattle.tick_model.{specs.declared.feed.Run.Run, specs.Evaluation.table_at, specs.States.state}
+use Rattle.viewport.{specs.Slices.cut, specs.Subscribed.watching_at}
+use Rattle.watched_run.{specs.declared.steps.Watching.Watching, specs.declared.teller.Teller.Teller, specs.declared.watch.Watch.Watch, specs.Messages.slice_of, specs.ToCome.text_from}
 
 pub record IsTeller (run : Run) (watch : Watch) (teller : Teller) : Type 0 where
   pub printed_is : teller.printed ≡ printed_of run watch.node

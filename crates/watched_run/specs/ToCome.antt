@@ -4,10 +4,8 @@
 --     watch_until run watch last      the messages up to the last good step, and none where there is no good step
 use Rattle.std.specs.Prelude.{ℕ, ◌+◌, ◌-◌, suc, List, [], Option, Some, None}
 use Rattle.replay.specs.ToCome.{good_steps}
-use Rattle.tick_model.specs.declared.feed.Run.{Run}
-use Rattle.tick_model.specs.Texts.{records_text}
-use Rattle.watched_run.specs.declared.watch.Watch.{Watch}
-use Rattle.watched_run.specs.Messages.{gaps, later_records, watch_text}
+use Rattle.tick_model.{specs.declared.feed.Run.Run, specs.Texts.records_text}
+use Rattle.watched_run.{specs.declared.watch.Watch.Watch, specs.Messages.{gaps, later_records, watch_text}}
 
 abbrev pub text_from : Run → Watch → ℕ → ℕ → List ℕ
 text_from run watch last more = records_text (later_records run watch last (gaps watch.every more (good_steps run - suc (last + more))))

@@ -2,10 +2,7 @@
 --     IsMessage columns texts old message      the change of a tick from these rows, whose new rows fit the columns
 use Rattle.std.specs.Prelude.{◌≡◌, ℕ, List, length}
 use Rattle.tick_laws.specs.Fitting.{HasColumns}
-use Rattle.tick_model.specs.declared.plan.ColumnSpec.{ColumnSpec}
-use Rattle.tick_model.specs.declared.table.PlainTable.{PlainTable}
-use Rattle.tick_model.specs.Changes.{Change, change_of}
-use Rattle.tick_model.specs.Updates.{IsTick, Tick}
+use Rattle.tick_model.{specs.declared.plan.ColumnSpec.ColumnSpec, specs.declared.table.PlainTable.PlainTable, specs.Changes.{Change, change_of}, specs.Updates.{IsTick, Tick}}
 
 pub record IsMessage (columns : List ColumnSpec) (texts : ℕ) (old : PlainTable) (message : Change) : Type 0 where
   pub tick : Tick

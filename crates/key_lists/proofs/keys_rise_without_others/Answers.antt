@@ -1,6 +1,5 @@
 use Rattle.std.specs.Prelude.{not}
-use Rattle.key_lists.specs.Keys.{is_among}
-use Rattle.key_lists.proofs.Rising.{rising_some}
+use Rattle.key_lists.{specs.Keys.is_among, proofs.Rising.rising_some}
 use Rattle.key_lists.proofs.keys_rise_without_others.Goals as goal
 
 pub returns : goal.returns

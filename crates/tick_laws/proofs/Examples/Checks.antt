@@ -1,11 +1,8 @@
 -- An update that is checked against the keys of a table.
 use Rattle.std.proofs.Common.{◌≡◌, refl, ℕ, List, [], ◌∷◌, negsuc, Some}
 use Rattle.key_lists.specs.Keys.{IsRising}
-use Rattle.tick_model.specs.declared.update.UpdateFault.TheVariants.{AddedTaken}
-use Rattle.tick_model.specs.Rules.{update_fault}
-use Rattle.tick_model.specs.Updates.{Update}
-use Rattle.tick_laws.specs.Checked.{IsChecked, keys_after}
-use Rattle.tick_laws.proofs.CheckedUpdates.{keys_after-rise}
+use Rattle.tick_model.{specs.declared.update.UpdateFault.TheVariants.AddedTaken, specs.Rules.update_fault, specs.Updates.Update}
+use Rattle.tick_laws.{specs.Checked.{IsChecked, keys_after}, proofs.CheckedUpdates.keys_after-rise}
 
 abbrev old : List ℕ
 old = 1 ∷ 2 ∷ 5 ∷ []

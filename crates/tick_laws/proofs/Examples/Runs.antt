@@ -1,31 +1,8 @@
 -- A lawful run of one step, and what the laws say of it.
 use Rattle.std.proofs.Common.{◌≡◌, refl, ℕ, true, List, [], ◌∷◌, ℤ, pos, Some, arith, lit<, lit≤}
-use Rattle.std.specs.Prelude.{codes}
-use Rattle.std.proofs.lemmas.Int.{ints}
-use Rattle.tick_model.specs.declared.feed.Block.{Block}
-use Rattle.tick_model.specs.declared.feed.Run.{Run}
-use Rattle.tick_model.specs.declared.plan.ColumnSpec.{ColumnSpec}
-use Rattle.tick_model.specs.declared.plan.Expr.{Rank}
-use Rattle.tick_model.specs.declared.plan.Kind.{Kind}
-use Rattle.tick_model.specs.declared.plan.Kind.TheVariants.{Long, Text}
-use Rattle.tick_model.specs.declared.plan.Node.{Node}
-use Rattle.tick_model.specs.declared.plan.Op.{Op}
-use Rattle.tick_model.specs.declared.plan.Op.TheVariants.{Source, View, Merge, Sort}
-use Rattle.tick_model.specs.declared.plan.Plan.{Plan}
-use Rattle.tick_model.specs.declared.table.PlainRow.{PlainRow}
-use Rattle.tick_model.specs.declared.table.PlainTable.{PlainTable}
-use Rattle.tick_model.specs.Tables.{null}
-use Rattle.tick_model.specs.Changes.{change_of, changed}
-use Rattle.tick_model.specs.LawfulRuns.{IsLawfulRun}
-use Rattle.tick_model.specs.Printable.{IsPrintable}
-use Rattle.tick_model.specs.Slices.{slice, slice_tick}
-use Rattle.tick_model.specs.Spoiled.{good}
-use Rattle.tick_model.specs.States.{state, tick}
-use Rattle.tick_model.specs.Evaluation.{table_at}
-use Rattle.tick_laws.specs.Reached.{IsReached}
-use Rattle.tick_laws.proofs.FittingNodes.{node_printable}
-use Rattle.tick_laws.proofs.GoodSteps.{good_reached}
-use Rattle.tick_laws.proofs.SliceTicks.{slice_carries}
+use Rattle.std.{specs.Prelude.codes, proofs.lemmas.Int.ints}
+use Rattle.tick_model.{specs.declared.feed.Block.Block, specs.declared.feed.Run.Run, specs.declared.plan.ColumnSpec.ColumnSpec, specs.declared.plan.Expr.Rank, specs.declared.plan.Kind.Kind, specs.declared.plan.Kind.TheVariants.{Long, Text}, specs.declared.plan.Node.Node, specs.declared.plan.Op.Op, specs.declared.plan.Op.TheVariants.{Source, View, Merge, Sort}, specs.declared.plan.Plan.Plan, specs.declared.table.PlainRow.PlainRow, specs.declared.table.PlainTable.PlainTable, specs.Tables.null, specs.Changes.{change_of, changed}, specs.LawfulRuns.IsLawfulRun, specs.Printable.IsPrintable, specs.Slices.{slice, slice_tick}, specs.Spoiled.good, specs.States.{state, tick}, specs.Evaluation.table_at}
+use Rattle.tick_laws.{specs.Reached.IsReached, proofs.FittingNodes.node_printable, proofs.GoodSteps.good_reached, proofs.SliceTicks.slice_carries}
 
 abbrev column : List ℕ → Kind → ColumnSpec
 column name kind = record { name = name; kind = kind }

@@ -1,18 +1,7 @@
 -- A tick in which a row leaves, one comes, one is modified and two move.
 use Rattle.std.proofs.Common.{◌≡◌, refl, ℕ, List, [], ◌∷◌, pos, lit<, lit≤}
-use Rattle.tick_model.specs.declared.plan.Op.TheVariants.{Merge}
-use Rattle.tick_model.specs.declared.table.PlainRow.{PlainRow}
-use Rattle.tick_model.specs.declared.table.PlainTable.{PlainTable}
-use Rattle.tick_model.specs.declared.update.KeyPair.{KeyPair}
-use Rattle.tick_model.specs.Tables.{IsTable, keys}
-use Rattle.tick_model.specs.Shifts.{composed}
-use Rattle.tick_model.specs.Updates.{Tick, IsTick, Update, between, pairs}
-use Rattle.tick_model.specs.Changes.{change_of, changed}
-use Rattle.tick_model.specs.Operators.{result}
-use Rattle.tick_laws.specs.Room.{HasRoom}
-use Rattle.tick_laws.proofs.ComposedThrice.{composed-associative}
-use Rattle.tick_laws.proofs.ResultTables.{result_table}
-use Rattle.tick_laws.proofs.ToldRows.{change-carries}
+use Rattle.tick_model.{specs.declared.plan.Op.TheVariants.Merge, specs.declared.table.PlainRow.PlainRow, specs.declared.table.PlainTable.PlainTable, specs.declared.update.KeyPair.KeyPair, specs.Tables.{IsTable, keys}, specs.Shifts.composed, specs.Updates.{Tick, IsTick, Update, between, pairs}, specs.Changes.{change_of, changed}, specs.Operators.result}
+use Rattle.tick_laws.{specs.Room.HasRoom, proofs.ComposedThrice.composed-associative, proofs.ResultTables.result_table, proofs.ToldRows.change-carries}
 
 abbrev row : ℕ → ℕ → PlainRow
 row key value = record { key = key; cells = pos value ∷ [] }

@@ -1,15 +1,6 @@
 -- Joins that choose a match, an as-of join of equal times, and steps of several blocks.
 use Rattle.std.proofs.Common.{◌≡◌, refl, [], ◌∷◌, pos, Some}
-use Rattle.tick_model.specs.declared.feed.Run.{Run}
-use Rattle.tick_model.specs.declared.plan.Choice.{Choice}
-use Rattle.tick_model.specs.declared.plan.Choice.TheVariants.{First, Last}
-use Rattle.tick_model.specs.declared.plan.Op.TheVariants.{Source, Join, AsOf}
-use Rattle.tick_model.specs.Tables.{null}
-use Rattle.tick_model.specs.declared.update.FeedRule.TheVariants.{Update}
-use Rattle.tick_model.specs.declared.update.UpdateFault.TheVariants.{AddedTaken}
-use Rattle.tick_model.specs.Spoiled.{ByBatch, spoiled_by}
-use Rattle.tick_model.specs.States.{tick}
-use Rattle.tick_model.proofs.Examples.Rows.{a, r, t, step_of, long, node, empty, run_of, update, shown}
+use Rattle.tick_model.{specs.declared.feed.Run.Run, specs.declared.plan.Choice.Choice, specs.declared.plan.Choice.TheVariants.{First, Last}, specs.declared.plan.Op.TheVariants.{Source, Join, AsOf}, specs.Tables.null, specs.declared.update.FeedRule.TheVariants.Update, specs.declared.update.UpdateFault.TheVariants.AddedTaken, specs.Spoiled.{ByBatch, spoiled_by}, specs.States.tick, proofs.Examples.Rows.{a, r, t, step_of, long, node, empty, run_of, update, shown}}
 
 abbrev twins : Choice → Run
 twins choice = run_of (node (long ∷ []) Source ∷ node (long ∷ long ∷ []) Source ∷ node (long ∷ long ∷ []) (Join 0 1 (record { left = 0; right = 0 } ∷ []) (1 ∷ []) choice) ∷ []) (empty 1 ∷ empty 2 ∷ [])

@@ -1,17 +1,7 @@
 -- Updates of each operator, from small runs.
 use Rattle.std.proofs.Common.{◌≡◌, refl, ◌-◌, ◌^◌, true, Box, Global, List, [], ◌∷◌, pos, negsuc}
-use Rattle.tick_model.specs.declared.feed.Batch.{Batch}
-use Rattle.tick_model.specs.declared.feed.Run.{Run}
-use Rattle.tick_model.specs.declared.plan.Op.TheVariants.{Source, Keep, View, Join, Agg, Merge, Sort, Head, AsOf}
-use Rattle.tick_model.specs.declared.plan.Agg.TheVariants.{Sum}
-use Rattle.tick_model.specs.declared.plan.Choice.TheVariants.{Error}
-use Rattle.tick_model.specs.declared.plan.Comparison.TheVariants.{Gt}
-use Rattle.tick_model.specs.declared.plan.Expr.{Cell, Number, Add'}
-use Rattle.tick_model.specs.declared.plan.Pred.{Compare}
-use Rattle.tick_model.specs.Tables.{null}
-use Rattle.tick_model.specs.States.{tick}
+use Rattle.tick_model.{specs.declared.feed.Batch.Batch, specs.declared.feed.Run.Run, specs.declared.plan.Op.TheVariants.{Source, Keep, View, Join, Agg, Merge, Sort, Head, AsOf}, specs.declared.plan.Agg.TheVariants.Sum, specs.declared.plan.Choice.TheVariants.Error, specs.declared.plan.Comparison.TheVariants.Gt, specs.declared.plan.Expr.{Cell, Number, Add'}, specs.declared.plan.Pred.Compare, specs.Tables.null, specs.States.tick, proofs.Examples.Rows.{a, r, s, t, step_of, long, node, empty, run_of, update, shown}}
 use Rattle.std.specs.Int.{int_wrap}
-use Rattle.tick_model.proofs.Examples.Rows.{a, r, s, t, step_of, long, node, empty, run_of, update, shown}
 
 -- a table of one column alone
 abbrev alone : List Batch → Run

@@ -1,19 +1,7 @@
 -- The text of runs: updates, quoted fields, snapshots and the summary.
 use Rattle.std.proofs.Common.{◌≡◌, refl, ℕ, List, [], ◌∷◌, ◌++◌, pos}
-use Rattle.std.specs.Prelude.{codes, length}
-use Rattle.std.specs.Fmt.{digits}
-use Rattle.tick_model.specs.declared.feed.Run.{Run}
-use Rattle.tick_model.specs.declared.plan.ColumnSpec.{ColumnSpec}
-use Rattle.tick_model.specs.declared.plan.Comparison.TheVariants.{Gt}
-use Rattle.tick_model.specs.declared.plan.Expr.{Cell, Number}
-use Rattle.tick_model.specs.declared.plan.Kind.TheVariants.{Long, Text}
-use Rattle.tick_model.specs.declared.plan.Node.{Node}
-use Rattle.tick_model.specs.declared.plan.Op.{Op}
-use Rattle.tick_model.specs.declared.plan.Op.TheVariants.{Source, Keep}
-use Rattle.tick_model.specs.declared.plan.Plan.{Plan}
-use Rattle.tick_model.specs.declared.plan.Pred.{Compare}
-use Rattle.tick_model.specs.Texts.{updates_text, updates_records, snapshots_text, summary_text}
-use Rattle.tick_model.proofs.Examples.Rows.{a, r, s, t, step_of, empty}
+use Rattle.std.{specs.Prelude.{codes, length}, specs.Fmt.digits}
+use Rattle.tick_model.{specs.declared.feed.Run.Run, specs.declared.plan.ColumnSpec.ColumnSpec, specs.declared.plan.Comparison.TheVariants.Gt, specs.declared.plan.Expr.{Cell, Number}, specs.declared.plan.Kind.TheVariants.{Long, Text}, specs.declared.plan.Node.Node, specs.declared.plan.Op.Op, specs.declared.plan.Op.TheVariants.{Source, Keep}, specs.declared.plan.Plan.Plan, specs.declared.plan.Pred.Compare, specs.Texts.{updates_text, updates_records, snapshots_text, summary_text}, proofs.Examples.Rows.{a, r, s, t, step_of, empty}}
 
 -- a line of text: the codes and a line feed
 abbrev line : List ℕ → List ℕ

@@ -1,18 +1,6 @@
 -- Short forms for the examples.
 use Rattle.std.proofs.Common.{ℕ, List, [], ℤ}
-use Rattle.tick_model.specs.declared.feed.Batch.{Batch}
-use Rattle.tick_model.specs.declared.feed.Block.{Block}
-use Rattle.tick_model.specs.declared.update.KeyRange.{KeyRange}
-use Rattle.tick_model.specs.declared.feed.Run.{Run}
-use Rattle.tick_model.specs.declared.update.ShiftRange.{ShiftRange}
-use Rattle.tick_model.specs.declared.plan.ColumnSpec.{ColumnSpec}
-use Rattle.tick_model.specs.declared.plan.Kind.TheVariants.{Long}
-use Rattle.tick_model.specs.declared.plan.Node.{Node}
-use Rattle.tick_model.specs.declared.plan.Op.{Op}
-use Rattle.tick_model.specs.declared.plan.Plan.{Plan}
-use Rattle.tick_model.specs.declared.table.PlainRow.{PlainRow}
-use Rattle.tick_model.specs.declared.table.PlainTable.{PlainTable}
-use Rattle.tick_model.specs.Updates.{Tick, Update, between, told}
+use Rattle.tick_model.{specs.declared.feed.Batch.Batch, specs.declared.feed.Block.Block, specs.declared.update.KeyRange.KeyRange, specs.declared.feed.Run.Run, specs.declared.update.ShiftRange.ShiftRange, specs.declared.plan.ColumnSpec.ColumnSpec, specs.declared.plan.Kind.TheVariants.Long, specs.declared.plan.Node.Node, specs.declared.plan.Op.Op, specs.declared.plan.Plan.Plan, specs.declared.table.PlainRow.PlainRow, specs.declared.table.PlainTable.PlainTable, specs.Updates.{Tick, Update, between, told}}
 
 abbrev pub a : ℕ → List ℤ → PlainRow
 a key cells = record { key = key; cells = cells }

@@ -1,13 +1,6 @@
 -- Runs that come to a spoiled step.
 use Rattle.std.proofs.Common.{◌≡◌, refl, [], ◌∷◌, pos, Some}
-use Rattle.tick_model.specs.declared.feed.Run.{Run}
-use Rattle.tick_model.specs.declared.plan.Op.TheVariants.{Source, Join}
-use Rattle.tick_model.specs.declared.plan.Choice.TheVariants.{Error}
-use Rattle.tick_model.specs.declared.table.NodeFault.TheVariants.{DuplicateRight}
-use Rattle.tick_model.specs.declared.update.FeedRule.TheVariants.{Update}
-use Rattle.tick_model.specs.declared.update.UpdateFault.TheVariants.{ShiftBreaks}
-use Rattle.tick_model.specs.Spoiled.{ByBatch, ByNode, spoiled_by, good}
-use Rattle.tick_model.proofs.Examples.Rows.{a, s, t, step_of, long, node, empty, run_of}
+use Rattle.tick_model.{specs.declared.feed.Run.Run, specs.declared.plan.Op.TheVariants.{Source, Join}, specs.declared.plan.Choice.TheVariants.Error, specs.declared.table.NodeFault.TheVariants.DuplicateRight, specs.declared.update.FeedRule.TheVariants.Update, specs.declared.update.UpdateFault.TheVariants.ShiftBreaks, specs.Spoiled.{ByBatch, ByNode, spoiled_by, good}, proofs.Examples.Rows.{a, s, t, step_of, long, node, empty, run_of}}
 
 abbrev twins : Run
 twins = run_of (node (long ∷ []) Source ∷ node (long ∷ long ∷ []) Source ∷ node (long ∷ long ∷ []) (Join 0 1 (record { left = 0; right = 0 } ∷ []) (1 ∷ []) Error) ∷ []) (empty 1 ∷ empty 2 ∷ [])

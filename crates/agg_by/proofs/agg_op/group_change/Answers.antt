@@ -1,17 +1,10 @@
 use Rattle.std.proofs.Common.{◌≡◌, sym, ◌∙◌, ap, ap₂, subst, ◌+◌, List, ℕ, length}
 use Rattle.std.proofs.lemmas.Result.{IfOk-weaker}
 use Rattle.key_lists.specs.Keys.{without}
-use Rattle.row_changes.specs.Parts.{Parts, AreParts, tick_along}
-use Rattle.row_changes.proofs.MadeChange.{parts_there}
+use Rattle.row_changes.{specs.Parts.{Parts, AreParts, tick_along}, proofs.MadeChange.parts_there}
 use Rattle.shift_data.specs.Moves.{IsLawful, canonical}
-use Rattle.tick_model.specs.declared.update.KeyPair.{KeyPair}
-use Rattle.tick_model.specs.declared.update.ShiftRange.{ShiftRange}
-use Rattle.tick_model.specs.Agg.{agg_table}
-use Rattle.tick_model.specs.Changes.{change_of}
-use Rattle.tick_model.specs.Updates.{Update, between, new_keys, old_keys}
-use Rattle.agg_by.specs.Steps.{staying}
-use Rattle.agg_by.proofs.GroupParts.{parts_are, removed_is, shift_lawful, tick}
-use Rattle.agg_by.proofs.Whole.{change_reads, read_few}
+use Rattle.tick_model.{specs.declared.update.KeyPair.KeyPair, specs.declared.update.ShiftRange.ShiftRange, specs.Agg.agg_table, specs.Changes.change_of, specs.Updates.{Update, between, new_keys, old_keys}}
+use Rattle.agg_by.{specs.Steps.staying, proofs.GroupParts.{parts_are, removed_is, shift_lawful, tick}, proofs.Whole.{change_reads, read_few}}
 use Rattle.agg_by.proofs.agg_op.group_change.Goals as goal
 
 pub canonical_without-requires : goal.canonical_without-requires

@@ -2,17 +2,9 @@ use Rattle.std.proofs.Common.{◌≡◌, ap, ap₂, sym, ◌∙◌, subst, arith
 use Rattle.std.specs.List.{AllByRecursion, list_any}
 use Rattle.row_groups.specs.Members.{groups_of}
 use Rattle.tick_laws.specs.Checked.{keys_after}
-use Rattle.tick_model.specs.Agg.{agg_table}
-use Rattle.tick_model.specs.Changes.{Change, change_of}
-use Rattle.tick_model.specs.declared.plan.Agg.{Agg}
-use Rattle.tick_model.specs.Updates.{between}
+use Rattle.tick_model.{specs.Agg.agg_table, specs.Changes.{Change, change_of}, specs.declared.plan.Agg.Agg, specs.Updates.between}
 use Rattle.tick_table.specs.Exact.{tick_of}
-use Rattle.agg_by.specs.Aggregator.{IsColumn, grouped}
-use Rattle.agg_by.specs.Notes.{IsNoted}
-use Rattle.agg_by.specs.Steps.{first_keys, starts, touched_cells, touched_firsts}
-use Rattle.agg_by.specs.Touched.{starts_numbered}
-use Rattle.agg_by.proofs.GroupParts.{tick}
-use Rattle.agg_by.proofs.Whole.{begun_keeps, brought_reads, changed_reads, found_firsts, shown_after, shown_lawful, within_all}
+use Rattle.agg_by.{specs.Aggregator.{IsColumn, grouped}, specs.Notes.IsNoted, specs.Steps.{first_keys, starts, touched_cells, touched_firsts}, specs.Touched.starts_numbered, proofs.GroupParts.tick, proofs.Whole.{begun_keeps, brought_reads, changed_reads, found_firsts, shown_after, shown_lawful, within_all}}
 use Rattle.agg_by.proofs.agg_op.grouped_step.Goals as goal
 
 pub of-requires-clause-rows : goal.of-requires-clause-rows

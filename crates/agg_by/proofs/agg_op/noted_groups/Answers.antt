@@ -1,13 +1,9 @@
 use Rattle.std.proofs.Common.{◌≡◌, ap, sym, ◌∙◌, subst, true, arith, length}
-use Rattle.std.specs.List.{AllByRecursion, list_any}
-use Rattle.std.proofs.lemmas.Result.{IfOk-weaker}
+use Rattle.std.{specs.List.{AllByRecursion, list_any}, proofs.lemmas.Result.IfOk-weaker}
 use Rattle.key_lists.specs.Keys.{is_among}
 use Rattle.row_groups.specs.Members.{groups_of}
-use Rattle.agg_by.specs.declared.notes.Notes.{Notes}
-use Rattle.agg_by.specs.Steps.{first_keys, touched_firsts}
-use Rattle.agg_by.specs.Touched.{starts_numbered}
+use Rattle.agg_by.{specs.declared.notes.Notes.Notes, specs.Steps.{first_keys, touched_firsts}, specs.Touched.starts_numbered, proofs.Whole.{came_few, firsts_few, found_firsts, noted_reads, touched_there}}
 use Rattle.tick_table.specs.Exact.{counted}
-use Rattle.agg_by.proofs.Whole.{came_few, firsts_few, found_firsts, noted_reads, touched_there}
 use Rattle.agg_by.proofs.agg_op.noted_groups.Goals as goal
 
 pub note_before-requires-clause-numbers : goal.note_before-requires-clause-numbers

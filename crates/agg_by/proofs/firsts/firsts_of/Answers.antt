@@ -1,12 +1,9 @@
 use Rattle.row_groups.specs.Members.{groups_of, name_at}
 use Rattle.std.proofs.Common.{◌≡◌, sym, ap, ◌∙◌, ℕ, List, take, arith}
-use Rattle.std.specs.List.{list_any}
-use Rattle.std.proofs.lemmas.List.{take_all}
-use Rattle.std.proofs.lemmas.Result.{IfOk-weaker}
+use Rattle.std.{specs.List.list_any, proofs.lemmas.List.take_all, proofs.lemmas.Result.IfOk-weaker}
 use Rattle.key_lists.specs.Keys.{IsRising, is_among}
 use Rattle.row_set.specs.Sets.{IsKeySet}
-use Rattle.agg_by.specs.Touched.{starts_numbered}
-use Rattle.agg_by.proofs.FirstKeys.{some_small}
+use Rattle.agg_by.{specs.Touched.starts_numbered, proofs.FirstKeys.some_small}
 use Rattle.agg_by.proofs.firsts.firsts_of.Goals as goal
 
 pub put_first-requires : goal.put_first-requires

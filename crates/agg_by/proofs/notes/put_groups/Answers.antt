@@ -1,10 +1,8 @@
 use Rattle.std.proofs.Common.{◌≡◌, ap, sym, ◌∙◌, subst, arith, true, ◌++◌, ℕ, ℤ, List, length, append-nil, ◌≤◌, ◌+◌, ◌*◌}
 use Rattle.key_lists.specs.Keys.{is_among}
-use Rattle.row_changes.proofs.Comparing.{cells_next, reads_next, reads_within}
-use Rattle.row_changes.specs.Parts.{cells_under}
+use Rattle.row_changes.{proofs.Comparing.{cells_next, reads_next, reads_within}, specs.Parts.cells_under}
 use Rattle.row_set.proofs.Yielded.{next_has, yielded_all, yielded_next}
-use Rattle.tick_model.specs.Agg.{agg_table}
-use Rattle.tick_model.specs.Tables.{cells_at}
+use Rattle.tick_model.{specs.Agg.agg_table, specs.Tables.cells_at}
 use Rattle.agg_by.specs.Steps.{first_keys}
 use Rattle.agg_by.proofs.notes.put_groups.Goals as goal
 

@@ -1,6 +1,5 @@
 use Rattle.std.proofs.Common.{◌≡◌, ◌+◌, sym, subst, map, take, arith, [], ◌∷◌}
-use Rattle.std.specs.List.{AllByRecursion}
-use Rattle.std.proofs.lemmas.Grind.{common_steps}
+use Rattle.std.{specs.List.AllByRecursion, proofs.lemmas.Grind.common_steps}
 use Rattle.key_lists.proofs.Every.{every-append}
 use Rattle.agg_by.specs.Kept.{AnswerAll, Answers, agg_of}
 use Rattle.agg_by.proofs.running.begun.Goals as goal

@@ -1,6 +1,5 @@
 use Rattle.std.proofs.Common.{◌<◌, ap, ◌∙◌, arith, length, get_or, set}
-use Rattle.std.proofs.lemmas.List.{get_or_default}
-use Rattle.std.proofs.lemmas.List.Edits.{map_over_more}
+use Rattle.std.{proofs.lemmas.List.get_or_default, proofs.lemmas.List.Edits.map_over_more}
 use Rattle.agg_by.specs.Answers.{with_row}
 use Rattle.agg_by.proofs.running.put_all.Goals as goal
 

@@ -1,6 +1,5 @@
 use Rattle.std.proofs.Common.{◌≡◌, ◌+◌, ◌≤◌, ◌++◌, map, take}
-use Rattle.agg_by.specs.Answers.{answer}
-use Rattle.agg_by.specs.Moments.{table_at}
+use Rattle.agg_by.{specs.Answers.answer, specs.Moments.table_at}
 use Rattle.agg_by.proofs.running.put_values.Given as goal
 
 abbrev pub invariant-loop-running : goal.invariant-loop-running

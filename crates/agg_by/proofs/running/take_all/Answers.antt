@@ -1,9 +1,7 @@
 use Rattle.std.proofs.Common.{◌≡◌, ◌<◌, ap, ◌∙◌, refl, subst, sym, arith, ℕ, zero, suc, List, [], ◌∷◌, ◌++◌, length, map, get_or, set, take, drop}
-use Rattle.std.proofs.lemmas.List.{get_or_default}
-use Rattle.std.proofs.lemmas.List.Edits.{map_over_more}
+use Rattle.std.{proofs.lemmas.List.get_or_default, proofs.lemmas.List.Edits.map_over_more}
 use Rattle.key_lists.proofs.Every.{all_from}
-use Rattle.agg_by.specs.declared.running.Running.{Running}
-use Rattle.agg_by.specs.Answers.{HasRow, without_row}
+use Rattle.agg_by.{specs.declared.running.Running.Running, specs.Answers.{HasRow, without_row}}
 use Rattle.agg_by.proofs.running.take_all.Goals as goal
 
 -- what has its turn is as it was

@@ -1,19 +1,9 @@
 use Rattle.std.proofs.Common.{◌≡◌, ap, ap₂, sym, ◌∙◌, subst, ◌+◌, ◌<◌, ◌≤◌, ◌*◌, ◌^◌, ◌++◌, ◌∷◌, [], arith, true, not, ◌&&◌, List, ℕ, Some, length, length-append, map, filter}
-use Rattle.std.specs.List.{AllByRecursion}
-use Rattle.std.specs.Prelude.{slice_get}
-use Rattle.std.proofs.lemmas.Bool.{and_parts}
-use Rattle.std.proofs.lemmas.Option.{slice_get_within}
-use Rattle.key_lists.specs.Keys.{is_among, without}
-use Rattle.key_lists.proofs.Every.{every}
-use Rattle.key_lists.proofs.Parts.{get-append}
-use Rattle.key_lists.proofs.Rising.{rising_count}
+use Rattle.std.{specs.List.AllByRecursion, specs.Prelude.slice_get, proofs.lemmas.Bool.and_parts, proofs.lemmas.Option.slice_get_within}
+use Rattle.key_lists.{specs.Keys.{is_among, without}, proofs.Every.every, proofs.Parts.get-append, proofs.Rising.rising_count}
 use Rattle.row_set.proofs.Yielded.{next_has, yielded_all, yielded_next}
-use Rattle.tick_model.specs.Agg.{agg_table}
-use Rattle.tick_model.specs.declared.update.KeyPair.{KeyPair}
-use Rattle.tick_model.specs.Updates.{kept_pair, new_keys, old_keys}
-use Rattle.agg_by.specs.Steps.{first_keys, stays}
-use Rattle.agg_by.proofs.Noting.{noted_at, noted_room, room_at}
-use Rattle.agg_by.proofs.StayingRows.{chosen_is, first_there, firsts_there, is_false, lands_small, lesser_new, lesser_old, none_chosen, small_row, staying_none, staying_one, stays_on}
+use Rattle.tick_model.{specs.Agg.agg_table, specs.declared.update.KeyPair.KeyPair, specs.Updates.{kept_pair, new_keys, old_keys}}
+use Rattle.agg_by.{specs.Steps.{first_keys, stays}, proofs.Noting.{noted_at, noted_room, room_at}, proofs.StayingRows.{chosen_is, first_there, firsts_there, is_false, lands_small, lesser_new, lesser_old, none_chosen, small_row, staying_none, staying_one, stays_on}}
 use Rattle.agg_by.proofs.staying.staying_firsts.Goals as goal
 
 -- the next key is the one at the place that is counted

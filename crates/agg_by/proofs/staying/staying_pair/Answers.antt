@@ -1,14 +1,8 @@
 use Rattle.std.proofs.Common.{◌≡◌, refl, ap, sym, ◌∙◌, ◌^◌, true, false, List, ℕ, Some, None}
 use Rattle.key_lists.specs.Keys.{is_among}
 use Rattle.row_groups.specs.Members.{groups_of}
-use Rattle.tick_model.specs.declared.update.KeyPair.{KeyPair}
-use Rattle.tick_model.specs.declared.update.ShiftRange.{ShiftRange}
-use Rattle.tick_model.specs.Rules.{is_past}
-use Rattle.tick_model.specs.Shifts.{as_key, moved}
-use Rattle.tick_model.specs.Tables.{same_cells}
-use Rattle.tick_model.specs.Updates.{Update}
-use Rattle.agg_by.specs.Steps.{key_at, touched_firsts}
-use Rattle.agg_by.proofs.StayingRows.{all_three, begins_long, first_row_there, first_there, has_cells, lands, not_first, not_same, pair_when, small_row, stays_on}
+use Rattle.tick_model.{specs.declared.update.KeyPair.KeyPair, specs.declared.update.ShiftRange.ShiftRange, specs.Rules.is_past, specs.Shifts.{as_key, moved}, specs.Tables.same_cells, specs.Updates.Update}
+use Rattle.agg_by.{specs.Steps.{key_at, touched_firsts}, proofs.StayingRows.{all_three, begins_long, first_row_there, first_there, has_cells, lands, not_first, not_same, pair_when, small_row, stays_on}}
 use Rattle.agg_by.proofs.staying.staying_pair.Goals as goal
 
 pub landing-new-requires-clause-key : goal.landing-new-requires-clause-key

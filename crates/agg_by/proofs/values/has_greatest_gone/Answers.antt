@@ -1,9 +1,6 @@
 use Rattle.std.proofs.Common.{◌≡◌, ◌<◌, ◌∙◌, ap, refl, sym, rules, arith, Bool, true, false, eqb, int_eq, length, true≢false, to_z, of_z, w64, ℤ, FitsSigned}
-use Rattle.std.specs.Cmp.{signed_Decides}
-use Rattle.std.proofs.lemmas.Bool.{eqb-true, eq-eqb}
-use Rattle.std.proofs.lemmas.Int.{to_z-of_z}
-use Rattle.agg_by.specs.Values.{top}
-use Rattle.agg_by.proofs.Counted.{has_gone, none_gone}
+use Rattle.std.{specs.Cmp.signed_Decides, proofs.lemmas.Bool.{eqb-true, eq-eqb}, proofs.lemmas.Int.to_z-of_z}
+use Rattle.agg_by.{specs.Values.top, proofs.Counted.{has_gone, none_gone}}
 use Rattle.agg_by.proofs.values.has_greatest_gone.Goals as goal
 
 same_words : (x y : ℤ) → FitsSigned w64 x → FitsSigned w64 y → eqb (of_z w64 x) (of_z w64 y) ≡ int_eq x y

@@ -1,7 +1,6 @@
 use Rattle.std.proofs.Common.{◌≡◌, ◌+◌, ◌<◌, ◌∙◌, arith, length, sym}
 use Rattle.std.proofs.lemmas.Bool.{ltb-true}
-use Rattle.agg_by.specs.Values.{IsAmong, count, top}
-use Rattle.agg_by.proofs.Counted.{IsPopped, kept_less, popped, some_long, when_some}
+use Rattle.agg_by.{specs.Values.{IsAmong, count, top}, proofs.Counted.{IsPopped, kept_less, popped, some_long, when_some}}
 use Rattle.agg_by.proofs.values.settle.Goals as goal
 
 pub loop-live-preserved : goal.loop-live-preserved

@@ -1,6 +1,5 @@
 use Rattle.std.proofs.Common.{◌≡◌, refl, ap, sym, ◌∙◌, ◌<◌, arith, [], length, true, true≢false}
-use Rattle.column_source.specs.Edits.{edited_by}
-use Rattle.column_source.proofs.Leading.{allowed_first, allowed_rest, led_rest, none_left}
+use Rattle.column_source.{specs.Edits.edited_by, proofs.Leading.{allowed_first, allowed_rest, led_rest, none_left}}
 use Rattle.column_source.proofs.cells.bring_on.Goals as goal
 
 pub make-requires : goal.make-requires

@@ -1,10 +1,7 @@
 use Rattle.std.proofs.Common.{◌≡◌, ◌∙◌, sym, ap, map, Some, None, option_map}
-use Rattle.std.specs.Prelude.{string_bytes}
-use Rattle.std.proofs.lemmas.Result.{IfOk-weaker}
+use Rattle.std.{specs.Prelude.string_bytes, proofs.lemmas.Result.IfOk-weaker}
 use Rattle.clap.specs.Words.{subcommand_rows_of}
-use Rattle.command_words.specs.Found.{command_in}
-use Rattle.command_words.specs.Program.{found_in}
-use Rattle.command_words.proofs.Agreement.{agrees, strings_are_texts}
+use Rattle.command_words.{specs.Found.command_in, specs.Program.found_in, proofs.Agreement.{agrees, strings_are_texts}}
 use Rattle.command_words.proofs.command.read_words.Goals as goal
 
 pub returns-in-Some-clause-command : goal.returns-in-Some-clause-command

@@ -1,7 +1,5 @@
 use Rattle.std.proofs.Common.{◌∙◌, rules, tests}
-use Rattle.std.specs.Char.{is_ascii_digit}
-use Rattle.std.proofs.lemmas.Iterator.{YieldsList-from_slice}
-use Rattle.std.proofs.lemmas.Iterator.Search.{all_from_yields_List}
+use Rattle.std.{specs.Char.is_ascii_digit, proofs.lemmas.Iterator.YieldsList-from_slice, proofs.lemmas.Iterator.Search.all_from_yields_List}
 use Rattle.command_words.proofs.NumberLemmas.{list_all-digits}
 use Rattle.command_words.proofs.numbers.is_digits.Goals as goal
 

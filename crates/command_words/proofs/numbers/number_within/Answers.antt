@@ -1,6 +1,5 @@
 use Rattle.std.proofs.Common.{sym, arith}
-use Rattle.std.proofs.lemmas.Result.{OkIff-at_err}
-use Rattle.std.proofs.lemmas.Str.Parse.{parse_digits}
+use Rattle.std.{proofs.lemmas.Result.OkIff-at_err, proofs.lemmas.Str.Parse.parse_digits}
 use Rattle.command_words.proofs.NumberLemmas.{own_digits, numeral_digits, number_past}
 use Rattle.command_words.proofs.numbers.number_within.Goals as goal
 

@@ -1,9 +1,7 @@
 use denote.Enum.Bare.{same_false}
 use Rattle.std.proofs.Common.{◌∙◌, map, sym}
 use Rattle.std.specs.Prelude.{string_bytes}
-use Rattle.clap.specs.contracts.error.kind.ErrorKind.{the_type}
-use Rattle.clap.specs.declared.error.kind.ErrorKind.TheVariants.{OutOfMemory}
-use Rattle.clap.specs.Words.{app_of, subcommand_rows_of}
+use Rattle.clap.{specs.contracts.error.kind.ErrorKind.the_type, specs.declared.error.kind.ErrorKind.TheVariants.OutOfMemory, specs.Words.{app_of, subcommand_rows_of}}
 use Rattle.command_words.proofs.Finding.{matches_found, fault_found}
 use Rattle.command_words.proofs.program.matches_of.Goals as goal
 

@@ -1,7 +1,6 @@
 use Rattle.std.proofs.Common.{◌≡◌, ◌∙◌, ◌<◌, refl, sym, ap, subst, length, arith, lit<, lit≤}
 use Rattle.tick_model.specs.declared.feed.Run.{Run}
-use Rattle.viewport.specs.Slices.{IsSlice}
-use Rattle.viewport.specs.Watching.{Watching}
+use Rattle.viewport.{specs.Slices.IsSlice, specs.Watching.Watching}
 use Rattle.embedded.proofs.Steps.{table_now}
 use Rattle.embedded.proofs.stepping.opened.Goals as goal
 

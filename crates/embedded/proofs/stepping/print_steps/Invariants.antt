@@ -1,6 +1,5 @@
 use Rattle.std.proofs.Common.{◌≡◌}
-use Rattle.tick_model.specs.Evaluation.{table_at}
-use Rattle.tick_model.specs.States.{state}
+use Rattle.tick_model.{specs.Evaluation.table_at, specs.States.state}
 use Rattle.embedded.proofs.stepping.print_steps.Given as goal
 
 abbrev pub invariant-loop-step : goal.invariant-loop-step

@@ -1,9 +1,7 @@
 use Rattle.std.proofs.Common.{◌+◌, [], Some, ◌∙◌, sym, ap, get_or, arith}
 use Rattle.csv.specs.Records.{fields_of}
 use Rattle.tick_model.specs.declared.plan.ColumnSpec.{ColumnSpec}
-use Rattle.feed_reader.specs.Cells.{cell_of}
-use Rattle.feed_reader.proofs.CellLemmas.{cells_stop, cells_more, cells_all}
-use Rattle.feed_reader.proofs.RowCellLemmas.{read_telling}
+use Rattle.feed_reader.{specs.Cells.cell_of, proofs.CellLemmas.{cells_stop, cells_more, cells_all}, proofs.RowCellLemmas.read_telling}
 use Rattle.feed_reader.proofs.cells.cells.Goals as goal
 
 pub push-requires : goal.push-requires

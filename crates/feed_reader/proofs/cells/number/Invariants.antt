@@ -1,6 +1,5 @@
 use Rattle.std.proofs.Common.{◌≡◌, true, take}
-use Rattle.std.specs.Str.{all_ascii_digits}
-use Rattle.std.specs.Str.Parse.{digits_value}
+use Rattle.std.{specs.Str.all_ascii_digits, specs.Str.Parse.digits_value}
 use Rattle.feed_reader.proofs.cells.number.Given as goal
 
 abbrev pub invariant-loop-digit : goal.invariant-loop-digit

@@ -1,10 +1,7 @@
 use Rattle.std.proofs.Common.{◌≡◌, ◌∷◌, ◌++◌, Option, ap, ◌∙◌, arith}
-use Rattle.std.specs.Option.{option_to_list}
-use Rattle.std.specs.Vec.Iter.{into_iter_items}
+use Rattle.std.{specs.Option.option_to_list, specs.Vec.Iter.into_iter_items}
 use Rattle.tick_model.specs.LawfulRuns.{sources_of}
-use Rattle.feed_reader.specs.declared.raw.RawTable.{RawTable}
-use Rattle.feed_reader.specs.Runs.{opening_of}
-use Rattle.feed_reader.proofs.OpeningLemmas.{none_left}
+use Rattle.feed_reader.{specs.declared.raw.RawTable.RawTable, specs.Runs.opening_of, proofs.OpeningLemmas.none_left}
 use Rattle.feed_reader.proofs.coded.open_node.Goals as goal
 
 pub returns-in-None-clause-opens : goal.returns-in-None-clause-opens

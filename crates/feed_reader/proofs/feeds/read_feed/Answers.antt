@@ -1,12 +1,6 @@
 use Rattle.std.proofs.Common.{◌≡◌, ◌+◌, Ok, ◌∙◌, sym, ap, length, arith}
 use Rattle.csv.specs.Records.{fields_of}
-use Rattle.feed_reader.specs.declared.gathered.Gathered.{Gathered}
-use Rattle.feed_reader.specs.declared.place.Place.TheVariants.{Outside}
-use Rattle.feed_reader.specs.Entries.{entry_of}
-use Rattle.feed_reader.specs.Gathered.{nothing, gathered}
-use Rattle.feed_reader.specs.Records.{records_of, left_of}
-use Rattle.feed_reader.proofs.FeedLemmas.{left_to_read, feed_start, one_more, few_steps}
-use Rattle.feed_reader.proofs.RecordLemmas.{next_is, few_records}
+use Rattle.feed_reader.{specs.declared.gathered.Gathered.Gathered, specs.declared.place.Place.TheVariants.Outside, specs.Entries.entry_of, specs.Gathered.{nothing, gathered}, specs.Records.{records_of, left_of}, proofs.FeedLemmas.{left_to_read, feed_start, one_more, few_steps}, proofs.RecordLemmas.{next_is, few_records}}
 use Rattle.feed_reader.proofs.feeds.read_feed.Goals as goal
 
 pub records-init : goal.records-init

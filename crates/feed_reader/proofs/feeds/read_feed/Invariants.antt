@@ -1,7 +1,5 @@
 use Rattle.std.proofs.Common.{◌≡◌, ◌≤◌, ◌+◌, length}
-use Rattle.feed_reader.specs.Feeds.{feed_in}
-use Rattle.feed_reader.specs.Records.{records_of, left_of, IsReading}
-use Rattle.feed_reader.proofs.FeedLemmas.{left_to_read}
+use Rattle.feed_reader.{specs.Feeds.feed_in, specs.Records.{records_of, left_of, IsReading}, proofs.FeedLemmas.left_to_read}
 use Rattle.feed_reader.proofs.feeds.read_feed.Given as goal
 
 abbrev pub invariant-records : goal.invariant-records

@@ -1,7 +1,6 @@
 use Rattle.std.proofs.Common.{◌∙◌, sym}
 use Rattle.csv.specs.Records.{fields_of}
-use Rattle.feed_reader.proofs.FieldLemmas.{texts_are}
-use Rattle.feed_reader.proofs.RecordLemmas.{read_next, reads_on, read_ended, no_text}
+use Rattle.feed_reader.{proofs.FieldLemmas.texts_are, proofs.RecordLemmas.{read_next, reads_on, read_ended, no_text}}
 use Rattle.feed_reader.proofs.records.next_record.Goals as goal
 
 pub returns-in-Ok-true-clause-reading : goal.returns-in-Ok-true-clause-reading

@@ -1,9 +1,6 @@
 use Rattle.std.proofs.Common.{◌≡◌, ◌++◌, ◌∷◌, [], Ok, ◌∙◌, sym, ap, length, length-append, arith}
 use Rattle.csv.specs.Records.{fields_of}
-use Rattle.feed_reader.specs.Records.{left_of}
-use Rattle.feed_reader.specs.Tables.{row_of, rows_from}
-use Rattle.feed_reader.proofs.RecordLemmas.{next_is}
-use Rattle.feed_reader.proofs.TableLemmas.{rows_onto, row_more, low_row}
+use Rattle.feed_reader.{specs.Records.left_of, specs.Tables.{row_of, rows_from}, proofs.RecordLemmas.next_is, proofs.TableLemmas.{rows_onto, row_more, low_row}}
 use Rattle.feed_reader.proofs.tables.read_rows.Goals as goal
 
 pub records-preserved : goal.records-preserved

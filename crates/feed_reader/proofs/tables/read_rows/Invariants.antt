@@ -1,7 +1,5 @@
 use Rattle.std.proofs.Common.{◌≡◌, ◌≤◌, length}
-use Rattle.feed_reader.specs.Records.{left_of, IsReading}
-use Rattle.feed_reader.specs.Tables.{rows_from, table_with}
-use Rattle.feed_reader.proofs.TableLemmas.{rows_onto}
+use Rattle.feed_reader.{specs.Records.{left_of, IsReading}, specs.Tables.{rows_from, table_with}, proofs.TableLemmas.rows_onto}
 use Rattle.feed_reader.proofs.tables.read_rows.Given as goal
 
 abbrev pub invariant-records : goal.invariant-records

@@ -2,8 +2,7 @@ use Rattle.std.proofs.Common.{◌≡◌, ◌∙◌, [], refl, subst, List, ℕ}
 use Rattle.tick_model.specs.Texts.{records_text, summary_text}
 use Rattle.made_run.specs.Run.{made}
 use Rattle.replay.specs.Outcomes.{IsDone}
-use Rattle.feed_run.proofs.DemoLemmas.{few_words, made_last, made_summary}
-use Rattle.feed_run.proofs.OkLemmas.{if_ok_more}
+use Rattle.feed_run.{proofs.DemoLemmas.{few_words, made_last, made_summary}, proofs.OkLemmas.if_ok_more}
 use Rattle.feed_run.proofs.demo.demo.Goals as goal
 
 pub run_totals-requires-clause-few_words : goal.run_totals-requires-clause-few_words

@@ -1,11 +1,8 @@
 use Rattle.std.proofs.Common.{◌≡◌, None}
-use Rattle.tick_model.specs.declared.feed.Run.{Run}
-use Rattle.tick_model.specs.LawfulRuns.{IsLawfulRun}
-use Rattle.tick_model.specs.Spoiled.{first_spoiled}
+use Rattle.tick_model.{specs.declared.feed.Run.Run, specs.LawfulRuns.IsLawfulRun, specs.Spoiled.first_spoiled}
 use Rattle.feed_reader.specs.Assembled.{plain_run}
 use Rattle.made_run.specs.Run.{made}
-use Rattle.feed_run.proofs.DemoLemmas.{made_unspoiled}
-use Rattle.feed_run.proofs.OkLemmas.{if_ok_more}
+use Rattle.feed_run.{proofs.DemoLemmas.made_unspoiled, proofs.OkLemmas.if_ok_more}
 use Rattle.feed_run.proofs.demo.lawful_made_run.Goals as goal
 
 pub returns-clause-lawful : goal.returns-clause-lawful

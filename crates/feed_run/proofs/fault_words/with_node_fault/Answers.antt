@@ -1,8 +1,7 @@
 use Rattle.std.proofs.Common.{◌≡◌, ◌++◌, sym, subst}
 use Rattle.std.specs.Prelude.{IfOk}
 use Rattle.tick_model.specs.declared.table.NodeFault.{NodeFault}
-use Rattle.feed_run.specs.FaultWords.{node_fields}
-use Rattle.feed_run.proofs.FieldLemmas.{one_more, two, four}
+use Rattle.feed_run.{specs.FaultWords.node_fields, proofs.FieldLemmas.{one_more, two, four}}
 use Rattle.feed_run.proofs.fault_words.with_node_fault.Goals as goal
 
 pub returns-in_ok-number-in-DuplicateRight-2 : goal.returns-in_ok-number-in-DuplicateRight-2

@@ -1,8 +1,7 @@
 use Rattle.std.proofs.Common.{◌≡◌, ◌++◌, sym, subst}
 use Rattle.std.specs.Prelude.{IfOk}
 use Rattle.tick_model.specs.declared.update.FeedRule.{FeedRule}
-use Rattle.feed_run.specs.FaultWords.{rule_fields}
-use Rattle.feed_run.proofs.FieldLemmas.{one_more, two}
+use Rattle.feed_run.{specs.FaultWords.rule_fields, proofs.FieldLemmas.{one_more, two}}
 use Rattle.feed_run.proofs.fault_words.with_rule.Goals as goal
 
 pub returns-in_ok-text-in-TooManyRows : goal.returns-in_ok-text-in-TooManyRows

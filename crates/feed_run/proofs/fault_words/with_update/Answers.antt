@@ -1,8 +1,7 @@
 use Rattle.std.proofs.Common.{◌≡◌, ◌++◌, sym, subst}
 use Rattle.std.specs.Prelude.{IfOk}
 use Rattle.tick_model.specs.declared.update.UpdateFault.{UpdateFault}
-use Rattle.feed_run.specs.FaultWords.{update_fields}
-use Rattle.feed_run.proofs.FieldLemmas.{one_more, two, three}
+use Rattle.feed_run.{specs.FaultWords.update_fields, proofs.FieldLemmas.{one_more, two, three}}
 use Rattle.feed_run.proofs.fault_words.with_update.Goals as goal
 
 pub returns-in_ok-text-in-RemovedAbsent : goal.returns-in_ok-text-in-RemovedAbsent

@@ -1,11 +1,6 @@
 use Rattle.std.proofs.Common.{refl, inl}
 use Rattle.tick_io.specs.Counts.{Rose}
-use Rattle.feed_run.specs.Headline.{IsOneOf, LoadFailed, NoLoadFailed}
-use Rattle.feed_run.specs.Readings.{files_read, run_found}
-use Rattle.feed_run.proofs.AskLemmas.{asked_all, asked_until}
-use Rattle.feed_run.proofs.CommandEnds.{demo_asked, demo_ends, files_asked, files_end, watch_asked, watch_ends}
-use Rattle.feed_run.proofs.ProgramLemmas.{run_ends, stop_ends}
-use Rattle.feed_run.proofs.Statuses.{any_status, run_status, stop_status, summary_status, watch_status}
+use Rattle.feed_run.{specs.Headline.{IsOneOf, LoadFailed, NoLoadFailed}, specs.Readings.{files_read, run_found}, proofs.AskLemmas.{asked_all, asked_until}, proofs.CommandEnds.{demo_asked, demo_ends, files_asked, files_end, watch_asked, watch_ends}, proofs.ProgramLemmas.{run_ends, stop_ends}, proofs.Statuses.{any_status, run_status, stop_status, summary_status, watch_status}}
 use Rattle.feed_run.proofs.program.run_task.Goals as goal
 
 pub returns-in-Demo-clause-answers : goal.returns-in-Demo-clause-answers

@@ -2,13 +2,7 @@ use Rattle.std.proofs.Common.{ℕ, Ok, Option, subst}
 use Rattle.std.specs.Global.{Vec}
 use Rattle.script_lines.specs.declared.fault.ScriptKind.TheVariants.{TooLong}
 use Rattle.tick_io.specs.Counts.{Rose}
-use Rattle.feed_run.specs.declared.refusal.Refusal.TheVariants.{Script}
-use Rattle.feed_run.specs.Headline.{LoadFailed}
-use Rattle.feed_run.specs.Readings.{script_in}
-use Rattle.feed_run.specs.Stops.{Loads}
-use Rattle.feed_run.proofs.AskLemmas.{on_found}
-use Rattle.feed_run.proofs.ScriptLemmas.{script_long}
-use Rattle.feed_run.proofs.StopLemmas.{long_file}
+use Rattle.feed_run.{specs.declared.refusal.Refusal.TheVariants.Script, specs.Headline.LoadFailed, specs.Readings.script_in, specs.Stops.Loads, proofs.AskLemmas.on_found, proofs.ScriptLemmas.script_long, proofs.StopLemmas.long_file}
 use Rattle.feed_run.proofs.readings.load_script.Goals as goal
 
 pub returns-in-None-clause-reads : goal.returns-in-None-clause-reads

@@ -1,9 +1,7 @@
 use Rattle.std.proofs.Common.{◌≡◌, ℕ, List, sym, subst}
 use Rattle.std.specs.Prelude.{IfOk}
 use Rattle.tick_io.specs.Counts.{Rose}
-use Rattle.feed_run.specs.declared.refusal.Stop.{Stop}
-use Rattle.feed_run.specs.Answers.{EndsByStop}
-use Rattle.feed_run.specs.Wholes.{unread_record}
+use Rattle.feed_run.{specs.declared.refusal.Stop.Stop, specs.Answers.EndsByStop, specs.Wholes.unread_record}
 use Rattle.feed_run.proofs.reports.report_stop.Goals as goal
 
 pub returns-in-Unread-clause-ends : goal.returns-in-Unread-clause-ends

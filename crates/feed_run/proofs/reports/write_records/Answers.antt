@@ -1,10 +1,8 @@
 use Rattle.std.proofs.Common.{◌≡◌, ◌∙◌, List, ℕ, subst}
 use Rattle.std.specs.Io.KnownBytes.{append_known}
-use Rattle.tick_io.proofs.Prefixes.{prefix_within}
-use Rattle.tick_io.specs.Written.{AppendsPrefix}
+use Rattle.tick_io.{proofs.Prefixes.prefix_within, specs.Written.AppendsPrefix}
 use Rattle.tick_model.specs.Texts.{record_text}
-use Rattle.feed_run.proofs.OkLemmas.{on_err}
-use Rattle.feed_run.proofs.RecordLemmas.{text_splits, written_next}
+use Rattle.feed_run.{proofs.OkLemmas.on_err, proofs.RecordLemmas.{text_splits, written_next}}
 use Rattle.feed_run.proofs.reports.write_records.Goals as goal
 
 pub returns-in_err-write_fields-clause-err : goal.returns-in_err-write_fields-clause-err

@@ -1,16 +1,9 @@
 use Rattle.std.proofs.Common.{◌∷◌, [], ◌∙◌, Ok, Err, Some, sym, ap, subst, arith}
-use Rattle.std.proofs.lemmas.Result.{err_from_is_err_and}
+use Rattle.std.{proofs.lemmas.Result.err_from_is_err_and, specs.Prelude.option_map}
 use Rattle.tick_model.specs.declared.feed.Run.{Run}
-use Rattle.std.specs.Prelude.{option_map}
 use Rattle.script_reader.specs.Plain.{plain_plan, plain_script}
-use Rattle.feed_reader.specs.declared.raw.RawFeed.{RawFeed}
-use Rattle.feed_reader.specs.Assembled.{plain_run, run_of}
-use Rattle.feed_run.specs.Found.{Found, after}
-use Rattle.feed_run.specs.Headline.{IsOneOf, LoadFailed}
-use Rattle.feed_run.specs.Readings.{feed_in}
-use Rattle.feed_run.specs.Stops.{Reads}
-use Rattle.feed_run.proofs.StopLemmas.{reads_stopped}
-use Rattle.feed_run.proofs.ScriptLemmas.{few_nodes, few_columns, feed_found_plain, nodes_kept, run_is_plain, run_lawful}
+use Rattle.feed_reader.{specs.declared.raw.RawFeed.RawFeed, specs.Assembled.{plain_run, run_of}}
+use Rattle.feed_run.{specs.Found.{Found, after}, specs.Headline.{IsOneOf, LoadFailed}, specs.Readings.feed_in, specs.Stops.Reads, proofs.StopLemmas.reads_stopped, proofs.ScriptLemmas.{few_nodes, few_columns, feed_found_plain, nodes_kept, run_is_plain, run_lawful}}
 use Rattle.feed_run.proofs.run.read_feed_run.Goals as goal
 
 pub load_feed-requires : goal.load_feed-requires

@@ -1,9 +1,7 @@
 use Rattle.std.proofs.Common.{◌∙◌}
 use Rattle.std.proofs.lemmas.Result.{err_from_is_err_and}
 use Rattle.tick_io.proofs.RisingCounts.{rose_earlier}
-use Rattle.feed_run.specs.Headline.{LoadFailed}
-use Rattle.feed_run.proofs.AskLemmas.{on_found_more}
-use Rattle.feed_run.proofs.RunLemmas.{plan_asked_until, plan_asks, plan_goes_on, plan_stopped}
+use Rattle.feed_run.{specs.Headline.LoadFailed, proofs.AskLemmas.on_found_more, proofs.RunLemmas.{plan_asked_until, plan_asks, plan_goes_on, plan_stopped}}
 use Rattle.feed_run.proofs.run.read_plan_run.Goals as goal
 
 pub returns-in_err-tables-clause-reads : goal.returns-in_err-tables-clause-reads

@@ -1,9 +1,7 @@
 use Rattle.std.proofs.Common.{◌∙◌}
 use Rattle.std.proofs.lemmas.Result.{err_from_is_err_and}
 use Rattle.tick_io.proofs.RisingCounts.{rose_earlier}
-use Rattle.feed_run.specs.Headline.{LoadFailed}
-use Rattle.feed_run.proofs.AskLemmas.{on_found_more}
-use Rattle.feed_run.proofs.RunLemmas.{script_asked_until, script_asks, script_goes_on, script_stopped}
+use Rattle.feed_run.{specs.Headline.LoadFailed, proofs.AskLemmas.on_found_more, proofs.RunLemmas.{script_asked_until, script_asks, script_goes_on, script_stopped}}
 use Rattle.feed_run.proofs.run.read_run.Goals as goal
 
 pub returns-in_err-script-clause-reads : goal.returns-in_err-script-clause-reads

@@ -1,13 +1,8 @@
 use Rattle.std.proofs.Common.{sym, subst}
-use Rattle.tick_model.specs.Spoiled.{ByBatch, ByNode, ByPublication}
-use Rattle.tick_model.specs.Texts.{done_record}
+use Rattle.tick_model.{specs.Spoiled.{ByBatch, ByNode, ByPublication}, specs.Texts.done_record}
 use Rattle.replay.specs.Outcomes.{IsTold}
-use Rattle.feed_run.specs.Verdicts.{Kept, Spoiled, Done}
-use Rattle.feed_run.specs.Wholes.{cause_record, kept_record, publication_record}
-use Rattle.feed_run.proofs.EndLemmas.{ends_recorded, ends_short, ends_failed}
-use Rattle.feed_run.proofs.OutcomeLemmas.{done_tells, kept_tells, feed_tells, node_tells, publish_tells}
+use Rattle.feed_run.{specs.Verdicts.{Kept, Spoiled, Done}, specs.Wholes.{cause_record, kept_record, publication_record}, proofs.EndLemmas.{ends_recorded, ends_short, ends_failed}, proofs.OutcomeLemmas.{done_tells, kept_tells, feed_tells, node_tells, publish_tells}, proofs.run.run_to_end.Goals.{in-Done, in-Kept, in-Feed, in-Node, in-Publish, in-Memory, in-Write}}
 use Rattle.feed_run.proofs.run.run_to_end.Goals as goal
-use Rattle.feed_run.proofs.run.run_to_end.Goals.{in-Done, in-Kept, in-Feed, in-Node, in-Publish, in-Memory, in-Write}
 
 pub returns-clause-ends : goal.returns-clause-ends
 returns-clause-ends g c =

@@ -1,6 +1,5 @@
 use Rattle.std.proofs.Common.{◌++◌, ◌∷◌, [], ◌∙◌, ap, sym, get_or, take, append_assoc, List, ℕ}
-use Rattle.feed_run.specs.Summaries.{size_record, sizes}
-use Rattle.feed_run.proofs.SummaryLemmas.{sizes_next}
+use Rattle.feed_run.{specs.Summaries.{size_record, sizes}, proofs.SummaryLemmas.sizes_next}
 use Rattle.feed_run.proofs.summary.push_sizes.Goals as goal
 
 pub loop-number-preserved : goal.loop-number-preserved

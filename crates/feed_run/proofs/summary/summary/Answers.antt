@@ -1,7 +1,6 @@
 use Rattle.std.proofs.Common.{◌++◌, ◌∷◌, [], ◌∙◌, ap, List, ℕ}
 use Rattle.tick_model.specs.Texts.{done_record}
-use Rattle.feed_run.specs.Summaries.{demo_record}
-use Rattle.feed_run.proofs.SummaryLemmas.{summary_from}
+use Rattle.feed_run.{specs.Summaries.demo_record, proofs.SummaryLemmas.summary_from}
 use Rattle.feed_run.proofs.summary.summary.Goals as goal
 
 pub returns : goal.returns

@@ -1,8 +1,7 @@
 use Rattle.std.proofs.Common.{refl}
 use Rattle.std.proofs.lemmas.Result.{err_from_is_err_and}
 use Rattle.tick_model.specs.LawfulRuns.{sources_of}
-use Rattle.feed_run.specs.Readings.{tables_read}
-use Rattle.feed_run.proofs.AskLemmas.{some_of_none}
+use Rattle.feed_run.{specs.Readings.tables_read, proofs.AskLemmas.some_of_none}
 use Rattle.feed_run.proofs.tables.load_tables.Goals as goal
 
 pub returns-in_err-sources-clause-asks : goal.returns-in_err-sources-clause-asks

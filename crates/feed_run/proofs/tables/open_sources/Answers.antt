@@ -1,18 +1,10 @@
 use Rattle.std.proofs.Common.{◌≡◌, ◌<◌, ◌≤◌, ◌+◌, ◌∷◌, ◌∙◌, ℕ, List, Err, drop, get_or, length, map, refl, sym, ap, subst, arith}
-use Rattle.std.specs.Borrow.{Bor}
-use Rattle.std.specs.Option.{option_to_list}
-use Rattle.std.proofs.lemmas.List.{at_drop_more, drop_all, get_or-map, length-map}
-use Rattle.std.proofs.lemmas.Result.{err_from_is_err_and}
+use Rattle.std.{specs.Borrow.Bor, specs.Option.option_to_list, proofs.lemmas.List.{at_drop_more, drop_all, get_or-map, length-map}, proofs.lemmas.Result.err_from_is_err_and}
 use Rattle.tick_io.proofs.RisingCounts.{rose_earlier}
 use Rattle.tick_model.specs.declared.plan.Node.{Node}
 use Rattle.script_reader.specs.declared.script.SourceFile.{SourceFile}
 use Rattle.feed_reader.specs.declared.raw.RawTable.{RawTable}
-use Rattle.feed_run.specs.declared.refusal.Stop.TheVariants.{Memory}
-use Rattle.feed_run.specs.Headline.{IsOneOf, LoadFailed}
-use Rattle.feed_run.specs.Readings.{Content, first_file, opening_by}
-use Rattle.feed_run.specs.Stops.{Reads}
-use Rattle.feed_run.proofs.AskLemmas.{on_refused_more}
-use Rattle.feed_run.proofs.TableLemmas.{AsksOn, Opens, asks_begin, asks_end, asks_next, asks_stop, opens_all, opens_more, opens_stop}
+use Rattle.feed_run.{specs.declared.refusal.Stop.TheVariants.Memory, specs.Headline.{IsOneOf, LoadFailed}, specs.Readings.{Content, first_file, opening_by}, specs.Stops.Reads, proofs.AskLemmas.on_refused_more, proofs.TableLemmas.{AsksOn, Opens, asks_begin, asks_end, asks_next, asks_stop, opens_all, opens_more, opens_stop}}
 use Rattle.feed_run.proofs.tables.open_sources.Goals as goal
 
 abbrev now : List (Bor Node) → List Node

@@ -1,8 +1,7 @@
 use Rattle.std.proofs.Common.{◌≡◌, ◌≤◌, ℕ, List, drop, map}
 use Rattle.std.specs.Borrow.{Bor}
 use Rattle.tick_model.specs.declared.plan.Node.{Node}
-use Rattle.feed_run.specs.Headline.{NoLoadFailed}
-use Rattle.feed_run.proofs.TableLemmas.{AsksOn, Opens}
+use Rattle.feed_run.{specs.Headline.NoLoadFailed, proofs.TableLemmas.{AsksOn, Opens}}
 use Rattle.feed_run.proofs.tables.open_sources.Given as goal
 
 abbrev pub invariant-loop-source : goal.invariant-loop-source

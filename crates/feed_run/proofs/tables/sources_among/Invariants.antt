@@ -1,7 +1,6 @@
 use Rattle.std.proofs.Common.{◌≡◌, map, take}
 use Rattle.std.specs.Borrow.{Bor}
-use Rattle.tick_model.specs.declared.plan.Node.{Node}
-use Rattle.tick_model.specs.LawfulRuns.{sources_of}
+use Rattle.tick_model.{specs.declared.plan.Node.Node, specs.LawfulRuns.sources_of}
 use Rattle.feed_run.proofs.tables.sources_among.Given as goal
 
 abbrev pub invariant-loop-node : goal.invariant-loop-node

@@ -1,12 +1,6 @@
 use Rattle.std.proofs.Common.{◌∙◌, sym, arith, Ok, Err}
-use Rattle.tick_io.specs.Counts.{Rose}
-use Rattle.tick_io.proofs.RisingCounts.{rose_earlier}
-use Rattle.feed_run.specs.Headline.{LoadFailed, NoLoadFailed}
-use Rattle.feed_run.specs.Verdicts.{watch_files, watch_of}
-use Rattle.feed_run.specs.Wholes.{unnamed_record}
-use Rattle.feed_run.proofs.AskLemmas.{asked_all, asked_until, on_refused_more}
-use Rattle.feed_run.proofs.ScriptLemmas.{few_nodes}
-use Rattle.feed_run.proofs.WatchLemmas.{named_asks, plan_stops, reads_there, script_asked, script_stops, unnamed_asked, unnamed_ends, watched_ends}
+use Rattle.tick_io.{specs.Counts.Rose, proofs.RisingCounts.rose_earlier}
+use Rattle.feed_run.{specs.Headline.{LoadFailed, NoLoadFailed}, specs.Verdicts.{watch_files, watch_of}, specs.Wholes.unnamed_record, proofs.AskLemmas.{asked_all, asked_until, on_refused_more}, proofs.ScriptLemmas.few_nodes, proofs.WatchLemmas.{named_asks, plan_stops, reads_there, script_asked, script_stops, unnamed_asked, unnamed_ends, watched_ends}}
 use Rattle.feed_run.proofs.watching.watch.Goals as goal
 
 pub node_named-requires : goal.node_named-requires

@@ -1,10 +1,7 @@
 use Rattle.std.proofs.Common.{refl, sym, ap, subst, Err}
-use Rattle.tick_model.specs.Spoiled.{ByBatch, ByNode, ByPublication}
-use Rattle.tick_model.specs.Texts.{done_record}
+use Rattle.tick_model.{specs.Spoiled.{ByBatch, ByNode, ByPublication}, specs.Texts.done_record}
 use Rattle.replay.specs.Outcomes.{IsTold}
-use Rattle.feed_run.specs.Verdicts.{WatchDone, WatchSpoiled}
-use Rattle.feed_run.specs.Wholes.{cause_record, publication_record}
-use Rattle.feed_run.proofs.WatchEnds.{feed_ends, node_ends, publish_ends, watch_done, watch_failed, watch_recorded, watch_short}
+use Rattle.feed_run.{specs.Verdicts.{WatchDone, WatchSpoiled}, specs.Wholes.{cause_record, publication_record}, proofs.WatchEnds.{feed_ends, node_ends, publish_ends, watch_done, watch_failed, watch_recorded, watch_short}}
 use Rattle.feed_run.proofs.watching.watch_to_end.Goals as goal
 
 pub returns-in-Ok-clause-ends : goal.returns-in-Ok-clause-ends

@@ -1,8 +1,7 @@
 use Rattle.std.proofs.Common.{◌≡◌, ℕ, ◌+◌, ◌∙◌, sym, subst}
 use Rattle.tick_laws.specs.Reached.{KeepsRules}
 use Rattle.tick_model.specs.declared.feed.Run.{Run}
-use Rattle.snapshot_store.specs.Lines.{published_table}
-use Rattle.snapshot_store.proofs.ExampleRuns.{keeps_one, second_table}
+use Rattle.snapshot_store.{specs.Lines.published_table, proofs.ExampleRuns.{keeps_one, second_table}}
 use Rattle.graph_tests.proofs.abandoned_steps.published_step.Goals as goal
 
 pub put-requires-clause-rules : goal.put-requires-clause-rules

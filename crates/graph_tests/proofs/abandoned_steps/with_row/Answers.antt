@@ -1,7 +1,5 @@
 use Rattle.std.proofs.Common.{◌^◌, ◌∙◌, ap, w64, SFits, to_z-of_z, rules}
-use Rattle.tick_model.specs.Changes.{Change, changed}
-use Rattle.tick_model.specs.Rules.{update_fault}
-use Rattle.tick_model.specs.Tables.{keys}
+use Rattle.tick_model.{specs.Changes.{Change, changed}, specs.Rules.update_fault, specs.Tables.keys}
 use Rattle.snapshot_store.specs.Example.{add_row}
 use Rattle.graph_tests.proofs.abandoned_steps.with_row.Goals as goal
 

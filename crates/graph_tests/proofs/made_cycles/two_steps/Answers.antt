@@ -1,7 +1,6 @@
 use Rattle.std.proofs.Common.{◌≡◌, Result, Ok, Err, lit≤}
 use Rattle.std.specs.Prelude.{IfOk}
-use Rattle.tick_model.specs.declared.feed.Run.{Run}
-use Rattle.tick_model.specs.LawfulRuns.{IsLawfulRun}
+use Rattle.tick_model.{specs.declared.feed.Run.Run, specs.LawfulRuns.IsLawfulRun}
 use Rattle.feed_reader.specs.Assembled.{plain_run}
 use Rattle.made_run.specs.Run.{made}
 use Rattle.graph_tests.proofs.made_cycles.two_steps.Goals as goal

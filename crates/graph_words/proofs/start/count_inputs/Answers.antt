@@ -1,11 +1,9 @@
 use Rattle.std.proofs.Common.{◌≡◌, ◌+◌, ◌<◌, ℕ, List, arith, length, length-set, take, get_or, eqb}
 use mathlib.Core.Option.{some}
 use lib.ListN.{get_elem?}
-use Rattle.std.proofs.lemmas.List.{get_or_default, get_or_read, length-take-le}
-use Rattle.std.proofs.lemmas.List.Sums.{count_by-le-length}
+use Rattle.std.{proofs.lemmas.List.{get_or_default, get_or_read, length-take-le}, proofs.lemmas.List.Sums.count_by-le-length}
 use Rattle.atomic_table.proofs.Lists.{at_index}
-use Rattle.graph_words.specs.declared.graph.Edge.{Edge}
-use Rattle.graph_words.proofs.Opens.{counted_more}
+use Rattle.graph_words.{specs.declared.graph.Edge.Edge, proofs.Opens.counted_more}
 use Rattle.graph_words.proofs.start.count_inputs.Goals as goal
 
 abbrev no_edge : Edge

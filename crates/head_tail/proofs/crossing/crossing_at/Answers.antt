@@ -1,7 +1,6 @@
 use Rattle.shown_rows.proofs.Restricted.{kept}
 use Rattle.tick_model.specs.Tables.{keys}
-use Rattle.head_tail.proofs.Crossed.{added_there, end_comes, end_leaves, from_before, from_now, removed_there}
-use Rattle.head_tail.proofs.Sides.{enough}
+use Rattle.head_tail.{proofs.Crossed.{added_there, end_comes, end_leaves, from_before, from_now, removed_there}, proofs.Sides.enough}
 use Rattle.head_tail.proofs.crossing.crossing_at.Goals as goal
 
 pub staying_before-stayed-requires : goal.staying_before-stayed-requires

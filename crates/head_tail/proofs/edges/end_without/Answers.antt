@@ -1,11 +1,9 @@
 use Rattle.std.proofs.Common.{◌≡◌, ap, ap₂, ◌∙◌, subst, arith, List, ℕ, ◌-◌, take, drop}
-use Rattle.std.specs.Prelude.{nat_lt, IfOk}
-use Rattle.std.proofs.lemmas.List.{take_rest}
+use Rattle.std.{specs.Prelude.{nat_lt, IfOk}, proofs.lemmas.List.take_rest}
 use Rattle.key_lists.specs.Keys.{without}
 use Rattle.row_set.specs.Sets.{count_below, united}
 use Rattle.tick_laws.proofs.ResultCells.{length-filter_most}
-use Rattle.head_tail.proofs.Cuts.{drop_none}
-use Rattle.head_tail.proofs.Ends.{first_is, last_is}
+use Rattle.head_tail.{proofs.Cuts.drop_none, proofs.Ends.{first_is, last_is}}
 use Rattle.head_tail.proofs.edges.end_without.Goals as goal
 
 pub overflow_sub-len : goal.overflow_sub-len

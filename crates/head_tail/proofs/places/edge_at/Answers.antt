@@ -1,6 +1,5 @@
 use Rattle.std.proofs.Common.{ap, sym, ◌∙◌, subst, ℕ, ◌<◌, ◌≤◌, ◌^◌, take, drop, Option}
-use Rattle.std.specs.Prelude.{unwrap_or}
-use Rattle.std.specs.List.{AllByRecursion}
+use Rattle.std.{specs.Prelude.unwrap_or, specs.List.AllByRecursion}
 use Rattle.head_tail.proofs.Positions.{edge_is}
 use Rattle.head_tail.proofs.places.edge_at.Goals as goal
 

@@ -1,14 +1,8 @@
 use Rattle.std.proofs.Common.{◌≡◌, refl, ap, ap₂, sym, ◌∙◌, subst, arith, ◌≤◌, None, map, length, Option, ◌++◌, ◌∷◌, [], append_assoc, true, ℕ, List, ℤ}
-use Rattle.std.proofs.lemmas.List.{length-map, map-append}
-use Rattle.std.proofs.lemmas.List.Sums.{fold-append}
-use Rattle.std.proofs.lemmas.Option.{same_Some}
+use Rattle.std.{proofs.lemmas.List.{length-map, map-append}, proofs.lemmas.List.Sums.fold-append, proofs.lemmas.Option.same_Some}
 use Rattle.key_lists.specs.Keys.{is_among}
-use Rattle.lookup_join.specs.declared.duplicates.Duplicate.{Duplicate}
-use Rattle.lookup_join.specs.Duplicates.{cells_under, earlier, faulty_group, first_with_two, least_fault}
-use Rattle.lookup_join.specs.Notes.{Note}
-use Rattle.row_groups.proofs.Keys.{some_of}
-use Rattle.lookup_join.proofs.Walks.{under_some}
-use Rattle.row_groups.specs.Members.{Member, group_of, keys_of}
+use Rattle.lookup_join.{specs.declared.duplicates.Duplicate.Duplicate, specs.Duplicates.{cells_under, earlier, faulty_group, first_with_two, least_fault}, specs.Notes.Note, proofs.Walks.under_some}
+use Rattle.row_groups.{proofs.Keys.some_of, specs.Members.{Member, group_of, keys_of}}
 use Rattle.row_set.proofs.Yielded.{next_has, yielded_all}
 use Rattle.lookup_join.proofs.duplicates.first_duplicate.Goals as goal
 

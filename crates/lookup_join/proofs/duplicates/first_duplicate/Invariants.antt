@@ -1,6 +1,5 @@
 use Rattle.std.proofs.Common.{◌≡◌, ◌++◌, None, map}
-use Rattle.lookup_join.specs.Duplicates.{cells_under, least_fault}
-use Rattle.lookup_join.specs.Notes.{Note}
+use Rattle.lookup_join.{specs.Duplicates.{cells_under, least_fault}, specs.Notes.Note}
 use Rattle.lookup_join.proofs.duplicates.first_duplicate.Given as goal
 
 abbrev pub invariant-loop-key : goal.invariant-loop-key

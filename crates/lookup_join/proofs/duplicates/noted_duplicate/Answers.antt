@@ -1,8 +1,5 @@
 use Rattle.std.proofs.Common.{ap₂, sym, ◌∙◌, None, map, Option}
-use Rattle.lookup_join.specs.declared.duplicates.Duplicate.{Duplicate}
-use Rattle.lookup_join.specs.Duplicates.{earlier, faulty_group}
-use Rattle.lookup_join.specs.Notes.{Note}
-use Rattle.lookup_join.proofs.Walks.{fold_next}
+use Rattle.lookup_join.{specs.declared.duplicates.Duplicate.Duplicate, specs.Duplicates.{earlier, faulty_group}, specs.Notes.Note, proofs.Walks.fold_next}
 use Rattle.lookup_join.proofs.duplicates.noted_duplicate.Goals as goal
 
 pub loop-number-preserved : goal.loop-number-preserved

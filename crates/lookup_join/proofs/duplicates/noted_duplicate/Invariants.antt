@@ -1,6 +1,5 @@
 use Rattle.std.proofs.Common.{◌≡◌, None, map, take}
-use Rattle.lookup_join.specs.Duplicates.{least_fault}
-use Rattle.lookup_join.specs.Notes.{Note}
+use Rattle.lookup_join.{specs.Duplicates.least_fault, specs.Notes.Note}
 use Rattle.lookup_join.proofs.duplicates.noted_duplicate.Given as goal
 
 abbrev pub invariant-loop-number : goal.invariant-loop-number

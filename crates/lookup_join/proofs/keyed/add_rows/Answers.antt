@@ -1,15 +1,10 @@
 use Rattle.std.proofs.Common.{◌≡◌, sym, ◌∙◌, ap, ap₂, subst, true, false, ◌||◌, ◌+◌, ◌*◌, ◌≤◌, ℕ, List, ℤ, length, rules, w64, SFits}
-use Rattle.std.proofs.lemmas.Int.{to_z-of_z}
-use Rattle.std.specs.List.{AllByRecursion}
+use Rattle.std.{proofs.lemmas.Int.to_z-of_z, specs.List.AllByRecursion}
 use Rattle.key_lists.specs.Keys.{IsRising, is_among}
-use Rattle.lookup_join.specs.Keyed.{IsRowOf, key_cells, time_at, time_of}
-use Rattle.lookup_join.proofs.Brought.{every-with_member, none_under, with_member_keys}
-use Rattle.lookup_join.proofs.Walks.{came_next, reader_has, row_given, row_read}
+use Rattle.lookup_join.{specs.Keyed.{IsRowOf, key_cells, time_at, time_of}, proofs.Brought.{every-with_member, none_under, with_member_keys}, proofs.Walks.{came_next, reader_has, row_given, row_read}}
 use Rattle.row_changes.proofs.Comparing.{reads_next, reads_within}
 use Rattle.row_groups.specs.Members.{Grouped, Member, keys_of, member_of, with_member}
-use Rattle.row_set.proofs.United.{among-with_key, with_key_rises}
-use Rattle.row_set.proofs.Yielded.{next_has, next_new, next_small, yielded_all, yielded_next}
-use Rattle.row_set.specs.Sets.{with_key}
+use Rattle.row_set.{proofs.United.{among-with_key, with_key_rises}, proofs.Yielded.{next_has, next_new, next_small, yielded_all, yielded_next}, specs.Sets.with_key}
 use Rattle.tick_model.specs.Tables.{keys}
 use Rattle.lookup_join.proofs.keyed.add_rows.Goals as goal
 

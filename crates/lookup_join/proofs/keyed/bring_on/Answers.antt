@@ -1,19 +1,11 @@
 use Rattle.std.proofs.Common.{◌≡◌, ap, ap₂, sym, ◌∙◌, subst, ◌^◌, ◌||◌, ◌+◌, ◌*◌, ◌≤◌, arith, ℕ, List, false, None, length}
-use Rattle.std.proofs.lemmas.List.{length-map}
-use Rattle.std.proofs.Math.Nat.{mul-le-mul_left}
-use Rattle.std.specs.List.{AllByRecursion}
+use Rattle.std.{proofs.lemmas.List.length-map, proofs.Math.Nat.mul-le-mul_left, specs.List.AllByRecursion}
 use Rattle.key_lists.specs.Keys.{IsRising, is_among}
-use Rattle.lookup_join.specs.Keyed.{IsRowOf, keyed}
-use Rattle.lookup_join.specs.Taken.{rekeyed_pairs}
-use Rattle.lookup_join.proofs.Brought.{brought, brought_rising, brought_rows, came, came_absent, came_there, grouped_is, lawful_left}
+use Rattle.lookup_join.{specs.Keyed.{IsRowOf, keyed}, specs.Taken.rekeyed_pairs, proofs.Brought.{brought, brought_rising, brought_rows, came, came_absent, came_there, grouped_is, lawful_left}}
 use Rattle.row_changes.specs.Parts.{AreThere}
 use Rattle.row_groups.specs.Members.{Grouped, Member, keys_of, left_members, moved_members}
-use Rattle.row_set.proofs.United.{length-united}
-use Rattle.row_set.specs.Sets.{united}
-use Rattle.tick_model.specs.declared.update.KeyPair.{KeyPair}
-use Rattle.tick_model.specs.declared.update.ShiftRange.{ShiftRange}
-use Rattle.tick_model.specs.Rules.{shift_fault}
-use Rattle.tick_model.specs.Updates.{Update, new_keys, old_keys}
+use Rattle.row_set.{proofs.United.length-united, specs.Sets.united}
+use Rattle.tick_model.{specs.declared.update.KeyPair.KeyPair, specs.declared.update.ShiftRange.ShiftRange, specs.Rules.shift_fault, specs.Updates.{Update, new_keys, old_keys}}
 use Rattle.lookup_join.proofs.keyed.bring_on.Goals as goal
 
 left_is : (from removed from' removed' : List ℕ) (first second third : Grouped) (rows : List Member) → first.members ≡ rows → second ≡ (record first { members = left_members removed first.members }) → third ≡ (record second { members = left_members from second.members }) → removed ≡ removed' → from ≡ from'

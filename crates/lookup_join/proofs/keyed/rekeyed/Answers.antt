@@ -1,16 +1,12 @@
 use Rattle.std.proofs.Common.{◌≡◌, sym, ◌∙◌, ap, ap₂, arith, length, true, false, not, rules, w64, SFits}
-use Rattle.std.proofs.lemmas.Int.{to_z-of_z}
+use Rattle.std.{proofs.lemmas.Int.to_z-of_z, specs.Option.option_map_or}
 use Rattle.key_lists.specs.Keys.{is_among}
-use Rattle.lookup_join.specs.Keyed.{key_cells, member_at, rekeys, same_spot, time_of}
-use Rattle.lookup_join.proofs.Walks.{member_known, reader_has, reads_more, row_given, row_read}
+use Rattle.lookup_join.{specs.Keyed.{key_cells, member_at, rekeys, same_spot, time_of}, proofs.Walks.{member_known, reader_has, reads_more, row_given, row_read}, proofs.keyed.rekeyed.Goals.{then-not-stands_at+in_ok-changed, else-not-stands_at}}
 use Rattle.row_changes.proofs.Placed.{reads_placed}
 use Rattle.row_groups.specs.Members.{Grouped, Member, member_of, member_under}
 use Rattle.shown_rows.proofs.Walks.{below_some, none_more, of_place, one_more}
-use Rattle.std.specs.Option.{option_map_or}
-use Rattle.tick_model.specs.declared.update.KeyPair.{KeyPair}
-use Rattle.tick_model.specs.Tables.{keys}
+use Rattle.tick_model.{specs.declared.update.KeyPair.KeyPair, specs.Tables.keys}
 use Rattle.lookup_join.proofs.keyed.rekeyed.Goals as goal
-use Rattle.lookup_join.proofs.keyed.rekeyed.Goals.{then-not-stands_at+in_ok-changed, else-not-stands_at}
 
 pub row-row-requires : goal.row-row-requires
 row-row-requires g c = record {

@@ -1,6 +1,5 @@
 use Rattle.std.proofs.Common.{ap, ◌∙◌, rules, w64, SFits}
-use Rattle.std.proofs.lemmas.Int.{to_z-of_z}
-use Rattle.std.proofs.lemmas.List.{take_rest}
+use Rattle.std.{proofs.lemmas.Int.to_z-of_z, proofs.lemmas.List.take_rest}
 use Rattle.lookup_join.specs.Keyed.{time_of}
 use Rattle.lookup_join.proofs.keyed.time_from.Goals as goal
 

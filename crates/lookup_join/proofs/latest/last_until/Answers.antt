@@ -1,10 +1,6 @@
 use Rattle.std.proofs.Common.{◌≡◌, refl, ap, ap₂, sym, ◌∙◌, suc, ℕ, ℤ, List, arith, map, w64, rules, SFits}
-use Rattle.std.specs.Prelude.{Some, slice_get, int_le}
-use Rattle.std.specs.List.{count_by}
-use Rattle.std.proofs.lemmas.Int.{to_z-of_z}
-use Rattle.lookup_join.proofs.Latests.{found_last, none_found}
-use Rattle.lookup_join.specs.declared.latest.Found.{Found}
-use Rattle.lookup_join.specs.declared.pick.Pick.TheVariants.{Last}
+use Rattle.std.{specs.Prelude.{Some, slice_get, int_le}, specs.List.count_by, proofs.lemmas.Int.to_z-of_z}
+use Rattle.lookup_join.{proofs.Latests.{found_last, none_found}, specs.declared.latest.Found.Found, specs.declared.pick.Pick.TheVariants.Last}
 use Rattle.row_groups.specs.Members.{Member, keys_of}
 use Rattle.lookup_join.proofs.latest.last_until.Goals as goal
 

@@ -1,11 +1,6 @@
 use Rattle.std.proofs.Common.{ap, sym, ◌∙◌, ◌-◌, cond, length, List, subst, ℤ, w64, None}
-use Rattle.std.specs.Prelude.{int_le, option_map, pos, slice_get}
-use Rattle.std.proofs.lemmas.Int.{to_z-of_z}
-use Rattle.lookup_join.proofs.Latests.{found_final, found_first, match_as_last}
-use Rattle.lookup_join.specs.declared.latest.Found.{Found}
-use Rattle.lookup_join.specs.declared.pick.Pick.{Pick}
-use Rattle.lookup_join.specs.declared.pick.Pick.TheVariants.{Last}
-use Rattle.lookup_join.specs.Latest.{AreTimed, match_of}
+use Rattle.std.{specs.Prelude.{int_le, option_map, pos, slice_get}, proofs.lemmas.Int.to_z-of_z}
+use Rattle.lookup_join.{proofs.Latests.{found_final, found_first, match_as_last}, specs.declared.latest.Found.Found, specs.declared.pick.Pick.Pick, specs.declared.pick.Pick.TheVariants.Last, specs.Latest.{AreTimed, match_of}}
 use Rattle.row_groups.specs.Members.{Member, keys_of}
 use Rattle.lookup_join.proofs.latest.latest.Goals as goal
 

@@ -1,8 +1,5 @@
 use Rattle.std.proofs.Common.{ap, sym, ◌∙◌, List, arith, length, w64, rules, SFits, ◌≤◌}
-use Rattle.std.specs.Prelude.{Some, slice_get, int_le, option_map}
-use Rattle.std.specs.List.{count_by}
-use Rattle.std.proofs.lemmas.Int.{to_z-of_z}
-use Rattle.std.proofs.lemmas.Option.{slice_get-map, slice_get_past}
+use Rattle.std.{specs.Prelude.{Some, slice_get, int_le, option_map}, specs.List.count_by, proofs.lemmas.Int.to_z-of_z, proofs.lemmas.Option.{slice_get-map, slice_get_past}}
 use Rattle.lookup_join.proofs.Latests.{next_is}
 use Rattle.row_groups.specs.Members.{Member, group_of}
 use Rattle.lookup_join.proofs.latest.next_time.Goals as goal

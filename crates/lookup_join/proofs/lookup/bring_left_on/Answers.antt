@@ -1,15 +1,10 @@
 use Rattle.std.proofs.Common.{◌≡◌, ap, sym, ◌∙◌, subst, arith, true, List, ℕ, ◌≤◌, filter, length}
-use Rattle.std.specs.List.{AllByRecursion}
+use Rattle.std.{specs.List.AllByRecursion, specs.Prelude.IfOk}
 use Rattle.key_lists.specs.Keys.{is_among}
-use Rattle.lookup_join.specs.declared.keyed.Side.TheVariants.{Left}
-use Rattle.lookup_join.specs.Keyed.{rekeys}
-use Rattle.lookup_join.proofs.Stepping.{brought_reads, modified_before, modified_count, modified_now}
+use Rattle.lookup_join.{specs.declared.keyed.Side.TheVariants.Left, specs.Keyed.rekeys, proofs.Stepping.{brought_reads, modified_before, modified_count, modified_now}}
 use Rattle.tick_laws.proofs.ResultCells.{length-filter_most}
-use Rattle.tick_model.specs.declared.update.KeyPair.{KeyPair}
-use Rattle.std.specs.Prelude.{IfOk}
+use Rattle.tick_model.{specs.declared.update.KeyPair.KeyPair, specs.Tables.keys, specs.Updates.new_keys}
 use Rattle.row_set.specs.Sets.{united}
-use Rattle.tick_model.specs.Tables.{keys}
-use Rattle.tick_model.specs.Updates.{new_keys}
 use Rattle.lookup_join.proofs.lookup.bring_left_on.Goals as goal
 
 pub rekeyed-requires-clause-before : goal.rekeyed-requires-clause-before

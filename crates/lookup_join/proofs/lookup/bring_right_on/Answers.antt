@@ -1,15 +1,10 @@
 use Rattle.std.proofs.Common.{◌≡◌, ap, ap₂, sym, ◌∙◌, subst, arith, true, List, ◌≤◌, [], filter, length}
 use Rattle.std.specs.List.{AllByRecursion}
 use Rattle.key_lists.specs.Keys.{is_among}
-use Rattle.lookup_join.specs.declared.keyed.Side.TheVariants.{Right}
-use Rattle.lookup_join.specs.Keyed.{rekeys}
-use Rattle.lookup_join.specs.Notes.{NoteList, noting}
-use Rattle.lookup_join.specs.Taken.{touched_spots}
-use Rattle.lookup_join.proofs.Stepping.{brought_reads, modified_before, modified_count, modified_now, noted_reads}
+use Rattle.lookup_join.{specs.declared.keyed.Side.TheVariants.Right, specs.Keyed.rekeys, specs.Notes.{NoteList, noting}, specs.Taken.touched_spots, proofs.Stepping.{brought_reads, modified_before, modified_count, modified_now, noted_reads}}
 use Rattle.row_groups.specs.Members.{Grouped, Member}
 use Rattle.tick_laws.proofs.ResultCells.{length-filter_most}
-use Rattle.tick_model.specs.declared.update.KeyPair.{KeyPair}
-use Rattle.tick_model.specs.Tables.{keys}
+use Rattle.tick_model.{specs.declared.update.KeyPair.KeyPair, specs.Tables.keys}
 use Rattle.lookup_join.proofs.lookup.bring_right_on.Goals as goal
 
 pub touched_places-requires-clause-before : goal.touched_places-requires-clause-before

@@ -1,12 +1,7 @@
 use Rattle.std.proofs.Common.{ap, sym, subst, arith, ◌+◌, ◌*◌, ◌≤◌, ℕ, length}
 use Rattle.tick_model.specs.Changes.{change_of}
 use Rattle.tick_table.specs.Exact.{tick_of}
-use Rattle.lookup_join.specs.Matched.{matched_tick}
-use Rattle.lookup_join.specs.Notes.{NoteList}
-use Rattle.lookup_join.specs.Taken.{modified_pairs}
-use Rattle.lookup_join.proofs.Before.{matched}
-use Rattle.lookup_join.proofs.Noting.{notes_few}
-use Rattle.lookup_join.proofs.Stepping.{modified_count, step_reads}
+use Rattle.lookup_join.{specs.Matched.matched_tick, specs.Notes.NoteList, specs.Taken.modified_pairs, proofs.Before.matched, proofs.Noting.notes_few, proofs.Stepping.{modified_count, step_reads}}
 use Rattle.lookup_join.proofs.lookup.lookup_step.Goals as goal
 
 pub matched_change-requires-clause-matched : goal.matched_change-requires-clause-matched

@@ -1,18 +1,13 @@
 use Rattle.std.proofs.Common.{◌≡◌, ap, ap₂, sym, ◌∙◌, subst, ◌+◌, ◌*◌, ◌≤◌, arith, ℕ, List, length, true}
-use Rattle.std.specs.List.{AllByRecursion}
+use Rattle.std.{specs.List.AllByRecursion, proofs.Math.Nat.mul-le-mul_left}
 use Rattle.key_lists.specs.Keys.{is_among, without}
-use Rattle.lookup_join.specs.Matched.{matched_table, matched_tick}
-use Rattle.lookup_join.proofs.Compared.{are_compared, are_mapped, compared_few, compared_kept}
+use Rattle.lookup_join.{specs.Matched.{matched_table, matched_tick}, proofs.Compared.{are_compared, are_mapped, compared_few, compared_kept}}
 use Rattle.row_changes.specs.Parts.{AreCompared}
 use Rattle.row_set.specs.Sets.{united}
 use Rattle.shift_data.specs.Moves.{IsLawful, unapplied}
 use Rattle.shown_rows.proofs.Restricted.{exact_shift}
-use Rattle.tick_model.specs.Rules.{landed}
-use Rattle.tick_model.specs.Tables.{keys}
-use Rattle.tick_model.specs.Updates.{Update, between, pairs}
-use Rattle.std.proofs.Math.Nat.{mul-le-mul_left}
-use Rattle.tick_table.proofs.Between.{new_keys-pairs}
-use Rattle.tick_table.specs.Exact.{tick_of}
+use Rattle.tick_model.{specs.Rules.landed, specs.Tables.keys, specs.Updates.{Update, between, pairs}}
+use Rattle.tick_table.{proofs.Between.new_keys-pairs, specs.Exact.tick_of}
 use Rattle.lookup_join.proofs.lookup.matched_change.Goals as goal
 
 reads_within : (row first second last modified added out taken notes compared : ℕ) → second ≤ first + 2 * taken * notes → last ≤ second + row * (2 * compared + added) → compared ≤ modified + out → last ≤ first + 2 * taken * notes + row * (2 * (modified + out) + added)

@@ -1,18 +1,9 @@
 use Rattle.std.proofs.Common.{◌≡◌, ap, ap₂, sym, ◌∙◌, subst, ◌<◌, ◌^◌, ◌==◌, ℕ, List, [], length}
-use Rattle.std.specs.List.{AllByRecursion}
-use Rattle.std.proofs.lemmas.Bool.{eqb-true}
-use Rattle.std.proofs.lemmas.List.{nil_from_length}
+use Rattle.std.{specs.List.AllByRecursion, proofs.lemmas.Bool.eqb-true, proofs.lemmas.List.nil_from_length}
 use Rattle.key_lists.specs.Keys.{is_among}
-use Rattle.lookup_join.specs.declared.keyed.Side.TheVariants.{Right}
-use Rattle.lookup_join.specs.declared.pick.Pick.{Pick}
-use Rattle.lookup_join.specs.Notes.{Note}
-use Rattle.lookup_join.specs.Taken.{IsFrom, step_notes, turned_keys, turned_members}
-use Rattle.lookup_join.proofs.Before.{notes_from}
-use Rattle.lookup_join.proofs.Latests.{timed_index}
-use Rattle.lookup_join.proofs.Compared.{told_came, turned_small}
+use Rattle.lookup_join.{specs.declared.keyed.Side.TheVariants.Right, specs.declared.pick.Pick.Pick, specs.Notes.Note, specs.Taken.{IsFrom, step_notes, turned_keys, turned_members}, proofs.Before.notes_from, proofs.Latests.timed_index, proofs.Compared.{told_came, turned_small}}
 use Rattle.row_groups.specs.Members.{Grouped, Member}
-use Rattle.tick_model.specs.declared.table.PlainRow.{PlainRow}
-use Rattle.tick_model.specs.Tables.{keys}
+use Rattle.tick_model.{specs.declared.table.PlainRow.PlainRow, specs.Tables.keys}
 use Rattle.lookup_join.proofs.lookup.turned_set.Goals as goal
 
 turned_same : (pick : Pick) (take : List ℕ) (left left' right right' : List Member) (old new : List PlainRow) (notes notes' : List Note) → left ≡ left' → right ≡ right' → notes ≡ notes' → turned_members pick take left right notes old new notes ≡ turned_members pick take left' right' notes' old new notes'

@@ -1,17 +1,10 @@
 use Rattle.std.proofs.Common.{◌≡◌, ap, sym, ◌∙◌, subst, true, map, ◌+◌, ◌*◌, ◌≤◌, ℕ, List, rules, w64, SFits, length}
-use Rattle.std.specs.List.{AllByRecursion}
-use Rattle.std.proofs.lemmas.Int.{to_z-of_z}
+use Rattle.std.{specs.List.AllByRecursion, proofs.lemmas.Int.to_z-of_z}
 use Rattle.key_lists.specs.Keys.{is_among}
-use Rattle.lookup_join.specs.Keyed.{key_at, key_cells, time_at, time_of}
-use Rattle.lookup_join.specs.declared.keyed.Side.TheVariants.{Right}
-use Rattle.lookup_join.specs.Notes.{NoteList, noting}
-use Rattle.lookup_join.specs.Taken.{spot_at}
-use Rattle.lookup_join.proofs.Walks.{length-key_cells, noted_next, reader_has, row_given, row_read, spot_is}
+use Rattle.lookup_join.{specs.Keyed.{key_at, key_cells, time_at, time_of}, specs.declared.keyed.Side.TheVariants.Right, specs.Notes.{NoteList, noting}, specs.Taken.spot_at, proofs.Walks.{length-key_cells, noted_next, reader_has, row_given, row_read, spot_is}, proofs.Stepping.added_there}
 use Rattle.row_changes.proofs.Comparing.{reads_next, reads_within}
 use Rattle.row_set.proofs.Yielded.{next_has, yielded_all, yielded_next}
-use Rattle.tick_model.specs.Tables.{keys}
-use Rattle.tick_model.specs.Updates.{Update}
-use Rattle.lookup_join.proofs.Stepping.{added_there}
+use Rattle.tick_model.{specs.Tables.keys, specs.Updates.Update}
 use Rattle.lookup_join.proofs.notes.note_added.Goals as goal
 
 pub row-row-requires : goal.row-row-requires

@@ -1,6 +1,5 @@
 use Rattle.std.proofs.Common.{◌≡◌, ◌+◌, ◌*◌, ◌≤◌, map, length}
-use Rattle.lookup_join.specs.Notes.{noting}
-use Rattle.lookup_join.specs.Taken.{spot_at}
+use Rattle.lookup_join.{specs.Notes.noting, specs.Taken.spot_at}
 use Rattle.lookup_join.proofs.notes.note_added.Given as goal
 
 abbrev pub invariant-loop-key : goal.invariant-loop-key

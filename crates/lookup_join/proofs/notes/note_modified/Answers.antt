@@ -1,17 +1,11 @@
 use Rattle.std.proofs.Common.{◌≡◌, ap, sym, ◌∙◌, arith, true, length, List, rules, w64, SFits}
 use Rattle.std.proofs.lemmas.Int.{to_z-of_z}
 use Rattle.key_lists.specs.Keys.{is_among}
-use Rattle.lookup_join.specs.declared.keyed.Side.TheVariants.{Right}
-use Rattle.lookup_join.specs.Keyed.{key_at, key_cells, time_at, time_of}
-use Rattle.lookup_join.specs.Notes.{Note, NoteList, spot_under}
-use Rattle.lookup_join.specs.Taken.{spot_at}
-use Rattle.lookup_join.proofs.Latests.{timed_index}
-use Rattle.lookup_join.proofs.Walks.{length-key_cells, member_is, note_put, noting_two, reader_has, reads_more, row_given, row_read, spot_is, spot_known}
+use Rattle.lookup_join.{specs.declared.keyed.Side.TheVariants.Right, specs.Keyed.{key_at, key_cells, time_at, time_of}, specs.Notes.{Note, NoteList, spot_under}, specs.Taken.spot_at, proofs.Latests.timed_index, proofs.Walks.{length-key_cells, member_is, note_put, noting_two, reader_has, reads_more, row_given, row_read, spot_is, spot_known}}
 use Rattle.row_changes.proofs.Placed.{reads_placed}
 use Rattle.row_groups.specs.Members.{Grouped}
 use Rattle.shown_rows.proofs.Walks.{of_place}
-use Rattle.tick_model.specs.declared.update.KeyPair.{KeyPair}
-use Rattle.tick_model.specs.Tables.{keys}
+use Rattle.tick_model.{specs.declared.update.KeyPair.KeyPair, specs.Tables.keys}
 use Rattle.lookup_join.proofs.notes.note_modified.Goals as goal
 
 pub note_old-requires-clause-here : goal.note_old-requires-clause-here

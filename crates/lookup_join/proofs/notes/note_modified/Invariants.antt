@@ -1,7 +1,6 @@
 use Rattle.std.proofs.Common.{◌≡◌, ◌+◌, ◌*◌, ◌≤◌, ◌∷◌, [], take}
 use Rattle.std.specs.Prelude.{flat_map}
-use Rattle.lookup_join.specs.Notes.{noting}
-use Rattle.lookup_join.specs.Taken.{spot_at}
+use Rattle.lookup_join.{specs.Notes.noting, specs.Taken.spot_at}
 use Rattle.tick_model.specs.declared.update.KeyPair.{KeyPair}
 use Rattle.lookup_join.proofs.notes.note_modified.Given as goal
 

@@ -1,7 +1,6 @@
 use Rattle.std.proofs.Common.{◌≡◌, refl, ap, ◌∙◌, true, map, List, ℕ}
 use Rattle.std.specs.Prelude.{is_some}
-use Rattle.lookup_join.specs.Notes.{NoteList, noting, spot_under}
-use Rattle.lookup_join.proofs.Walks.{noted_next}
+use Rattle.lookup_join.{specs.Notes.{NoteList, noting, spot_under}, proofs.Walks.noted_next}
 use Rattle.row_groups.specs.Members.{member_under}
 use Rattle.row_set.proofs.Yielded.{next_has, yielded_all}
 use Rattle.lookup_join.proofs.notes.note_removed.Goals as goal

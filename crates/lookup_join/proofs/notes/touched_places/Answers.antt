@@ -1,15 +1,8 @@
 use Rattle.std.proofs.Common.{◌≡◌, ap, sym, ◌∙◌, subst, true, [], ◌∷◌, map, length, refl}
-use Rattle.std.specs.Prelude.{flat_map, is_some}
-use Rattle.std.specs.List.{AllByRecursion}
-use Rattle.lookup_join.specs.Notes.{NoteList, spot_under}
-use Rattle.lookup_join.specs.Taken.{spot_at}
-use Rattle.lookup_join.specs.declared.keyed.Side.TheVariants.{Right}
-use Rattle.lookup_join.proofs.Latests.{timed_index}
-use Rattle.lookup_join.proofs.Stepping.{removed_there}
-use Rattle.lookup_join.proofs.Walks.{members_known, noting_parts, spots_known}
+use Rattle.std.{specs.Prelude.{flat_map, is_some}, specs.List.AllByRecursion}
+use Rattle.lookup_join.{specs.Notes.{NoteList, spot_under}, specs.Taken.spot_at, specs.declared.keyed.Side.TheVariants.Right, proofs.Latests.timed_index, proofs.Stepping.removed_there, proofs.Walks.{members_known, noting_parts, spots_known}}
 use Rattle.row_groups.specs.Members.{Grouped, member_under}
-use Rattle.tick_model.specs.declared.update.KeyPair.{KeyPair}
-use Rattle.tick_model.specs.Updates.{Update}
+use Rattle.tick_model.{specs.declared.update.KeyPair.KeyPair, specs.Updates.Update}
 use Rattle.lookup_join.proofs.notes.touched_places.Goals as goal
 
 pub note_removed-requires-clause-here : goal.note_removed-requires-clause-here

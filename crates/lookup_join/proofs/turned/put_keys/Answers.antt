@@ -1,9 +1,6 @@
 use Rattle.std.proofs.Common.{ap, ap₂, sym, ◌∙◌, subst, arith, w64, to_z, of_z, ◌≤◌, ◌<◌, inl, inr, List, ◌++◌, filter, length}
-use Rattle.std.proofs.lemmas.List.{append-nil}
-use Rattle.std.proofs.lemmas.Int.{to_z-of_z}
-use Rattle.lookup_join.specs.Latest.{during}
-use Rattle.lookup_join.proofs.During.{all_done, count_within, none_first, one_after}
-use Rattle.lookup_join.proofs.Latests.{Timed, group_timed}
+use Rattle.std.{proofs.lemmas.List.append-nil, proofs.lemmas.Int.to_z-of_z}
+use Rattle.lookup_join.{specs.Latest.during, proofs.During.{all_done, count_within, none_first, one_after}, proofs.Latests.{Timed, group_timed}}
 use Rattle.row_groups.specs.Members.{Member, keys_of}
 use Rattle.lookup_join.proofs.turned.put_keys.Goals as goal
 

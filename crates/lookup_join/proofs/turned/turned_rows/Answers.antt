@@ -1,17 +1,11 @@
 use Rattle.std.proofs.Common.{◌≡◌, ap, ap₂, sym, ◌∙◌, subst, arith, cond, ℕ, ◌*◌, List, ◌++◌, [], map, filter, length, rules, w64, SFits}
-use Rattle.std.proofs.lemmas.Int.{to_z-of_z}
-use Rattle.std.proofs.lemmas.List.{append-nil}
-use Rattle.lookup_join.specs.declared.matches.Match.{Match}
-use Rattle.lookup_join.specs.Latest.{during}
-use Rattle.lookup_join.specs.Notes.{Note, taken_key}
-use Rattle.lookup_join.specs.Taken.{IsFrom, IsThere, cell_of, end_of, match_before, match_now, turned_note}
-use Rattle.lookup_join.proofs.Walks.{note_at, reads_more, told_next}
+use Rattle.std.{proofs.lemmas.Int.to_z-of_z, proofs.lemmas.List.append-nil}
+use Rattle.lookup_join.{specs.declared.matches.Match.Match, specs.Latest.during, specs.Notes.{Note, taken_key}, specs.Taken.{IsFrom, IsThere, cell_of, end_of, match_before, match_now, turned_note}, proofs.Walks.{note_at, reads_more, told_next}, proofs.turned.turned_rows.Goals.{then-not-gives_as+in_ok-put_keys, else-not-gives_as}}
 use Rattle.row_changes.proofs.Placed.{reads_placed}
 use Rattle.row_groups.specs.Members.{group_of, keys_of}
 use Rattle.shown_rows.proofs.Walks.{of_place}
 use Rattle.tick_model.specs.Tables.{same_cells}
 use Rattle.lookup_join.proofs.turned.turned_rows.Goals as goal
-use Rattle.lookup_join.proofs.turned.turned_rows.Goals.{then-not-gives_as+in_ok-put_keys, else-not-gives_as}
 
 pub gives_as-requires-clause-other : goal.gives_as-requires-clause-other
 gives_as-requires-clause-other g c =

@@ -1,9 +1,7 @@
 use Rattle.std.proofs.Common.{◌≡◌, ℕ, ◌+◌, ◌*◌, List, [], ◌∷◌, ◌++◌, map, refl, ap, ap₂, sym, ◌∙◌, arith}
-use Rattle.std.specs.List.{range_with_len}
-use Rattle.std.proofs.lemmas.List.FromFn.{map-range_with_len_more}
+use Rattle.std.{specs.List.range_with_len, proofs.lemmas.List.FromFn.map-range_with_len_more}
 use Rattle.tick_model.specs.declared.table.PlainRow.{PlainRow}
-use Rattle.made_run.specs.Draws.{after, drawn_row, drawn_rows}
-use Rattle.made_run.proofs.Drawn.{one_row_more}
+use Rattle.made_run.{specs.Draws.{after, drawn_row, drawn_rows}, proofs.Drawn.one_row_more}
 use Rattle.made_run.proofs.draws.drawn_rows.Goals as goal
 
 -- the row of an index

@@ -1,7 +1,6 @@
 use Rattle.std.proofs.Common.{◌≡◌, ◌+◌, ◌*◌, map}
 use Rattle.std.specs.List.{range_with_len}
-use Rattle.made_run.specs.Draws.{after}
-use Rattle.made_run.specs.Draws.{drawn_row as row_of}
+use Rattle.made_run.specs.Draws.{after, drawn_row as row_of}
 use Rattle.made_run.proofs.draws.drawn_rows.Given as goal
 
 abbrev pub invariant-loop-i : goal.invariant-loop-i

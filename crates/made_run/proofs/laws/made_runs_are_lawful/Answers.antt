@@ -1,7 +1,6 @@
 use Rattle.std.proofs.Common.{sym, subst}
 use Rattle.tick_model.specs.LawfulRuns.{IsLawfulRun}
-use Rattle.made_run.proofs.Lawful.{made_is_lawful}
-use Rattle.made_run.proofs.PlainRuns.{lawful_from_plain}
+use Rattle.made_run.{proofs.Lawful.made_is_lawful, proofs.PlainRuns.lawful_from_plain}
 use Rattle.made_run.proofs.laws.made_runs_are_lawful.Goals as goal
 
 pub returns-clause-made : goal.returns-clause-made

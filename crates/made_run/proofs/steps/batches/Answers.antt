@@ -1,11 +1,7 @@
 use Rattle.std.proofs.Common.{ℕ, ◌+◌, List, [], ◌∷◌, ◌++◌, refl, ap, ap₂, sym, ◌∙◌, arith}
 use Rattle.std.proofs.lemmas.List.FromFn.{map-range_with_len_more}
-use Rattle.tick_model.specs.declared.feed.Batch.{Batch}
-use Rattle.tick_model.specs.declared.feed.Block.{Block}
-use Rattle.made_run.specs.Draws.{after}
-use Rattle.made_run.specs.Steps.{batch_after, block_of, draws_after, draws_in, survivors}
-use Rattle.made_run.proofs.Drawn.{after-plus}
-use Rattle.made_run.proofs.Rows.{draws_of_next, rows_of_next}
+use Rattle.tick_model.{specs.declared.feed.Batch.Batch, specs.declared.feed.Block.Block}
+use Rattle.made_run.{specs.Draws.after, specs.Steps.{batch_after, block_of, draws_after, draws_in, survivors}, proofs.Drawn.after-plus, proofs.Rows.{draws_of_next, rows_of_next}}
 use Rattle.made_run.proofs.steps.batches.Goals as goal
 
 pub loop-before-init : goal.loop-before-init

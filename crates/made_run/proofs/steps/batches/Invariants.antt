@@ -1,7 +1,6 @@
 use Rattle.std.proofs.Common.{◌≡◌, map}
 use Rattle.std.specs.List.{range_with_len}
-use Rattle.made_run.specs.Draws.{after}
-use Rattle.made_run.specs.Steps.{batch_after, draws_after, rows_after}
+use Rattle.made_run.{specs.Draws.after, specs.Steps.{batch_after, draws_after, rows_after}}
 use Rattle.made_run.proofs.steps.batches.Given as goal
 
 abbrev pub invariant-loop-before : goal.invariant-loop-before

@@ -1,6 +1,5 @@
 use Rattle.std.proofs.Common.{◌≡◌, ℕ, ◌+◌, ◌%◌, ◌==◌, cond, ap, ◌∙◌, arith}
-use Rattle.made_run.specs.Draws.{after}
-use Rattle.made_run.proofs.Drawn.{after-plus}
+use Rattle.made_run.{specs.Draws.after, proofs.Drawn.after-plus}
 use Rattle.made_run.proofs.steps.block.Goals as goal
 
 pub returns-clause-state : goal.returns-clause-state

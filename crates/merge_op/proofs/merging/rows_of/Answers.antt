@@ -1,11 +1,9 @@
 use Rattle.std.proofs.Common.{◌≡◌, ap, sym, ◌∙◌, subst, ◌+◌, ◌*◌, ◌≤◌, arith, List, ◌∷◌, drop, length}
-use Rattle.std.proofs.lemmas.List.{length-map}
-use Rattle.std.proofs.lemmas.List.Sums.{sum_by-cons}
+use Rattle.std.{proofs.lemmas.List.length-map, proofs.lemmas.List.Sums.sum_by-cons}
 use Rattle.tick_model.specs.declared.table.PlainRow.{PlainRow}
 use Rattle.tick_table.specs.Ticking.{Ticking}
 use Rattle.table_operator.specs.Inputs.{tables}
-use Rattle.merge_op.specs.Merged.{rows_in}
-use Rattle.merge_op.proofs.Sharing.{no_tables, table_at, tables_from}
+use Rattle.merge_op.{specs.Merged.rows_in, proofs.Sharing.{no_tables, table_at, tables_from}}
 use Rattle.merge_op.proofs.merging.rows_of.Goals as goal
 
 pub overflow_add-total : goal.overflow_add-total

@@ -1,8 +1,7 @@
 use Rattle.std.proofs.Common.{◌≡◌, sym, ◌∙◌, ap, subst, ℕ, ◌+◌, ◌-◌, ◌<◌, ◌≤◌, arith, max, List, [], ◌∷◌, ◌++◌, to_z, of_z, to_z-of_z, w64, SFits, rules}
 use Rattle.std.specs.List.{AllByRecursion}
 use Rattle.key_lists.proofs.Every.{every_weaker}
-use Rattle.tick_model.specs.declared.update.ShiftRange.{ShiftRange}
-use Rattle.tick_model.specs.Shifts.{delta_at}
+use Rattle.tick_model.{specs.declared.update.ShiftRange.ShiftRange, specs.Shifts.delta_at}
 use Rattle.merge_op.proofs.Ranged.{delta_last, delta_last_other, every_last}
 use Rattle.merge_op.proofs.shifts.push_keys.Goals as goal
 

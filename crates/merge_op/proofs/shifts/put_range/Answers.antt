@@ -1,8 +1,7 @@
 use Rattle.std.proofs.Common.{◌≡◌, subst, to_z-of_z, w64, SFits, rules, sym, ◌∙◌, ℕ, ◌<◌, ◌≤◌, ◌^◌, arith, max}
 use Rattle.key_lists.proofs.Every.{every_weaker}
 use Rattle.tick_model.specs.declared.update.ShiftRange.{ShiftRange}
-use Rattle.merge_op.specs.Steps.{IsStep}
-use Rattle.merge_op.proofs.Ranged.{delta_behind}
+use Rattle.merge_op.{specs.Steps.IsStep, proofs.Ranged.delta_behind}
 use Rattle.merge_op.proofs.shifts.put_range.Goals as goal
 
 pub returns-else-leads_on-clause-before : goal.returns-else-leads_on-clause-before

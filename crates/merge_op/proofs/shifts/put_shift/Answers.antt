@@ -1,10 +1,7 @@
 use Rattle.std.proofs.Common.{◌≡◌, refl, negsuc, ◌<ℤ◌, ◌≤ℤ◌, ap, ap₂, sym, ◌∙◌, subst, ℕ, ◌+◌, ◌-◌, ◌<◌, ◌≤◌, ◌^◌, arith, min, List, [], ◌∷◌, drop, length, get_or, ℤ, pos, ◌+ℤ◌, ◌-ℤ◌, to_z, of_z, to_z-of_z, w64, SFits, rules}
-use Rattle.std.proofs.lemmas.List.{drop_more}
-use Rattle.std.proofs.Math.ListN.{drop_of_length-le}
-use Rattle.tick_model.specs.declared.update.ShiftRange.{ShiftRange}
-use Rattle.tick_model.specs.Printable.{IsShiftRange}
-use Rattle.merge_op.specs.Steps.{IsStep}
-use Rattle.merge_op.proofs.Ranged.{Ascend, IsPut, Puts, ascend_of, next_orders, place_of, put_last, put_next, put_none}
+use Rattle.std.{proofs.lemmas.List.drop_more, proofs.Math.ListN.drop_of_length-le}
+use Rattle.tick_model.{specs.declared.update.ShiftRange.ShiftRange, specs.Printable.IsShiftRange}
+use Rattle.merge_op.{specs.Steps.IsStep, proofs.Ranged.{Ascend, IsPut, Puts, ascend_of, next_orders, place_of, put_last, put_next, put_none}}
 use Rattle.merge_op.proofs.shifts.put_shift.Goals as goal
 
 pub loop-range-init : goal.loop-range-init

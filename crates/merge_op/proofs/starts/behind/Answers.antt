@@ -1,6 +1,5 @@
 use Rattle.std.proofs.Common.{◌≡◌, ap₂, ◌<◌, ◌+◌, ◌^◌, arith}
-use Rattle.merge_op.specs.Regions.{room_before, room_now, start_at}
-use Rattle.merge_op.proofs.Roomy.{room_is, room_small}
+use Rattle.merge_op.{specs.Regions.{room_before, room_now, start_at}, proofs.Roomy.{room_is, room_small}}
 use Rattle.merge_op.proofs.starts.behind.Goals as goal
 
 pub overflow_add-result : goal.overflow_add-result

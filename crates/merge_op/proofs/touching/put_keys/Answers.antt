@@ -1,10 +1,6 @@
 use Rattle.std.proofs.Common.{◌≡◌, ap, sym, ◌∙◌, subst, ℕ, ◌+◌, ◌<◌, ◌≤◌, ◌^◌, arith, List, [], ◌∷◌, ◌++◌, drop, get_or, length}
-use Rattle.std.specs.List.{AllByRecursion}
-use Rattle.std.proofs.lemmas.List.{append-nil, drop_more}
-use Rattle.std.proofs.Math.ListN.{drop_of_length-le}
-use Rattle.row_set.specs.declared.ranges.Range.{Range}
-use Rattle.row_set.specs.Ranges.{AreApart, keys_of}
-use Rattle.row_set.proofs.Places.{range_at}
+use Rattle.std.{specs.List.AllByRecursion, proofs.lemmas.List.{append-nil, drop_more}, proofs.Math.ListN.drop_of_length-le}
+use Rattle.row_set.{specs.declared.ranges.Range.Range, specs.Ranges.{AreApart, keys_of}, proofs.Places.range_at}
 use Rattle.merge_op.proofs.Keyed.{IsPut, last_small, plus, put_next, rest_small, whole_rises}
 use Rattle.merge_op.proofs.touching.put_keys.Goals as goal
 

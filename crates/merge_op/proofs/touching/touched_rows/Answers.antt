@@ -1,20 +1,11 @@
 use Rattle.std.proofs.Common.{◌≡◌, ap, sym, ◌∙◌, subst, ℕ, ◌+◌, ◌<◌, ◌^◌, List, [], ◌∷◌, map, drop, length}
 use Rattle.std.specs.List.{AllByRecursion}
-use Rattle.key_lists.specs.Keys.{without}
-use Rattle.key_lists.proofs.Parts.{every_front}
+use Rattle.key_lists.{specs.Keys.without, proofs.Parts.every_front}
 use Rattle.shift_data.specs.Moves.{IsLawful, canonical}
 use Rattle.tick_model.specs.Updates.{between}
-use Rattle.tick_table.specs.Exact.{IsExact}
-use Rattle.tick_table.specs.Ticking.{Ticking}
-use Rattle.merge_op.specs.declared.starts.Start.{Start}
+use Rattle.tick_table.{specs.Exact.IsExact, specs.Ticking.Ticking}
+use Rattle.merge_op.{specs.declared.starts.Start.Start, specs.Merged.merged, specs.Regions.{IsStart, in_regions, room_before, room_now, start_at, starts_of}, proofs.Gathering.{gathered, lawful}, proofs.Going.{IsGathered, added_of, all_agree, all_now_below, gathered_next, gathered_none, gathered_whole, length-regions, small_plus}, proofs.Paired.modified_now, proofs.Sharing.{no_tables, table_at, tables_from}, proofs.Ticked.{keys_before, keys_now, removed_are}}
 use Rattle.table_operator.specs.Inputs.{tables}
-use Rattle.merge_op.specs.Merged.{merged}
-use Rattle.merge_op.specs.Regions.{IsStart, in_regions, room_before, room_now, start_at, starts_of}
-use Rattle.merge_op.proofs.Gathering.{gathered, lawful}
-use Rattle.merge_op.proofs.Going.{IsGathered, added_of, all_agree, all_now_below, gathered_next, gathered_none, gathered_whole, length-regions, small_plus}
-use Rattle.merge_op.proofs.Paired.{modified_now}
-use Rattle.merge_op.proofs.Sharing.{no_tables, table_at, tables_from}
-use Rattle.merge_op.proofs.Ticked.{keys_before, keys_now, removed_are}
 use Rattle.merge_op.proofs.touching.touched_rows.Goals as goal
 
 pub loop-input-init : goal.loop-input-init

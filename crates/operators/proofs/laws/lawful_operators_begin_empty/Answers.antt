@@ -1,10 +1,7 @@
 use Rattle.std.proofs.Common.{◌∙◌, ap, sym}
-use Rattle.tick_model.specs.Operators.{inputs_of}
-use Rattle.tick_model.specs.States.{empty_at}
+use Rattle.tick_model.{specs.Operators.inputs_of, specs.States.empty_at}
 use Rattle.tick_table.specs.Ticking.{no_rows}
-use Rattle.operators.specs.Planned.{input_widths, op_at}
-use Rattle.operators.proofs.Each.{empty_result}
-use Rattle.operators.proofs.Planning.{empty_inputs, empty_node, lawful_at, planned_node}
+use Rattle.operators.{specs.Planned.{input_widths, op_at}, proofs.Each.empty_result, proofs.Planning.{empty_inputs, empty_node, lawful_at, planned_node}}
 use Rattle.operators.proofs.laws.lawful_operators_begin_empty.Goals as goal
 
 pub returns-clause-inputs : goal.returns-clause-inputs

@@ -1,9 +1,7 @@
 use Rattle.std.proofs.Common.{◌≡◌, ap, sym, ◌∙◌, subst, ◌+◌, cond, add-zero}
 use Rattle.tick_model.specs.Evaluation.{is_source, eval}
-use Rattle.plain_evaluator.specs.Stops.{IsCause}
-use Rattle.plain_evaluator.proofs.TablesInTurn.{IsStep, step_ready, step_more, step_stop}
+use Rattle.plain_evaluator.{specs.Stops.IsCause, proofs.TablesInTurn.{IsStep, step_ready, step_more, step_stop}, proofs.evaluation.evaluate.Goals.{then-is_source, else-is_source}}
 use Rattle.plain_evaluator.proofs.evaluation.evaluate.Goals as goal
-use Rattle.plain_evaluator.proofs.evaluation.evaluate.Goals.{then-is_source, else-is_source}
 
 pub table_of-requires : goal.table_of-requires
 table_of-requires c =

@@ -1,7 +1,6 @@
 use Rattle.std.proofs.Common.{subst}
 use Rattle.tick_model.specs.Ready.{table_in}
-use Rattle.plain_evaluator.specs.Gives.{Gives}
-use Rattle.plain_evaluator.proofs.ReadyOperators.{operator_ready, ready_outcome}
+use Rattle.plain_evaluator.{specs.Gives.Gives, proofs.ReadyOperators.{operator_ready, ready_outcome}}
 use Rattle.plain_evaluator.proofs.evaluation.table_of.Goals as goal
 
 pub returns-in_default : goal.returns-in_default

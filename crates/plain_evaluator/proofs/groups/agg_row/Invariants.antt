@@ -1,6 +1,5 @@
 use Rattle.std.proofs.Common.{◌≡◌, ◌++◌, map, take}
-use Rattle.tick_model.specs.Tables.{cell}
-use Rattle.tick_model.specs.Agg.{key_cells, aggregate}
+use Rattle.tick_model.{specs.Tables.cell, specs.Agg.{key_cells, aggregate}}
 use Rattle.plain_evaluator.proofs.groups.agg_row.Given as goal
 
 abbrev pub invariant-loop-column : goal.invariant-loop-column

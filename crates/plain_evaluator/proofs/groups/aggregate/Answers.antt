@@ -1,8 +1,6 @@
 use Rattle.std.proofs.Common.{◌∙◌, ap, sym, w64, to_z-of_z, SFits, rules, Option}
 use Rattle.std.specs.Option.{option_map_or}
-use Rattle.tick_model.specs.declared.table.PlainRow.{PlainRow}
-use Rattle.tick_model.specs.Tables.{null, cell}
-use Rattle.tick_model.specs.Agg.{aggregate}
+use Rattle.tick_model.{specs.declared.table.PlainRow.PlainRow, specs.Tables.{null, cell}, specs.Agg.aggregate}
 use Rattle.plain_evaluator.proofs.GroupCells.{first_cell, last_cell}
 use Rattle.plain_evaluator.proofs.groups.aggregate.Goals as goal
 

@@ -1,9 +1,6 @@
 use Rattle.std.proofs.Common.{◌∙◌, ap, w64, to_z-of_z, take_all, SFits, rules, unwrap_or, None}
-use Rattle.std.specs.Prelude.{fold}
-use Rattle.std.specs.Int.{int_max}
-use Rattle.tick_model.specs.Tables.{null}
-use Rattle.tick_model.specs.Agg.{column_of}
-use Rattle.tick_model.specs.Extremes.{with_present}
+use Rattle.std.{specs.Prelude.fold, specs.Int.int_max}
+use Rattle.tick_model.{specs.Tables.null, specs.Agg.column_of, specs.Extremes.with_present}
 use Rattle.plain_evaluator.proofs.GroupCells.{over_present}
 use Rattle.plain_evaluator.proofs.groups.column_max.Goals as goal
 

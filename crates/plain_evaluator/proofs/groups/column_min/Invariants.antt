@@ -1,8 +1,6 @@
 use Rattle.std.proofs.Common.{◌≡◌, take}
-use Rattle.std.specs.Prelude.{fold, None}
-use Rattle.std.specs.Int.{int_min}
-use Rattle.tick_model.specs.Extremes.{with_present}
-use Rattle.tick_model.specs.Agg.{column_of}
+use Rattle.std.{specs.Prelude.{fold, None}, specs.Int.int_min}
+use Rattle.tick_model.{specs.Extremes.with_present, specs.Agg.column_of}
 use Rattle.plain_evaluator.proofs.groups.column_min.Given as goal
 
 abbrev pub invariant-loop-row : goal.invariant-loop-row

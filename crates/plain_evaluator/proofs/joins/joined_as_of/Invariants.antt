@@ -1,6 +1,5 @@
 use Rattle.std.proofs.Common.{◌≡◌, map, take}
-use Rattle.tick_model.specs.Join.{joined}
-use Rattle.tick_model.specs.AsOf.{latest, not_later}
+use Rattle.tick_model.{specs.Join.joined, specs.AsOf.{latest, not_later}}
 use Rattle.plain_evaluator.proofs.joins.joined_as_of.Given as goal
 
 abbrev pub invariant-loop-row : goal.invariant-loop-row

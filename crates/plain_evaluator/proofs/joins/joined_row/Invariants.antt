@@ -1,7 +1,6 @@
 use Rattle.std.proofs.Common.{◌≡◌, ◌++◌, map, take}
 use Rattle.std.specs.Option.{option_copied, option_map_or}
-use Rattle.tick_model.specs.Tables.{null, cell}
-use Rattle.tick_model.specs.declared.table.PlainRow.{PlainRow}
+use Rattle.tick_model.{specs.Tables.{null, cell}, specs.declared.table.PlainRow.PlainRow}
 use Rattle.plain_evaluator.proofs.joins.joined_row.Given as goal
 
 abbrev pub invariant-loop-column : goal.invariant-loop-column

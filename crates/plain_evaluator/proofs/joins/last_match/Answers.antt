@@ -1,9 +1,7 @@
 use Rattle.std.proofs.Common.{ap, sym, ◌∙◌, None}
-use Rattle.std.specs.List.{last_or}
-use Rattle.std.specs.Option.{option_copied}
-use Rattle.plain_evaluator.proofs.Matches.{matched_more, unmatched_more}
+use Rattle.std.{specs.List.last_or, specs.Option.option_copied}
+use Rattle.plain_evaluator.{proofs.Matches.{matched_more, unmatched_more}, proofs.joins.last_match.Goals.{then-agree, else-agree}}
 use Rattle.plain_evaluator.proofs.joins.last_match.Goals as goal
-use Rattle.plain_evaluator.proofs.joins.last_match.Goals.{then-agree, else-agree}
 
 pub loop-right-preserved : goal.loop-right-preserved
 loop-right-preserved c =

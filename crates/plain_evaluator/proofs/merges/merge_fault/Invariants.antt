@@ -1,7 +1,6 @@
 use Rattle.std.proofs.Common.{◌≡◌, ◌≤◌, ◌*◌, map, take, length}
 use Rattle.std.specs.List.{sum_by}
-use Rattle.tick_model.specs.declared.table.PlainTable.{PlainTable}
-use Rattle.tick_model.specs.Ready.{table_in}
+use Rattle.tick_model.{specs.declared.table.PlainTable.PlainTable, specs.Ready.table_in}
 use Rattle.plain_evaluator.proofs.merges.merge_fault.Given as goal
 
 abbrev pub invariant-loop-input : goal.invariant-loop-input

@@ -1,6 +1,5 @@
 use Rattle.std.proofs.Common.{◌≡◌, ◌++◌, map, drop}
-use Rattle.tick_model.specs.Merge.{merged_rows}
-use Rattle.tick_model.specs.Ready.{table_in, HaveRoom}
+use Rattle.tick_model.{specs.Merge.merged_rows, specs.Ready.{table_in, HaveRoom}}
 use Rattle.plain_evaluator.proofs.merges.merged_rows.Given as goal
 
 abbrev pub invariant-loop-input : goal.invariant-loop-input

@@ -1,6 +1,5 @@
 use Rattle.std.proofs.Common.{rules}
-use Rattle.std.proofs.lemmas.Result.{on_ok_weaker}
-use Rattle.std.proofs.lemmas.Fn.{always_returns_same}
+use Rattle.std.{proofs.lemmas.Result.on_ok_weaker, proofs.lemmas.Fn.always_returns_same}
 use Rattle.tick_model.proofs.SortOrders.{comes_before, comes_before_weak, sorted_in_order}
 use Rattle.plain_evaluator.proofs.sort.sort_rows.Goals as goal
 

@@ -1,7 +1,6 @@
 use Rattle.std.proofs.Common.{◌∙◌, ap, w64, to_z-of_z, take_all, SFits, rules, unwrap_or, None}
 use Rattle.std.specs.Prelude.{fold}
-use Rattle.tick_model.specs.Tables.{null}
-use Rattle.tick_model.specs.Agg.{column_of, with_cell}
+use Rattle.tick_model.{specs.Tables.null, specs.Agg.{column_of, with_cell}}
 use Rattle.plain_evaluator.proofs.SumsSoFar.{sum_of_present}
 use Rattle.plain_evaluator.proofs.sums.column_sum.Goals as goal
 

@@ -1,6 +1,5 @@
 use Rattle.std.proofs.Common.{◌≡◌, ◌<◌, ◌≤◌, ◌^◌, [], ◌∷◌, length, List, map, arith}
-use Rattle.std.proofs.lemmas.List.{length-map}
-use Rattle.std.specs.List.{AllByRecursion}
+use Rattle.std.{proofs.lemmas.List.length-map, specs.List.AllByRecursion}
 use Rattle.key_lists.proofs.Every.{all_from}
 use Rattle.tick_model.specs.declared.plan.Node.{Node}
 use Rattle.script_laws.proofs.Lawful.{script_lawful, script_written}

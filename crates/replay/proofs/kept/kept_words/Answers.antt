@@ -1,6 +1,5 @@
 use Rattle.std.proofs.Common.{◌≡◌, ◌+◌, ◌*◌, ◌<◌, ◌≤◌, ◌^◌, ◌∙◌, ap, arith, rules}
-use Rattle.replay.specs.Kept.{largest_words}
-use Rattle.replay.proofs.PublishedTables.{largest_few, product_small}
+use Rattle.replay.{specs.Kept.largest_words, proofs.PublishedTables.{largest_few, product_small}}
 use Rattle.replay.proofs.kept.kept_words.Goals as goal
 
 pub overflow_mul-result : goal.overflow_mul-result

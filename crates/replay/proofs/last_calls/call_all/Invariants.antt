@@ -1,6 +1,5 @@
 use Rattle.std.proofs.Common.{◌≡◌, ◌<◌, ◌≤◌, ℕ, get_or, length}
-use Rattle.replay.specs.declared.readers.Reader.{Reader}
-use Rattle.replay.specs.Snapshots.{HasEnded, HasRead}
+use Rattle.replay.{specs.declared.readers.Reader.Reader, specs.Snapshots.{HasEnded, HasRead}}
 use Rattle.replay.proofs.last_calls.call_all.Given as goal
 
 -- the callers before this one have made their last calls

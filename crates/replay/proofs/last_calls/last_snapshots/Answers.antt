@@ -1,10 +1,7 @@
 use Rattle.std.proofs.Common.{◌≡◌, ◌+◌, ◌≤◌, ◌∙◌, refl, ap, sym, arith, subst, length, map, get_or, List}
 use Rattle.std.specs.List.{All}
-use Rattle.snapshot_store.specs.Looks.{latest}
-use Rattle.snapshot_store.specs.Models.{CallerModel, WriterModel}
-use Rattle.replay.specs.declared.readers.Reader.{Reader}
-use Rattle.replay.specs.Snapshots.{AreLast, AreTaking, HasEnded}
-use Rattle.replay.proofs.KeptInEnd.{all_end, all_taking, callers_owned, written_back}
+use Rattle.snapshot_store.{specs.Looks.latest, specs.Models.{CallerModel, WriterModel}}
+use Rattle.replay.{specs.declared.readers.Reader.Reader, specs.Snapshots.{AreLast, AreTaking, HasEnded}, proofs.KeptInEnd.{all_end, all_taking, callers_owned, written_back}}
 use Rattle.replay.proofs.last_calls.last_snapshots.Goals as goal
 
 pub end-ended-requires-clause-callers : goal.end-ended-requires-clause-callers

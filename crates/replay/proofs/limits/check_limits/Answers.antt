@@ -1,8 +1,6 @@
 use Rattle.std.proofs.Common.{◌≡◌, ◌+◌, ◌≤◌, ◌<◌, ◌^◌, ◌∙◌, refl, ap, sym, subst, arith, rules, length, get_or, ℕ, Option}
 use Rattle.std.specs.Prelude.{IfNone}
-use Rattle.replay.specs.Causes.{rows_in}
-use Rattle.replay.proofs.PublishedTables.{item_is, no_publication, tables_few}
-use Rattle.replay.proofs.TablesInTurn.{limit_here, node_within, none_left, one_past, one_within}
+use Rattle.replay.{specs.Causes.rows_in, proofs.PublishedTables.{item_is, no_publication, tables_few}, proofs.TablesInTurn.{limit_here, node_within, none_left, one_past, one_within}}
 use Rattle.replay.proofs.limits.check_limits.Goals as goal
 
 pub loop-number-init : goal.loop-number-init

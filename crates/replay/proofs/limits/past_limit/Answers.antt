@@ -1,6 +1,5 @@
 use Rattle.std.proofs.Common.{◌≡◌, ◌<◌, ◌≤◌, ◌∙◌, sym, subst, arith}
-use Rattle.replay.specs.Causes.{rows_in}
-use Rattle.replay.proofs.TablesInTurn.{rows_now}
+use Rattle.replay.{specs.Causes.rows_in, proofs.TablesInTurn.rows_now}
 use Rattle.replay.proofs.limits.past_limit.Goals as goal
 
 pub returns-then-rows-limit-clause-past : goal.returns-then-rows-limit-clause-past

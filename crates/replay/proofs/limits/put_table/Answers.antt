@@ -1,11 +1,8 @@
 use Rattle.std.proofs.Common.{◌≡◌, ◌+◌, ◌≤◌, ◌<◌, ◌∙◌, refl, ap, sym, subst, length}
 use Rattle.std.specs.Prelude.{MatchResult}
-use Rattle.snapshot_store.specs.Answers.{IsFull}
-use Rattle.snapshot_store.specs.Lines.{count, limit}
-use Rattle.tick_model.specs.declared.feed.Run.{Run}
-use Rattle.tick_model.specs.declared.table.PlainTable.{PlainTable}
-use Rattle.replay.specs.Causes.{rows_in}
-use Rattle.replay.proofs.TablesInTurn.{limit_put, node_within, rules_put, table_now, table_put}
+use Rattle.snapshot_store.{specs.Answers.IsFull, specs.Lines.{count, limit}}
+use Rattle.tick_model.{specs.declared.feed.Run.Run, specs.declared.table.PlainTable.PlainTable}
+use Rattle.replay.{specs.Causes.rows_in, proofs.TablesInTurn.{limit_put, node_within, rules_put, table_now, table_put}}
 use Rattle.replay.proofs.limits.put_table.Goals as goal
 
 pub table-requires : goal.table-requires

@@ -1,13 +1,8 @@
 use Rattle.std.proofs.Common.{◌≡◌, ◌+◌, ◌≤◌, ◌<◌, ◌^◌, ◌∙◌, refl, ap, sym, subst, arith, rules, length, get_or, Result}
 use Rattle.std.specs.Prelude.{MatchResult}
-use Rattle.snapshot_store.specs.Answers.{IsFull}
-use Rattle.snapshot_store.specs.declared.answers.Full.{Full}
-use Rattle.snapshot_store.specs.declared.writers.Phase.TheVariants.{Begun, Stopped}
-use Rattle.snapshot_store.specs.Lines.{count}
+use Rattle.snapshot_store.{specs.Answers.IsFull, specs.declared.answers.Full.Full, specs.declared.writers.Phase.TheVariants.{Begun, Stopped}, specs.Lines.count}
 use Rattle.tick_model.specs.declared.feed.Run.{Run}
-use Rattle.replay.specs.Causes.{rows_in}
-use Rattle.replay.proofs.PublishedTables.{item_is, no_publication, tables_few}
-use Rattle.replay.proofs.TablesInTurn.{limit_here, none_left, number_within, one_past, one_within}
+use Rattle.replay.{specs.Causes.rows_in, proofs.PublishedTables.{item_is, no_publication, tables_few}, proofs.TablesInTurn.{limit_here, none_left, number_within, one_past, one_within}}
 use Rattle.replay.proofs.limits.put_tables.Goals as goal
 
 pub overflow_cast-number : goal.overflow_cast-number

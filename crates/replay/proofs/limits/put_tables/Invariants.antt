@@ -1,6 +1,5 @@
 use Rattle.std.proofs.Common.{◌≡◌}
-use Rattle.snapshot_store.specs.Models.{IsOf}
-use Rattle.snapshot_store.specs.declared.writers.Phase.TheVariants.{Begun}
+use Rattle.snapshot_store.{specs.Models.IsOf, specs.declared.writers.Phase.TheVariants.Begun}
 use Rattle.tick_model.specs.States.{state}
 use Rattle.replay.proofs.PastLimits.{fault_from}
 use Rattle.replay.proofs.limits.put_tables.Given as goal

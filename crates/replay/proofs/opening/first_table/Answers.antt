@@ -1,7 +1,6 @@
 use Rattle.std.proofs.Common.{◌∙◌, ap}
 use Rattle.std.specs.Arc.{arc_value}
-use Rattle.tick_model.specs.Evaluation.{table_at}
-use Rattle.tick_model.specs.States.{state}
+use Rattle.tick_model.{specs.Evaluation.table_at, specs.States.state}
 use Rattle.tick_table.specs.Ticking.{Ticking}
 use Rattle.replay.proofs.TablesInTurn.{table_now}
 use Rattle.replay.proofs.opening.first_table.Goals as goal

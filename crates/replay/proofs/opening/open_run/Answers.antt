@@ -1,11 +1,6 @@
 use Rattle.std.proofs.Common.{◌≡◌, ◌∙◌, ap, sym, subst, arith, List}
-use Rattle.tick_model.specs.Texts.{records_text, step_records}
-use Rattle.tick_model.specs.declared.plan.Published.{Published}
-use Rattle.replay.specs.Opened.{IsStarted}
-use Rattle.replay.specs.Snapshots.{callers_of}
-use Rattle.replay.proofs.Exits.{all_written, step_begun}
-use Rattle.replay.proofs.Prints.{on_err}
-use Rattle.replay.proofs.Spoils.{good_before_next}
+use Rattle.tick_model.{specs.Texts.{records_text, step_records}, specs.declared.plan.Published.Published}
+use Rattle.replay.{specs.Opened.IsStarted, specs.Snapshots.callers_of, proofs.Exits.{all_written, step_begun}, proofs.Prints.on_err, proofs.Spoils.good_before_next}
 use Rattle.replay.proofs.opening.open_run.Goals as goal
 
 pub published-requires-clause-within : goal.published-requires-clause-within

@@ -1,12 +1,8 @@
 use Rattle.std.proofs.Common.{◌≡◌, ◌∙◌, ap, sym, subst, arith, length, map, get_or}
-use Rattle.std.specs.Arc.{arc_value}
-use Rattle.std.proofs.lemmas.List.{map_push, take_all}
-use Rattle.tick_model.specs.declared.plan.Published.{Published}
-use Rattle.tick_model.specs.Evaluation.{table_at}
-use Rattle.tick_model.specs.States.{state}
+use Rattle.std.{specs.Arc.arc_value, proofs.lemmas.List.{map_push, take_all}}
+use Rattle.tick_model.{specs.declared.plan.Published.Published, specs.Evaluation.table_at, specs.States.state}
 use Rattle.tick_table.specs.Ticking.{Ticking}
-use Rattle.replay.proofs.PublishedTables.{first_tables, item_is, no_publication}
-use Rattle.replay.proofs.TablesInTurn.{node_within, tables_more}
+use Rattle.replay.{proofs.PublishedTables.{first_tables, item_is, no_publication}, proofs.TablesInTurn.{node_within, tables_more}}
 use Rattle.replay.proofs.opening.published_tables.Goals as goal
 
 pub first_table-requires-clause-node : goal.first_table-requires-clause-node

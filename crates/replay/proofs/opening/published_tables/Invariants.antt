@@ -1,8 +1,6 @@
 use Rattle.std.proofs.Common.{◌≡◌, map, take}
 use Rattle.std.specs.Arc.{arc_value}
-use Rattle.tick_model.specs.declared.plan.Published.{Published}
-use Rattle.tick_model.specs.Evaluation.{table_at}
-use Rattle.tick_model.specs.States.{state}
+use Rattle.tick_model.{specs.declared.plan.Published.Published, specs.Evaluation.table_at, specs.States.state}
 use Rattle.tick_table.specs.Ticking.{Ticking}
 use Rattle.replay.proofs.opening.published_tables.Given as goal
 

@@ -1,6 +1,5 @@
 use Rattle.std.proofs.Common.{◌≡◌, ◌+◌, ◌++◌, ◌∷◌, [], sym, ap, subst, arith, length, length-append, Some}
-use Rattle.std.specs.List.{All}
-use Rattle.std.proofs.lemmas.List.Elements.{All-pop, All-push}
+use Rattle.std.{specs.List.All, proofs.lemmas.List.Elements.{All-pop, All-push}}
 use Rattle.snapshot_store.specs.Models.{IsNewCaller}
 use Rattle.replay.proofs.KeptInEnd.{IsNewReader, new_is_reader}
 use Rattle.replay.proofs.opening.readers_of.Goals as goal

@@ -1,7 +1,6 @@
 use Rattle.std.proofs.Common.{◌∙◌, ◌++◌, ◌∷◌, [], sym, ap, arith}
 use Rattle.std.proofs.lemmas.List.{take_all}
-use Rattle.replay.specs.Outcomes.{row_counts}
-use Rattle.replay.proofs.RowsCounted.{counts_more, length-row_counts}
+use Rattle.replay.{specs.Outcomes.row_counts, proofs.RowsCounted.{counts_more, length-row_counts}}
 use Rattle.replay.proofs.rows.row_counts.Goals as goal
 
 pub loop-node-preserved : goal.loop-node-preserved

@@ -4,12 +4,7 @@ use Rattle.tick_io.specs.Written.{AppendsPrefix}
 use Rattle.snapshot_store.specs.Lines.{count}
 use Rattle.tick_laws.specs.Reached.{IsReached}
 use Rattle.tick_model.specs.declared.feed.Run.{Run}
-use Rattle.replay.specs.declared.readers.KeptSnapshot.{KeptSnapshot}
-use Rattle.replay.specs.Snapshots.{AreLast, AreTaking}
-use Rattle.replay.proofs.CallTexts.{callers_text}
-use Rattle.replay.proofs.Exits.{all_written}
-use Rattle.replay.proofs.PublishedTables.{tables_few}
-use Rattle.replay.proofs.SnapshotsAdded.{adds_none, adds_some, adds_whole, callers_call, callers_few, kept_text}
+use Rattle.replay.{specs.declared.readers.KeptSnapshot.KeptSnapshot, specs.Snapshots.{AreLast, AreTaking}, proofs.CallTexts.callers_text, proofs.Exits.all_written, proofs.PublishedTables.tables_few, proofs.SnapshotsAdded.{adds_none, adds_some, adds_whole, callers_call, callers_few, kept_text}}
 use Rattle.replay.proofs.run.ended.Goals as goal
 
 pub overflow_cast-published : goal.overflow_cast-published

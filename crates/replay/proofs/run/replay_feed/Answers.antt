@@ -1,10 +1,6 @@
 use Rattle.std.proofs.Common.{◌≡◌, ◌≤◌, ◌<◌, ◌∙◌, ap, arith, subst, sym, List}
 use Rattle.std.specs.Io.KnownBytes.{append_known}
-use Rattle.replay.specs.declared.readers.KeptSnapshot.{KeptSnapshot}
-use Rattle.replay.specs.Kept.{kept_words}
-use Rattle.replay.specs.Outcomes.{last_written, text_until}
-use Rattle.replay.specs.Snapshots.{AreTaking, all_steps}
-use Rattle.replay.proofs.WholeTexts.{all_text, end_is_verdict, no_text, told_is_complete, wrote_no_prefix, wrote_none, wrote_some, wrote_whole}
+use Rattle.replay.{specs.declared.readers.KeptSnapshot.KeptSnapshot, specs.Kept.kept_words, specs.Outcomes.{last_written, text_until}, specs.Snapshots.{AreTaking, all_steps}, proofs.WholeTexts.{all_text, end_is_verdict, no_text, told_is_complete, wrote_no_prefix, wrote_none, wrote_some, wrote_whole}}
 use Rattle.replay.proofs.run.replay_feed.Goals as goal
 
 pub returns-then-words-gt-MOST_WORDS-clause-prefix : goal.returns-then-words-gt-MOST_WORDS-clause-prefix

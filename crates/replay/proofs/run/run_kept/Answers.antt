@@ -2,11 +2,7 @@ use Rattle.std.proofs.Common.{◌≡◌, ◌∙◌, ap, arith, sym, subst, List}
 use Rattle.std.specs.Io.KnownBytes.{append_known}
 use Rattle.tick_io.proofs.RisingCounts.{rose_earlier}
 use Rattle.tick_model.specs.Spoiled.{good}
-use Rattle.replay.specs.declared.readers.KeptSnapshot.{KeptSnapshot}
-use Rattle.replay.specs.Snapshots.{AreTaking, all_steps}
-use Rattle.replay.specs.Wholes.{WritesRest, rest_from}
-use Rattle.replay.proofs.Spoils.{cause_ends}
-use Rattle.replay.proofs.WholeTexts.{all_after_opening, no_text_at_opening, none_at_opening, some_after_opening, some_updates, text_after_opening}
+use Rattle.replay.{specs.declared.readers.KeptSnapshot.KeptSnapshot, specs.Snapshots.{AreTaking, all_steps}, specs.Wholes.{WritesRest, rest_from}, proofs.Spoils.cause_ends, proofs.WholeTexts.{all_after_opening, no_text_at_opening, none_at_opening, some_after_opening, some_updates, text_after_opening}}
 use Rattle.replay.proofs.run.run_kept.Goals as goal
 
 pub returns-in-Ok-clause-ended : goal.returns-in-Ok-clause-ended

@@ -1,9 +1,6 @@
 use Rattle.std.proofs.Common.{◌≡◌, ◌≤◌, ◌∙◌, ap, sym, subst, arith, rules, length}
 use Rattle.tick_io.proofs.RisingCounts.{rose_earlier}
-use Rattle.replay.specs.Outcomes.{IsEnd, IsTold}
-use Rattle.replay.specs.Snapshots.{AreTaking, EachReader, HasRead, IsReader, all_steps}
-use Rattle.replay.proofs.KeptInEnd.{written_back}
-use Rattle.replay.proofs.WholeTexts.{all_after_updates, some_after_updates, some_updates, text_after_updates}
+use Rattle.replay.{specs.Outcomes.{IsEnd, IsTold}, specs.Snapshots.{AreTaking, EachReader, HasRead, IsReader, all_steps}, proofs.KeptInEnd.written_back, proofs.WholeTexts.{all_after_updates, some_after_updates, some_updates, text_after_updates}}
 use Rattle.replay.proofs.run.run_opened.Goals as goal
 
 pub run_beside-outcome-requires-clause-readers : goal.run_beside-outcome-requires-clause-readers

@@ -1,9 +1,7 @@
 use Rattle.std.proofs.Common.{◌≡◌, ◌+◌, ◌%◌, ◌<◌, ◌∙◌, refl, subst, arith, rules, length, List, ℕ}
-use Rattle.std.specs.Prelude.{OnErr, OnOk}
-use Rattle.std.specs.Io.KnownBytes.{append_known}
+use Rattle.std.{specs.Prelude.{OnErr, OnOk}, specs.Io.KnownBytes.append_known}
 use Rattle.tick_io.specs.Written.{AppendsPrefix}
-use Rattle.tick_model.specs.Evaluation.{table_at}
-use Rattle.tick_model.specs.States.{state}
+use Rattle.tick_model.{specs.Evaluation.table_at, specs.States.state}
 use Rattle.replay.proofs.SnapshotsTold.{number_of_node, records_told, table_told}
 use Rattle.replay.proofs.snapshots.write_call.Goals as goal
 

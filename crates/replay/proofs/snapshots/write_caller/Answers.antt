@@ -1,13 +1,8 @@
 use Rattle.std.proofs.Common.{◌≡◌, ◌+◌, ◌++◌, ◌∙◌, [], refl, ap, sym, subst, arith, length, drop}
-use Rattle.std.specs.Io.KnownBytes.{append_known}
-use Rattle.std.proofs.lemmas.List.{append-nil}
-use Rattle.std.proofs.lemmas.Result.{err_from_is_err_and}
-use Rattle.tick_io.proofs.Prefixes.{prefix_within}
-use Rattle.tick_io.specs.Counts.{Rose}
+use Rattle.std.{specs.Io.KnownBytes.append_known, proofs.lemmas.List.append-nil, proofs.lemmas.Result.err_from_is_err_and}
+use Rattle.tick_io.{proofs.Prefixes.prefix_within, specs.Counts.Rose}
 use Rattle.tick_model.specs.Texts.{records_text, snapshot_records}
-use Rattle.replay.proofs.CallTexts.{call_next, call_reached, call_taken, calls_end, calls_text, comes_next}
-use Rattle.replay.proofs.Exits.{nothing_appended}
-use Rattle.replay.proofs.Prints.{on_err, written_more}
+use Rattle.replay.{proofs.CallTexts.{call_next, call_reached, call_taken, calls_end, calls_text, comes_next}, proofs.Exits.nothing_appended, proofs.Prints.{on_err, written_more}}
 use Rattle.replay.proofs.snapshots.write_caller.Goals as goal
 
 pub loop-call-init : goal.loop-call-init

@@ -1,17 +1,8 @@
 use Rattle.std.proofs.Common.{◌≡◌, ◌+◌, ◌++◌, ◌≤◌, ◌∙◌, [], refl, ap, sym, subst, arith, length, drop, List}
-use Rattle.std.specs.Io.KnownBytes.{append_known}
-use Rattle.std.specs.List.{AllByRecursion}
-use Rattle.std.proofs.lemmas.List.{append-nil}
-use Rattle.std.proofs.lemmas.Result.{err_from_is_err_and}
-use Rattle.tick_io.specs.Written.{AppendsPrefix}
-use Rattle.tick_io.proofs.Prefixes.{prefix_within}
-use Rattle.tick_io.specs.Counts.{Rose}
+use Rattle.std.{specs.Io.KnownBytes.append_known, specs.List.AllByRecursion, proofs.lemmas.List.append-nil, proofs.lemmas.Result.err_from_is_err_and}
+use Rattle.tick_io.{specs.Written.AppendsPrefix, proofs.Prefixes.prefix_within, specs.Counts.Rose}
 use Rattle.tick_laws.specs.Reached.{IsReached}
-use Rattle.replay.specs.declared.readers.KeptSnapshot.{KeptSnapshot}
-use Rattle.replay.specs.Snapshots.{AreTaken}
-use Rattle.replay.proofs.CallTexts.{caller_ends, caller_next, callers_end, callers_text, calls_text, comes_next, length_kept}
-use Rattle.replay.proofs.Exits.{nothing_appended}
-use Rattle.replay.proofs.Prints.{on_err, written_more}
+use Rattle.replay.{specs.declared.readers.KeptSnapshot.KeptSnapshot, specs.Snapshots.AreTaken, proofs.CallTexts.{caller_ends, caller_next, callers_end, callers_text, calls_text, comes_next, length_kept}, proofs.Exits.nothing_appended, proofs.Prints.{on_err, written_more}}
 use Rattle.replay.proofs.snapshots.write_callers.Goals as goal
 
 pub loop-caller-init : goal.loop-caller-init

@@ -3,11 +3,7 @@ use Rattle.std.proofs.lemmas.Result.{err_from_is_err_and}
 use Rattle.tick_io.specs.Counts.{Rose}
 use Rattle.tick_laws.specs.Reached.{IsReached}
 use Rattle.tick_model.specs.Texts.{records_text, step_records}
-use Rattle.replay.specs.Standing.{IsAt, IsWriterAt}
-use Rattle.replay.specs.ToCome.{text_from}
-use Rattle.replay.proofs.Exits.{all_after, begun_after, cause_stops, ended_after, nothing_appended, splits_after, step_after}
-use Rattle.replay.proofs.Prints.{on_err}
-use Rattle.replay.proofs.Spoils.{cause_ends, cause_spoils, cause_there, good_before_next, last_before}
+use Rattle.replay.{specs.Standing.{IsAt, IsWriterAt}, specs.ToCome.text_from, proofs.Exits.{all_after, begun_after, cause_stops, ended_after, nothing_appended, splits_after, step_after}, proofs.Prints.on_err, proofs.Spoils.{cause_ends, cause_spoils, cause_there, good_before_next, last_before}}
 use Rattle.replay.proofs.steps.bring_to_end.Goals as goal
 
 pub loop-step-init : goal.loop-step-init

@@ -1,7 +1,6 @@
 use Rattle.std.proofs.Common.{◌≡◌, ◌+◌, ◌++◌, ℕ, List}
 use Rattle.std.specs.Io.KnownBytes.{append_known}
-use Rattle.replay.specs.Standing.{IsAt, IsWriterAt}
-use Rattle.replay.specs.ToCome.{text_from}
+use Rattle.replay.{specs.Standing.{IsAt, IsWriterAt}, specs.ToCome.text_from}
 use Rattle.replay.proofs.steps.bring_to_end.Given as goal
 
 -- the steps up to this one are published and printed, and the text of those after it is still to come

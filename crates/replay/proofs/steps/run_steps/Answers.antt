@@ -1,9 +1,6 @@
 use Rattle.std.proofs.Common.{◌≡◌, ◌≤◌, ◌∙◌, ap, sym, subst, arith, length, Some}
 use Rattle.tick_laws.specs.Reached.{IsReached}
-use Rattle.replay.specs.Outcomes.{IsEnd}
-use Rattle.replay.specs.ToCome.{text_from}
-use Rattle.replay.proofs.Exits.{all_written, none_written}
-use Rattle.replay.proofs.Spoils.{good_before_next, last_at_end}
+use Rattle.replay.{specs.Outcomes.IsEnd, specs.ToCome.text_from, proofs.Exits.{all_written, none_written}, proofs.Spoils.{good_before_next, last_at_end}}
 use Rattle.replay.proofs.steps.run_steps.Goals as goal
 
 -- the hands could not be made

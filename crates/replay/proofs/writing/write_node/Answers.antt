@@ -1,13 +1,10 @@
 use Rattle.std.proofs.Common.{◌≡◌, ◌∙◌, sym, ap, subst, List, length, ℕ}
-use Rattle.std.specs.Prelude.{IfOk, OnErr, OnOk}
-use Rattle.std.specs.Io.KnownBytes.{append_known}
+use Rattle.std.{specs.Prelude.{IfOk, OnErr, OnOk}, specs.Io.KnownBytes.append_known}
 use Rattle.tick_io.specs.Written.{AppendsPrefix}
-use Rattle.tick_model.specs.Printable.{IsPrintable}
-use Rattle.tick_model.specs.Texts.{columns_at, records_text}
+use Rattle.tick_model.{specs.Printable.IsPrintable, specs.Texts.{columns_at, records_text}}
 use Rattle.tick_table.specs.Ticking.{Ticking}
 use Rattle.update_text.specs.Told.{told_change}
-use Rattle.replay.specs.declared.printed.PrintedNode.{PrintedNode}
-use Rattle.replay.proofs.Prints.{shown_is, told_printable, width_is}
+use Rattle.replay.{specs.declared.printed.PrintedNode.PrintedNode, proofs.Prints.{shown_is, told_printable, width_is}}
 use Rattle.replay.proofs.writing.write_node.Goals as goal
 
 pub write_update-requires-clause-width : goal.write_update-requires-clause-width

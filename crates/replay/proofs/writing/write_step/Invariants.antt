@@ -1,6 +1,5 @@
 use Rattle.std.proofs.Common.{◌≡◌, length, take}
-use Rattle.std.specs.Prelude.{flat_map}
-use Rattle.std.specs.Io.KnownBytes.{append_known}
+use Rattle.std.{specs.Prelude.flat_map, specs.Io.KnownBytes.append_known}
 use Rattle.tick_model.specs.Texts.{node_records, records_text}
 use Rattle.replay.proofs.writing.write_step.Given as goal
 

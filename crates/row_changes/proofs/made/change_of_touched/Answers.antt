@@ -1,10 +1,8 @@
 use Rattle.std.proofs.Common.{ap, sym, ◌∙◌, subst, ℕ, ◌&&◌, ◌++◌, List, ℤ}
-use Rattle.std.specs.List.{list_any}
-use Rattle.std.specs.Prelude.{nat_lt}
+use Rattle.std.{specs.List.list_any, specs.Prelude.nat_lt}
 use Rattle.shift_data.specs.Moves.{pairs_of}
 use Rattle.tick_model.specs.Updates.{differs_in}
-use Rattle.row_changes.specs.Parts.{Parts, AreParts, cells_under}
-use Rattle.row_changes.proofs.MadeChange.{change_is}
+use Rattle.row_changes.{specs.Parts.{Parts, AreParts, cells_under}, proofs.MadeChange.change_is}
 use Rattle.row_changes.proofs.made.change_of_touched.Goals as goal
 
 pub returns-clause-change : goal.returns-clause-change

@@ -1,9 +1,7 @@
 use Rattle.std.proofs.Common.{◌≡◌, ap, ap₂, sym, ◌∙◌, arith, ℕ, Bool, false, true, not, ◌&&◌, ◌||◌, ◌++◌, [], ◌∷◌, List, ℤ, cond}
-use Rattle.std.specs.Ordering.{int_eq}
-use Rattle.std.specs.Prelude.{nat_lt}
+use Rattle.std.{specs.Ordering.int_eq, specs.Prelude.nat_lt}
 use Rattle.key_lists.specs.Keys.{is_among}
-use Rattle.tick_model.specs.Tables.{cell, cells_at}
-use Rattle.tick_model.specs.Updates.{differs, new_keys}
+use Rattle.tick_model.{specs.Tables.{cell, cells_at}, specs.Updates.{differs, new_keys}}
 use Rattle.row_changes.proofs.Comparing.{behind, differs_as, key_last, no_column}
 use Rattle.row_changes.proofs.told.compare_row.Goals as goal
 

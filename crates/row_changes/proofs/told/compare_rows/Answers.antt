@@ -1,14 +1,10 @@
 use Rattle.std.proofs.Common.{◌≡◌, ap, ap₂, sym, ◌∙◌, subst, arith, ℕ, ◌+◌, ◌*◌, ◌^◌, ◌<◌, ◌≤◌, ◌++◌, ◌&&◌, ◌||◌, [], ◌∷◌, length, filter, List, append-nil}
-use Rattle.std.specs.Iterator.Adapters.{zip_first, zip_second}
-use Rattle.std.specs.List.{AllByRecursion, list_any}
-use Rattle.std.specs.Prelude.{nat_lt}
+use Rattle.std.{specs.Iterator.Adapters.{zip_first, zip_second}, specs.List.{AllByRecursion, list_any}, specs.Prelude.nat_lt}
 use Rattle.key_lists.specs.Keys.{is_among, IsRising}
 use Rattle.row_set.proofs.Windows.{rising_before}
 use Rattle.shift_data.specs.Moves.{pairs_of}
-use Rattle.tick_model.specs.declared.update.KeyPair.{KeyPair}
-use Rattle.tick_model.specs.Updates.{differs, differs_in, new_keys}
-use Rattle.row_changes.specs.Parts.{AreThere, cells_under}
-use Rattle.row_changes.proofs.Comparing.{cells_more, column_end, column_next, pair_reads, pairs_end, rises_next, told_next}
+use Rattle.tick_model.{specs.declared.update.KeyPair.KeyPair, specs.Updates.{differs, differs_in, new_keys}}
+use Rattle.row_changes.{specs.Parts.{AreThere, cells_under}, proofs.Comparing.{cells_more, column_end, column_next, pair_reads, pairs_end, rises_next, told_next}}
 use Rattle.row_changes.proofs.told.compare_rows.Goals as goal
 
 pub loop-old-init : goal.loop-old-init

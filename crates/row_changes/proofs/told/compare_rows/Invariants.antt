@@ -1,7 +1,5 @@
 use Rattle.std.proofs.Common.{◌≡◌, ℕ, ◌+◌, ◌*◌, ◌^◌, ◌<◌, ◌≤◌, ◌++◌, ◌&&◌, ◌||◌, filter, length}
-use Rattle.std.specs.Prelude.{nat_lt}
-use Rattle.std.specs.Iterator.Adapters.{zip_first, zip_second}
-use Rattle.std.specs.List.{AllByRecursion, list_any}
+use Rattle.std.{specs.Prelude.nat_lt, specs.Iterator.Adapters.{zip_first, zip_second}, specs.List.{AllByRecursion, list_any}}
 use Rattle.key_lists.specs.Keys.{is_among, IsRising}
 use Rattle.shift_data.specs.Moves.{pairs_of}
 use Rattle.tick_model.specs.Updates.{differs, differs_in, new_keys}

@@ -3,9 +3,8 @@ use Rattle.std.specs.Ordering.{int_eq}
 use Rattle.key_lists.specs.Keys.{IsRising}
 use Rattle.row_set.proofs.United.{with_key_rises}
 use Rattle.tick_model.specs.Tables.{cell}
-use Rattle.row_changes.proofs.Differing.{AreThose, column_more, column_passed}
+use Rattle.row_changes.{proofs.Differing.{AreThose, column_more, column_passed}, proofs.told.with_differing.Goals.{then-differ_in, else-differ_in}}
 use Rattle.row_changes.proofs.told.with_differing.Goals as goal
-use Rattle.row_changes.proofs.told.with_differing.Goals.{then-differ_in, else-differ_in}
 
 pub loop-column-preserved : goal.loop-column-preserved
 loop-column-preserved c =

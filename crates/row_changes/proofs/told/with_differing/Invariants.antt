@@ -1,6 +1,5 @@
 use Rattle.std.proofs.Common.{◌≡◌, ℕ, ◌&&◌, ◌||◌, not}
-use Rattle.std.specs.Prelude.{nat_lt}
-use Rattle.std.specs.Ordering.{int_eq}
+use Rattle.std.{specs.Prelude.nat_lt, specs.Ordering.int_eq}
 use Rattle.key_lists.specs.Keys.{is_among, IsRising}
 use Rattle.tick_model.specs.Tables.{cell}
 use Rattle.row_changes.proofs.told.with_differing.Given as goal

@@ -1,8 +1,7 @@
 use Rattle.std.proofs.Common.{◌≡◌, ◌+◌, ◌-◌, ◌/◌, ◌<◌, true, length, take, arith, ℕ, subst, sym, ◌∙◌, IsSome}
 use Rattle.std.specs.List.{AllByRecursion}
 use Rattle.row_handles.specs.Entries.{key_with}
-use Rattle.row_groups.specs.Slots.{is_before, joined}
-use Rattle.row_groups.proofs.Parts.{chunks_failed, chunks_passed, first_has}
+use Rattle.row_groups.{specs.Slots.{is_before, joined}, proofs.Parts.{chunks_failed, chunks_passed, first_has}}
 use Rattle.row_groups.proofs.chunks.begun_before.Goals as goal
 
 pub is_after-requires : goal.is_after-requires

@@ -1,8 +1,7 @@
 use Rattle.std.proofs.Common.{◌≡◌, ◌+◌, [], ◌∷◌, ◌++◌, ap, ◌∙◌, refl, suc, take, drop, arith}
 use Rattle.std.proofs.lemmas.Result.{on_ok_weaker}
 use Rattle.row_handles.proofs.Inserting.{on_err}
-use Rattle.row_groups.specs.Slots.{joined, position_in}
-use Rattle.row_groups.proofs.Parts.{chunk_before, joined_instead, joined_same, row_put}
+use Rattle.row_groups.{specs.Slots.{joined, position_in}, proofs.Parts.{chunk_before, joined_instead, joined_same, row_put}}
 use Rattle.row_groups.proofs.chunks.insert_at.Goals as goal
 
 pub returns-then-len-lt-CHUNK_LEN-clause-ok : goal.returns-then-len-lt-CHUNK_LEN-clause-ok

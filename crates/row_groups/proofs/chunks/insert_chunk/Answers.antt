@@ -2,8 +2,7 @@ use Rattle.std.proofs.Common.{◌≡◌, ◌+◌, ◌-◌, [], ◌∷◌, ◌++�
 use Rattle.std.proofs.lemmas.List.{take_rest}
 use Rattle.key_lists.proofs.Parts.{same_at}
 use Rattle.row_handles.proofs.Lists.{held_before}
-use Rattle.row_groups.specs.Slots.{joined}
-use Rattle.row_groups.proofs.Parts.{chunk_more}
+use Rattle.row_groups.{specs.Slots.joined, proofs.Parts.chunk_more}
 use Rattle.row_groups.proofs.chunks.insert_chunk.Goals as goal
 
 pub returns-clause-ok : goal.returns-clause-ok

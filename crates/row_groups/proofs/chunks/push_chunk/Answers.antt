@@ -1,6 +1,5 @@
 use Rattle.std.proofs.Common.{ap, ◌∙◌, ◌++◌, ◌∷◌, []}
-use Rattle.row_groups.specs.Slots.{joined}
-use Rattle.row_groups.proofs.Ends.{chunk_behind}
+use Rattle.row_groups.{specs.Slots.joined, proofs.Ends.chunk_behind}
 use Rattle.row_groups.proofs.chunks.push_chunk.Goals as goal
 
 pub returns-clause-ok : goal.returns-clause-ok

@@ -1,7 +1,6 @@
 use Rattle.std.proofs.Common.{◌≡◌, arith}
 use Rattle.row_handles.proofs.Inserting.{on_err}
-use Rattle.row_groups.proofs.Ends.{row_behind}
-use Rattle.row_groups.proofs.Parts.{joined_same}
+use Rattle.row_groups.{proofs.Ends.row_behind, proofs.Parts.joined_same}
 use Rattle.row_groups.proofs.chunks.push_row.Goals as goal
 
 pub returns-in_err-push-clause-err : goal.returns-in_err-push-clause-err

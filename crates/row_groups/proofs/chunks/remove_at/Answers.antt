@@ -1,8 +1,7 @@
 use Rattle.std.proofs.Common.{◌≡◌, ◌+◌, ◌<◌, ◌++◌, ◌==◌, ap, sym, ◌∙◌, refl, suc, take, drop, length, vec_len, arith}
 use Rattle.key_lists.proofs.Parts.{no_items}
 use Rattle.row_handles.proofs.Leaving.{set_removed}
-use Rattle.row_groups.specs.Slots.{joined, position_in}
-use Rattle.row_groups.proofs.Parts.{joined_instead, joined_without, row_taken}
+use Rattle.row_groups.{specs.Slots.{joined, position_in}, proofs.Parts.{joined_instead, joined_without, row_taken}}
 use Rattle.row_groups.proofs.chunks.remove_at.Goals as goal
 
 pub returns-then-is_empty-clause-rows : goal.returns-then-is_empty-clause-rows

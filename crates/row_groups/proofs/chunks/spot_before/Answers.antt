@@ -1,10 +1,7 @@
 use Rattle.std.proofs.Common.{◌≡◌, ◌+◌, ◌-◌, ◌<◌, ◌≤◌, true, false, sym, subst, refl, suc, take, drop, length, arith, ℕ}
-use Rattle.std.specs.List.{AllByRecursion}
-use Rattle.std.specs.Global.{Vec}
+use Rattle.std.{specs.List.AllByRecursion, specs.Global.Vec}
 use Rattle.key_lists.proofs.Parts.{same_at}
-use Rattle.row_groups.specs.declared.place.Slot.{Slot}
-use Rattle.row_groups.specs.Slots.{AreKnown, is_before, IsParted, joined}
-use Rattle.row_groups.proofs.Parts.{before_in, known_in, others_in, parted_in}
+use Rattle.row_groups.{specs.declared.place.Slot.Slot, specs.Slots.{AreKnown, is_before, IsParted, joined}, proofs.Parts.{before_in, known_in, others_in, parted_in}}
 use Rattle.row_groups.proofs.chunks.spot_before.Goals as goal
 
 within : (c : goal.After-rows_before) → c.begun_before-next.result - 1 < length c.args.chunks.now

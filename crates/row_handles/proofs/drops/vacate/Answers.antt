@@ -1,6 +1,5 @@
 use Rattle.std.proofs.Common.{◌∙◌}
-use Rattle.row_handles.proofs.Renaming.{none_before, ne_at}
-use Rattle.row_handles.specs.declared.block.Row.{Row}
+use Rattle.row_handles.{proofs.Renaming.{none_before, ne_at}, specs.declared.block.Row.Row}
 use Rattle.row_handles.proofs.drops.vacate.Goals as goal
 
 pub loop-row-preserved : goal.loop-row-preserved

@@ -1,11 +1,7 @@
 use Rattle.std.proofs.Common.{sym, ◌∙◌, subst, get_or, IsSome}
 use Rattle.key_lists.proofs.Parts.{every_at}
-use Rattle.slab.specs.Slab.{ContainsKey}
-use Rattle.slab.proofs.SlabLemmas.{Updates-with_value}
-use Rattle.row_handles.specs.declared.block.Row.{Row}
-use Rattle.row_handles.specs.Blocks.{place_in}
-use Rattle.row_handles.proofs.Renaming.{none_before, ne_at}
-use Rattle.row_handles.proofs.Joining.{fresh_at, settled_more}
+use Rattle.slab.{specs.Slab.ContainsKey, proofs.SlabLemmas.Updates-with_value}
+use Rattle.row_handles.{specs.declared.block.Row.Row, specs.Blocks.place_in, proofs.Renaming.{none_before, ne_at}, proofs.Joining.{fresh_at, settled_more}}
 use Rattle.row_handles.proofs.joins.settle.Goals as goal
 
 pub index_mut-requires : goal.index_mut-requires

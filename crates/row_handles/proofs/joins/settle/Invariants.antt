@@ -1,8 +1,7 @@
 use Rattle.std.proofs.Common.{◌≡◌, ℕ, Some, false, take}
 use Rattle.std.specs.List.{AllByRecursion}
 use Rattle.slab.specs.Slab.{get}
-use Rattle.row_handles.specs.Blocks.{place_in}
-use Rattle.row_handles.specs.Moves.{has_handle}
+use Rattle.row_handles.{specs.Blocks.place_in, specs.Moves.has_handle}
 use Rattle.row_handles.proofs.joins.settle.Given as goal
 
 abbrev pub invariant-loop-row : goal.invariant-loop-row

@@ -1,8 +1,6 @@
 use Rattle.std.proofs.Common.{sym}
-use Rattle.row_handles.specs.declared.block.Row.{Row}
-use Rattle.row_handles.proofs.Renaming.{renamed_some, renamed_none}
+use Rattle.row_handles.{specs.declared.block.Row.Row, proofs.Renaming.{renamed_some, renamed_none}, proofs.moves.rename.Goals.{in-Some, in_default}}
 use Rattle.row_handles.proofs.moves.rename.Goals as goal
-use Rattle.row_handles.proofs.moves.rename.Goals.{in-Some, in_default}
 
 pub loop-row-preserved : goal.loop-row-preserved
 loop-row-preserved c =

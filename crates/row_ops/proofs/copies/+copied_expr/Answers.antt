@@ -1,9 +1,7 @@
 use Rattle.std.proofs.Common.{ap, ap₂, subst, sym}
 use Rattle.std.specs.Prelude.{neg_ℤ, ◌+ℤ◌, ◌-ℤ◌, ◌*ℤ◌}
-use Rattle.tick_model.specs.declared.plan.Expr.{Expr, Neg, Add, Sub, Mul}
-use Rattle.tick_model.specs.Formulas.{lifted, lifted2}
-use Rattle.row_ops.specs.Copies.{IsCopy}
-use Rattle.row_ops.proofs.Copied.{in_box}
+use Rattle.tick_model.{specs.declared.plan.Expr.{Expr, Neg, Add, Sub, Mul}, specs.Formulas.{lifted, lifted2}}
+use Rattle.row_ops.{specs.Copies.IsCopy, proofs.Copied.in_box}
 use Rattle.row_ops.proofs.copies.+copied_expr.Goals as goal
 
 pub returns-in_ok-new-in-Neg : goal.returns-in_ok-new-in-Neg

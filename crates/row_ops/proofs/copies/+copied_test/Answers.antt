@@ -1,9 +1,6 @@
 use Rattle.std.proofs.Common.{ap, ap₂, subst, sym, ◌&&◌, ◌||◌, not}
-use Rattle.tick_model.specs.declared.plan.Pred.{Pred, And, Or, Not}
-use Rattle.tick_model.specs.declared.plan.Pred.TheVariants.{Compare}
-use Rattle.tick_model.specs.Formulas.{compares}
-use Rattle.row_ops.specs.Copies.{IsTestCopy}
-use Rattle.row_ops.proofs.Copied.{test_in_box}
+use Rattle.tick_model.{specs.declared.plan.Pred.{Pred, And, Or, Not}, specs.declared.plan.Pred.TheVariants.Compare, specs.Formulas.compares}
+use Rattle.row_ops.{specs.Copies.IsTestCopy, proofs.Copied.test_in_box}
 use Rattle.row_ops.proofs.copies.+copied_test.Goals as goal
 
 pub returns-in_ok-b-in-Compare : goal.returns-in_ok-b-in-Compare

@@ -1,8 +1,7 @@
 use Rattle.std.proofs.Common.{◌+◌, ◌≡◌, ap, subst, sym, ◌∙◌, List, take, ◌++◌, ◌∷◌, []}
 use Rattle.std.proofs.lemmas.List.{take_more}
 use Rattle.tick_model.specs.declared.plan.Expr.{Expr}
-use Rattle.row_ops.specs.Copies.{AreCopies}
-use Rattle.row_ops.proofs.Copied.{copy_more}
+use Rattle.row_ops.{specs.Copies.AreCopies, proofs.Copied.copy_more}
 use Rattle.row_ops.proofs.copies.copied_exprs.Goals as goal
 
 pub loop-expr-preserved : goal.loop-expr-preserved

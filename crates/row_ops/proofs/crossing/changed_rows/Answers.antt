@@ -1,11 +1,9 @@
 use Rattle.std.proofs.Common.{◌≡◌, sym, ◌∙◌, true, ap, ap₂, arith, ◌&&◌, length, not}
 use Rattle.key_lists.specs.Keys.{is_among}
-use Rattle.tick_model.specs.Formulas.{truth}
-use Rattle.tick_model.specs.Tables.{cells_at, keys}
+use Rattle.tick_model.{specs.Formulas.truth, specs.Tables.{cells_at, keys}}
 use Rattle.row_changes.proofs.Placed.{reads_placed}
-use Rattle.row_ops.proofs.Walked.{named_below, named_next, new_at, reads_next}
+use Rattle.row_ops.{proofs.Walked.{named_below, named_next, new_at, reads_next}, proofs.crossing.changed_rows.Goals.{then-before, else-before, then-not-before, else-not-before}}
 use Rattle.row_ops.proofs.crossing.changed_rows.Goals as goal
-use Rattle.row_ops.proofs.crossing.changed_rows.Goals.{then-before, else-before, then-not-before, else-not-before}
 
 pub row-requires : goal.row-requires
 row-requires g c = record {

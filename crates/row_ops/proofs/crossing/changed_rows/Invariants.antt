@@ -1,8 +1,6 @@
 use Rattle.std.proofs.Common.{◌≡◌, ◌+◌, ◌*◌, ◌≤◌, ◌&&◌, filter, not, take}
 use Rattle.key_lists.specs.Keys.{is_among}
-use Rattle.tick_model.specs.Formulas.{truth}
-use Rattle.tick_model.specs.Tables.{cells_at}
-use Rattle.tick_model.specs.Updates.{new_keys, old_keys}
+use Rattle.tick_model.{specs.Formulas.truth, specs.Tables.cells_at, specs.Updates.{new_keys, old_keys}}
 use Rattle.row_ops.proofs.crossing.changed_rows.Given as goal
 
 abbrev pub invariant-loop-place : goal.invariant-loop-place

@@ -1,11 +1,8 @@
 use Rattle.std.proofs.Common.{◌≡◌, refl, sym, ◌∙◌, ap, arith, length, filter}
 use Rattle.std.proofs.lemmas.List.{length-map}
-use Rattle.tick_model.specs.declared.update.KeyPair.{KeyPair}
-use Rattle.tick_model.specs.Updates.{Update}
+use Rattle.tick_model.{specs.declared.update.KeyPair.KeyPair, specs.Updates.Update, specs.Formulas.truth}
 use Rattle.shown_rows.proofs.Restricted.{is_modified, kept, modified_new}
-use Rattle.row_ops.proofs.Walked.{crossing_reads}
-use Rattle.tick_model.specs.Formulas.{truth}
-use Rattle.row_ops.proofs.Crossed.{added_there, coming_is, leaving_is, modified_keys_there}
+use Rattle.row_ops.{proofs.Walked.crossing_reads, proofs.Crossed.{added_there, coming_is, leaving_is, modified_keys_there}}
 use Rattle.row_ops.proofs.crossing.crossing_rows.Goals as goal
 
 pub passing_keys-requires-clause-here : goal.passing_keys-requires-clause-here

@@ -2,8 +2,7 @@ use Rattle.std.proofs.Common.{arith, IsTrue, ap, ◌∙◌, filter, subst, ℕ, 
 use Rattle.key_lists.specs.Keys.{is_among}
 use Rattle.row_set.proofs.Yielded.{next_above, next_has, next_small, yielded_all, yielded_next}
 use Rattle.shown_rows.proofs.Walks.{chosen_below, chosen_more}
-use Rattle.tick_model.specs.Formulas.{truth}
-use Rattle.tick_model.specs.Tables.{cells_at, keys}
+use Rattle.tick_model.{specs.Formulas.truth, specs.Tables.{cells_at, keys}}
 use Rattle.row_changes.proofs.Comparing.{reads_next, reads_within}
 use Rattle.row_ops.proofs.testing.passing_keys.Goals as goal
 

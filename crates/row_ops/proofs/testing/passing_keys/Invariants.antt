@@ -1,6 +1,5 @@
 use Rattle.std.proofs.Common.{◌≡◌, ◌+◌, ◌*◌, ◌≤◌, filter, length}
-use Rattle.tick_model.specs.Formulas.{truth}
-use Rattle.tick_model.specs.Tables.{cells_at}
+use Rattle.tick_model.{specs.Formulas.truth, specs.Tables.cells_at}
 use Rattle.row_ops.proofs.testing.passing_keys.Given as goal
 
 abbrev pub invariant-loop-key : goal.invariant-loop-key

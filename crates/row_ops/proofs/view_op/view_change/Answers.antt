@@ -1,5 +1,4 @@
-use Rattle.tick_table.proofs.ExactAgain.{exact_lawful}
-use Rattle.tick_table.specs.Exact.{tick_of}
+use Rattle.tick_table.{proofs.ExactAgain.exact_lawful, specs.Exact.tick_of}
 use Rattle.row_ops.proofs.Viewed.{view_compared, view_mapped}
 use Rattle.row_ops.proofs.view_op.view_change.Goals as goal
 

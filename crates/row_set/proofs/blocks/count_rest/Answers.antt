@@ -1,8 +1,5 @@
 use Rattle.std.proofs.Common.{◌≡◌, ◌+◌, ◌-◌, ◌*◌, ◌∷◌, [], ◌++◌, cond, is_ok, true, ap, sym, ◌∙◌, subst, drop, length, length-append, arith}
-use Rattle.row_set.specs.Ranges.{keys_before}
-use Rattle.row_set.specs.Runs.{AreStarts, start_of}
-use Rattle.row_set.proofs.Counts.{few_before}
-use Rattle.row_set.proofs.Starts.{start_more}
+use Rattle.row_set.{specs.Ranges.keys_before, specs.Runs.{AreStarts, start_of}, proofs.Counts.few_before, proofs.Starts.start_more}
 use Rattle.row_set.proofs.blocks.count_rest.Goals as goal
 
 pub loop-block-init : goal.loop-block-init

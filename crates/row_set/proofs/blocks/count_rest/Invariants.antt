@@ -1,6 +1,5 @@
 use Rattle.std.proofs.Common.{◌≡◌, ◌-◌, ◌*◌, ◌≤◌, drop, length, vec_capacity}
-use Rattle.row_set.specs.Ranges.{keys_before}
-use Rattle.row_set.specs.Runs.{AreStarts}
+use Rattle.row_set.{specs.Ranges.keys_before, specs.Runs.AreStarts}
 use Rattle.row_set.proofs.blocks.count_rest.Given as goal
 
 abbrev pub invariant-loop-block : goal.invariant-loop-block

@@ -1,7 +1,5 @@
 use Rattle.std.proofs.Common.{◌≡◌, ◌+◌, ◌-◌, ◌*◌, ap, ap₂, sym, ◌∙◌, subst, drop, length, slice_range, arith}
-use Rattle.row_set.specs.Ranges.{AreRanges, keys_before, keys_of}
-use Rattle.row_set.proofs.Counts.{ranges-slice}
-use Rattle.row_set.proofs.Starts.{block_keys, block_part}
+use Rattle.row_set.{specs.Ranges.{AreRanges, keys_before, keys_of}, proofs.Counts.ranges-slice, proofs.Starts.{block_keys, block_part}}
 use Rattle.row_set.proofs.blocks.keys_in_block.Goals as goal
 
 pub count_in-requires : goal.count_in-requires

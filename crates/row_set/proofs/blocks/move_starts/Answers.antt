@@ -1,6 +1,5 @@
 use Rattle.std.proofs.Common.{◌≡◌, ◌+◌, ◌-◌, ◌∙◌, get_or, arith}
-use Rattle.row_set.specs.Runs.{start_of}
-use Rattle.row_set.proofs.Starts.{none_written, start_after, written_more}
+use Rattle.row_set.{specs.Runs.start_of, proofs.Starts.{none_written, start_after, written_more}}
 use Rattle.row_set.proofs.blocks.move_starts.Goals as goal
 
 pub loop-block-init : goal.loop-block-init

@@ -1,6 +1,5 @@
 use Rattle.std.proofs.Common.{◌≡◌, ◌+◌}
-use Rattle.row_set.specs.Runs.{start_of}
-use Rattle.row_set.proofs.Starts.{AreWritten}
+use Rattle.row_set.{specs.Runs.start_of, proofs.Starts.AreWritten}
 use Rattle.row_set.proofs.blocks.move_starts.Given as goal
 
 abbrev pub invariant-loop-block : goal.invariant-loop-block

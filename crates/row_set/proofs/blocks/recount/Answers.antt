@@ -1,6 +1,5 @@
 use Rattle.std.proofs.Common.{◌/◌, sym, subst, arith}
-use Rattle.row_set.specs.Runs.{AreStarts}
-use Rattle.row_set.proofs.Starts.{starts_cut}
+use Rattle.row_set.{specs.Runs.AreStarts, proofs.Starts.starts_cut}
 use Rattle.row_set.proofs.blocks.recount.Goals as goal
 
 pub count_rest-requires-clause-starts : goal.count_rest-requires-clause-starts

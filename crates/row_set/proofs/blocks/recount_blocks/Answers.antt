@@ -1,7 +1,5 @@
 use Rattle.std.proofs.Common.{◌≡◌, ◌+◌, ◌-◌, ◌*◌, ap, ◌∙◌, drop, arith}
-use Rattle.row_set.specs.Ranges.{keys_before}
-use Rattle.row_set.proofs.Counts.{few_before}
-use Rattle.row_set.proofs.Starts.{none_written, written_more}
+use Rattle.row_set.{specs.Ranges.keys_before, proofs.Counts.few_before, proofs.Starts.{none_written, written_more}}
 use Rattle.row_set.proofs.blocks.recount_blocks.Goals as goal
 
 pub loop-block-init : goal.loop-block-init

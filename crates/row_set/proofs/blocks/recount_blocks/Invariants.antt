@@ -1,6 +1,5 @@
 use Rattle.std.proofs.Common.{◌≡◌, ◌-◌, ◌*◌, drop}
-use Rattle.row_set.specs.Ranges.{keys_before}
-use Rattle.row_set.proofs.Starts.{AreWritten}
+use Rattle.row_set.{specs.Ranges.keys_before, proofs.Starts.AreWritten}
 use Rattle.row_set.proofs.blocks.recount_blocks.Given as goal
 
 abbrev pub invariant-loop-block : goal.invariant-loop-block

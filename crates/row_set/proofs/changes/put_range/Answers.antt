@@ -1,15 +1,6 @@
 use Rattle.std.proofs.Common.{◌≡◌, ℕ, ◌+◌, ◌-◌, ◌^◌, ◌<◌, ◌≤◌, List, [], ◌∷◌, ◌++◌, ap, sym, ◌∙◌, subst, drop, slice_range, take, arith}
 use Rattle.std.specs.List.{AllByRecursion}
-use Rattle.row_set.specs.declared.ranges.Range.{Range}
-use Rattle.row_set.specs.declared.runs.Runs.{Runs}
-use Rattle.row_set.specs.Ranges.{AreApart, Meets, keys_from, keys_of, stretched}
-use Rattle.row_set.specs.Runs.{lying}
-use Rattle.row_set.specs.Sets.{united}
-use Rattle.row_set.proofs.Behind.{pushed}
-use Rattle.row_set.proofs.Counts.{apart_ranges}
-use Rattle.row_set.proofs.Lying.{room_weaker}
-use Rattle.row_set.proofs.Middles.{span}
-use Rattle.row_set.proofs.Swept.{stretched_whole}
+use Rattle.row_set.{specs.declared.ranges.Range.Range, specs.declared.runs.Runs.Runs, specs.Ranges.{AreApart, Meets, keys_from, keys_of, stretched}, specs.Runs.lying, specs.Sets.united, proofs.Behind.pushed, proofs.Counts.apart_ranges, proofs.Lying.room_weaker, proofs.Middles.span, proofs.Swept.stretched_whole}
 use Rattle.row_set.proofs.changes.put_range.Goals as goal
 
 pub returns-then-stretch-clause-room : goal.returns-then-stretch-clause-room

@@ -1,12 +1,5 @@
 use Rattle.std.proofs.Common.{◌≡◌, ◌+◌, ◌-◌, ap, ◌∙◌, sym, subst, length, get_or, take, arith}
-use Rattle.row_set.specs.Sets.{united}
-use Rattle.row_set.specs.Ranges.{AreRanges, keys_from, keys_of}
-use Rattle.row_set.specs.Runs.{AreStarts, IsRoom, lying}
-use Rattle.row_set.proofs.Apart.{keys_rise}
-use Rattle.row_set.proofs.Batches.{united_more}
-use Rattle.row_set.proofs.Counts.{apart_ranges, blank}
-use Rattle.row_set.proofs.Lying.{kept_before}
-use Rattle.row_set.proofs.Places.{range_at}
+use Rattle.row_set.{specs.Sets.united, specs.Ranges.{AreRanges, keys_from, keys_of}, specs.Runs.{AreStarts, IsRoom, lying}, proofs.Apart.keys_rise, proofs.Batches.united_more, proofs.Counts.{apart_ranges, blank}, proofs.Lying.kept_before, proofs.Places.range_at}
 use Rattle.row_set.proofs.changes.put_ranges.Goals as goal
 
 pub put_range-requires-clause-order : goal.put_range-requires-clause-order

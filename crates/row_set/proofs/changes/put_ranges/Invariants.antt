@@ -1,7 +1,5 @@
 use Rattle.std.proofs.Common.{◌≡◌, ◌-◌, length, take}
-use Rattle.row_set.specs.Sets.{united}
-use Rattle.row_set.specs.Ranges.{keys_of}
-use Rattle.row_set.specs.Runs.{IsRoom, IsStored, lying}
+use Rattle.row_set.{specs.Sets.united, specs.Ranges.keys_of, specs.Runs.{IsRoom, IsStored, lying}}
 use Rattle.row_set.proofs.changes.put_ranges.Given as goal
 
 abbrev pub invariant-loop-range : goal.invariant-loop-range

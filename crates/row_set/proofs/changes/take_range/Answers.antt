@@ -1,12 +1,7 @@
 use Rattle.std.proofs.Common.{◌≡◌, refl, ℕ, ◌-◌, ◌^◌, ◌<◌, ◌≤◌, List, ◌++◌, ap, sym, ◌∙◌, subst, drop, get_or, take, arith}
 use Rattle.std.proofs.lemmas.List.{get_or_default}
 use Rattle.key_lists.specs.Keys.{without}
-use Rattle.row_set.specs.declared.ranges.Range.{Range}
-use Rattle.row_set.specs.Gaps.{listed}
-use Rattle.row_set.specs.Ranges.{AreApart, Meets, keys_from, keys_of, left_edge, right_edge}
-use Rattle.row_set.specs.Runs.{lying}
-use Rattle.row_set.proofs.Counts.{apart_ranges, blank}
-use Rattle.row_set.proofs.Edges.{none_removed, removed}
+use Rattle.row_set.{specs.declared.ranges.Range.Range, specs.Gaps.listed, specs.Ranges.{AreApart, Meets, keys_from, keys_of, left_edge, right_edge}, specs.Runs.lying, proofs.Counts.{apart_ranges, blank}, proofs.Edges.{none_removed, removed}}
 use Rattle.row_set.proofs.changes.take_range.Goals as goal
 
 -- the ranges with what is left at either end

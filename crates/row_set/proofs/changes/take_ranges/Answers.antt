@@ -1,13 +1,7 @@
 use Rattle.std.proofs.Common.{◌≡◌, ◌+◌, ◌-◌, ap, ◌∙◌, sym, subst, length, get_or, take, arith}
 use Rattle.std.proofs.lemmas.List.{take_rest}
 use Rattle.key_lists.specs.Keys.{without}
-use Rattle.row_set.specs.Ranges.{AreApart, AreRanges, keys_from, keys_of}
-use Rattle.row_set.specs.Runs.{AreStarts, IsRoom, lying}
-use Rattle.row_set.proofs.Apart.{apart-drop}
-use Rattle.row_set.proofs.Batches.{without_more, without_none, without_rest}
-use Rattle.row_set.proofs.Counts.{apart_ranges, blank}
-use Rattle.row_set.proofs.Lying.{kept_before}
-use Rattle.row_set.proofs.Places.{range_at}
+use Rattle.row_set.{specs.Ranges.{AreApart, AreRanges, keys_from, keys_of}, specs.Runs.{AreStarts, IsRoom, lying}, proofs.Apart.apart-drop, proofs.Batches.{without_more, without_none, without_rest}, proofs.Counts.{apart_ranges, blank}, proofs.Lying.kept_before, proofs.Places.range_at}
 use Rattle.row_set.proofs.changes.take_ranges.Goals as goal
 
 pub loop-range-init : goal.loop-range-init

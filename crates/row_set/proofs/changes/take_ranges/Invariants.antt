@@ -1,7 +1,6 @@
 use Rattle.std.proofs.Common.{◌≡◌, ◌-◌, length, take}
 use Rattle.key_lists.specs.Keys.{without}
-use Rattle.row_set.specs.Ranges.{keys_of}
-use Rattle.row_set.specs.Runs.{IsRoom, IsStored, lying}
+use Rattle.row_set.{specs.Ranges.keys_of, specs.Runs.{IsRoom, IsStored, lying}}
 use Rattle.row_set.proofs.changes.take_ranges.Given as goal
 
 abbrev pub invariant-loop-range : goal.invariant-loop-range

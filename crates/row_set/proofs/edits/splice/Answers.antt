@@ -1,7 +1,6 @@
 use Rattle.std.proofs.Common.{◌≡◌, ◌≤◌, length, arith, inl, inr}
 use Rattle.std.proofs.lemmas.Bool.{cases_lt}
-use Rattle.row_set.proofs.Counts.{blank}
-use Rattle.row_set.proofs.Spliced.{splicing_replaces, splicing_inserts, splicing_cut}
+use Rattle.row_set.{proofs.Counts.blank, proofs.Spliced.{splicing_replaces, splicing_inserts, splicing_cut}}
 use Rattle.row_set.proofs.edits.splice.Goals as goal
 
 pub loop-range-preserved : goal.loop-range-preserved

@@ -1,6 +1,5 @@
 use Rattle.std.proofs.Common.{length}
-use Rattle.row_set.proofs.Behind.{ends_test}
-use Rattle.row_set.proofs.Counts.{some_from_test}
+use Rattle.row_set.{proofs.Behind.ends_test, proofs.Counts.some_from_test}
 use Rattle.row_set.proofs.search.all_end_before.Goals as goal
 
 pub returns-else-is_empty : goal.returns-else-is_empty

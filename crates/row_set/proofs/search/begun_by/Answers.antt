@@ -1,7 +1,6 @@
 use Rattle.std.proofs.Common.{leb, rules}
 use Rattle.std.proofs.lemmas.List.Sorted.{IsPartitionPoint-from_clause}
-use Rattle.row_set.proofs.Counts.{blank}
-use Rattle.row_set.proofs.Places.{all_begun, firsts_parted, begun_part, not_begun_part}
+use Rattle.row_set.{proofs.Counts.blank, proofs.Places.{all_begun, firsts_parted, begun_part, not_begun_part}}
 use Rattle.row_set.proofs.search.begun_by.Goals as goal
 
 pub returns-clause-begun : goal.returns-clause-begun

@@ -1,7 +1,6 @@
 use Rattle.std.proofs.Common.{◌+◌, arith}
 use Rattle.key_lists.proofs.Every.{all_from}
-use Rattle.row_set.specs.Ranges.{IsRangeFrom}
-use Rattle.row_set.proofs.Counts.{blank, few_before, length-keys_more}
+use Rattle.row_set.{specs.Ranges.IsRangeFrom, proofs.Counts.{blank, few_before, length-keys_more}}
 use Rattle.row_set.proofs.search.count_in.Goals as goal
 
 pub overflow_sub-count : goal.overflow_sub-count

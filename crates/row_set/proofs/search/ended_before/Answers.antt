@@ -1,7 +1,6 @@
 use Rattle.std.proofs.Common.{ltb, rules}
 use Rattle.std.proofs.lemmas.List.Sorted.{IsPartitionPoint-from_clause}
-use Rattle.row_set.proofs.Counts.{blank}
-use Rattle.row_set.proofs.Places.{all_ended, lasts_parted, ended_part, not_ended_part}
+use Rattle.row_set.{proofs.Counts.blank, proofs.Places.{all_ended, lasts_parted, ended_part, not_ended_part}}
 use Rattle.row_set.proofs.search.ended_before.Goals as goal
 
 pub returns-clause-ended : goal.returns-clause-ended

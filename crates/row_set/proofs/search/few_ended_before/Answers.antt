@@ -1,6 +1,5 @@
 use Rattle.std.proofs.Common.{arith}
-use Rattle.row_set.proofs.Counts.{blank}
-use Rattle.row_set.proofs.Places.{later_end}
+use Rattle.row_set.{proofs.Counts.blank, proofs.Places.later_end}
 use Rattle.row_set.proofs.search.few_ended_before.Goals as goal
 
 pub returns-in-len1-up-clause-others : goal.returns-in-len1-up-clause-others

@@ -1,10 +1,6 @@
 use Rattle.std.proofs.Common.{ap, sym, ◌∙◌, slice_get, arith}
 use Rattle.std.proofs.lemmas.Option.{slice_get_past}
-use Rattle.row_set.specs.Ranges.{keys_of}
-use Rattle.row_set.proofs.Apart.{each_range}
-use Rattle.row_set.proofs.Counts.{blank, keys_before_all, length-keys_more}
-use Rattle.row_set.proofs.Lookups.{key_in}
-use Rattle.row_set.proofs.Places.{range_at}
+use Rattle.row_set.{specs.Ranges.keys_of, proofs.Apart.each_range, proofs.Counts.{blank, keys_before_all, length-keys_more}, proofs.Lookups.key_in, proofs.Places.range_at}
 use Rattle.row_set.proofs.search.key_in.Goals as goal
 
 pub overflow_sub-count : goal.overflow_sub-count

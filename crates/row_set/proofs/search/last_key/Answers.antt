@@ -1,6 +1,5 @@
 use Rattle.std.proofs.Common.{sym, length, ◌-◌, ◌<◌, arith}
-use Rattle.row_set.proofs.Counts.{some_from_test}
-use Rattle.row_set.proofs.Lookups.{last_found}
+use Rattle.row_set.{proofs.Counts.some_from_test, proofs.Lookups.last_found}
 use Rattle.row_set.proofs.search.last_key.Goals as goal
 
 pub returns-else-is_empty : goal.returns-else-is_empty

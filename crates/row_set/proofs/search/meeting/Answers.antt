@@ -1,9 +1,6 @@
 use Rattle.std.proofs.Common.{◌≤◌, ◌<◌, subst, sym, length, take, drop}
-use Rattle.std.specs.List.{AllByRecursion}
-use Rattle.std.proofs.lemmas.List.{take_rest}
-use Rattle.row_set.specs.Ranges.{AreApart}
-use Rattle.row_set.proofs.Apart.{apart-drop}
-use Rattle.row_set.proofs.Places.{meets}
+use Rattle.std.{specs.List.AllByRecursion, proofs.lemmas.List.take_rest}
+use Rattle.row_set.{specs.Ranges.AreApart, proofs.Apart.apart-drop, proofs.Places.meets}
 use Rattle.row_set.proofs.search.meeting.Goals as goal
 
 pub few_begun_by-requires : goal.few_begun_by-requires

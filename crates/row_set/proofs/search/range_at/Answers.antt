@@ -1,7 +1,6 @@
 use Rattle.std.proofs.Common.{sym}
-use Rattle.row_set.proofs.Lookups.{find_in, find_between, find_past}
+use Rattle.row_set.{proofs.Lookups.{find_in, find_between, find_past}, proofs.search.range_at.Goals.{else-index-ranges-via-then-index-ranges+else-ranges-index, else-index-ranges-via-else-index-ranges}}
 use Rattle.row_set.proofs.search.range_at.Goals as goal
-use Rattle.row_set.proofs.search.range_at.Goals.{else-index-ranges-via-then-index-ranges+else-ranges-index, else-index-ranges-via-else-index-ranges}
 
 pub returns-then-ranges-index : goal.returns-then-ranges-index
 returns-then-ranges-index c =

@@ -1,13 +1,7 @@
 use Rattle.std.proofs.Common.{◌≡◌, refl, ℕ, ◌-◌, ◌+◌, List, ◌∷◌, ◌++◌, length, ap, ap₂, sym, ◌∙◌, subst, take, take-take, length-take-le, drop, get_or, arith}
 use Rattle.std.proofs.lemmas.List.{take-append-le}
-use Rattle.key_lists.proofs.Every.{every-append}
-use Rattle.key_lists.proofs.Parts.{every-take, every-drop}
-use Rattle.row_set.specs.declared.ranges.Range.{Range}
-use Rattle.row_set.specs.Ranges.{AreRanges, IsRangeFrom}
-use Rattle.row_set.specs.Runs.{lying}
-use Rattle.row_set.proofs.Counts.{blank}
-use Rattle.row_set.proofs.Middles.{span}
-use Rattle.row_set.proofs.Joined.{AreBoth, gap_apart, left_is, right_rest, touch_apart, touch_keys}
+use Rattle.key_lists.{proofs.Every.every-append, proofs.Parts.{every-take, every-drop}}
+use Rattle.row_set.{specs.declared.ranges.Range.Range, specs.Ranges.{AreRanges, IsRangeFrom}, specs.Runs.lying, proofs.Counts.blank, proofs.Middles.span, proofs.Joined.{AreBoth, gap_apart, left_is, right_rest, touch_apart, touch_keys}}
 use Rattle.row_set.proofs.shifts.join.Goals as goal
 
 -- the ranges with one in the place of two of them

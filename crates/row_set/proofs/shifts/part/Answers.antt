@@ -1,9 +1,6 @@
 use Rattle.std.proofs.Common.{refl, ◌+◌, ◌-◌, ap, ◌∙◌, drop, get_or, length, slice_range, arith}
 use Rattle.std.proofs.lemmas.List.{take_rest}
-use Rattle.row_set.specs.Runs.{lying}
-use Rattle.row_set.proofs.Counts.{blank}
-use Rattle.row_set.proofs.Lying.{room_weaker}
-use Rattle.row_set.proofs.Parted.{split_at_key, two_for, unsplit_at}
+use Rattle.row_set.{specs.Runs.lying, proofs.Counts.blank, proofs.Lying.room_weaker, proofs.Parted.{split_at_key, two_for, unsplit_at}}
 use Rattle.row_set.proofs.shifts.part.Goals as goal
 
 pub returns-then-key-range-clause-part : goal.returns-then-key-range-clause-part

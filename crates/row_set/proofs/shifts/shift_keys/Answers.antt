@@ -1,14 +1,7 @@
 use Rattle.std.proofs.Common.{◌≡◌, ℕ, ◌+◌, List, ap, sym, ◌∙◌, subst, drop, slice_range, ℤ, to_z-of_z, arith}
 use Rattle.std.specs.List.{AllByRecursion}
 use Rattle.key_lists.specs.Keys.{IsRising}
-use Rattle.row_set.specs.declared.ranges.Range.{Range}
-use Rattle.row_set.specs.Moves.{IsKey, Shifts, moved_key, moved_keys}
-use Rattle.row_set.specs.Ranges.{AreApart, IsPart, keys_of}
-use Rattle.row_set.specs.Runs.{lying}
-use Rattle.row_set.proofs.Apart.{apart_weaker}
-use Rattle.row_set.proofs.Counts.{apart_ranges}
-use Rattle.row_set.proofs.Moved.{IsCut, cut_nothing, cut_parts, cut_shifts, parted_twice, with_moved}
-use Rattle.row_set.proofs.Parted.{part_keys}
+use Rattle.row_set.{specs.declared.ranges.Range.Range, specs.Moves.{IsKey, Shifts, moved_key, moved_keys}, specs.Ranges.{AreApart, IsPart, keys_of}, specs.Runs.lying, proofs.Apart.apart_weaker, proofs.Counts.apart_ranges, proofs.Moved.{IsCut, cut_nothing, cut_parts, cut_shifts, parted_twice, with_moved}, proofs.Parted.part_keys}
 use Rattle.row_set.proofs.shifts.shift_keys.Goals as goal
 
 -- what holds of the ranges before they move

@@ -1,6 +1,5 @@
 use Rattle.std.proofs.Common.{◌-◌, ◌≤◌, map, slice_range, vec_capacity}
-use Rattle.row_set.specs.Moves.{shift}
-use Rattle.row_set.proofs.Spliced.{IsSplicing}
+use Rattle.row_set.{specs.Moves.shift, proofs.Spliced.IsSplicing}
 use Rattle.row_set.proofs.shifts.shift_ranges.Given as goal
 
 abbrev pub invariant-loop-index : goal.invariant-loop-index

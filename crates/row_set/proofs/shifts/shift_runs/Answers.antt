@@ -1,8 +1,5 @@
 use Rattle.std.proofs.Common.{◌+◌, ap, sym, ◌∙◌, subst, to_z-of_z, arith}
-use Rattle.row_set.specs.Ranges.{AreRanges}
-use Rattle.row_set.specs.Runs.{lying}
-use Rattle.row_set.proofs.Lying.{length-lying}
-use Rattle.row_set.proofs.Moved.{lying_moved, moved_counted, moved_ranges, with_moved}
+use Rattle.row_set.{specs.Ranges.AreRanges, specs.Runs.lying, proofs.Lying.length-lying, proofs.Moved.{lying_moved, moved_counted, moved_ranges, with_moved}}
 use Rattle.row_set.proofs.shifts.shift_runs.Goals as goal
 
 pub returns-clause-counted : goal.returns-clause-counted

@@ -1,10 +1,6 @@
 use Rattle.std.proofs.Common.{◌≡◌, ap, ◌∙◌, get_or, arith}
 use Rattle.key_lists.specs.Keys.{without}
-use Rattle.row_set.specs.Ranges.{keys_from, keys_of}
-use Rattle.row_set.proofs.Batches.{without_more, without_none}
-use Rattle.row_set.proofs.Counts.{blank}
-use Rattle.row_set.proofs.Edges.{none_removed}
-use Rattle.row_set.proofs.Places.{range_at}
+use Rattle.row_set.{specs.Ranges.{keys_from, keys_of}, proofs.Batches.{without_more, without_none}, proofs.Counts.blank, proofs.Edges.none_removed, proofs.Places.range_at}
 use Rattle.row_set.proofs.sweeps.count_unmet.Goals as goal
 
 pub loop-index-init : goal.loop-index-init

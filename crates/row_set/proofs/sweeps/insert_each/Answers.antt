@@ -1,12 +1,5 @@
 use Rattle.std.proofs.Common.{ap, ◌∙◌, get_or, take, arith}
-use Rattle.row_set.specs.Gaps.{around}
-use Rattle.row_set.specs.Ranges.{keys_from, keys_of}
-use Rattle.row_set.specs.Sets.{united}
-use Rattle.row_set.proofs.Apart.{keys_rise}
-use Rattle.row_set.proofs.Batches.{united_more}
-use Rattle.row_set.proofs.Counts.{blank}
-use Rattle.row_set.proofs.Places.{range_at}
-use Rattle.row_set.proofs.Swept.{ends_below, passed_next, same_front}
+use Rattle.row_set.{specs.Gaps.around, specs.Ranges.{keys_from, keys_of}, specs.Sets.united, proofs.Apart.keys_rise, proofs.Batches.united_more, proofs.Counts.blank, proofs.Places.range_at, proofs.Swept.{ends_below, passed_next, same_front}}
 use Rattle.row_set.proofs.sweeps.insert_each.Goals as goal
 
 pub insert_next-at-requires-clause-order : goal.insert_next-at-requires-clause-order

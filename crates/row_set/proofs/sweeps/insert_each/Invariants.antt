@@ -1,7 +1,5 @@
 use Rattle.std.proofs.Common.{◌≡◌, ◌≤◌, ◌+◌, take, drop, vec_len, vec_capacity}
-use Rattle.row_set.specs.Gaps.{ArePassed, IsGap, around}
-use Rattle.row_set.specs.Ranges.{AreApart, keys_of}
-use Rattle.row_set.specs.Sets.{united}
+use Rattle.row_set.{specs.Gaps.{ArePassed, IsGap, around}, specs.Ranges.{AreApart, keys_of}, specs.Sets.united}
 use Rattle.row_set.proofs.sweeps.insert_each.Given as goal
 
 abbrev pub invariant-loop-index : goal.invariant-loop-index

@@ -1,11 +1,6 @@
 use Rattle.std.proofs.Common.{◌≡◌, refl, ◌+◌, ◌-◌, ◌≤◌, ◌∷◌, ◌++◌, ap, sym, ◌∙◌, subst, length, take, drop, slice_range, arith}
-use Rattle.std.specs.List.{AllByRecursion}
-use Rattle.std.proofs.lemmas.List.{take_rest}
-use Rattle.row_set.specs.Gaps.{around}
-use Rattle.row_set.specs.Ranges.{AreApart, Meets, keys_from, keys_of, stretched}
-use Rattle.row_set.specs.Sets.{united}
-use Rattle.row_set.proofs.Apart.{apart_back}
-use Rattle.row_set.proofs.Swept.{AreAround, ended_before, ends_before, front_same, meets_after, part_same, put_in, same_front}
+use Rattle.std.{specs.List.AllByRecursion, proofs.lemmas.List.take_rest}
+use Rattle.row_set.{specs.Gaps.around, specs.Ranges.{AreApart, Meets, keys_from, keys_of, stretched}, specs.Sets.united, proofs.Apart.apart_back, proofs.Swept.{AreAround, ended_before, ends_before, front_same, meets_after, part_same, put_in, same_front}}
 use Rattle.row_set.proofs.sweeps.insert_next.Goals as goal
 
 pub meeting-from-requires-clause-apart : goal.meeting-from-requires-clause-apart

@@ -1,11 +1,6 @@
 use Rattle.std.proofs.Common.{refl, ap, ◌∙◌, get_or, take, arith}
 use Rattle.key_lists.specs.Keys.{without}
-use Rattle.row_set.specs.Gaps.{around}
-use Rattle.row_set.specs.Ranges.{keys_from, keys_of}
-use Rattle.row_set.proofs.Batches.{without_more, without_none}
-use Rattle.row_set.proofs.Counts.{blank}
-use Rattle.row_set.proofs.Places.{range_at}
-use Rattle.row_set.proofs.Swept.{passed_next, same_front}
+use Rattle.row_set.{specs.Gaps.around, specs.Ranges.{keys_from, keys_of}, proofs.Batches.{without_more, without_none}, proofs.Counts.blank, proofs.Places.range_at, proofs.Swept.{passed_next, same_front}}
 use Rattle.row_set.proofs.sweeps.remove_each.Goals as goal
 
 pub remove_next-at-requires-clause-order : goal.remove_next-at-requires-clause-order

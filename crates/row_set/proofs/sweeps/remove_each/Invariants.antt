@@ -1,6 +1,5 @@
 use Rattle.std.proofs.Common.{◌≡◌, ◌≤◌, ◌+◌, take, drop, vec_len, vec_capacity}
-use Rattle.row_set.specs.Gaps.{ArePassed, IsGap, around}
-use Rattle.row_set.specs.Ranges.{AreApart, keys_of}
+use Rattle.row_set.{specs.Gaps.{ArePassed, IsGap, around}, specs.Ranges.{AreApart, keys_of}}
 use Rattle.key_lists.specs.Keys.{without}
 use Rattle.row_set.proofs.sweeps.remove_each.Given as goal
 

@@ -1,14 +1,7 @@
 use Rattle.std.proofs.Common.{◌≡◌, ◌+◌, ◌-◌, ◌<◌, ◌≤◌, ◌++◌, ap, ap₂, sym, ◌∙◌, subst, length, length-take-le, get_or, take, drop, slice_range, take-take, append_assoc, arith}
-use Rattle.std.specs.List.{AllByRecursion}
-use Rattle.std.proofs.lemmas.List.{take_rest, take-append-le}
-use Rattle.key_lists.specs.Keys.{without}
-use Rattle.key_lists.proofs.Every.{every-append}
-use Rattle.row_set.specs.Gaps.{around, listed}
-use Rattle.row_set.specs.Ranges.{AreApart, Meets, keys_from, keys_of, left_edge, right_edge}
-use Rattle.row_set.proofs.Opened.{listed_few}
-use Rattle.row_set.proofs.Apart.{apart_back}
-use Rattle.row_set.proofs.Edges.{none_removed}
-use Rattle.row_set.proofs.Swept.{AreAround, back_same, ends_below, front_same, left_ends_before, meets_after, put_out, rest_of}
+use Rattle.std.{specs.List.AllByRecursion, proofs.lemmas.List.{take_rest, take-append-le}}
+use Rattle.key_lists.{specs.Keys.without, proofs.Every.every-append}
+use Rattle.row_set.{specs.Gaps.{around, listed}, specs.Ranges.{AreApart, Meets, keys_from, keys_of, left_edge, right_edge}, proofs.Opened.listed_few, proofs.Apart.apart_back, proofs.Edges.none_removed, proofs.Swept.{AreAround, back_same, ends_below, front_same, left_ends_before, meets_after, put_out, rest_of}}
 use Rattle.row_set.proofs.sweeps.remove_next.Goals as goal
 
 pub meeting-from-requires-clause-apart : goal.meeting-from-requires-clause-apart

@@ -1,14 +1,9 @@
 use Rattle.std.proofs.Common.{◌≡◌, ap, sym, ◌∙◌, subst, ◌∷◌, ◌++◌, [], List, ℕ, false, ◌==◌, length, append_assoc}
-use Rattle.std.specs.List.{AllByRecursion}
-use Rattle.std.proofs.lemmas.List.{append-nil}
+use Rattle.std.{specs.List.AllByRecursion, proofs.lemmas.List.append-nil}
 use Rattle.key_lists.proofs.Every.{every-append}
 use Rattle.tick_model.specs.Texts.{records_text}
-use Rattle.update_text.specs.declared.shown.Shown.{Shown}
-use Rattle.update_text.proofs.ReadRows.{gives_memory}
-use Rattle.run_output.specs.declared.entry.Entry.{Entry}
-use Rattle.run_output.specs.Entries.{IsEntry, entry_text, output_text}
-use Rattle.run_output.specs.Splitting.{IsPart, begins_part}
-use Rattle.run_output.proofs.EntryTexts.{fields_of, next_entry, none_left, parts_are, parts_of, tag_of, text_is, text_more}
+use Rattle.update_text.{specs.declared.shown.Shown.Shown, proofs.ReadRows.gives_memory}
+use Rattle.run_output.{specs.declared.entry.Entry.Entry, specs.Entries.{IsEntry, entry_text, output_text}, specs.Splitting.{IsPart, begins_part}, proofs.EntryTexts.{fields_of, next_entry, none_left, parts_are, parts_of, tag_of, text_is, text_more}}
 use Rattle.run_output.proofs.all_entries.read_output.Goals as goal
 
 -- the first entry of an output, and what stands behind it

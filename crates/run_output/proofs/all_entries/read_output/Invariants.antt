@@ -1,7 +1,6 @@
 use Rattle.std.proofs.Common.{◌≡◌, List, ◌++◌, length}
 use Rattle.std.specs.List.{AllByRecursion}
-use Rattle.run_output.specs.declared.entry.Entry.{Entry}
-use Rattle.run_output.specs.Entries.{IsEntry, output_text}
+use Rattle.run_output.{specs.declared.entry.Entry.Entry, specs.Entries.{IsEntry, output_text}}
 use Rattle.run_output.proofs.all_entries.read_output.Given as goal
 
 -- the entries so far, and those that are still to come of an output that is told

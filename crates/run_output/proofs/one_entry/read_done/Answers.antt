@@ -1,6 +1,5 @@
 use Rattle.std.proofs.Common.{ap, sym, ◌∙◌, ◌∷◌, true≢false, get_or, [], List, ℕ}
-use Rattle.std.specs.Prelude.{codes}
-use Rattle.std.specs.Fmt.{decimal}
+use Rattle.std.{specs.Prelude.codes, specs.Fmt.decimal}
 use Rattle.update_text.proofs.ReadRows.{gives_memory}
 use Rattle.run_output.specs.declared.entry.Entry.TheVariants.{Done}
 use Rattle.run_output.proofs.one_entry.read_done.Goals as goal

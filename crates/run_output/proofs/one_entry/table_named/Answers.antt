@@ -1,10 +1,6 @@
 use Rattle.std.proofs.Common.{◌∙◌, rules, tests, []}
-use Rattle.std.specs.Prelude.{nat_eq}
-use Rattle.std.specs.Cmp.Lexicographic.{pointwise}
-use Rattle.std.proofs.lemmas.Iterator.{YieldsList-from_slice}
-use Rattle.std.proofs.lemmas.Iterator.Search.{position_from_yields_List}
-use Rattle.update_text.specs.declared.shown.Shown.{Shown}
-use Rattle.update_text.proofs.ReadColumns.{place_found}
+use Rattle.std.{specs.Prelude.nat_eq, specs.Cmp.Lexicographic.pointwise, proofs.lemmas.Iterator.YieldsList-from_slice, proofs.lemmas.Iterator.Search.position_from_yields_List}
+use Rattle.update_text.{specs.declared.shown.Shown.Shown, proofs.ReadColumns.place_found}
 use Rattle.run_output.proofs.one_entry.table_named.Goals as goal
 
 pub returns-clause-told : goal.returns-clause-told

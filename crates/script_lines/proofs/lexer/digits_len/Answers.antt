@@ -1,10 +1,6 @@
 use Rattle.std.proofs.Common.{◌≡◌, rules, tests}
-use Rattle.std.specs.Prelude.{not}
-use Rattle.std.specs.List.{position}
-use Rattle.std.proofs.lemmas.Iterator.{YieldsList-from_slice}
-use Rattle.std.proofs.lemmas.Iterator.Search.{position_from_yields_List}
-use Rattle.script_lines.specs.Tokens.{is_digit}
-use Rattle.script_lines.proofs.LexemeLemmas.{run_len-position}
+use Rattle.std.{specs.Prelude.not, specs.List.position, proofs.lemmas.Iterator.YieldsList-from_slice, proofs.lemmas.Iterator.Search.position_from_yields_List}
+use Rattle.script_lines.{specs.Tokens.is_digit, proofs.LexemeLemmas.run_len-position}
 use Rattle.script_lines.proofs.lexer.digits_len.Goals as goal
 
 pub returns : goal.returns

@@ -1,8 +1,5 @@
 use Rattle.std.proofs.Common.{◌≡◌, rules, tests}
-use Rattle.std.specs.Prelude.{not}
-use Rattle.std.specs.List.{position}
-use Rattle.std.proofs.lemmas.Iterator.{YieldsList-from_slice}
-use Rattle.std.proofs.lemmas.Iterator.Search.{position_from_yields_List}
+use Rattle.std.{specs.Prelude.not, specs.List.position, proofs.lemmas.Iterator.YieldsList-from_slice, proofs.lemmas.Iterator.Search.position_from_yields_List}
 use Rattle.tick_model.specs.Names.{is_name_byte}
 use Rattle.script_lines.proofs.LexemeLemmas.{run_len-position}
 use Rattle.script_lines.proofs.lexer.name_len.Goals as goal

@@ -1,9 +1,6 @@
 use Rattle.std.proofs.Common.{◌≡◌, take, arith}
-use Rattle.std.specs.Int.{w64}
-use Rattle.std.proofs.lemmas.Result.{OkIff-at_err}
-use Rattle.std.proofs.lemmas.Str.Parse.{parse_signed_digits}
-use Rattle.script_lines.specs.Tokens.{is_digit, run_len}
-use Rattle.script_lines.proofs.LexemeLemmas.{digits_boundary, own_digits, run_of_digits, some_digits, number_too_large}
+use Rattle.std.{specs.Int.w64, proofs.lemmas.Result.OkIff-at_err, proofs.lemmas.Str.Parse.parse_signed_digits}
+use Rattle.script_lines.{specs.Tokens.{is_digit, run_len}, proofs.LexemeLemmas.{digits_boundary, own_digits, run_of_digits, some_digits, number_too_large}}
 use Rattle.script_lines.proofs.lexer.number.Goals as goal
 
 pub split_at-requires : goal.split_at-requires

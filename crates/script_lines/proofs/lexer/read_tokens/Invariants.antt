@@ -1,8 +1,7 @@
 use Rattle.std.proofs.Common.{◌≡◌, length}
 use denote.Text.{Utf8}
 use denote.Shadow.{shadow}
-use Rattle.script_lines.specs.Tokens.{tokens_after}
-use Rattle.script_lines.proofs.TokenLemmas.{behind}
+use Rattle.script_lines.{specs.Tokens.tokens_after, proofs.TokenLemmas.behind}
 use Rattle.script_lines.proofs.lexer.read_tokens.Given as goal
 
 abbrev pub invariant-loop-rest : goal.invariant-loop-rest

@@ -1,8 +1,6 @@
 use Rattle.std.proofs.Common.{◌≡◌, ◌++◌, ◌∷◌, [], map, refl}
-use Rattle.std.proofs.lemmas.Result.{err_from_is_err_and}
-use Rattle.std.proofs.lemmas.List.{map_push}
-use Rattle.script_lines.specs.Members.{list_at}
-use Rattle.script_lines.proofs.ListLemmas.{misses_bind, goes_on, ends, is_done, runs_out}
+use Rattle.std.{proofs.lemmas.Result.err_from_is_err_and, proofs.lemmas.List.map_push}
+use Rattle.script_lines.{specs.Members.list_at, proofs.ListLemmas.{misses_bind, goes_on, ends, is_done, runs_out}}
 use Rattle.script_lines.proofs.lists.list.Goals as goal
 
 pub loop-init : goal.loop-init

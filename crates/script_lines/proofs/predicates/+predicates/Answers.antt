@@ -1,7 +1,5 @@
 use Rattle.std.proofs.Common.{◌≡◌, ◌-◌, arith}
-use Rattle.script_lines.specs.Formulas.{both_at, either_at, fact_at}
-use Rattle.script_lines.specs.Bare.{bare_test}
-use Rattle.script_lines.proofs.TestLemmas.{one_more_fact, one_more_conjunction}
+use Rattle.script_lines.{specs.Formulas.{both_at, either_at, fact_at}, specs.Bare.bare_test, proofs.TestLemmas.{one_more_fact, one_more_conjunction}}
 use Rattle.script_lines.proofs.predicates.+predicates.Goals as goal
 
 pub both-returns-in-Some : goal.both-returns-in-Some

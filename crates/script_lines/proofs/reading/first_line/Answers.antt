@@ -1,7 +1,5 @@
 use Rattle.std.proofs.Common.{◌≡◌, ◌∙◌, sym, rules, tests}
-use Rattle.std.specs.Prelude.{position}
-use Rattle.std.proofs.lemmas.Iterator.{YieldsList-from_slice}
-use Rattle.std.proofs.lemmas.Iterator.Search.{position_from_yields_List}
+use Rattle.std.{specs.Prelude.position, proofs.lemmas.Iterator.YieldsList-from_slice, proofs.lemmas.Iterator.Search.position_from_yields_List}
 use Rattle.script_lines.proofs.LineLemmas.{is_feed, lines_of-at, lines_of-none}
 use Rattle.script_lines.proofs.reading.first_line.Goals as goal
 

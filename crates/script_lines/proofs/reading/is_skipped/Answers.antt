@@ -1,10 +1,6 @@
 use Rattle.std.proofs.Common.{◌≡◌, ◌∙◌, sym, ap, rules, tests}
-use Rattle.std.specs.Prelude.{ℕ, not, find, option_map}
-use Rattle.std.specs.Borrow.{Bor}
-use Rattle.std.proofs.lemmas.Iterator.{YieldsList-from_slice}
-use Rattle.std.proofs.lemmas.Iterator.Search.{find_from_yields_List}
-use Rattle.script_lines.specs.Tokens.{is_blank}
-use Rattle.script_lines.proofs.LineLemmas.{says_nothing, is_skipped-find}
+use Rattle.std.{specs.Prelude.{ℕ, not, find, option_map}, specs.Borrow.Bor, proofs.lemmas.Iterator.YieldsList-from_slice, proofs.lemmas.Iterator.Search.find_from_yields_List}
+use Rattle.script_lines.{specs.Tokens.is_blank, proofs.LineLemmas.{says_nothing, is_skipped-find}}
 use Rattle.script_lines.proofs.reading.is_skipped.Goals as goal
 
 pub returns-in-None : goal.returns-in-None

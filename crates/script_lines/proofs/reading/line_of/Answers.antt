@@ -1,7 +1,6 @@
 use Rattle.std.proofs.Common.{◌∙◌, sym, ap}
 use Rattle.std.proofs.lemmas.Result.{err_from_is_err_and}
-use Rattle.script_lines.specs.Grammar.{line_at}
-use Rattle.script_lines.proofs.LineLemmas.{line_of-not_text, line_of-skipped, line_of-tokens, line_of-no_tokens, line_of-no_form}
+use Rattle.script_lines.{specs.Grammar.line_at, proofs.LineLemmas.{line_of-not_text, line_of-skipped, line_of-tokens, line_of-no_tokens, line_of-no_form}}
 use Rattle.script_lines.proofs.reading.line_of.Goals as goal
 
 pub returns-in_default : goal.returns-in_default

@@ -1,7 +1,6 @@
 use Rattle.std.proofs.Common.{◌∙◌, ◌++◌, ◌∷◌, [], sym, ap}
 use Rattle.std.proofs.lemmas.Bool.{ne_eqb}
-use Rattle.script_lines.specs.Lines.{without_return}
-use Rattle.script_lines.proofs.LineLemmas.{without_return-return, without_return-other}
+use Rattle.script_lines.{specs.Lines.without_return, proofs.LineLemmas.{without_return-return, without_return-other}}
 use Rattle.script_lines.proofs.reading.without_return.Goals as goal
 
 pub returns-then-last-eq13 : goal.returns-then-last-eq13

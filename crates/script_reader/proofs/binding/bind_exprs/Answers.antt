@@ -1,7 +1,5 @@
 use Rattle.std.proofs.Common.{◌≡◌, ◌∙◌, ap, sym, map, length, arith}
-use Rattle.script_reader.specs.Binding.{bound_expr}
-use Rattle.script_reader.specs.Plain.{plain}
-use Rattle.script_reader.proofs.Rewritten.{one_rewritten, all_rewritten, written_back}
+use Rattle.script_reader.{specs.Binding.bound_expr, specs.Plain.plain, proofs.Rewritten.{one_rewritten, all_rewritten, written_back}}
 use Rattle.script_reader.proofs.binding.bind_exprs.Goals as goal
 
 pub loop-expr-preserved : goal.loop-expr-preserved

@@ -1,6 +1,4 @@
-use Rattle.script_reader.specs.Binding.{bound_expr}
-use Rattle.script_reader.specs.Plain.{plain}
-use Rattle.script_reader.proofs.Rewritten.{IsRewritten}
+use Rattle.script_reader.{specs.Binding.bound_expr, specs.Plain.plain, proofs.Rewritten.IsRewritten}
 use Rattle.script_reader.proofs.binding.bind_exprs.Given as goal
 
 abbrev pub invariant-loop-expr : goal.invariant-loop-expr

@@ -1,7 +1,5 @@
 use Rattle.std.proofs.Common.{◌≡◌, ◌∙◌, ap, sym, map, length, arith}
-use Rattle.script_reader.specs.Binding.{bound_node}
-use Rattle.script_reader.specs.Plain.{plain_node}
-use Rattle.script_reader.proofs.Rewritten.{one_rewritten, all_rewritten, written_back}
+use Rattle.script_reader.{specs.Binding.bound_node, specs.Plain.plain_node, proofs.Rewritten.{one_rewritten, all_rewritten, written_back}}
 use Rattle.script_reader.proofs.binding.bind_nodes.Goals as goal
 
 pub loop-node-preserved : goal.loop-node-preserved

@@ -1,6 +1,4 @@
-use Rattle.script_reader.specs.Binding.{bound_node}
-use Rattle.script_reader.specs.Plain.{plain_node}
-use Rattle.script_reader.proofs.Rewritten.{IsRewritten}
+use Rattle.script_reader.{specs.Binding.bound_node, specs.Plain.plain_node, proofs.Rewritten.IsRewritten}
 use Rattle.script_reader.proofs.binding.bind_nodes.Given as goal
 
 abbrev pub invariant-loop-node : goal.invariant-loop-node

@@ -1,7 +1,5 @@
 use Rattle.std.proofs.Common.{Ok, Err, rules, tests}
-use Rattle.std.proofs.lemmas.Fn.{always_returns_same}
-use Rattle.std.specs.Ordering.{nat_cmp}
-use Rattle.std.specs.Cmp.Lexicographic.{slice_cmp}
+use Rattle.std.{proofs.lemmas.Fn.always_returns_same, specs.Ordering.nat_cmp, specs.Cmp.Lexicographic.slice_cmp}
 use Rattle.script_reader.proofs.Ranked.{ranked}
 use Rattle.script_reader.proofs.binding.rank_of.Goals as goal
 

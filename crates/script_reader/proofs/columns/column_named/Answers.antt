@@ -1,11 +1,8 @@
 use Rattle.std.proofs.Common.{◌∙◌, ap, sym, subst, ℕ, Option}
-use Rattle.std.specs.Prelude.{position}
-use Rattle.std.specs.Str.{bytes_eq}
+use Rattle.std.{specs.Prelude.position, specs.Str.bytes_eq}
 use Rattle.tick_model.specs.declared.plan.ColumnSpec.{ColumnSpec}
-use Rattle.script_lines.specs.declared.fault.ScriptKind.TheVariants.{UnknownColumn}
-use Rattle.script_lines.specs.Answers.{Gives}
-use Rattle.script_reader.specs.Checks.{column_named, or_refused}
-use Rattle.script_reader.proofs.Places.{position-map}
+use Rattle.script_lines.{specs.declared.fault.ScriptKind.TheVariants.UnknownColumn, specs.Answers.Gives}
+use Rattle.script_reader.{specs.Checks.{column_named, or_refused}, proofs.Places.position-map}
 use Rattle.script_reader.proofs.columns.column_named.Goals as goal
 
 pub returns : goal.returns

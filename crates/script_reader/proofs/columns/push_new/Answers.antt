@@ -1,8 +1,6 @@
 use Rattle.std.proofs.Common.{◌≡◌, ◌+◌, ◌++◌, ◌∷◌, [], ◌∙◌, ap, sym, length, take, map, rules}
-use Rattle.std.proofs.lemmas.List.{length_push}
-use Rattle.std.proofs.lemmas.Slice.Zip.{zip_turn, zip_end}
-use Rattle.script_reader.specs.Checks.{named_columns}
-use Rattle.script_reader.proofs.NewColumns.{named_more, named_all}
+use Rattle.std.{proofs.lemmas.List.length_push, proofs.lemmas.Slice.Zip.{zip_turn, zip_end}}
+use Rattle.script_reader.{specs.Checks.named_columns, proofs.NewColumns.{named_more, named_all}}
 use Rattle.script_reader.proofs.columns.push_new.Goals as goal
 
 pub loop-column-preserved : goal.loop-column-preserved

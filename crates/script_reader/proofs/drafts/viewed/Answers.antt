@@ -1,9 +1,7 @@
 use Rattle.std.proofs.Common.{◌++◌, ◌∙◌, ap, map}
-use Rattle.tick_model.specs.declared.plan.Expr.{Expr}
-use Rattle.tick_model.specs.Columns.{kind_of, kinds_of}
+use Rattle.tick_model.{specs.declared.plan.Expr.Expr, specs.Columns.{kind_of, kinds_of}}
 use Rattle.script_lines.specs.declared.line.Computed.{Computed}
-use Rattle.script_reader.specs.Checks.{named_columns, all_there}
-use Rattle.script_reader.proofs.Drafting.{viewed_is}
+use Rattle.script_reader.{specs.Checks.{named_columns, all_there}, proofs.Drafting.viewed_is}
 use Rattle.script_reader.proofs.drafts.viewed.Goals as goal
 
 pub returns : goal.returns

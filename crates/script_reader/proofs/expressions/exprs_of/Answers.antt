@@ -1,8 +1,6 @@
 use Rattle.std.proofs.Common.{◌≡◌, ap, ◌∙◌, map, arith, ◌++◌, ◌∷◌, []}
-use Rattle.std.proofs.lemmas.List.{map_push}
-use Rattle.std.proofs.lemmas.Result.{err_from_is_err_and}
-use Rattle.script_reader.specs.Plain.{plain}
-use Rattle.script_reader.proofs.Each.{exprs_more, exprs_fail, exprs_all, exprs_none}
+use Rattle.std.{proofs.lemmas.List.map_push, proofs.lemmas.Result.err_from_is_err_and}
+use Rattle.script_reader.{specs.Plain.plain, proofs.Each.{exprs_more, exprs_fail, exprs_all, exprs_none}}
 use Rattle.script_reader.proofs.expressions.exprs_of.Goals as goal
 
 pub loop-column-init : goal.loop-column-init

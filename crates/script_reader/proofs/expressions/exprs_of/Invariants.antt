@@ -1,6 +1,5 @@
 use Rattle.std.proofs.Common.{◌≡◌, map, take, Ok}
-use Rattle.script_reader.specs.Checks.{exprs_of}
-use Rattle.script_reader.specs.Plain.{plain}
+use Rattle.script_reader.{specs.Checks.exprs_of, specs.Plain.plain}
 use Rattle.script_reader.proofs.expressions.exprs_of.Given as goal
 
 abbrev pub invariant-loop-column : goal.invariant-loop-column

@@ -1,7 +1,5 @@
 use Rattle.std.proofs.Common.{◌∙◌, sym, rules, tests}
-use Rattle.std.specs.Prelude.{◌==◌}
-use Rattle.std.proofs.lemmas.Iterator.{YieldsList-from_slice}
-use Rattle.std.proofs.lemmas.Iterator.Search.{any_from_yields_List}
+use Rattle.std.{specs.Prelude.◌==◌, proofs.lemmas.Iterator.YieldsList-from_slice, proofs.lemmas.Iterator.Search.any_from_yields_List}
 use Rattle.tick_model.specs.declared.plan.Published.{Published}
 use Rattle.script_reader.proofs.Places.{list_any-map}
 use Rattle.script_reader.proofs.known.is_published.Goals as goal

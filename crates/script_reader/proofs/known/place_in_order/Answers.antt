@@ -1,7 +1,5 @@
 use Rattle.std.proofs.Common.{◌≡◌, ◌∙◌, ap, length, rules, tests}
-use Rattle.std.specs.Prelude.{nat_lt, unwrap_or, position}
-use Rattle.std.proofs.lemmas.Iterator.{YieldsList-from_slice}
-use Rattle.std.proofs.lemmas.Iterator.Search.{position_from_yields_List}
+use Rattle.std.{specs.Prelude.{nat_lt, unwrap_or, position}, proofs.lemmas.Iterator.YieldsList-from_slice, proofs.lemmas.Iterator.Search.position_from_yields_List}
 use Rattle.script_reader.proofs.Places.{position_or_end}
 use Rattle.script_reader.proofs.known.place_in_order.Goals as goal
 

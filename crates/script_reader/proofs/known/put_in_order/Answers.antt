@@ -1,6 +1,5 @@
 use Rattle.std.proofs.Common.{◌∙◌, ap, sym}
-use Rattle.std.specs.Prelude.{insert, nat_lt}
-use Rattle.std.specs.List.{position_or_len}
+use Rattle.std.{specs.Prelude.{insert, nat_lt}, specs.List.position_or_len}
 use Rattle.script_reader.proofs.Places.{in_order_at}
 use Rattle.script_reader.proofs.known.put_in_order.Goals as goal
 

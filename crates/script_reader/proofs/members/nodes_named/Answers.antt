@@ -1,7 +1,6 @@
 use Rattle.std.proofs.Common.{Ok, ap, ◌∙◌, sym, arith}
 use Rattle.std.proofs.lemmas.Result.{err_from_is_err_and}
-use Rattle.script_reader.specs.Checks.{node_named, names_of}
-use Rattle.script_reader.proofs.Each.{each_more, each_fails, each_all, each_none}
+use Rattle.script_reader.{specs.Checks.{node_named, names_of}, proofs.Each.{each_more, each_fails, each_all, each_none}}
 use Rattle.script_reader.proofs.members.nodes_named.Goals as goal
 
 pub loop-name-init : goal.loop-name-init

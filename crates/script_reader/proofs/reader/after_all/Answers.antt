@@ -1,10 +1,7 @@
 use Rattle.std.proofs.Common.{◌≡◌, ◌∙◌, ap, sym, subst, arith, ◌∷◌}
 use Rattle.std.proofs.lemmas.Result.{err_from_is_err_and}
 use Rattle.script_lines.specs.Lines.{lines_of}
-use Rattle.script_reader.specs.Refusals.{Refuses}
-use Rattle.script_reader.specs.Scripts.{after_lines, nothing}
-use Rattle.script_reader.specs.SoFar.{so_far}
-use Rattle.script_reader.proofs.Fold.{lines_left, bytes_left, next_line, fewer_bytes, no_lines}
+use Rattle.script_reader.{specs.Refusals.Refuses, specs.Scripts.{after_lines, nothing}, specs.SoFar.so_far, proofs.Fold.{lines_left, bytes_left, next_line, fewer_bytes, no_lines}}
 use Rattle.script_reader.proofs.reader.after_all.Goals as goal
 
 pub returns-in_err-known-clause-refused : goal.returns-in_err-known-clause-refused

@@ -1,8 +1,6 @@
 use Rattle.std.proofs.Common.{◌≡◌, ◌+◌, ◌≤◌, length}
 use Rattle.script_lines.specs.Lines.{lines_of}
-use Rattle.script_reader.specs.Scripts.{after_lines, nothing}
-use Rattle.script_reader.specs.SoFar.{so_far}
-use Rattle.script_reader.proofs.Fold.{lines_left, bytes_left}
+use Rattle.script_reader.{specs.Scripts.{after_lines, nothing}, specs.SoFar.so_far, proofs.Fold.{lines_left, bytes_left}}
 use Rattle.script_reader.proofs.reader.after_all.Given as goal
 
 abbrev pub invariant-loop-rest : goal.invariant-loop-rest

@@ -1,11 +1,7 @@
 use Rattle.std.proofs.Common.{◌∙◌, ap, sym, subst}
 use Rattle.std.proofs.lemmas.Result.{err_from_is_err_and}
 use Rattle.script_lines.specs.Answers.{◌>>=◌, Gives}
-use Rattle.script_reader.specs.Checks.{said}
-use Rattle.script_reader.specs.Scripts.{after_line}
-use Rattle.script_reader.specs.SoFar.{so_far}
-use Rattle.script_reader.proofs.Barely.{said_bare}
-use Rattle.script_reader.proofs.Each.{fails_on}
+use Rattle.script_reader.{specs.Checks.said, specs.Scripts.after_line, specs.SoFar.so_far, proofs.Barely.said_bare, proofs.Each.fails_on}
 use Rattle.script_reader.proofs.reader.after_line.Goals as goal
 
 pub returns-in_err-line : goal.returns-in_err-line

@@ -1,5 +1,4 @@
-use Rattle.script_reader.specs.SoFar.{so_far}
-use Rattle.script_reader.proofs.Fold.{one_line, refused_line}
+use Rattle.script_reader.{specs.SoFar.so_far, proofs.Fold.{one_line, refused_line}}
 use Rattle.script_reader.proofs.reader.after_numbered.Goals as goal
 
 pub returns-in-Ok-clause-said : goal.returns-in-Ok-clause-said

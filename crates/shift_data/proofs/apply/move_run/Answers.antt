@@ -2,8 +2,7 @@ use Rattle.std.proofs.Common.{arith, ◌++◌, w64, ◌≤◌}
 use Rattle.std.proofs.lemmas.Int.{to_z-of_z}
 use Rattle.tick_model.specs.Rules.{landed}
 use Rattle.row_set.specs.Ranges.{keys_in}
-use Rattle.shift_data.proofs.Applied.{key_inside, landing_is, run_step}
-use Rattle.shift_data.proofs.Segments.{fits_delta}
+use Rattle.shift_data.{proofs.Applied.{key_inside, landing_is, run_step}, proofs.Segments.fits_delta}
 use Rattle.shift_data.proofs.apply.move_run.Goals as goal
 
 pub landing-first_place-requires-clause-inside : goal.landing-first_place-requires-clause-inside

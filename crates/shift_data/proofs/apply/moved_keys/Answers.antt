@@ -1,11 +1,9 @@
 use Rattle.std.proofs.Common.{◌≡◌, ap₂, sym, ◌∙◌, get_or, subst, take, ◌++◌}
 use Rattle.std.proofs.lemmas.List.{get_or_default}
 use Rattle.key_lists.specs.Keys.{IsRising}
-use Rattle.row_set.specs.declared.ranges.Range.{Range}
-use Rattle.row_set.specs.Ranges.{keys_in, keys_of}
+use Rattle.row_set.{specs.declared.ranges.Range.Range, specs.Ranges.{keys_in, keys_of}}
 use Rattle.tick_model.specs.Rules.{landed}
-use Rattle.shift_data.proofs.Applied.{landed_taken, range_of_set, run_inside, run_rises}
-use Rattle.shift_data.proofs.Followed.{inside_here, landed_here, left_next}
+use Rattle.shift_data.{proofs.Applied.{landed_taken, range_of_set, run_inside, run_rises}, proofs.Followed.{inside_here, landed_here, left_next}}
 use Rattle.shift_data.proofs.apply.moved_keys.Goals as goal
 
 pub move_run-requires-clause-order : goal.move_run-requires-clause-order

@@ -1,11 +1,7 @@
 use Rattle.std.proofs.Common.{◌≡◌, sym, ap, ◌∙◌, arith, [], map, subst}
 use Rattle.std.proofs.lemmas.Result.{IfOk-weaker}
 use Rattle.tick_model.specs.Shifts.{stretches, delta_at}
-use Rattle.shift_data.specs.Moves.{canonical, pair_by}
-use Rattle.shift_data.specs.ShiftLists.{IsShiftList}
-use Rattle.shift_data.specs.Stretches.{built}
-use Rattle.shift_data.proofs.Keys.{from_none}
-use Rattle.shift_data.proofs.Parting.{parted, canonical_goes, canonical_shift}
+use Rattle.shift_data.{specs.Moves.{canonical, pair_by}, specs.ShiftLists.IsShiftList, specs.Stretches.built, proofs.Keys.from_none, proofs.Parting.{parted, canonical_goes, canonical_shift}}
 use Rattle.shift_data.proofs.canonical.canonical.Goals as goal
 
 pub loop-part-init : goal.loop-part-init

@@ -1,8 +1,6 @@
 use Rattle.std.proofs.Common.{◌≡◌, ◌-◌, ◌^◌, ◌≤◌, map}
 use Rattle.tick_model.specs.Shifts.{stretches}
-use Rattle.shift_data.specs.Moves.{canonical, pair_by}
-use Rattle.shift_data.specs.Parts.{from_on}
-use Rattle.shift_data.specs.Stretches.{built}
+use Rattle.shift_data.{specs.Moves.{canonical, pair_by}, specs.Parts.from_on, specs.Stretches.built}
 use Rattle.shift_data.proofs.canonical.canonical.Given as goal
 
 abbrev pub invariant-loop-part : goal.invariant-loop-part

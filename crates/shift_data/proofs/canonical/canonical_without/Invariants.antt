@@ -1,9 +1,7 @@
 use Rattle.std.proofs.Common.{◌≡◌, ◌-◌, ◌^◌, ◌≤◌, map}
 use Rattle.tick_model.specs.Shifts.{stretches}
 use Rattle.key_lists.specs.Keys.{without}
-use Rattle.shift_data.specs.Moves.{canonical, pair_by}
-use Rattle.shift_data.specs.Parts.{from_on}
-use Rattle.shift_data.specs.Stretches.{built}
+use Rattle.shift_data.{specs.Moves.{canonical, pair_by}, specs.Parts.from_on, specs.Stretches.built}
 use Rattle.shift_data.proofs.canonical.canonical_without.Given as goal
 
 abbrev pub invariant-loop-part : goal.invariant-loop-part

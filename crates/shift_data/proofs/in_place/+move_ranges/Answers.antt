@@ -1,10 +1,8 @@
 use Rattle.std.proofs.Common.{◌≡◌, ap, sym, ◌∙◌, arith, true, false, pos}
-use Rattle.std.specs.Prelude.{int_lt}
-use Rattle.std.proofs.lemmas.Result.{IfOk-weaker}
+use Rattle.std.{specs.Prelude.int_lt, proofs.lemmas.Result.IfOk-weaker}
 use Rattle.row_set.specs.Moves.{moved_keys}
 use Rattle.tick_model.specs.Rules.{landed}
-use Rattle.shift_data.proofs.ByRange.{before_move, fall_keys, fall_rises, head, last_keys, last_land, last_rises, movable, others_move, rest, same_delta, shorter, split, then_land, then_move}
-use Rattle.shift_data.proofs.InPlace.{landed_none}
+use Rattle.shift_data.{proofs.ByRange.{before_move, fall_keys, fall_rises, head, last_keys, last_land, last_rises, movable, others_move, rest, same_delta, shorter, split, then_land, then_move}, proofs.InPlace.landed_none}
 use Rattle.shift_data.proofs.in_place.+move_ranges.Goals as goal
 
 pub move_ranges-requires : goal.move_ranges-requires

@@ -1,12 +1,8 @@
 use Rattle.std.proofs.Common.{◌≡◌, ◌≤◌, sym, ◌∙◌, min, w64, arith}
-use Rattle.std.proofs.lemmas.Bool.{true≢false}
-use Rattle.std.proofs.lemmas.Int.{to_z-of_z}
+use Rattle.std.{proofs.lemmas.Bool.true≢false, proofs.lemmas.Int.to_z-of_z}
 use Rattle.tick_model.specs.Shifts.{delta_at}
-use Rattle.shift_data.proofs.InPlace.{zero_bits}
-use Rattle.shift_data.proofs.Onward.{first_inside, move_ahead, no_first}
-use Rattle.shift_data.proofs.Segments.{fits_delta}
+use Rattle.shift_data.{proofs.InPlace.zero_bits, proofs.Onward.{first_inside, move_ahead, no_first}, proofs.Segments.fits_delta, proofs.in_place.move_from.Goals.{then-segment-eq0, else-segment-eq0}}
 use Rattle.shift_data.proofs.in_place.move_from.Goals as goal
-use Rattle.shift_data.proofs.in_place.move_from.Goals.{then-segment-eq0, else-segment-eq0}
 
 pub returns-in_err-run-clause-none : goal.returns-in_err-run-clause-none
 returns-in_err-run-clause-none c = rw c.from_residual.ensures (no_first c.args.runs.now c.in_err-run.ensures.value)

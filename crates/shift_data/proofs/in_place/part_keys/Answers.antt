@@ -1,18 +1,8 @@
 use Rattle.std.proofs.Common.{sym, ap, ◌∙◌, arith, w64, ◌++◌, ◌+◌}
-use Rattle.std.proofs.lemmas.Int.{to_z-of_z}
-use Rattle.std.proofs.lemmas.List.{append-nil}
-use Rattle.tick_model.specs.Rules.{landed}
-use Rattle.tick_model.specs.Shifts.{delta_at}
-use Rattle.shift_data.specs.Movers.{movers}
-use Rattle.shift_data.specs.Parts.{from_on}
-use Rattle.shift_data.proofs.Applied.{landing_is}
-use Rattle.shift_data.proofs.Asked.{lands_inside}
-use Rattle.shift_data.proofs.InPlace.{nonzero_bits, zero_bits, left_more, came_more, staying_step}
-use Rattle.shift_data.proofs.Keys.{from_none}
-use Rattle.shift_data.proofs.Onward.{move_of, none_left, stand_at_first, stand_further}
-use Rattle.shift_data.proofs.Segments.{fits_delta}
+use Rattle.std.{proofs.lemmas.Int.to_z-of_z, proofs.lemmas.List.append-nil}
+use Rattle.tick_model.{specs.Rules.landed, specs.Shifts.delta_at}
+use Rattle.shift_data.{specs.Movers.movers, specs.Parts.from_on, proofs.Applied.landing_is, proofs.Asked.lands_inside, proofs.InPlace.{nonzero_bits, zero_bits, left_more, came_more, staying_step}, proofs.Keys.from_none, proofs.Onward.{move_of, none_left, stand_at_first, stand_further}, proofs.Segments.fits_delta, proofs.in_place.part_keys.Goals.{then-part-ne0+in_ok-insert_range+in_ok-insert_range-2, else-part-ne0}}
 use Rattle.shift_data.proofs.in_place.part_keys.Goals as goal
-use Rattle.shift_data.proofs.in_place.part_keys.Goals.{then-part-ne0+in_ok-insert_range+in_ok-insert_range-2, else-part-ne0}
 
 pub loop-part-init : goal.loop-part-init
 loop-part-init c =

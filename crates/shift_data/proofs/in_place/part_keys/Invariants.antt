@@ -1,9 +1,6 @@
 use Rattle.std.proofs.Common.{◌≡◌, ◌-◌, ◌^◌, ◌≤◌, ◌++◌}
-use Rattle.tick_model.specs.Rules.{landed}
-use Rattle.tick_model.specs.Shifts.{delta_at}
-use Rattle.shift_data.specs.Movers.{movers}
-use Rattle.shift_data.specs.Parts.{from_on}
-use Rattle.shift_data.proofs.Onward.{StandFor}
+use Rattle.tick_model.{specs.Rules.landed, specs.Shifts.delta_at}
+use Rattle.shift_data.{specs.Movers.movers, specs.Parts.from_on, proofs.Onward.StandFor}
 use Rattle.shift_data.proofs.in_place.part_keys.Given as goal
 
 abbrev pub invariant-loop-part : goal.invariant-loop-part

@@ -1,13 +1,8 @@
-use Rattle.std.proofs.Common.{sym, ap, ◌∙◌, Some, arith, ◌+◌}
+use Rattle.std.proofs.Common.{sym, ap, ◌∙◌, Some, arith, ◌+◌, subst}
 use Rattle.std.proofs.lemmas.Option.{none-some, same_Some}
-use Rattle.std.proofs.Common.{subst}
 use Rattle.key_lists.specs.Keys.{without}
 use Rattle.tick_model.specs.Rules.{shift_fault_after, shift_fault}
-use Rattle.shift_data.specs.Faults.{IsPlaced, fault_in}
-use Rattle.shift_data.specs.Parts.{from_on}
-use Rattle.shift_data.proofs.Keys.{from_none}
-use Rattle.shift_data.proofs.Kept.{kept_set}
-use Rattle.shift_data.proofs.PartFaults.{faults, shown, not_shown}
+use Rattle.shift_data.{specs.Faults.{IsPlaced, fault_in}, specs.Parts.from_on, proofs.Keys.from_none, proofs.Kept.kept_set, proofs.PartFaults.{faults, shown, not_shown}}
 use Rattle.shift_data.proofs.order.broken.Goals as goal
 
 pub loop-part-init : goal.loop-part-init

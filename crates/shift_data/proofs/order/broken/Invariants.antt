@@ -1,12 +1,8 @@
 use Rattle.std.proofs.Common.{◌≡◌, ◌-◌, ◌^◌, ◌≤◌}
-use Rattle.std.specs.Prelude.{IfSome}
-use Rattle.std.specs.Option.{ForSome}
+use Rattle.std.{specs.Prelude.IfSome, specs.Option.ForSome}
 use Rattle.key_lists.specs.Keys.{without}
-use Rattle.tick_model.specs.Shifts.{delta_at}
-use Rattle.tick_model.specs.Rules.{shift_fault_after, shift_fault}
-use Rattle.shift_data.specs.Faults.{IsPlaced}
-use Rattle.shift_data.specs.Parts.{from_on}
-use Rattle.shift_data.proofs.PartFaults.{last_of}
+use Rattle.tick_model.{specs.Shifts.delta_at, specs.Rules.{shift_fault_after, shift_fault}}
+use Rattle.shift_data.{specs.Faults.IsPlaced, specs.Parts.from_on, proofs.PartFaults.last_of}
 use Rattle.shift_data.proofs.order.broken.Given as goal
 
 abbrev pub invariant-loop-part : goal.invariant-loop-part

@@ -1,12 +1,7 @@
 use Rattle.std.proofs.Common.{◌≡◌, sym, ap, ◌∙◌, Some, None, cond, pos, ◌-ℤ◌, w64}
-use Rattle.std.proofs.lemmas.Int.{to_z-of_z}
-use Rattle.shift_data.proofs.Segments.{fits_delta}
-use Rattle.std.specs.Prelude.{option_map}
-use Rattle.std.proofs.lemmas.Bool.{lt-ltb, le-ltb}
+use Rattle.std.{proofs.lemmas.Int.to_z-of_z, specs.Prelude.option_map, proofs.lemmas.Bool.{lt-ltb, le-ltb}}
+use Rattle.shift_data.{proofs.Segments.fits_delta, proofs.Kept.kept_set, specs.Faults.breaks, proofs.PartFaults.{past_found, own_fault, up_to}}
 use Rattle.key_lists.specs.Keys.{without}
-use Rattle.shift_data.proofs.Kept.{kept_set}
-use Rattle.shift_data.specs.Faults.{breaks}
-use Rattle.shift_data.proofs.PartFaults.{past_found, own_fault, up_to}
 use Rattle.shift_data.proofs.order.past_the_limit.Goals as goal
 
 pub returns-in_err-key : goal.returns-in_err-key

@@ -1,11 +1,6 @@
 use Rattle.std.proofs.Common.{sym, ap, ◌∙◌, arith, leb, leb-true, ℕ, ◌+◌}
 use Rattle.std.proofs.lemmas.Bool.{true≢false}
-use Rattle.shift_data.specs.Moves.{pairs_of}
-use Rattle.shift_data.specs.Parts.{from_on}
-use Rattle.shift_data.proofs.Asked.{run_of, no_run}
-use Rattle.shift_data.proofs.Keys.{find_none, find_key}
-use Rattle.shift_data.proofs.Kept.{run_small}
-use Rattle.shift_data.proofs.Paired.{front_run, pairs_end}
+use Rattle.shift_data.{specs.Moves.pairs_of, specs.Parts.from_on, proofs.Asked.{run_of, no_run}, proofs.Keys.{find_none, find_key}, proofs.Kept.run_small, proofs.Paired.{front_run, pairs_end}}
 use Rattle.shift_data.proofs.pairs.pairs_from.Goals as goal
 
 pub returns-in_err-first-clause-none : goal.returns-in_err-first-clause-none

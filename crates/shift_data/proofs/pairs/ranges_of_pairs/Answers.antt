@@ -1,14 +1,7 @@
 use Rattle.std.proofs.Common.{◌≡◌, sym, ap, ◌∙◌, arith, [], ◌++◌, ◌+◌, ◌-◌, subst}
-use Rattle.std.specs.List.{range_with_len}
-use Rattle.std.proofs.lemmas.Result.{IfOk-weaker}
+use Rattle.std.{specs.List.range_with_len, proofs.lemmas.Result.IfOk-weaker}
 use Rattle.tick_model.specs.Shifts.{stretches, shifted}
-use Rattle.shift_data.specs.ShiftLists.{IsShiftList}
-use Rattle.shift_data.specs.Moves.{pairs_of}
-use Rattle.shift_data.specs.Parts.{from_on}
-use Rattle.shift_data.specs.Stretches.{built, joined}
-use Rattle.shift_data.proofs.Keys.{from_none}
-use Rattle.shift_data.proofs.Paired.{pairs_step, pairs_shift}
-use Rattle.shift_data.proofs.Stretched.{range_by}
+use Rattle.shift_data.{specs.ShiftLists.IsShiftList, specs.Moves.pairs_of, specs.Parts.from_on, specs.Stretches.{built, joined}, proofs.Keys.from_none, proofs.Paired.{pairs_step, pairs_shift}, proofs.Stretched.range_by}
 use Rattle.shift_data.proofs.pairs.ranges_of_pairs.Goals as goal
 
 pub loop-run-init : goal.loop-run-init

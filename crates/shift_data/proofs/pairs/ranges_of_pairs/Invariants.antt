@@ -1,8 +1,6 @@
 use Rattle.std.proofs.Common.{◌≡◌, ◌-◌, ◌^◌, ◌≤◌}
 use Rattle.tick_model.specs.Shifts.{stretches, shifted}
-use Rattle.shift_data.specs.Moves.{pairs_of}
-use Rattle.shift_data.specs.Parts.{from_on}
-use Rattle.shift_data.specs.Stretches.{built}
+use Rattle.shift_data.{specs.Moves.pairs_of, specs.Parts.from_on, specs.Stretches.built}
 use Rattle.shift_data.proofs.pairs.ranges_of_pairs.Given as goal
 
 abbrev pub invariant-loop-run : goal.invariant-loop-run

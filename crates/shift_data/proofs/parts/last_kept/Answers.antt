@@ -1,6 +1,5 @@
 use Rattle.std.proofs.Common.{sym, ◌∙◌, arith}
-use Rattle.shift_data.proofs.Asked.{run_of}
-use Rattle.shift_data.proofs.Kept.{bound_passed, last_found}
+use Rattle.shift_data.{proofs.Asked.run_of, proofs.Kept.{bound_passed, last_found}}
 use Rattle.shift_data.proofs.parts.last_kept.Goals as goal
 
 pub loop-key-smaller : goal.loop-key-smaller

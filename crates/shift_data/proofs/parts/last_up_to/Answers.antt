@@ -1,12 +1,6 @@
 use Rattle.std.proofs.Common.{◌≡◌, refl, sym, ◌∙◌, not, true, true≢false, ℕ, ◌+◌, ◌-◌, ◌<◌, ◌≤◌, arith, List, [], ◌∷◌, length, ltb, lt-ltb, Option, Some, None, inl, inr}
-use Rattle.std.specs.Prelude.{filter, slice_get, IfNone}
-use Rattle.std.specs.List.{AllByRecursion}
-use Rattle.std.proofs.lemmas.Bool.{and_from, cases_lt}
-use Rattle.std.proofs.lemmas.List.Filters.{length-filter_both}
-use Rattle.std.proofs.lemmas.Option.{none-some, slice_get_cases}
-use Rattle.key_lists.specs.Keys.{is_among}
-use Rattle.key_lists.proofs.Among.{among-filter, each_among}
-use Rattle.key_lists.proofs.Every.{every_weaker}
+use Rattle.std.{specs.Prelude.{filter, slice_get, IfNone}, specs.List.AllByRecursion, proofs.lemmas.Bool.{and_from, cases_lt}, proofs.lemmas.List.Filters.length-filter_both, proofs.lemmas.Option.{none-some, slice_get_cases}}
+use Rattle.key_lists.{specs.Keys.is_among, proofs.Among.{among-filter, each_among}, proofs.Every.every_weaker}
 use Rattle.row_set.specs.Sets.{count_below}
 use Rattle.shift_data.proofs.Segments.{last_up}
 use Rattle.shift_data.proofs.parts.last_up_to.Goals as goal

@@ -1,7 +1,6 @@
 use Rattle.std.proofs.Common.{◌≡◌, sym, ◌∙◌, arith, leb, leb-true, Some}
 use Rattle.std.specs.Prelude.{find}
-use Rattle.shift_data.proofs.Keys.{find_key}
-use Rattle.shift_data.proofs.Kept.{run_passed, first_kept, none_kept, run_small}
+use Rattle.shift_data.{proofs.Keys.find_key, proofs.Kept.{run_passed, first_kept, none_kept, run_small}}
 use Rattle.shift_data.proofs.parts.next_kept.Goals as goal
 
 pub returns-in_err-key-clause-key : goal.returns-in_err-key-clause-key

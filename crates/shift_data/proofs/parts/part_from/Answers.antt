@@ -1,7 +1,6 @@
 use Rattle.std.proofs.Common.{leb, w64, sym, ◌∙◌}
 use Rattle.std.proofs.lemmas.Int.{to_z-of_z}
-use Rattle.shift_data.proofs.Keys.{find_none, find_key}
-use Rattle.shift_data.proofs.Segments.{fits_delta, part_made, key_small}
+use Rattle.shift_data.{proofs.Keys.{find_none, find_key}, proofs.Segments.{fits_delta, part_made, key_small}}
 use Rattle.shift_data.proofs.parts.part_from.Goals as goal
 
 pub returns-in_err-first-clause-none : goal.returns-in_err-first-clause-none

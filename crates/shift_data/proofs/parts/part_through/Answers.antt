@@ -1,11 +1,6 @@
 use Rattle.std.proofs.Common.{arith, w64, ◌+ℤ◌, subst}
-use Rattle.std.specs.Prelude.{IfSome}
-use Rattle.shift_data.specs.Parts.{IsLastUpTo}
-use Rattle.std.proofs.lemmas.Int.{to_z-of_z}
-use Rattle.shift_data.proofs.Applied.{landing_is}
-use Rattle.shift_data.proofs.Asked.{lands_inside}
-use Rattle.shift_data.proofs.Segments.{fits_delta}
-use Rattle.shift_data.proofs.Through.{fits_sum, part_further}
+use Rattle.std.{specs.Prelude.IfSome, proofs.lemmas.Int.to_z-of_z}
+use Rattle.shift_data.{specs.Parts.IsLastUpTo, proofs.Applied.landing_is, proofs.Asked.lands_inside, proofs.Segments.fits_delta, proofs.Through.{fits_sum, part_further}}
 use Rattle.shift_data.proofs.parts.part_through.Goals as goal
 
 pub landing-place-requires-clause-inside : goal.landing-place-requires-clause-inside

@@ -1,9 +1,7 @@
 use Rattle.std.proofs.Common.{leb, w64, sym, ◌∙◌}
 use Rattle.std.proofs.lemmas.Int.{to_z-of_z}
 use Rattle.key_lists.specs.Keys.{without}
-use Rattle.shift_data.proofs.Keys.{find_none, find_key}
-use Rattle.shift_data.proofs.Kept.{kept_set}
-use Rattle.shift_data.proofs.Segments.{fits_delta, part_made, key_small}
+use Rattle.shift_data.{proofs.Keys.{find_none, find_key}, proofs.Kept.kept_set, proofs.Segments.{fits_delta, part_made, key_small}}
 use Rattle.shift_data.proofs.parts.part_without.Goals as goal
 
 pub returns-in_err-first-clause-none : goal.returns-in_err-first-clause-none

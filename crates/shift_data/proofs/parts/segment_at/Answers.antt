@@ -1,8 +1,6 @@
 use Rattle.std.proofs.Common.{w64, ap}
-use Rattle.std.specs.Prelude.{option_copied}
-use Rattle.std.proofs.lemmas.Int.{to_z-of_z}
-use Rattle.shift_data.proofs.Searches.{missed, got}
-use Rattle.shift_data.proofs.Segments.{fits_delta, segment_held, segment_free, segment_past, held_small}
+use Rattle.std.{specs.Prelude.option_copied, proofs.lemmas.Int.to_z-of_z}
+use Rattle.shift_data.{proofs.Searches.{missed, got}, proofs.Segments.{fits_delta, segment_held, segment_free, segment_past, held_small}}
 use Rattle.shift_data.proofs.parts.segment_at.Goals as goal
 
 pub returns-in-Some-clause-segment : goal.returns-in-Some-clause-segment

@@ -1,14 +1,8 @@
 use Rattle.std.proofs.Common.{◌≡◌, sym, ◌∙◌, arith, leb, w64, Some, inl, inr, ℕ, ◌≤◌, Bool, true, false}
 use Rattle.key_lists.specs.Keys.{is_among, without}
 use Rattle.row_set.specs.Ranges.{holds, ranges_of}
-use Rattle.std.specs.Prelude.{find}
-use Rattle.std.proofs.lemmas.Bool.{cases_lt, true≢false}
-use Rattle.std.proofs.lemmas.Int.{to_z-of_z}
-use Rattle.shift_data.proofs.Applied.{landing_is}
-use Rattle.shift_data.proofs.Asked.{lands_inside, part_not_asked, part_asked, run_of, no_run}
-use Rattle.shift_data.proofs.Keys.{find_none, find_key}
-use Rattle.shift_data.proofs.Kept.{kept_is_key, kept_set, run_kept}
-use Rattle.shift_data.proofs.Segments.{key_small, fits_delta}
+use Rattle.std.{specs.Prelude.find, proofs.lemmas.Bool.{cases_lt, true≢false}, proofs.lemmas.Int.to_z-of_z}
+use Rattle.shift_data.{proofs.Applied.landing_is, proofs.Asked.{lands_inside, part_not_asked, part_asked, run_of, no_run}, proofs.Keys.{find_none, find_key}, proofs.Kept.{kept_is_key, kept_set, run_kept}, proofs.Segments.{key_small, fits_delta}}
 use Rattle.shift_data.proofs.unapply.asked_from.Goals as goal
 
 pub returns-in_err-first-clause-none : goal.returns-in_err-first-clause-none

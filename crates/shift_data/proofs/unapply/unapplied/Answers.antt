@@ -1,12 +1,7 @@
 use Rattle.std.proofs.Common.{sym, ap, ◌∙◌, arith, ◌++◌, ◌+◌}
 use Rattle.key_lists.specs.Keys.{without}
-use Rattle.shift_data.specs.Moves.{unapplied}
-use Rattle.shift_data.specs.Parts.{from_on}
-use Rattle.shift_data.proofs.Asked.{asked_more, not_asked_step}
-use Rattle.shift_data.proofs.Keys.{from_none}
-use Rattle.shift_data.proofs.Kept.{kept_set}
+use Rattle.shift_data.{specs.Moves.unapplied, specs.Parts.from_on, proofs.Asked.{asked_more, not_asked_step}, proofs.Keys.from_none, proofs.Kept.kept_set, proofs.unapply.unapplied.Goals.{then-part+in_ok-insert_range, else-part}}
 use Rattle.shift_data.proofs.unapply.unapplied.Goals as goal
-use Rattle.shift_data.proofs.unapply.unapplied.Goals.{then-part+in_ok-insert_range, else-part}
 
 pub loop-part-init : goal.loop-part-init
 loop-part-init c = (

@@ -1,7 +1,6 @@
 use Rattle.std.proofs.Common.{◌≡◌, ◌-◌, ◌^◌, ◌≤◌, ◌++◌}
 use Rattle.key_lists.specs.Keys.{without}
-use Rattle.shift_data.specs.Moves.{unapplied}
-use Rattle.shift_data.specs.Parts.{from_on}
+use Rattle.shift_data.{specs.Moves.unapplied, specs.Parts.from_on}
 use Rattle.shift_data.proofs.unapply.unapplied.Given as goal
 
 abbrev pub invariant-loop-part : goal.invariant-loop-part

@@ -1,8 +1,7 @@
 use Rattle.std.proofs.Common.{ap, ◌∙◌, List, ℕ}
 use Rattle.key_lists.specs.Keys.{is_among}
-use Rattle.row_set.proofs.Yielded.{next_above, next_small, yielded_all}
+use Rattle.row_set.{proofs.Yielded.{next_above, next_small, yielded_all}, specs.Sets.common}
 use Rattle.shown_rows.proofs.Walks.{chosen_below, chosen_more}
-use Rattle.row_set.specs.Sets.{common}
 use Rattle.shown_rows.proofs.keys.keys_among.Goals as goal
 
 pub put_last_if-requires-clause-small : goal.put_last_if-requires-clause-small

@@ -1,7 +1,6 @@
 use Rattle.std.proofs.Common.{◌≡◌, subst, ◌++◌, ◌∷◌, []}
 use Rattle.std.specs.Prelude.{OnOk}
-use Rattle.row_set.specs.Ranges.{keys_from}
-use Rattle.row_set.specs.Sets.{united}
+use Rattle.row_set.{specs.Ranges.keys_from, specs.Sets.united}
 use Rattle.row_changes.proofs.Comparing.{key_last}
 use Rattle.shown_rows.proofs.keys.put_last.Goals as goal
 

@@ -1,13 +1,10 @@
 use Rattle.std.proofs.Common.{◌≡◌, refl, ap, ap₂, ◌∙◌, length}
-use Rattle.tick_model.specs.Changes.{Change, change_of}
-use Rattle.tick_model.specs.Updates.{between, new_keys, old_keys}
-use Rattle.tick_model.specs.Tables.{keys}
+use Rattle.tick_model.{specs.Changes.{Change, change_of}, specs.Updates.{between, new_keys, old_keys}, specs.Tables.keys}
 use Rattle.key_lists.specs.Keys.{without}
 use Rattle.shift_data.specs.Moves.{canonical}
 use Rattle.tick_laws.specs.Checked.{keys_after}
 use Rattle.tick_table.specs.Exact.{tick_of}
-use Rattle.shown_rows.specs.Shown.{through}
-use Rattle.shown_rows.proofs.Restricted.{added_new, keys_shown, lawful_shown, parts_shown, reads_few, shift_lawful_shown, touched, touched_new, touched_old}
+use Rattle.shown_rows.{specs.Shown.through, proofs.Restricted.{added_new, keys_shown, lawful_shown, parts_shown, reads_few, shift_lawful_shown, touched, touched_new, touched_old}}
 use Rattle.shown_rows.proofs.shown.shown_change.Goals as goal
 
 pub canonical_without-requires : goal.canonical_without-requires

@@ -1,11 +1,6 @@
 use Rattle.std.proofs.Common.{◌≡◌, ◌∷◌, ◌++◌, ◌+◌, ◌*◌, ◌≤◌, ◌∙◌, [], ap, ap₂, sym, subst, arith, append-nil, length, suc, true, ℕ, ℤ, List, vec_len, vec_capacity}
-use Rattle.std.specs.Int.{w64, cast_unsigned}
-use Rattle.std.specs.Prelude.{flat_map, map}
-use Rattle.std.specs.List.{AllByRecursion}
-use Rattle.std.proofs.Math.Nat.{suc-mul}
-use Rattle.std.proofs.lemmas.Grind.{flat_map-append}
-use Rattle.key_lists.specs.Keys.{is_among}
-use Rattle.key_lists.proofs.Among.{each_among}
+use Rattle.std.{specs.Int.{w64, cast_unsigned}, specs.Prelude.{flat_map, map}, specs.List.AllByRecursion, proofs.Math.Nat.suc-mul, proofs.lemmas.Grind.flat_map-append}
+use Rattle.key_lists.{specs.Keys.is_among, proofs.Among.each_among}
 use Rattle.row_set.proofs.Yielded.{next_has, yielded_all}
 use Rattle.tick_model.specs.Tables.{cells_at, keys}
 use Rattle.tick_table.specs.Ticking.{Ticking}

@@ -1,6 +1,5 @@
 use Rattle.std.proofs.Common.{◌≡◌, ◌++◌, ◌∷◌, ◌+◌, take, vec_len, vec_capacity}
-use Rattle.std.specs.Prelude.{map}
-use Rattle.std.specs.Int.{w64, cast_unsigned}
+use Rattle.std.{specs.Prelude.map, specs.Int.{w64, cast_unsigned}}
 use Rattle.snapshot_store.proofs.rows.copy_row.Given as goal
 
 abbrev pub invariant-loop-cell : goal.invariant-loop-cell

@@ -1,18 +1,8 @@
 use Rattle.std.proofs.Common.{◌≡◌, ℕ, ◌+◌, ◌*◌, ◌<◌, ◌≤◌, ◌∙◌, List, length, get_or, set, replicate, drop, refl, ap, sym, subst, arith, rules, length-set}
-use Rattle.std.specs.Prelude.{map}
-use Rattle.std.specs.Arc.{arc_value}
-use Rattle.std.specs.declared.alloc.Global.{Global}
-use Rattle.std.specs.declared.sync.Arc.{Arc}
-use Rattle.std.proofs.lemmas.List.{length-map}
-use Rattle.tick_model.specs.declared.table.PlainTable.{PlainTable}
-use Rattle.tick_model.specs.Tables.{no_table}
-use Rattle.tick_model.specs.Words.{words}
+use Rattle.std.{specs.Prelude.map, specs.Arc.arc_value, specs.declared.alloc.Global.Global, specs.declared.sync.Arc.Arc, proofs.lemmas.List.length-map}
+use Rattle.tick_model.{specs.declared.table.PlainTable.PlainTable, specs.Tables.no_table, specs.Words.words}
 use Rattle.tick_table.specs.Ticking.{Ticking}
-use Rattle.snapshot_store.specs.Lines.{count, size, total, total_in}
-use Rattle.snapshot_store.specs.Opening.{IsLaying}
-use Rattle.snapshot_store.proofs.Calls.{first_place}
-use Rattle.snapshot_store.proofs.Opening.{laid_first, laid_more, laid_all, front, shared_table, table_is, table_ends}
-use Rattle.snapshot_store.proofs.Published.{few_tables, line_whole, opening_keeps, table_fits}
+use Rattle.snapshot_store.{specs.Lines.{count, size, total, total_in}, specs.Opening.IsLaying, proofs.Calls.first_place, proofs.Opening.{laid_first, laid_more, laid_all, front, shared_table, table_is, table_ends}, proofs.Published.{few_tables, line_whole, opening_keeps, table_fits}}
 use Rattle.snapshot_store.proofs.start.opening.Goals as goal
 
 pub loop-p-init : goal.loop-p-init

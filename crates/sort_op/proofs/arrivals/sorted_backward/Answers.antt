@@ -1,9 +1,6 @@
 use Rattle.std.proofs.Common.{rules, subst}
-use Rattle.std.specs.List.Sorted.{IsPermutation}
-use Rattle.std.specs.Ordering.{is_lt}
-use Rattle.std.proofs.lemmas.Fn.{always_returns_same}
-use Rattle.sort_op.specs.Firsts.{coming_cmp}
-use Rattle.sort_op.proofs.Coming.{coming_fall, coming_permuted, coming_weak}
+use Rattle.std.{specs.List.Sorted.IsPermutation, specs.Ordering.is_lt, proofs.lemmas.Fn.always_returns_same}
+use Rattle.sort_op.{specs.Firsts.coming_cmp, proofs.Coming.{coming_fall, coming_permuted, coming_weak}}
 use Rattle.sort_op.proofs.arrivals.sorted_backward.Goals as goal
 
 pub returns-clause-permutation : goal.returns-clause-permutation

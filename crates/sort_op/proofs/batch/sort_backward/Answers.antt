@@ -1,7 +1,6 @@
 use Rattle.std.proofs.Common.{rules}
 use Rattle.std.proofs.lemmas.Fn.{always_returns_same}
-use Rattle.sort_op.specs.Entries.{comes_before}
-use Rattle.sort_op.proofs.Arrived.{backward_weak, falls}
+use Rattle.sort_op.{specs.Entries.comes_before, proofs.Arrived.{backward_weak, falls}}
 use Rattle.sort_op.proofs.batch.sort_backward.Goals as goal
 
 pub returns-clause-backward : goal.returns-clause-backward

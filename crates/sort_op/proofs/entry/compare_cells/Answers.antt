@@ -1,8 +1,7 @@
 use Rattle.std.proofs.Common.{sym, ◌∙◌, ◌+◌, ap₂, get_or, rules, w64, SFits}
 use Rattle.std.proofs.lemmas.Int.{to_z-of_z}
 use Rattle.tick_model.specs.Sort.{column_cmp}
-use Rattle.sort_op.proofs.CellOrders.{cells_from, column_more, decided, passed}
-use Rattle.sort_op.proofs.KeptCells.{blank}
+use Rattle.sort_op.{proofs.CellOrders.{cells_from, column_more, decided, passed}, proofs.KeptCells.blank}
 use Rattle.sort_op.proofs.entry.compare_cells.Goals as goal
 
 pub returns-then-ne : goal.returns-then-ne

@@ -3,18 +3,10 @@ use Rattle.std.specs.Prelude.{slice_get}
 use Rattle.row_changes.proofs.Placed.{reads_placed}
 use Rattle.key_lists.specs.Keys.{IsRising, is_among}
 use Rattle.shown_rows.proofs.Walks.{below_some, none_more, of_place, one_more}
-use Rattle.tick_model.specs.declared.update.KeyPair.{KeyPair}
-use Rattle.tick_model.specs.Sort.{same_place}
-use Rattle.tick_model.specs.Tables.{cells_at, keys}
-use Rattle.tick_model.specs.Updates.{new_keys, old_keys}
-use Rattle.tick_table.specs.Exact.{tick_of}
-use Rattle.tick_table.specs.Ticking.{Ticking}
-use Rattle.sort_op.specs.Ranks.{listed}
-use Rattle.sort_op.specs.Reading.{modified_pairs}
-use Rattle.sort_op.proofs.ModifiedRows.{modified_count, new_there, old_there, stays_by}
-use Rattle.sort_op.proofs.StepParts.{here_at}
+use Rattle.tick_model.{specs.declared.update.KeyPair.KeyPair, specs.Sort.same_place, specs.Tables.{cells_at, keys}, specs.Updates.{new_keys, old_keys}}
+use Rattle.tick_table.{specs.Exact.tick_of, specs.Ticking.Ticking}
+use Rattle.sort_op.{specs.Ranks.listed, specs.Reading.modified_pairs, proofs.ModifiedRows.{modified_count, new_there, old_there, stays_by}, proofs.StepParts.here_at, proofs.modified.modified_rows.Goals.{then-has_cells+in_ok-staying, else-has_cells+in_ok-moving}}
 use Rattle.sort_op.proofs.modified.modified_rows.Goals as goal
-use Rattle.sort_op.proofs.modified.modified_rows.Goals.{then-has_cells+in_ok-staying, else-has_cells+in_ok-moving}
 
 pub loop-place-init : goal.loop-place-init
 loop-place-init g c = record { moving = c.new-moving.ensures; staying = c.new-staying.ensures; table = c.of-rows.ensures; reads = omega arith }

@@ -1,8 +1,6 @@
 use Rattle.std.proofs.Common.{subst, sym}
 use Rattle.row_set.specs.Sets.{IsKeySet}
-use Rattle.sort_op.specs.Entries.{keys_in}
-use Rattle.sort_op.specs.Places.{AreUnder}
-use Rattle.sort_op.specs.Ranks.{listed}
+use Rattle.sort_op.{specs.Entries.keys_in, specs.Places.AreUnder, specs.Ranks.listed}
 use Rattle.sort_op.proofs.operator.before_edits.Goals as goal
 
 pub returns-clause-crossing : goal.returns-clause-crossing

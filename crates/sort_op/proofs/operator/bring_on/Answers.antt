@@ -1,8 +1,6 @@
 use Rattle.std.proofs.Common.{◌≡◌, ◌∙◌, ap, subst, sym}
 use Rattle.std.specs.Prelude.{OnOk}
-use Rattle.sort_op.specs.Ranks.{listed}
-use Rattle.sort_op.specs.Reading.{carried, coming}
-use Rattle.sort_op.specs.Sorted.{entries_of}
+use Rattle.sort_op.{specs.Ranks.listed, specs.Reading.{carried, coming}, specs.Sorted.entries_of}
 use Rattle.sort_op.proofs.operator.bring_on.Goals as goal
 
 pub put_in-requires-clause-carried : goal.put_in-requires-clause-carried

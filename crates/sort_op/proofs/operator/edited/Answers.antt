@@ -1,21 +1,10 @@
 use Rattle.std.proofs.Common.{◌≡◌, ◌∙◌, ap, arith, length, refl, subst, sym, true, [], List, ℕ}
-use Rattle.std.specs.List.{AllByRecursion}
-use Rattle.std.proofs.lemmas.Result.{IfOk-weaker}
+use Rattle.std.{specs.List.AllByRecursion, proofs.lemmas.Result.IfOk-weaker}
 use Rattle.key_lists.specs.Keys.{is_among, without}
 use Rattle.row_changes.specs.Parts.{AreCompared}
-use Rattle.tick_model.specs.Changes.{change_of}
-use Rattle.tick_model.specs.Sort.{sort_pairs, sort_table}
-use Rattle.tick_model.specs.Tables.{keys}
-use Rattle.tick_model.specs.Updates.{between}
+use Rattle.tick_model.{specs.Changes.change_of, specs.Sort.{sort_pairs, sort_table}, specs.Tables.keys, specs.Updates.between}
 use Rattle.tick_table.specs.Exact.{tick_of}
-use Rattle.sort_op.specs.declared.entry.Entry.{Entry}
-use Rattle.sort_op.specs.Entries.{keys_in}
-use Rattle.sort_op.specs.Places.{AreUnder, keys_at}
-use Rattle.sort_op.specs.Ranks.{listed}
-use Rattle.sort_op.specs.Sorted.{entries_of}
-use Rattle.sort_op.specs.Sorter.{sorted}
-use Rattle.sort_op.proofs.StepParts.{added_found, apart_in, compared_found, few_coming_in, few_compared_in, few_in, here_in, reads_fewer, removed_found, staying_is}
-use Rattle.sort_op.proofs.Stepped.{compared_new, compared_old, leaving_within}
+use Rattle.sort_op.{specs.declared.entry.Entry.Entry, specs.Entries.keys_in, specs.Places.{AreUnder, keys_at}, specs.Ranks.listed, specs.Sorted.entries_of, specs.Sorter.sorted, proofs.StepParts.{added_found, apart_in, compared_found, few_coming_in, few_compared_in, few_in, here_in, reads_fewer, removed_found, staying_is}, proofs.Stepped.{compared_new, compared_old, leaving_within}}
 use Rattle.sort_op.proofs.operator.edited.Goals as goal
 
 pub before_edits-requires-clause-leaving : goal.before_edits-requires-clause-leaving

@@ -3,12 +3,7 @@ use Rattle.std.proofs.lemmas.Result.{IfOk-weaker}
 use Rattle.key_lists.specs.Keys.{is_among}
 use Rattle.row_handles.specs.Entries.{Entry as Handled, keys_of}
 use Rattle.row_set.specs.Sets.{IsKeySet}
-use Rattle.sort_op.specs.Entries.{Rises, keys_in}
-use Rattle.sort_op.specs.Places.{AreUnder}
-use Rattle.sort_op.specs.Ranks.{IsSettled, listed}
-use Rattle.sort_op.specs.Reading.{coming}
-use Rattle.sort_op.specs.Sorted.{entries_of}
-use Rattle.sort_op.proofs.StepParts.{arrived_under, brought_on, came_absent, came_there, positions_small, rows_absent, rows_are, rows_distinct, settled_now}
+use Rattle.sort_op.{specs.Entries.{Rises, keys_in}, specs.Places.AreUnder, specs.Ranks.{IsSettled, listed}, specs.Reading.coming, specs.Sorted.entries_of, proofs.StepParts.{arrived_under, brought_on, came_absent, came_there, positions_small, rows_absent, rows_are, rows_distinct, settled_now}}
 use Rattle.sort_op.proofs.operator.put_in.Goals as goal
 
 pub enter_rows-requires-clause-here : goal.enter_rows-requires-clause-here

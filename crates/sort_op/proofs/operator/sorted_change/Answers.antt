@@ -1,12 +1,9 @@
 use Rattle.std.proofs.Common.{◌≡◌, ◌∙◌, List, sym}
 use Rattle.std.proofs.lemmas.Result.{IfOk-weaker}
-use Rattle.tick_model.specs.declared.update.KeyPair.{KeyPair}
-use Rattle.tick_model.specs.Changes.{change_of}
+use Rattle.tick_model.{specs.declared.update.KeyPair.KeyPair, specs.Changes.change_of}
 use Rattle.tick_table.specs.Exact.{tick_of}
-use Rattle.row_changes.specs.Parts.{AreParts, Parts, tick_along}
-use Rattle.row_changes.proofs.MadeChange.{parts_there}
-use Rattle.sort_op.specs.Sorter.{sorted}
-use Rattle.sort_op.proofs.SortedChange.{sorted_parts, stays}
+use Rattle.row_changes.{specs.Parts.{AreParts, Parts, tick_along}, proofs.MadeChange.parts_there}
+use Rattle.sort_op.{specs.Sorter.sorted, proofs.SortedChange.{sorted_parts, stays}}
 use Rattle.sort_op.proofs.operator.sorted_change.Goals as goal
 
 pub change_of_touched-requires-clause-ready : goal.change_of_touched-requires-clause-ready

@@ -1,8 +1,7 @@
 use Rattle.std.proofs.Common.{arith}
 use Rattle.tick_model.specs.Updates.{between}
 use Rattle.tick_table.specs.Exact.{tick_of}
-use Rattle.sort_op.specs.Sorter.{sorted}
-use Rattle.sort_op.proofs.StepParts.{reads_bounded}
+use Rattle.sort_op.{specs.Sorter.sorted, proofs.StepParts.reads_bounded}
 use Rattle.sort_op.proofs.operator.step_order.Goals as goal
 
 pub returns-in_err-edits-clause-reads : goal.returns-in_err-edits-clause-reads

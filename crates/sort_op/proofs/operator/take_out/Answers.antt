@@ -2,10 +2,7 @@ use Rattle.std.proofs.Common.{◌≡◌, ◌∙◌, ap, subst, List, ℕ}
 use Rattle.std.specs.Prelude.{OnOk}
 use Rattle.row_handles.specs.Entries.{keys_of}
 use Rattle.tick_model.specs.Updates.{Update}
-use Rattle.sort_op.specs.declared.entry.Entry.{Entry}
-use Rattle.sort_op.specs.Ranks.{Ranking, listed}
-use Rattle.sort_op.specs.Reading.{leaving}
-use Rattle.sort_op.proofs.StepParts.{carried_are, gone_within, keys_carried, left_out, shift_lawful}
+use Rattle.sort_op.{specs.declared.entry.Entry.Entry, specs.Ranks.{Ranking, listed}, specs.Reading.leaving, proofs.StepParts.{carried_are, gone_within, keys_carried, left_out, shift_lawful}}
 use Rattle.sort_op.proofs.operator.take_out.Goals as goal
 
 pub remove_found-requires : goal.remove_found-requires

@@ -1,6 +1,5 @@
 use Rattle.std.proofs.Common.{◌∙◌, ◌-◌, ap, arith}
-use Rattle.row_set.specs.Ranges.{keys_from}
-use Rattle.row_set.specs.Sets.{united}
+use Rattle.row_set.{specs.Ranges.keys_from, specs.Sets.united}
 use Rattle.sort_op.proofs.PlacesFound.{all_below}
 use Rattle.sort_op.proofs.positions.positions_below.Goals as goal
 

@@ -1,16 +1,8 @@
 use Rattle.std.proofs.Common.{◌≡◌, ◌∙◌, ◌<◌, ◌≤◌, ◌^◌, ◌++◌, ◌∷◌, [], ap, arith, length, length-append, subst, sym, true, List, ℕ}
-use Rattle.std.specs.List.{AllByRecursion}
-use Rattle.std.proofs.lemmas.List.{length-map}
-use Rattle.std.proofs.lemmas.Option.{slice_get_within}
-use Rattle.std.proofs.lemmas.Result.{IfOk-weaker}
-use Rattle.key_lists.specs.Keys.{is_among}
-use Rattle.key_lists.proofs.Every.{every-append}
+use Rattle.std.{specs.List.AllByRecursion, proofs.lemmas.List.length-map, proofs.lemmas.Option.slice_get_within, proofs.lemmas.Result.IfOk-weaker}
+use Rattle.key_lists.{specs.Keys.is_among, proofs.Every.every-append}
 use Rattle.row_set.proofs.Yielded.{next_has, yielded_all}
-use Rattle.sort_op.specs.declared.entry.Entry.{Entry}
-use Rattle.sort_op.specs.Entries.{keys_in}
-use Rattle.sort_op.specs.Places.{AreUnder}
-use Rattle.sort_op.specs.Ranks.{listed}
-use Rattle.sort_op.proofs.Ranked.{under_more, under_none}
+use Rattle.sort_op.{specs.declared.entry.Entry.Entry, specs.Entries.keys_in, specs.Places.AreUnder, specs.Ranks.listed, proofs.Ranked.{under_more, under_none}}
 use Rattle.sort_op.proofs.positions.positions_of.Goals as goal
 
 pub loop-key-init : goal.loop-key-init

@@ -1,8 +1,6 @@
 use Rattle.std.proofs.Common.{◌^◌, ◌<◌, ◌≤◌, length}
 use Rattle.std.specs.List.{AllByRecursion}
-use Rattle.sort_op.specs.Entries.{keys_in}
-use Rattle.sort_op.specs.Places.{AreUnder}
-use Rattle.sort_op.specs.Ranks.{listed}
+use Rattle.sort_op.{specs.Entries.keys_in, specs.Places.AreUnder, specs.Ranks.listed}
 use Rattle.sort_op.proofs.positions.positions_of.Given as goal
 
 abbrev pub invariant-loop-key : goal.invariant-loop-key

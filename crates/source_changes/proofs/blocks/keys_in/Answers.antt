@@ -1,8 +1,6 @@
-use Rattle.std.proofs.Common.{ap, ◌∙◌, arith}
-use Rattle.std.proofs.Common.{get_or}
+use Rattle.std.proofs.Common.{ap, ◌∙◌, arith, get_or}
 use Rattle.row_set.specs.Sets.{united}
-use Rattle.tick_model.specs.declared.update.KeyRange.{KeyRange}
-use Rattle.tick_model.specs.Sources.{keys_within}
+use Rattle.tick_model.{specs.declared.update.KeyRange.KeyRange, specs.Sources.keys_within}
 use Rattle.source_changes.proofs.Gathered.{range_at, ranges_more}
 use Rattle.source_changes.proofs.blocks.keys_in.Goals as goal
 

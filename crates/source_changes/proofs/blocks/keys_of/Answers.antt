@@ -1,9 +1,7 @@
 use Rattle.std.proofs.Common.{ap, sym, ◌∙◌, subst, ◌<◌, ◌^◌, List, [], ◌∷◌, ◌++◌, take, get_or, ℕ}
 use Rattle.std.specs.List.{AllByRecursion}
-use Rattle.key_lists.proofs.Every.{every_unmapped}
-use Rattle.key_lists.proofs.Parts.{every_at}
-use Rattle.tick_model.specs.declared.table.PlainRow.{PlainRow}
-use Rattle.tick_model.specs.Tables.{keys}
+use Rattle.key_lists.{proofs.Every.every_unmapped, proofs.Parts.every_at}
+use Rattle.tick_model.{specs.declared.table.PlainRow.PlainRow, specs.Tables.keys}
 use Rattle.source_changes.proofs.Gathered.{keys_below, keys_more}
 use Rattle.source_changes.proofs.blocks.keys_of.Goals as goal
 

@@ -1,11 +1,7 @@
 use Rattle.std.proofs.Common.{sym, ◌∙◌, subst, length}
-use Rattle.std.proofs.lemmas.Iterator.Adapters.{YieldsList-from_vec}
-use Rattle.std.proofs.lemmas.Iterator.Consumers.{YieldsList-so_far, YieldsList-turn}
+use Rattle.std.{proofs.lemmas.Iterator.Adapters.YieldsList-from_vec, proofs.lemmas.Iterator.Consumers.{YieldsList-so_far, YieldsList-turn}}
 use Rattle.key_lists.proofs.Parts.{every_at}
-use Rattle.source_changes.specs.declared.taking.TakenBlocks.{TakenBlocks}
-use Rattle.source_changes.specs.Reads.{step_reads}
-use Rattle.source_changes.specs.Taking.{IsTaking, taking}
-use Rattle.source_changes.proofs.Turns.{reads_within}
+use Rattle.source_changes.{specs.declared.taking.TakenBlocks.TakenBlocks, specs.Reads.step_reads, specs.Taking.{IsTaking, taking}, proofs.Turns.reads_within}
 use Rattle.source_changes.proofs.changes.close_steps.Goals as goal
 
 pub close-requires : goal.close-requires

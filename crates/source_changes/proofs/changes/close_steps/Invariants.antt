@@ -1,11 +1,7 @@
 use Rattle.std.proofs.Common.{◌≡◌, ◌+◌, ◌≤◌, map}
 use Rattle.std.specs.Prelude.{sum_by}
-use Rattle.tick_model.specs.Changes.{change_of}
-use Rattle.tick_model.specs.Tables.{keys}
-use Rattle.source_changes.specs.declared.taking.TakenBlocks.{TakenBlocks}
-use Rattle.source_changes.specs.Reads.{step_reads}
-use Rattle.source_changes.specs.Stepping.{ticked}
-use Rattle.source_changes.specs.Taking.{taking}
+use Rattle.tick_model.{specs.Changes.change_of, specs.Tables.keys}
+use Rattle.source_changes.{specs.declared.taking.TakenBlocks.TakenBlocks, specs.Reads.step_reads, specs.Stepping.ticked, specs.Taking.taking}
 use Rattle.source_changes.proofs.changes.close_steps.Given as goal
 
 abbrev pub invariant-loop-step : goal.invariant-loop-step

@@ -1,20 +1,9 @@
 use Rattle.std.proofs.Common.{◌≡◌, ap, sym, ◌∙◌, subst, arith, ◌+◌, ◌<◌, List, length, map}
-use Rattle.std.specs.Prelude.{sum_by}
-use Rattle.std.proofs.Math.ListN.{drop_of_length-le}
-use Rattle.key_lists.proofs.Every.{every_weaker, every-map, map_map}
-use Rattle.key_lists.proofs.Parts.{every_at}
+use Rattle.std.{specs.Prelude.sum_by, proofs.Math.ListN.drop_of_length-le}
+use Rattle.key_lists.{proofs.Every.{every_weaker, every-map, map_map}, proofs.Parts.every_at}
 use Rattle.tick_laws.specs.Bounded.{AreSourceTables}
-use Rattle.tick_model.specs.declared.plan.Node.{Node}
-use Rattle.tick_model.specs.Evaluation.{source_number}
-use Rattle.tick_model.specs.LawfulRuns.{sources_of}
-use Rattle.tick_model.specs.Sources.{after_blocks, blocks_fault}
-use Rattle.source_changes.specs.declared.taking.TakenBlocks.{TakenBlocks}
-use Rattle.source_changes.specs.Faults.{IsFault}
-use Rattle.source_changes.specs.Reads.{block_reads, step_reads}
-use Rattle.source_changes.specs.Stepping.{IsStepping, Stepping, ticked}
-use Rattle.source_changes.specs.Taking.{IsTaking, taking}
-use Rattle.source_changes.proofs.Turns.{below_there, bound, every_set, fault_there, faults_follow, reads_follow, sources_follow, steps_in_turn, ticks_follow, whole_there}
-use Rattle.source_changes.proofs.Walked.{node_at, readable_at, sources_from}
+use Rattle.tick_model.{specs.declared.plan.Node.Node, specs.Evaluation.source_number, specs.LawfulRuns.sources_of, specs.Sources.{after_blocks, blocks_fault}}
+use Rattle.source_changes.{specs.declared.taking.TakenBlocks.TakenBlocks, specs.Faults.IsFault, specs.Reads.{block_reads, step_reads}, specs.Stepping.{IsStepping, Stepping, ticked}, specs.Taking.{IsTaking, taking}, proofs.Turns.{below_there, bound, every_set, fault_there, faults_follow, reads_follow, sources_follow, steps_in_turn, ticks_follow, whole_there}, proofs.Walked.{node_at, readable_at, sources_from}}
 use Rattle.source_changes.proofs.changes.take_blocks.Goals as goal
 
 pub loop-block-init : goal.loop-block-init

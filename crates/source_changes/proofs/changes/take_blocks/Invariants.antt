@@ -1,13 +1,7 @@
 use Rattle.std.proofs.Common.{◌≡◌, ◌+◌, ◌≤◌, drop, map}
-use Rattle.std.specs.Prelude.{sum_by}
-use Rattle.std.specs.List.{AllByRecursion}
-use Rattle.tick_model.specs.LawfulRuns.{sources_of}
-use Rattle.tick_model.specs.Sources.{after_blocks, blocks_fault}
-use Rattle.source_changes.specs.declared.taking.TakenBlocks.{TakenBlocks}
-use Rattle.source_changes.specs.Reads.{block_reads, step_reads}
-use Rattle.source_changes.specs.Stepping.{ticked}
-use Rattle.source_changes.specs.Taking.{IsTaking, taking}
-use Rattle.source_changes.proofs.Walked.{AreSources}
+use Rattle.std.{specs.Prelude.sum_by, specs.List.AllByRecursion}
+use Rattle.tick_model.{specs.LawfulRuns.sources_of, specs.Sources.{after_blocks, blocks_fault}}
+use Rattle.source_changes.{specs.declared.taking.TakenBlocks.TakenBlocks, specs.Reads.{block_reads, step_reads}, specs.Stepping.ticked, specs.Taking.{IsTaking, taking}, proofs.Walked.AreSources}
 use Rattle.source_changes.proofs.changes.take_blocks.Given as goal
 
 abbrev pub invariant-loop-block : goal.invariant-loop-block

@@ -1,12 +1,8 @@
 use Rattle.std.proofs.Common.{◌≡◌, length, map, take, vec_len, Bor}
-use Rattle.std.specs.List.{AllByRecursion}
-use Rattle.std.specs.Prelude.{sum_by}
+use Rattle.std.{specs.List.AllByRecursion, specs.Prelude.sum_by}
 use Rattle.tick_model.specs.Sources.{unchanged}
 use Rattle.tick_table.specs.Ticking.{Ticking}
-use Rattle.source_changes.specs.declared.taking.TakenBlocks.{TakenBlocks}
-use Rattle.source_changes.specs.Reads.{step_reads}
-use Rattle.source_changes.specs.Stepping.{ticked}
-use Rattle.source_changes.specs.Taking.{IsTaking, taking}
+use Rattle.source_changes.{specs.declared.taking.TakenBlocks.TakenBlocks, specs.Reads.step_reads, specs.Stepping.ticked, specs.Taking.{IsTaking, taking}}
 use Rattle.source_changes.proofs.changes.unchanged_steps.Given as goal
 
 abbrev pub invariant-loop-keys : goal.invariant-loop-keys

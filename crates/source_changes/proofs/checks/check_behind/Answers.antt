@@ -1,14 +1,8 @@
 use Rattle.std.proofs.Common.{sym, ◌∙◌, subst, ◌+◌, ◌-◌, ◌^◌, length, arith, rules, Option}
-use Rattle.std.specs.Prelude.{option_map}
-use Rattle.std.proofs.lemmas.Result.{IfErr-weaker, on_ok_weaker}
-use Rattle.source_changes.specs.Faults.{IsRuleOf, keys_fault}
+use Rattle.std.{specs.Prelude.option_map, proofs.lemmas.Result.{IfErr-weaker, on_ok_weaker}}
+use Rattle.source_changes.{specs.Faults.{IsRuleOf, keys_fault}, proofs.Behind.{after_rise, here_same}, proofs.RowCounts.{counted_lawful, counted_rule, few_rising, length-keys_after, removed_few, rule_first}}
 use Rattle.tick_laws.specs.Checked.{keys_after}
-use Rattle.tick_model.specs.declared.update.FeedRule.TheVariants.{Update as ByUpdate}
-use Rattle.tick_model.specs.declared.update.UpdateFault.{UpdateFault}
-use Rattle.tick_model.specs.Rules.{update_fault}
-use Rattle.tick_model.specs.Sources.{too_many}
-use Rattle.source_changes.proofs.Behind.{after_rise, here_same}
-use Rattle.source_changes.proofs.RowCounts.{counted_lawful, counted_rule, few_rising, length-keys_after, removed_few, rule_first}
+use Rattle.tick_model.{specs.declared.update.FeedRule.TheVariants.Update as ByUpdate, specs.declared.update.UpdateFault.UpdateFault, specs.Rules.update_fault, specs.Sources.too_many}
 use Rattle.source_changes.proofs.checks.check_behind.Goals as goal
 
 pub rows_after-rows-requires-clause-small : goal.rows_after-rows-requires-clause-small

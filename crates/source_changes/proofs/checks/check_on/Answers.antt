@@ -1,8 +1,7 @@
 use Rattle.std.proofs.Common.{◌+◌, ◌-◌, ◌^◌, length, arith}
 use Rattle.std.proofs.lemmas.Result.{IfErr-weaker, on_ok_weaker}
-use Rattle.source_changes.specs.Faults.{IsRuleOf, keys_fault}
+use Rattle.source_changes.{specs.Faults.{IsRuleOf, keys_fault}, proofs.RowCounts.{counted_lawful, counted_rule, few_rising, removed_few}}
 use Rattle.tick_model.specs.Sources.{too_many}
-use Rattle.source_changes.proofs.RowCounts.{counted_lawful, counted_rule, few_rising, removed_few}
 use Rattle.source_changes.proofs.checks.check_on.Goals as goal
 
 pub check_count-requires-clause-small : goal.check_count-requires-clause-small

@@ -1,8 +1,6 @@
 use Rattle.std.proofs.Common.{ap, sym, ◌∙◌, List, length}
-use Rattle.std.specs.Prelude.{flat_map}
-use Rattle.std.specs.List.{range_with_len}
-use Rattle.tick_model.specs.declared.table.PlainRow.{PlainRow}
-use Rattle.tick_model.specs.Updates.{Update}
+use Rattle.std.{specs.Prelude.flat_map, specs.List.range_with_len}
+use Rattle.tick_model.{specs.declared.table.PlainRow.PlainRow, specs.Updates.Update}
 use Rattle.source_changes.proofs.Opened.{opening_is}
 use Rattle.source_changes.proofs.opening.opening_change.Goals as goal
 

@@ -1,9 +1,6 @@
 use Rattle.std.proofs.Common.{◌≡◌, ap, ◌∙◌, Bool, length, rules, tests, unwrap_or}
-use Rattle.std.specs.List.{position}
-use Rattle.std.proofs.lemmas.Iterator.{YieldsList-from_slice}
-use Rattle.std.proofs.lemmas.Iterator.Search.{position_from_yields_List}
-use Rattle.tick_model.specs.Sources.{is_within}
-use Rattle.tick_model.specs.declared.update.KeyRange.{KeyRange}
+use Rattle.std.{specs.List.position, proofs.lemmas.Iterator.YieldsList-from_slice, proofs.lemmas.Iterator.Search.position_from_yields_List}
+use Rattle.tick_model.{specs.Sources.is_within, specs.declared.update.KeyRange.KeyRange}
 use Rattle.source_changes.proofs.Placed.{place_or_all}
 use Rattle.source_changes.proofs.records.range_place.Goals as goal
 

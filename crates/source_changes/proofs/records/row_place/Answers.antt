@@ -1,7 +1,5 @@
 use Rattle.std.proofs.Common.{◌≡◌, ap, ◌∙◌, ◌==◌, Bool, length, rules, tests, unwrap_or}
-use Rattle.std.specs.List.{position}
-use Rattle.std.proofs.lemmas.Iterator.{YieldsList-from_slice}
-use Rattle.std.proofs.lemmas.Iterator.Search.{position_from_yields_List}
+use Rattle.std.{specs.List.position, proofs.lemmas.Iterator.YieldsList-from_slice, proofs.lemmas.Iterator.Search.position_from_yields_List}
 use Rattle.tick_model.specs.declared.table.PlainRow.{PlainRow}
 use Rattle.source_changes.proofs.Placed.{place_or_all}
 use Rattle.source_changes.proofs.records.row_place.Goals as goal

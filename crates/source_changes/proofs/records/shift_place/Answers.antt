@@ -1,9 +1,6 @@
 use Rattle.std.proofs.Common.{◌≡◌, ap, ◌∙◌, Bool, length, rules, tests, unwrap_or}
-use Rattle.std.specs.List.{position}
-use Rattle.std.proofs.lemmas.Iterator.{YieldsList-from_slice}
-use Rattle.std.proofs.lemmas.Iterator.Search.{position_from_yields_List}
-use Rattle.tick_model.specs.Shifts.{holds}
-use Rattle.tick_model.specs.declared.update.ShiftRange.{ShiftRange}
+use Rattle.std.{specs.List.position, proofs.lemmas.Iterator.YieldsList-from_slice, proofs.lemmas.Iterator.Search.position_from_yields_List}
+use Rattle.tick_model.{specs.Shifts.holds, specs.declared.update.ShiftRange.ShiftRange}
 use Rattle.source_changes.proofs.Placed.{place_or_all}
 use Rattle.source_changes.proofs.records.shift_place.Goals as goal
 

@@ -1,7 +1,6 @@
 use Rattle.std.proofs.Common.{ap, ap₂, sym, ◌∙◌, subst, cond, ℕ, ◌+◌, List, length, ltb, ◌<◌, ◌^◌, arith}
 use Rattle.std.specs.List.{position_or_len}
-use Rattle.tick_model.specs.declared.update.ShiftRange.{ShiftRange}
-use Rattle.tick_model.specs.Shifts.{holds}
+use Rattle.tick_model.{specs.declared.update.ShiftRange.ShiftRange, specs.Shifts.holds}
 use Rattle.source_changes.proofs.records.shift_record_of.Goals as goal
 
 pub overflow_add-result-3 : goal.overflow_add-result-3

@@ -1,7 +1,5 @@
 use Rattle.std.proofs.Common.{ap, sym, ◌∙◌, subst}
-use Rattle.source_changes.specs.Faults.{IsRuleOf, keys_fault}
-use Rattle.source_changes.specs.Waiting.{keys_with}
-use Rattle.source_changes.proofs.Faulted.{record_small}
+use Rattle.source_changes.{specs.Faults.{IsRuleOf, keys_fault}, specs.Waiting.keys_with, proofs.Faulted.record_small}
 use Rattle.source_changes.proofs.taking.check.Goals as goal
 
 pub record_of-requires : goal.record_of-requires

@@ -1,8 +1,5 @@
 use Rattle.std.proofs.Common.{◌≡◌, ap₂, sym, ◌∙◌, nat_cmp, rules}
-use Rattle.std.specs.BTreeMap.Range.{entries_between}
-use Rattle.std.specs.declared.ops.Bound.TheVariants.{Included}
-use Rattle.std.specs.Map.Iter.{deref_pair}
-use Rattle.std.proofs.lemmas.Map.Iter.{rest_all}
+use Rattle.std.{specs.BTreeMap.Range.entries_between, specs.declared.ops.Bound.TheVariants.Included, specs.Map.Iter.deref_pair, proofs.lemmas.Map.Iter.rest_all}
 use Rattle.source_changes.proofs.Mapped.{none_held}
 use Rattle.source_changes.proofs.told.first_told.Goals as goal
 

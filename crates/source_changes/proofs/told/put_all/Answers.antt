@@ -1,8 +1,6 @@
 use Rattle.std.proofs.Common.{ap, ap₂, ◌∙◌, map, List, ℤ}
 use Rattle.tick_model.specs.declared.table.PlainRow.{PlainRow}
-use Rattle.source_changes.specs.Stepping.{put_row}
-use Rattle.source_changes.specs.Told.{told_row}
-use Rattle.source_changes.proofs.Mapped.{put_more, told_put}
+use Rattle.source_changes.{specs.Stepping.put_row, specs.Told.told_row, proofs.Mapped.{put_more, told_put}}
 use Rattle.source_changes.proofs.told.put_all.Goals as goal
 
 pub loop-row-preserved : goal.loop-row-preserved

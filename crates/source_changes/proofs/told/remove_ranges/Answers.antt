@@ -1,7 +1,6 @@
 use Rattle.std.proofs.Common.{ap, sym, ◌∙◌, not, ℕ, ℤ, List, Bor, filter, get_or}
 use Rattle.key_lists.proofs.Every.{filter_all}
-use Rattle.row_set.specs.declared.ranges.Range.{Range}
-use Rattle.row_set.specs.Ranges.{holds}
+use Rattle.row_set.{specs.declared.ranges.Range.Range, specs.Ranges.holds}
 use Rattle.source_changes.proofs.Mapped.{left_more}
 use Rattle.source_changes.proofs.told.remove_ranges.Goals as goal
 

@@ -1,7 +1,6 @@
 use Rattle.std.proofs.Common.{◌≡◌}
 use Rattle.graph_words.specs.Seats.{IsSeatOf}
-use Rattle.steal_workers.specs.Holdings.{IsGoneOn, IsHeld, NoNode}
-use Rattle.steal_workers.specs.Hands.{hand_mark}
+use Rattle.steal_workers.{specs.Holdings.{IsGoneOn, IsHeld, NoNode}, specs.Hands.hand_mark}
 use Rattle.steal_workers.proofs.hand.look_for_node.Given as goal
 
 abbrev pub invariant-loop : goal.invariant-loop

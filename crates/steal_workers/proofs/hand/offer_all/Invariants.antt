@@ -1,7 +1,6 @@
 use Rattle.std.proofs.Common.{length}
 use Rattle.graph_words.specs.Seats.{IsSeatOf}
-use Rattle.steal_workers.specs.Lists.{IsListed}
-use Rattle.steal_workers.specs.Holdings.{IsGoneOn, IsHeld}
+use Rattle.steal_workers.{specs.Lists.IsListed, specs.Holdings.{IsGoneOn, IsHeld}}
 use Rattle.steal_workers.proofs.hand.offer_all.Given as goal
 
 abbrev pub invariant-loop-node : goal.invariant-loop-node

@@ -1,6 +1,4 @@
-use Rattle.steal_workers.specs.Lists.{IsListed}
-use Rattle.steal_workers.proofs.Holding.{offered_held, offered_on}
-use Rattle.steal_workers.proofs.Listing.{not_listed}
+use Rattle.steal_workers.{specs.Lists.IsListed, proofs.Holding.{offered_held, offered_on}, proofs.Listing.not_listed}
 use Rattle.steal_workers.proofs.hand.offer_one.Goals as goal
 
 pub returns-clause-held : goal.returns-clause-held

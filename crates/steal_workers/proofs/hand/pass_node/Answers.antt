@@ -1,10 +1,7 @@
 use Rattle.std.proofs.Common.{rules, ◌≡◌, ◌∙◌, ap, refl, inl, true, false}
 use Rattle.std.specs.Prelude.{◌⊎◌}
-use Rattle.graph_words.specs.declared.table.Mark.TheVariants.{Unmarked}
-use Rattle.graph_words.specs.Views.{gets, mark_node}
-use Rattle.steal_workers.specs.Lists.{IsListed}
-use Rattle.steal_workers.proofs.Holding.{kept_held, offered_held, offered_on, taken_back_held, taken_back_on}
-use Rattle.steal_workers.proofs.Listing.{listed_where, not_either}
+use Rattle.graph_words.{specs.declared.table.Mark.TheVariants.Unmarked, specs.Views.{gets, mark_node}}
+use Rattle.steal_workers.{specs.Lists.IsListed, proofs.Holding.{kept_held, offered_held, offered_on, taken_back_held, taken_back_on}, proofs.Listing.{listed_where, not_either}}
 use Rattle.steal_workers.proofs.hand.pass_node.Goals as goal
 
 pub offer_node-requires-clause-ready : goal.offer_node-requires-clause-ready

@@ -1,6 +1,5 @@
 use Rattle.std.proofs.Common.{rules, ◌∙◌}
-use Rattle.steal_workers.proofs.Holding.{emptied_held, gone_on, off_held}
-use Rattle.steal_workers.proofs.Listing.{apart_after, apart_before}
+use Rattle.steal_workers.{proofs.Holding.{emptied_held, gone_on, off_held}, proofs.Listing.{apart_after, apart_before}}
 use Rattle.steal_workers.proofs.hand.pass_on.Goals as goal
 
 pub pass_node-requires-clause-held : goal.pass_node-requires-clause-held

@@ -1,9 +1,7 @@
 use Rattle.std.proofs.Common.{ℕ, length}
 use Rattle.std.specs.Prelude.{◌⊎◌}
 use Rattle.graph_words.specs.Seats.{IsSeatOf}
-use Rattle.steal_workers.specs.Lists.{IsListed}
-use Rattle.steal_workers.specs.Holdings.{IsGoneOn, IsHeld}
-use Rattle.steal_workers.specs.Deques.{IsSameDeque}
+use Rattle.steal_workers.{specs.Lists.IsListed, specs.Holdings.{IsGoneOn, IsHeld}, specs.Deques.IsSameDeque}
 use Rattle.steal_workers.proofs.hand.pass_on.Given as goal
 
 abbrev pub invariant-loop-node : goal.invariant-loop-node

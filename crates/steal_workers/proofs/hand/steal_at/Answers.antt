@@ -1,7 +1,6 @@
 use Rattle.std.proofs.Common.{◌<◌, length, subst}
 use Rattle.crossbeam_deque.proofs.Lists.{at_index}
-use Rattle.steal_workers.specs.Hands.{raid_mark}
-use Rattle.steal_workers.proofs.Marking.{map_same}
+use Rattle.steal_workers.{specs.Hands.raid_mark, proofs.Marking.map_same}
 use Rattle.steal_workers.proofs.hand.steal_at.Goals as goal
 
 pub returns-clause-raids : goal.returns-clause-raids

@@ -1,7 +1,6 @@
 use Rattle.std.proofs.Common.{◌≡◌, map, vec_len}
 use Rattle.graph_words.specs.Seats.{IsSeatOf}
-use Rattle.steal_workers.specs.Holdings.{IsGoneOn, IsHeld, NoNode}
-use Rattle.steal_workers.specs.Hands.{raid_mark}
+use Rattle.steal_workers.{specs.Holdings.{IsGoneOn, IsHeld, NoNode}, specs.Hands.raid_mark}
 use Rattle.steal_workers.proofs.hand.steal_node.Given as goal
 
 abbrev pub invariant-loop-number : goal.invariant-loop-number

@@ -1,6 +1,4 @@
-use Rattle.steal_workers.specs.Lists.{IsListed}
-use Rattle.steal_workers.proofs.Holding.{worked_held}
-use Rattle.steal_workers.proofs.Listing.{not_listed}
+use Rattle.steal_workers.{specs.Lists.IsListed, proofs.Holding.worked_held, proofs.Listing.not_listed}
 use Rattle.steal_workers.proofs.hand.work_node.Goals as goal
 
 pub returns-clause-held : goal.returns-clause-held

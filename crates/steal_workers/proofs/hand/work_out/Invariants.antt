@@ -1,8 +1,6 @@
 use Rattle.std.proofs.Common.{◌≡◌}
 use Rattle.graph_words.specs.Seats.{IsSeatOf}
-use Rattle.steal_workers.specs.Lists.{IsListed}
-use Rattle.steal_workers.specs.Holdings.{IsGoneOn, IsHeld}
-use Rattle.steal_workers.specs.Hands.{hand_mark}
+use Rattle.steal_workers.{specs.Lists.IsListed, specs.Holdings.{IsGoneOn, IsHeld}, specs.Hands.hand_mark}
 use Rattle.steal_workers.proofs.hand.work_out.Given as goal
 
 abbrev pub invariant-loop : goal.invariant-loop

@@ -1,6 +1,5 @@
 use Rattle.std.proofs.Common.{◌≡◌, vec_len, vec_capacity}
-use Rattle.steal_workers.specs.Hands.{hand_marks}
-use Rattle.steal_workers.specs.Musters.{IsCrewed, nothing}
+use Rattle.steal_workers.{specs.Hands.hand_marks, specs.Musters.{IsCrewed, nothing}}
 use Rattle.steal_workers.proofs.muster.arm.Given as goal
 
 abbrev pub invariant-places : goal.invariant-places

@@ -1,10 +1,8 @@
 use Rattle.std.proofs.Common.{rules, ◌≡◌, ◌<◌, ◌≤◌, length, set, sym, ◌∙◌, subst, is_some, false}
 use mathlib.Core.Option.{some}
 use lib.ListN.{get_elem?, length-set}
-use Rattle.crossbeam_deque.specs.Handles.{IsPassOf}
-use Rattle.crossbeam_deque.proofs.Lists.{at_index, set_here}
-use Rattle.steal_workers.proofs.Mustering.{one_pass}
-use Rattle.steal_workers.proofs.Marking.{armed_hand, cut_hand, many_parts, one_there, same_raids_at, tied_deque, with_own}
+use Rattle.crossbeam_deque.{specs.Handles.IsPassOf, proofs.Lists.{at_index, set_here}}
+use Rattle.steal_workers.{proofs.Mustering.one_pass, proofs.Marking.{armed_hand, cut_hand, many_parts, one_there, same_raids_at, tied_deque, with_own}}
 use Rattle.steal_workers.proofs.muster.arm_one.Goals as goal
 
 pub cut-pass-requires : goal.cut-pass-requires

@@ -1,6 +1,5 @@
 use Rattle.std.proofs.Common.{◌≡◌, ◌<◌, ℕ, vec_len, vec_capacity}
-use Rattle.steal_workers.specs.Hands.{hand_marks}
-use Rattle.steal_workers.specs.Musters.{IsCrewed, nothing, passes_of}
+use Rattle.steal_workers.{specs.Hands.hand_marks, specs.Musters.{IsCrewed, nothing, passes_of}}
 use Rattle.steal_workers.proofs.muster.disarm.Given as goal
 
 abbrev pub invariant-places : goal.invariant-places

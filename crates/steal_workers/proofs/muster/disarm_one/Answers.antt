@@ -1,9 +1,7 @@
 use Rattle.std.proofs.Common.{rules, ◌+◌, ◌<◌, ◌≤◌, length, set, sym, ap, ◌∙◌, subst, arith}
 use lib.ListN.{length-set}
-use Rattle.crossbeam_deque.specs.Handles.{IsPassOf, worker_deque, stealer_deque}
-use Rattle.crossbeam_deque.proofs.Lists.{at_index, set_here}
-use Rattle.steal_workers.proofs.Mustering.{one_pass}
-use Rattle.steal_workers.proofs.Marking.{disarmed_hand, fewer_hand, gone_hand, idle_hand, joined_hand, no_raid, one_there, raid_here, same_passes_of, tied_deque, with_raid}
+use Rattle.crossbeam_deque.{specs.Handles.{IsPassOf, worker_deque, stealer_deque}, proofs.Lists.{at_index, set_here}}
+use Rattle.steal_workers.{proofs.Mustering.one_pass, proofs.Marking.{disarmed_hand, fewer_hand, gone_hand, idle_hand, joined_hand, no_raid, one_there, raid_here, same_passes_of, tied_deque, with_raid}}
 use Rattle.steal_workers.proofs.muster.disarm_one.Goals as goal
 
 pub returns-then-other-len-clause-gone : goal.returns-then-other-len-clause-gone

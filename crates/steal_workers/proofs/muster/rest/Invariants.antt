@@ -1,10 +1,7 @@
 use Rattle.std.proofs.Common.{◌≡◌, ◌<◌, ℕ, vec_len, vec_capacity}
 use mathlib.Core.Option.{some}
 use lib.ListN.{get_elem?}
-use Rattle.steal_workers.specs.declared.hand.Hand.{Hand}
-use Rattle.steal_workers.specs.Deques.{IsRested}
-use Rattle.steal_workers.specs.Hands.{hand_marks}
-use Rattle.steal_workers.specs.Musters.{IsCrewed, nothing, passes_of}
+use Rattle.steal_workers.{specs.declared.hand.Hand.Hand, specs.Deques.IsRested, specs.Hands.hand_marks, specs.Musters.{IsCrewed, nothing, passes_of}}
 use Rattle.steal_workers.proofs.muster.rest.Given as goal
 
 abbrev pub invariant-loop-place : goal.invariant-loop-place

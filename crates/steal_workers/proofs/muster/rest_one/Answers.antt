@@ -1,9 +1,7 @@
 use Rattle.std.proofs.Common.{◌<◌, length, sym, ap, ◌∙◌, subst, refl}
 use mathlib.Core.Option.{some-injective}
 use Rattle.crossbeam_deque.proofs.Lists.{at_index, set_else, set_here}
-use Rattle.steal_workers.specs.Deques.{IsRested}
-use Rattle.steal_workers.specs.Hands.{hand_mark}
-use Rattle.steal_workers.proofs.Marking.{all_parts, map_same, same_mark, with_own}
+use Rattle.steal_workers.{specs.Deques.IsRested, specs.Hands.hand_mark, proofs.Marking.{all_parts, map_same, same_mark, with_own}}
 use Rattle.steal_workers.proofs.muster.rest_one.Goals as goal
 
 pub empty-requires : goal.empty-requires

@@ -1,6 +1,5 @@
 use Rattle.std.proofs.Common.{rules, ◌≡◌, ◌++◌, [], ◌∷◌, sym, subst}
-use Rattle.steal_workers.specs.Hands.{AllRested}
-use Rattle.steal_workers.proofs.Marking.{AllBare, bare_crewed, bare_more, rested_more}
+use Rattle.steal_workers.{specs.Hands.AllRested, proofs.Marking.{AllBare, bare_crewed, bare_more, rested_more}}
 use Rattle.steal_workers.proofs.raising.bare_hands.Goals as goal
 
 pub loop-place-preserved : goal.loop-place-preserved

@@ -1,6 +1,5 @@
 use Rattle.std.proofs.Common.{◌≡◌, ◌≤◌, vec_len, vec_capacity}
-use Rattle.steal_workers.specs.Hands.{AllRested}
-use Rattle.steal_workers.proofs.Marking.{AllBare}
+use Rattle.steal_workers.{specs.Hands.AllRested, proofs.Marking.AllBare}
 use Rattle.steal_workers.proofs.raising.bare_hands.Given as goal
 
 abbrev pub invariant-loop-place : goal.invariant-loop-place

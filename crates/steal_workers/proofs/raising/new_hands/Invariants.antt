@@ -1,6 +1,5 @@
 use Rattle.std.proofs.Common.{◌≡◌, vec_len}
-use Rattle.steal_workers.specs.Hands.{AllRested, hand_marks}
-use Rattle.steal_workers.specs.Musters.{IsCrewed, nothing}
+use Rattle.steal_workers.{specs.Hands.{AllRested, hand_marks}, specs.Musters.{IsCrewed, nothing}}
 use Rattle.steal_workers.proofs.raising.new_hands.Given as goal
 
 abbrev pub invariant-loop-place : goal.invariant-loop-place

@@ -1,6 +1,5 @@
 use Rattle.std.proofs.Common.{◌≡◌, ◌≤◌, map, take, vec_len, vec_capacity}
-use Rattle.steal_workers.specs.Hands.{hand_marks, raid_mark}
-use Rattle.steal_workers.specs.Musters.{idle_on}
+use Rattle.steal_workers.{specs.Hands.{hand_marks, raid_mark}, specs.Musters.idle_on}
 use Rattle.steal_workers.proofs.raising.raids_on.Given as goal
 
 abbrev pub invariant-loop-hand : goal.invariant-loop-hand

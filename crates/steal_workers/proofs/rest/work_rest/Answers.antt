@@ -1,12 +1,7 @@
 use Rattle.std.proofs.Common.{◌≡◌, ◌<◌, ◌∙◌, sym, ap, subst, arith}
 use Rattle.std.specs.Prelude.{MatchOption}
-use Rattle.graph_words.specs.Marks.{at}
-use Rattle.graph_words.specs.Models.{SeatModel}
-use Rattle.graph_words.specs.Seats.{Has, IsSeatOf}
-use Rattle.graph_words.specs.declared.table.Mark.TheVariants.{PutBack}
-use Rattle.steal_workers.specs.Holdings.{IsGoneOn, IsHeld, NoNode, OnlyNode, SourcesBack}
-use Rattle.steal_workers.proofs.Holding.{all_late, gone_on, more_done, rest_back, sources_still}
-use Rattle.steal_workers.proofs.rest.work_rest.Goals.{in-Some+in_ok-work_alone-in-Some, in-None}
+use Rattle.graph_words.{specs.Marks.at, specs.Models.SeatModel, specs.Seats.{Has, IsSeatOf}, specs.declared.table.Mark.TheVariants.PutBack}
+use Rattle.steal_workers.{specs.Holdings.{IsGoneOn, IsHeld, NoNode, OnlyNode, SourcesBack}, proofs.Holding.{all_late, gone_on, more_done, rest_back, sources_still}, proofs.rest.work_rest.Goals.{in-Some+in_ok-work_alone-in-Some, in-None}}
 use Rattle.steal_workers.proofs.rest.work_rest.Goals as goal
 
 pub loop-node-init : goal.loop-node-init

@@ -1,7 +1,5 @@
 use Rattle.std.proofs.Common.{◌≡◌, ◌<◌, ℕ}
-use Rattle.graph_words.specs.declared.table.Mark.TheVariants.{PutBack}
-use Rattle.graph_words.specs.Marks.{at}
-use Rattle.graph_words.specs.Seats.{IsSeatOf}
+use Rattle.graph_words.{specs.declared.table.Mark.TheVariants.PutBack, specs.Marks.at, specs.Seats.IsSeatOf}
 use Rattle.steal_workers.specs.Holdings.{IsHeld, NoNode, SourcesBack}
 use Rattle.steal_workers.proofs.rest.work_rest.Given as goal
 

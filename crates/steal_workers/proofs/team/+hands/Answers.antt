@@ -1,9 +1,6 @@
 use Rattle.std.proofs.Common.{rules, ◌≡◌, ◌+◌, ◌-◌, ◌<◌, ap, arith, IfOk, vec_len}
-use Rattle.graph_words.specs.Models.{SeatModel}
-use Rattle.graph_words.specs.declared.table.View.{View}
-use Rattle.steal_workers.specs.Holdings.{IsGoneOn, IsHeld, NoNode}
-use Rattle.steal_workers.specs.Lists.{IsListed}
-use Rattle.steal_workers.proofs.Holding.{joined_result_held, joined_result_on, less_held, ok_gone_on, part_held}
+use Rattle.graph_words.{specs.Models.SeatModel, specs.declared.table.View.View}
+use Rattle.steal_workers.{specs.Holdings.{IsGoneOn, IsHeld, NoNode}, specs.Lists.IsListed, proofs.Holding.{joined_result_held, joined_result_on, less_held, ok_gone_on, part_held}}
 use Rattle.steal_workers.proofs.team.+hands.Goals as goal
 
 pub returns-clause-held : goal.returns-clause-held

@@ -1,6 +1,5 @@
 use Rattle.std.proofs.Common.{ap, ◌∙◌}
-use Rattle.graph_words.specs.Models.{SeatModel}
-use Rattle.graph_words.specs.Views.{both_views}
+use Rattle.graph_words.{specs.Models.SeatModel, specs.Views.both_views}
 use Rattle.steal_workers.proofs.team.join_seats.Goals as goal
 
 pub returns-clause-joined : goal.returns-clause-joined

@@ -1,6 +1,5 @@
 use Rattle.std.proofs.Common.{◌≡◌, ap, ◌∙◌, arith, take, drop, length-drop}
-use Rattle.std.specs.Io.KnownBytes.{append_known}
-use Rattle.std.proofs.lemmas.List.{take_rest}
+use Rattle.std.{specs.Io.KnownBytes.append_known, proofs.lemmas.List.take_rest}
 use Rattle.tick_io.proofs.Prefixes.{append_known-take}
 use Rattle.tick_io.proofs.sink.put_all.Goals as goal
 

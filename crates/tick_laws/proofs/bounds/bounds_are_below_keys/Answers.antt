@@ -1,5 +1,4 @@
-use Rattle.tick_laws.proofs.LawfulPlans.{bounds_room, lawful_plan}
-use Rattle.tick_laws.proofs.Paired.{no_node}
+use Rattle.tick_laws.{proofs.LawfulPlans.{bounds_room, lawful_plan}, proofs.Paired.no_node}
 use Rattle.tick_laws.proofs.bounds.bounds_are_below_keys.Goals as goal
 
 pub returns : goal.returns

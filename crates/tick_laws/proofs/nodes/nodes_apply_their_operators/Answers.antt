@@ -1,5 +1,4 @@
-use Rattle.tick_laws.proofs.EvalNodes.{length_outcomes, outcome_is}
-use Rattle.tick_laws.proofs.Paired.{no_node}
+use Rattle.tick_laws.{proofs.EvalNodes.{length_outcomes, outcome_is}, proofs.Paired.no_node}
 use Rattle.tick_laws.proofs.nodes.nodes_apply_their_operators.Goals as goal
 
 pub returns-clause-count : goal.returns-clause-count

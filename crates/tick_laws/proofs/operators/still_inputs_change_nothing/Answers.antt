@@ -1,9 +1,6 @@
 use Rattle.std.proofs.Common.{◌≡◌, true}
 use Rattle.key_lists.proofs.Every.{every_both, every_weaker}
-use Rattle.tick_model.specs.Changes.{is_empty}
-use Rattle.tick_model.specs.Operators.{inputs_of}
-use Rattle.tick_model.specs.Tables.{IsTable}
-use Rattle.tick_model.specs.Updates.{IsTick, between}
+use Rattle.tick_model.{specs.Changes.is_empty, specs.Operators.inputs_of, specs.Tables.IsTable, specs.Updates.{IsTick, between}}
 use Rattle.tick_laws.proofs.StillTicks.{IsStill, operator_stays, still_by_empty}
 use Rattle.tick_laws.proofs.operators.still_inputs_change_nothing.Goals as goal
 

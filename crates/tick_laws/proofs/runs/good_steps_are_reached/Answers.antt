@@ -1,5 +1,4 @@
-use Rattle.tick_laws.proofs.GoodSteps.{good_reached, good_within}
-use Rattle.tick_laws.proofs.RunTicks.{reached_before}
+use Rattle.tick_laws.{proofs.GoodSteps.{good_reached, good_within}, proofs.RunTicks.reached_before}
 use Rattle.tick_laws.proofs.runs.good_steps_are_reached.Goals as goal
 
 pub returns-clause-within : goal.returns-clause-within

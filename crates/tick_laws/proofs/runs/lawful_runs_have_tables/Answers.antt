@@ -1,5 +1,4 @@
-use Rattle.tick_laws.proofs.LawfulSources.{lawful_tables}
-use Rattle.tick_laws.proofs.ReachedTables.{lesser_inputs}
+use Rattle.tick_laws.{proofs.LawfulSources.lawful_tables, proofs.ReachedTables.lesser_inputs}
 use Rattle.tick_laws.proofs.runs.lawful_runs_have_tables.Goals as goal
 
 pub returns-clause-tables : goal.returns-clause-tables

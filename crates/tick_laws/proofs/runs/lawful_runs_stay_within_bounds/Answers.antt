@@ -1,5 +1,4 @@
-use Rattle.tick_laws.proofs.LawfulSources.{sources_bounded}
-use Rattle.tick_laws.proofs.ReachedTables.{bounded_at}
+use Rattle.tick_laws.{proofs.LawfulSources.sources_bounded, proofs.ReachedTables.bounded_at}
 use Rattle.tick_laws.proofs.runs.lawful_runs_stay_within_bounds.Goals as goal
 
 pub returns-clause-sources : goal.returns-clause-sources

@@ -1,8 +1,6 @@
 use Rattle.std.proofs.Common.{◌^◌, ap, sym, ◌∙◌, take, take_all, arith}
-use Rattle.std.specs.Prelude.{nat_lt}
-use Rattle.std.specs.List.{list_all}
-use Rattle.tick_model.specs.Plans.{key_bounds}
-use Rattle.tick_model.proofs.KeyBounds.{bound_fails, bounds_pass}
+use Rattle.std.{specs.Prelude.nat_lt, specs.List.list_all}
+use Rattle.tick_model.{specs.Plans.key_bounds, proofs.KeyBounds.{bound_fails, bounds_pass}}
 use Rattle.tick_model.proofs.bounds.have_key_space.Goals as goal
 
 pub returns-then-bound-from : goal.returns-then-bound-from

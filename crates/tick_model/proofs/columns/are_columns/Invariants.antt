@@ -1,7 +1,6 @@
 use Rattle.std.proofs.Common.{◌≡◌, drop, is_some}
 use Rattle.std.specs.List.{list_all}
-use Rattle.tick_model.specs.declared.plan.SortBy.{SortBy}
-use Rattle.tick_model.specs.Columns.{kind_at}
+use Rattle.tick_model.{specs.declared.plan.SortBy.SortBy, specs.Columns.kind_at}
 use Rattle.tick_model.proofs.columns.are_columns.Given as goal
 
 abbrev pub invariant-loop-sort : goal.invariant-loop-sort

@@ -1,7 +1,6 @@
 use Rattle.std.proofs.Common.{◌≡◌, drop}
 use Rattle.std.specs.List.{list_all}
-use Rattle.tick_model.specs.Plans.{columns_at}
-use Rattle.tick_model.specs.Columns.{same_columns}
+use Rattle.tick_model.{specs.Plans.columns_at, specs.Columns.same_columns}
 use Rattle.tick_model.proofs.columns.are_of_each.Given as goal
 
 abbrev pub invariant-loop-input : goal.invariant-loop-input

@@ -1,7 +1,6 @@
 use Rattle.std.proofs.Common.{sym, ◌∙◌, map, arith}
 use Rattle.std.proofs.lemmas.List.{length-map}
-use Rattle.tick_model.specs.Columns.{kind_at, agg_kind, have_kinds}
-use Rattle.tick_model.proofs.ColumnLists.{kinds_cut, kinds_short, joined_true, joined_false}
+use Rattle.tick_model.{specs.Columns.{kind_at, agg_kind, have_kinds}, proofs.ColumnLists.{kinds_cut, kinds_short, joined_true, joined_false}}
 use Rattle.tick_model.proofs.columns.are_of_groups.Goals as goal
 
 pub returns-then-columns-by : goal.returns-then-columns-by

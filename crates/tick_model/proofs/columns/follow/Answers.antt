@@ -1,6 +1,5 @@
 use Rattle.std.proofs.Common.{sym, ◌∙◌, map}
-use Rattle.tick_model.specs.Columns.{have_kinds}
-use Rattle.tick_model.proofs.ColumnLists.{follow_cut, follow_short, joined_true, joined_false}
+use Rattle.tick_model.{specs.Columns.have_kinds, proofs.ColumnLists.{follow_cut, follow_short, joined_true, joined_false}}
 use Rattle.tick_model.proofs.columns.follow.Goals as goal
 
 pub returns-then-columns-input : goal.returns-then-columns-input

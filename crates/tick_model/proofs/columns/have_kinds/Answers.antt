@@ -1,7 +1,6 @@
 use Rattle.std.proofs.Common.{◌≡◌, ◌==◌, ap, sym, ◌∙◌, length, drop, map, arith}
 use Rattle.std.proofs.lemmas.List.{drop_all}
-use Rattle.tick_model.specs.Columns.{have_kinds}
-use Rattle.tick_model.proofs.ColumnLists.{no_columns_left}
+use Rattle.tick_model.{specs.Columns.have_kinds, proofs.ColumnLists.no_columns_left}
 use Rattle.tick_model.proofs.columns.have_kinds.Goals as goal
 
 pub returns : goal.returns

@@ -1,7 +1,6 @@
 use Rattle.std.proofs.Common.{◌≡◌, ◌==◌, ap, sym, ◌∙◌, length, drop, arith}
 use Rattle.std.proofs.lemmas.List.{drop_all}
-use Rattle.tick_model.specs.Columns.{same_columns}
-use Rattle.tick_model.proofs.ColumnLists.{no_others_left}
+use Rattle.tick_model.{specs.Columns.same_columns, proofs.ColumnLists.no_others_left}
 use Rattle.tick_model.proofs.columns.same_columns.Goals as goal
 
 pub returns : goal.returns

@@ -1,6 +1,5 @@
 use Rattle.std.proofs.Common.{◌≡◌, drop}
-use Rattle.std.specs.Prelude.{nat_lt}
-use Rattle.std.specs.List.{list_all}
+use Rattle.std.{specs.Prelude.nat_lt, specs.List.list_all}
 use Rattle.tick_model.proofs.lawful.are_lesser.Given as goal
 
 abbrev pub invariant-loop-input : goal.invariant-loop-input

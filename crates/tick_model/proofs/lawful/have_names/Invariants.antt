@@ -1,7 +1,6 @@
 use Rattle.std.proofs.Common.{◌≡◌, drop}
 use Rattle.std.specs.List.{list_all}
-use Rattle.tick_model.specs.declared.plan.ColumnSpec.{ColumnSpec}
-use Rattle.tick_model.specs.Names.{is_name}
+use Rattle.tick_model.{specs.declared.plan.ColumnSpec.ColumnSpec, specs.Names.is_name}
 use Rattle.tick_model.proofs.lawful.have_names.Given as goal
 
 abbrev pub invariant-loop-column : goal.invariant-loop-column

@@ -1,6 +1,5 @@
 use Rattle.std.proofs.Common.{◌≡◌, map, drop, not}
-use Rattle.std.specs.Prelude.{◌==◌}
-use Rattle.std.specs.List.{list_all}
+use Rattle.std.{specs.Prelude.◌==◌, specs.List.list_all}
 use Rattle.tick_model.specs.declared.plan.Published.{Published}
 use Rattle.tick_model.proofs.lawful.is_not_published.Given as goal
 

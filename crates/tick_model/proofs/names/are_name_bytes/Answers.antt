@@ -1,6 +1,5 @@
 use Rattle.std.proofs.Common.{rules, tests}
-use Rattle.std.proofs.lemmas.Iterator.{YieldsList-from_slice}
-use Rattle.std.proofs.lemmas.Iterator.Search.{all_from_yields_List}
+use Rattle.std.{proofs.lemmas.Iterator.YieldsList-from_slice, proofs.lemmas.Iterator.Search.all_from_yields_List}
 use Rattle.tick_model.specs.Names.{is_name_byte}
 use Rattle.tick_model.proofs.names.are_name_bytes.Goals as goal
 

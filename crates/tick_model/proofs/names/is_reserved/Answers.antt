@@ -1,6 +1,5 @@
 use Rattle.std.proofs.Common.{List, ℕ, Bor, rules, tests}
-use Rattle.std.proofs.lemmas.Iterator.{YieldsList-from_slice}
-use Rattle.std.proofs.lemmas.Iterator.Search.{any_from_yields_List}
+use Rattle.std.{proofs.lemmas.Iterator.YieldsList-from_slice, proofs.lemmas.Iterator.Search.any_from_yields_List}
 use Rattle.tick_model.specs.Names.{same_name}
 use Rattle.tick_model.proofs.names.is_reserved.Goals as goal
 

@@ -1,8 +1,6 @@
 use Rattle.std.proofs.Common.{◌-◌, sym, ◌∙◌, arith, drop, length-drop}
 use Rattle.std.proofs.lemmas.List.{length-map}
-use Rattle.tick_model.specs.declared.table.PlainRow.{PlainRow}
-use Rattle.tick_model.specs.Tables.{keys}
-use Rattle.tick_model.proofs.RisingNumbers.{rises_alone}
+use Rattle.tick_model.{specs.declared.table.PlainRow.PlainRow, specs.Tables.keys, proofs.RisingNumbers.rises_alone}
 use Rattle.tick_model.proofs.sources.have_rising_keys.Goals as goal
 
 pub returns : goal.returns

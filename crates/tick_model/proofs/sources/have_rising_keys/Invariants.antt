@@ -1,6 +1,5 @@
 use Rattle.std.proofs.Common.{◌≡◌, ◌-◌, drop}
-use Rattle.tick_model.specs.Tables.{keys}
-use Rattle.tick_model.specs.Plans.{rises}
+use Rattle.tick_model.{specs.Tables.keys, specs.Plans.rises}
 use Rattle.tick_model.proofs.sources.have_rising_keys.Given as goal
 
 abbrev pub invariant-loop-i : goal.invariant-loop-i

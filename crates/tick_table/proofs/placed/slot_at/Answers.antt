@@ -1,7 +1,6 @@
 use Rattle.std.proofs.Common.{◌≡◌, refl, ap, sym, ◌∙◌, Option, None, Some, option_copied}
-use Rattle.std.specs.Prelude.{is_some}
+use Rattle.std.{specs.Prelude.is_some, proofs.lemmas.Option.{get_or_from_slice_get, slice_get-get_or}}
 use denote.Ref.{Bor}
-use Rattle.std.proofs.lemmas.Option.{get_or_from_slice_get, slice_get-get_or}
 use Rattle.chunk_list.specs.Chunked.{joined}
 use Rattle.tick_table.proofs.placed.slot_at.Goals as goal
 

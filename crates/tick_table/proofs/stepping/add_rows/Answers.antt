@@ -1,14 +1,9 @@
 use Rattle.std.proofs.Common.{◌≡◌, refl, ap, ap₂, sym, ◌∙◌, subst, true, arith, ◌*◌, ◌≤◌, ◌∷◌, length, drop, take, List, ℕ, ℤ, zero-mul}
 use Rattle.std.specs.List.{insert}
-use Rattle.key_lists.specs.Keys.{is_among, without}
-use Rattle.key_lists.proofs.Every.{filter_all}
+use Rattle.key_lists.{specs.Keys.{is_among, without}, proofs.Every.filter_all}
 use Rattle.row_set.proofs.Yielded.{next_has, yielded_next}
-use Rattle.tick_model.specs.declared.table.PlainRow.{PlainRow}
-use Rattle.tick_model.specs.Changes.{rows_under}
-use Rattle.tick_table.specs.Placed.{paired, put_row, put_rows}
-use Rattle.tick_table.proofs.Edits.{come_to, place_is, put_count, put_now, put_within}
-use Rattle.tick_table.proofs.Paired.{row_of}
-use Rattle.tick_table.proofs.Puts.{rest_next, room_next, row_fits}
+use Rattle.tick_model.{specs.declared.table.PlainRow.PlainRow, specs.Changes.rows_under}
+use Rattle.tick_table.{specs.Placed.{paired, put_row, put_rows}, proofs.Edits.{come_to, place_is, put_count, put_now, put_within}, proofs.Paired.row_of, proofs.Puts.{rest_next, room_next, row_fits}}
 use Rattle.tick_table.proofs.stepping.add_rows.Goals as goal
 
 pub loop-key-init : goal.loop-key-init

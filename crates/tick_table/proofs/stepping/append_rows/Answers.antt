@@ -1,9 +1,6 @@
 use Rattle.std.proofs.Common.{◌≡◌, ap, ap₂, sym, ◌∙◌, subst, arith, ◌*◌, ◌≤◌, ◌++◌, length, length-append, drop, take, List, ℕ, ℤ}
 use Rattle.key_lists.specs.Keys.{without}
-use Rattle.tick_table.specs.Placed.{paired}
-use Rattle.tick_table.specs.Slots.{slot_list}
-use Rattle.tick_table.proofs.Appended.{now_appended, paired_slots}
-use Rattle.tick_table.proofs.SlotCells.{length-slot_list}
+use Rattle.tick_table.{specs.Placed.paired, specs.Slots.slot_list, proofs.Appended.{now_appended, paired_slots}, proofs.SlotCells.length-slot_list}
 use Rattle.tick_table.proofs.stepping.append_rows.Goals as goal
 
 pub overflow_mul-count : goal.overflow_mul-count

@@ -1,16 +1,9 @@
 use Rattle.std.proofs.Common.{◌≡◌, ap, ap₂, sym, ◌∙◌, subst, true, ◌*◌, ◌++◌, length, map, drop, List, ℕ, ℤ}
-use Rattle.std.specs.Prelude.{flat_map}
-use Rattle.std.specs.List.{AllByRecursion}
+use Rattle.std.{specs.Prelude.flat_map, specs.List.AllByRecursion}
 use Rattle.key_lists.specs.Keys.{is_among, without}
 use Rattle.tick_laws.specs.Checked.{keys_after}
-use Rattle.tick_model.specs.declared.table.PlainRow.{PlainRow}
-use Rattle.tick_model.specs.Changes.{rows_under}
-use Rattle.tick_model.specs.Tables.{cells_at}
-use Rattle.tick_table.specs.Placed.{paired, put_rows, stayed}
-use Rattle.tick_table.proofs.Applied.{removed_own}
-use Rattle.tick_table.proofs.Brought.{added_are, added_there, keys_again, modified_own, saved_before}
-use Rattle.tick_table.proofs.Puts.{put_two}
-use Rattle.tick_table.proofs.TableColumns.{length-mapped}
+use Rattle.tick_model.{specs.declared.table.PlainRow.PlainRow, specs.Changes.rows_under, specs.Tables.cells_at}
+use Rattle.tick_table.{specs.Placed.{paired, put_rows, stayed}, proofs.Applied.removed_own, proofs.Brought.{added_are, added_there, keys_again, modified_own, saved_before}, proofs.Puts.put_two, proofs.TableColumns.length-mapped}
 use Rattle.tick_table.proofs.stepping.bring_on.Goals as goal
 
 pub remove_rows-requires-clause-own : goal.remove_rows-requires-clause-own

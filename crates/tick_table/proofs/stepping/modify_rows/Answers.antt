@@ -1,15 +1,9 @@
 use Rattle.std.proofs.Common.{◌≡◌, refl, ap, ap₂, sym, ◌∙◌, subst, true, arith, ◌*◌, ◌≤◌, ◌++◌, ◌∷◌, [], length, drop, take, get_or, set, List, ℕ, ℤ, append-nil}
-use Rattle.std.specs.Prelude.{flat_map}
-use Rattle.std.proofs.lemmas.List.{append_assoc}
+use Rattle.std.{specs.Prelude.flat_map, proofs.lemmas.List.append_assoc}
 use Rattle.key_lists.specs.Keys.{is_among}
 use Rattle.row_set.proofs.Yielded.{next_has, yielded_next}
-use Rattle.tick_model.specs.declared.table.PlainRow.{PlainRow}
-use Rattle.tick_model.specs.Changes.{rows_under}
-use Rattle.tick_model.specs.Tables.{cells_at}
-use Rattle.tick_table.specs.Placed.{paired, put_row, put_rows}
-use Rattle.tick_table.proofs.Edits.{come_to, place_is, set_count, set_now, set_saved, set_within}
-use Rattle.tick_table.proofs.Paired.{row_of}
-use Rattle.tick_table.proofs.Puts.{room_next, row_fits}
+use Rattle.tick_model.{specs.declared.table.PlainRow.PlainRow, specs.Changes.rows_under, specs.Tables.cells_at}
+use Rattle.tick_table.{specs.Placed.{paired, put_row, put_rows}, proofs.Edits.{come_to, place_is, set_count, set_now, set_saved, set_within}, proofs.Paired.row_of, proofs.Puts.{room_next, row_fits}}
 use Rattle.tick_table.proofs.stepping.modify_rows.Goals as goal
 
 pub loop-key-init : goal.loop-key-init

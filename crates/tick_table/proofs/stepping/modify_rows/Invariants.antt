@@ -1,7 +1,6 @@
 use Rattle.std.proofs.Common.{◌≡◌, ◌*◌, ◌≤◌, ◌++◌, length}
 use Rattle.std.specs.Prelude.{IfSome, flat_map}
-use Rattle.tick_model.specs.Changes.{rows_under}
-use Rattle.tick_model.specs.Tables.{cells_at}
+use Rattle.tick_model.{specs.Changes.rows_under, specs.Tables.cells_at}
 use Rattle.tick_table.specs.Placed.{IsRowPlace, paired, put_rows}
 use Rattle.tick_table.proofs.stepping.modify_rows.Given as goal
 

@@ -1,12 +1,8 @@
 use Rattle.std.proofs.Common.{ap, subst, ◌<◌, ◌≤◌, ◌^◌, arith, Option, ℕ}
 use Rattle.std.specs.Prelude.{IfSome}
-use Rattle.key_lists.proofs.Among.{of_among}
-use Rattle.key_lists.proofs.Every.{every}
-use Rattle.key_lists.proofs.Rising.{rising_count}
+use Rattle.key_lists.{proofs.Among.of_among, proofs.Every.every, proofs.Rising.rising_count}
 use Rattle.row_set.specs.Sets.{count_below}
-use Rattle.tick_table.specs.declared.stepping.RowPlace.{RowPlace}
-use Rattle.tick_table.specs.Placed.{IsRowPlace}
-use Rattle.tick_table.proofs.Paired.{count_next, place_below}
+use Rattle.tick_table.{specs.declared.stepping.RowPlace.RowPlace, specs.Placed.IsRowPlace, proofs.Paired.{count_next, place_below}}
 use Rattle.tick_table.proofs.stepping.place_after.Goals as goal
 
 pub overflow_add-place : goal.overflow_add-place

@@ -1,13 +1,9 @@
 use Rattle.std.proofs.Common.{◌≡◌, refl, ap, ap₂, sym, ◌∙◌, subst, true, arith, ◌-◌, ◌++◌, ◌∷◌, [], length, map, List, ℕ, ℤ}
 use Rattle.std.proofs.lemmas.List.{map-append}
-use Rattle.key_lists.specs.Keys.{is_among, without}
-use Rattle.key_lists.proofs.Every.{filter_all}
-use Rattle.row_set.specs.Sets.{count_below}
-use Rattle.row_set.proofs.Yielded.{next_has, yielded_all, yielded_next}
-use Rattle.tick_model.specs.Tables.{cells_at}
-use Rattle.tick_model.specs.Updates.{removing}
-use Rattle.tick_table.specs.Placed.{paired}
-use Rattle.tick_table.proofs.Edits.{come_to, taken_cells, taken_count, taken_now, taken_position, taken_within}
+use Rattle.key_lists.{specs.Keys.{is_among, without}, proofs.Every.filter_all}
+use Rattle.row_set.{specs.Sets.count_below, proofs.Yielded.{next_has, yielded_all, yielded_next}}
+use Rattle.tick_model.{specs.Tables.cells_at, specs.Updates.removing}
+use Rattle.tick_table.{specs.Placed.paired, proofs.Edits.{come_to, taken_cells, taken_count, taken_now, taken_position, taken_within}}
 use Rattle.tick_table.proofs.stepping.remove_rows.Goals as goal
 
 pub loop-key-init : goal.loop-key-init

@@ -1,8 +1,7 @@
 use Rattle.std.proofs.Common.{◌≡◌, length, map}
 use Rattle.std.specs.Prelude.{IfSome}
 use Rattle.key_lists.specs.Keys.{without}
-use Rattle.tick_model.specs.Tables.{cells_at}
-use Rattle.tick_model.specs.Updates.{removing}
+use Rattle.tick_model.{specs.Tables.cells_at, specs.Updates.removing}
 use Rattle.tick_table.specs.Placed.{IsRowPlace, paired}
 use Rattle.tick_table.proofs.stepping.remove_rows.Given as goal
 

@@ -1,9 +1,6 @@
 use Rattle.std.proofs.Common.{rules, ◌≡◌, ◌-◌, ◌^◌, ◌<◌, ◌≤◌, ◌∙◌, sym, ap, subst, arith, length}
 use lib.ListN.{get_elem?}
-use Rattle.update_graph.proofs.ClaimedWorks.{claimed, count_works, whole_works, works_tagged}
-use Rattle.update_graph.proofs.PlanEdges.{edge_ends, few_edges}
-use Rattle.update_graph.proofs.PlanLimits.{few_nodes}
-use Rattle.update_graph.proofs.WorkSent.{sent}
+use Rattle.update_graph.{proofs.ClaimedWorks.{claimed, count_works, whole_works, works_tagged}, proofs.PlanEdges.{edge_ends, few_edges}, proofs.PlanLimits.few_nodes, proofs.WorkSent.sent}
 use Rattle.update_graph.proofs.crew_step.begin_step.Goals as goal
 
 pub overflow_cast-nodes : goal.overflow_cast-nodes

@@ -1,8 +1,5 @@
 use Rattle.std.proofs.Common.{◌≡◌, ◌∙◌, ◌-◌, ap, sym, subst, length, map}
-use Rattle.update_graph.specs.Stands.{Follows, ForEach}
-use Rattle.update_graph.specs.Tags.{named, operators, tags}
-use Rattle.update_graph.proofs.ClaimedWorks.{no_nodes}
-use Rattle.update_graph.proofs.Sweeping.{numbers_in_order, ran_once}
+use Rattle.update_graph.{specs.Stands.{Follows, ForEach}, specs.Tags.{named, operators, tags}, proofs.ClaimedWorks.no_nodes, proofs.Sweeping.{numbers_in_order, ran_once}}
 use Rattle.update_graph.proofs.crew_step.crew_step.Goals as goal
 
 pub returns-then-is_empty-clause-ran : goal.returns-then-is_empty-clause-ran

@@ -2,11 +2,7 @@ use Rattle.std.proofs.Common.{ap, subst, ◌∙◌, ◌<◌, ◌+◌, sym, lengt
 use Rattle.std.specs.Prelude.{filter}
 use lib.ListN.{get_elem?}
 use Rattle.graph_words.specs.Seats.{HasEachOnce}
-use Rattle.update_graph.specs.Tags.{is_operator}
-use Rattle.update_graph.proofs.Claimed.{run_is}
-use Rattle.update_graph.proofs.ClaimedWorks.{works_back}
-use Rattle.update_graph.proofs.Sweeping.{each_once, tickets_in_order}
-use Rattle.update_graph.proofs.WorkSent.{sent}
+use Rattle.update_graph.{specs.Tags.is_operator, proofs.Claimed.run_is, proofs.ClaimedWorks.works_back, proofs.Sweeping.{each_once, tickets_in_order}, proofs.WorkSent.sent}
 use Rattle.update_graph.proofs.crew_step.end_step.Goals as goal
 
 pub operators_in-requires : goal.operators_in-requires

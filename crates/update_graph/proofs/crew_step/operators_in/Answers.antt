@@ -1,7 +1,6 @@
 use Rattle.std.proofs.Common.{ap, sym, ◌∙◌, ◌++◌, ◌∷◌, [], cond, get_or}
 use Rattle.std.proofs.lemmas.List.Elements.{filter_more}
-use Rattle.update_graph.specs.Tags.{is_operator}
-use Rattle.update_graph.proofs.PlanEdges.{item_there}
+use Rattle.update_graph.{specs.Tags.is_operator, proofs.PlanEdges.item_there}
 use Rattle.update_graph.proofs.crew_step.operators_in.Goals as goal
 
 pub put_operator-requires : goal.put_operator-requires

@@ -1,7 +1,6 @@
 use Rattle.std.proofs.Common.{ap, sym, ◌∙◌, ◌++◌, ◌∷◌, [], append_assoc, get_or, take}
 use Rattle.graph_words.specs.declared.graph.Edge.{Edge}
-use Rattle.update_graph.specs.Edges.{input_edges}
-use Rattle.update_graph.proofs.PlanEdges.{more_into}
+use Rattle.update_graph.{specs.Edges.input_edges, proofs.PlanEdges.more_into}
 use Rattle.update_graph.proofs.edges.add_edges.Goals as goal
 
 pub loop-port-preserved : goal.loop-port-preserved

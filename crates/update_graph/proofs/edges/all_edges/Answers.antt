@@ -1,10 +1,7 @@
 use Rattle.std.proofs.Common.{◌<◌, ◌++◌, ap, ap₂, sym, ◌∙◌, subst, arith, get_or, length}
 use Rattle.std.proofs.lemmas.List.{get_or_default}
-use Rattle.tick_model.specs.declared.plan.Node.{Node}
-use Rattle.tick_model.specs.Operators.{inputs_of}
-use Rattle.update_graph.specs.Edges.{input_edges}
-use Rattle.update_graph.specs.Tags.{no_node}
-use Rattle.update_graph.proofs.PlanEdges.{more_from, node_few}
+use Rattle.tick_model.{specs.declared.plan.Node.Node, specs.Operators.inputs_of}
+use Rattle.update_graph.{specs.Edges.input_edges, specs.Tags.no_node, proofs.PlanEdges.{more_from, node_few}}
 use Rattle.update_graph.proofs.edges.all_edges.Goals as goal
 
 pub add_edges-requires : goal.add_edges-requires

@@ -1,6 +1,5 @@
 use Rattle.std.proofs.Common.{◌∷◌, [], ◌≡◌, ap, sym, subst, arith, length, length-append}
-use Rattle.update_graph.specs.Edges.{numbers_at}
-use Rattle.update_graph.proofs.Numbered.{empty_more}
+use Rattle.update_graph.{specs.Edges.numbers_at, proofs.Numbered.empty_more}
 use Rattle.update_graph.proofs.edges.empty_lists.Goals as goal
 
 pub loop-preserved : goal.loop-preserved

@@ -1,14 +1,7 @@
 use Rattle.std.proofs.Common.{◌+◌, ◌<◌, ◌∙◌, sym, ap, subst, length}
 use lib.ListN.{get_elem?}
-use Rattle.graph_words.specs.declared.table.Mark.TheVariants.{Taken, PutBack}
-use Rattle.graph_words.specs.Marks.{at}
-use Rattle.graph_words.proofs.Marks.{at_put}
-use Rattle.update_graph.specs.Steps.{IsHanding}
-use Rattle.update_graph.specs.Tags.{Tag}
-use Rattle.update_graph.proofs.Claimed.{ends_claimed, few_claimed, run_is, small_of_step, step_of_claims}
-use Rattle.update_graph.proofs.FirstSeat.{next_unopened, opened_kept, opened_more}
-use Rattle.update_graph.proofs.Following.{source_follows, source_is}
-use Rattle.update_graph.proofs.WorkSent.{sent}
+use Rattle.graph_words.{specs.declared.table.Mark.TheVariants.{Taken, PutBack}, specs.Marks.at, proofs.Marks.at_put}
+use Rattle.update_graph.{specs.Steps.IsHanding, specs.Tags.Tag, proofs.Claimed.{ends_claimed, few_claimed, run_is, small_of_step, step_of_claims}, proofs.FirstSeat.{next_unopened, opened_kept, opened_more}, proofs.Following.{source_follows, source_is}, proofs.WorkSent.sent}
 use Rattle.update_graph.proofs.first_seat.open_source.Goals as goal
 
 pub take_work-requires-clause-whole : goal.take_work-requires-clause-whole

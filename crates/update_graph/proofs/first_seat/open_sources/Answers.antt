@@ -1,15 +1,8 @@
 use Rattle.std.proofs.Common.{◌+◌, ◌<◌, ap, sym, ◌∙◌, refl, subst, arith, get_or, false}
 use Rattle.std.proofs.lemmas.List.{get_or_default}
-use Rattle.graph_words.specs.Seats.{IsSeatOf}
-use Rattle.graph_words.specs.Views.{first_view}
+use Rattle.graph_words.{specs.Seats.IsSeatOf, specs.Views.first_view}
 use Rattle.tick_model.specs.Evaluation.{is_source}
-use Rattle.update_graph.specs.Holdings.{IsOpened}
-use Rattle.update_graph.specs.Tags.{no_node}
-use Rattle.update_graph.proofs.Claimed.{node_within, operator_is}
-use Rattle.update_graph.proofs.FirstSeat.{opened_back, opened_first, opened_held, opened_skip}
-use Rattle.update_graph.proofs.Numbering.{next_source, no_next_source}
-use Rattle.update_graph.proofs.first_seat.open_sources.Goals.{then-is_source+in_ok-work+in_ok-open_source+in-None-1, then-is_source+in_ok-work+in_ok-open_source+in-Some-1, else-is_source}
-use Rattle.update_graph.proofs.WorkSent.{sent}
+use Rattle.update_graph.{specs.Holdings.IsOpened, specs.Tags.no_node, proofs.Claimed.{node_within, operator_is}, proofs.FirstSeat.{opened_back, opened_first, opened_held, opened_skip}, proofs.Numbering.{next_source, no_next_source}, proofs.first_seat.open_sources.Goals.{then-is_source+in_ok-work+in_ok-open_source+in-None-1, then-is_source+in_ok-work+in_ok-open_source+in-Some-1, else-is_source}, proofs.WorkSent.sent}
 use Rattle.update_graph.proofs.first_seat.open_sources.Goals as goal
 
 pub loop-node-init : goal.loop-node-init

@@ -1,15 +1,10 @@
 use Rattle.std.proofs.Common.{ap, sym, ◌∙◌, subst, ◌<◌, length, get_or}
-use Rattle.std.specs.List.{AllByRecursion}
+use Rattle.std.{specs.List.AllByRecursion, specs.Prelude.map}
 use Rattle.table_operator.specs.Inputs.{tables}
 use Rattle.source_changes.specs.Faults.{IsFault}
-use Rattle.tick_laws.specs.Bounded.{AreSourceTables}
-use Rattle.tick_laws.proofs.LawfulSources.{sources_bounded}
-use Rattle.tick_model.specs.declared.feed.Batch.{Batch}
-use Rattle.tick_model.specs.Changes.{change_of}
-use Rattle.tick_model.specs.LawfulRuns.{IsLawfulBlock, sources_of}
-use Rattle.std.specs.Prelude.{map}
-use Rattle.update_graph.proofs.Batches.{entered_next, fault_is, keys_after, known_are, known_keys, ticks_are}
-use Rattle.update_graph.proofs.Changing.{at_place}
+use Rattle.tick_laws.{specs.Bounded.AreSourceTables, proofs.LawfulSources.sources_bounded}
+use Rattle.tick_model.{specs.declared.feed.Batch.Batch, specs.Changes.change_of, specs.LawfulRuns.{IsLawfulBlock, sources_of}}
+use Rattle.update_graph.{proofs.Batches.{entered_next, fault_is, keys_after, known_are, known_keys, ticks_are}, proofs.Changing.at_place}
 use Rattle.update_graph.proofs.graph.changes_of.Goals as goal
 
 pub changes-requires-clause-blocks : goal.changes-requires-clause-blocks

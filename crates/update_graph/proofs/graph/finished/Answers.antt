@@ -1,13 +1,7 @@
 use Rattle.std.proofs.Common.{refl, ap, sym, subst, ◌∙◌, ◌+◌, arith, length, map}
 use Rattle.tick_laws.proofs.ReachedTables.{reached_tables}
-use Rattle.tick_model.specs.Spoiled.{node_fault}
-use Rattle.tick_model.specs.States.{state}
-use Rattle.update_graph.specs.Graphs.{IsGraph, reads_at}
-use Rattle.update_graph.specs.Stands.{HasStepped}
-use Rattle.update_graph.specs.Tags.{all_reads, named}
-use Rattle.update_graph.proofs.ClaimedWorks.{count_works}
-use Rattle.update_graph.proofs.PlanLimits.{few_nodes}
-use Rattle.update_graph.proofs.Sweeping.{found_fault, found_none, reached_here}
+use Rattle.tick_model.{specs.Spoiled.node_fault, specs.States.state}
+use Rattle.update_graph.{specs.Graphs.{IsGraph, reads_at}, specs.Stands.HasStepped, specs.Tags.{all_reads, named}, proofs.ClaimedWorks.count_works, proofs.PlanLimits.few_nodes, proofs.Sweeping.{found_fault, found_none, reached_here}}
 use Rattle.update_graph.proofs.graph.finished.Goals as goal
 
 pub least_fault-requires : goal.least_fault-requires

@@ -1,7 +1,6 @@
 use Rattle.std.proofs.Common.{refl, sym, ◌∙◌, arith, length}
 use Rattle.std.proofs.lemmas.Option.{none-some}
-use Rattle.update_graph.proofs.ClaimedWorks.{count_works}
-use Rattle.update_graph.proofs.Sweeping.{found_here, no_fault_here, no_fault_left, stepped_more}
+use Rattle.update_graph.{proofs.ClaimedWorks.count_works, proofs.Sweeping.{found_here, no_fault_here, no_fault_left, stepped_more}}
 use Rattle.update_graph.proofs.graph.least_fault.Goals as goal
 
 pub loop-node-init : goal.loop-node-init

@@ -1,9 +1,6 @@
 use Rattle.std.proofs.Common.{◌≡◌, ℕ, drop, length, map}
-use Rattle.tick_model.specs.declared.feed.Run.{Run}
-use Rattle.tick_model.specs.Spoiled.{node_fault}
-use Rattle.tick_model.specs.States.{state}
-use Rattle.update_graph.specs.Tags.{all_reads, named, tags}
-use Rattle.update_graph.proofs.Sweeping.{SteppedBelow}
+use Rattle.tick_model.{specs.declared.feed.Run.Run, specs.Spoiled.node_fault, specs.States.state}
+use Rattle.update_graph.{specs.Tags.{all_reads, named, tags}, proofs.Sweeping.SteppedBelow}
 use Rattle.update_graph.proofs.graph.least_fault.Given as goal
 
 abbrev pub invariant-loop-node : goal.invariant-loop-node

@@ -1,13 +1,6 @@
 use Rattle.std.proofs.Common.{ap, sym, ◌∙◌, subst, ◌+◌, ◌-◌, arith, length, map}
-use Rattle.std.proofs.lemmas.Iterator.Adapters.{YieldsList-from_vec}
-use Rattle.std.proofs.lemmas.Iterator.Consumers.{YieldsList-turn, YieldsList-end}
-use Rattle.std.proofs.lemmas.List.{length_push, map-id}
-use Rattle.update_graph.specs.Stands.{Follows, ForEach}
-use Rattle.update_graph.specs.Sweeps.{IsSwept}
-use Rattle.update_graph.specs.Tags.{named, tag}
-use Rattle.update_graph.proofs.ClaimedWorks.{count_works}
-use Rattle.update_graph.proofs.Following.{each_more, each_none}
-use Rattle.update_graph.proofs.Sweeping.{is_named}
+use Rattle.std.{proofs.lemmas.Iterator.Adapters.YieldsList-from_vec, proofs.lemmas.Iterator.Consumers.{YieldsList-turn, YieldsList-end}, proofs.lemmas.List.{length_push, map-id}}
+use Rattle.update_graph.{specs.Stands.{Follows, ForEach}, specs.Sweeps.IsSwept, specs.Tags.{named, tag}, proofs.ClaimedWorks.count_works, proofs.Following.{each_more, each_none}, proofs.Sweeping.is_named}
 use Rattle.update_graph.proofs.in_order.advance_all.Goals as goal
 
 pub advance_node-requires-clause-swept : goal.advance_node-requires-clause-swept

@@ -1,6 +1,5 @@
 use Rattle.std.proofs.Common.{length}
-use Rattle.update_graph.specs.Stands.{Follows, ForEach}
-use Rattle.update_graph.specs.Sweeps.{IsSwept}
+use Rattle.update_graph.{specs.Stands.{Follows, ForEach}, specs.Sweeps.IsSwept}
 use Rattle.update_graph.proofs.in_order.advance_all.Given as goal
 
 abbrev pub invariant-loop-work : goal.invariant-loop-work

@@ -1,15 +1,8 @@
 use Rattle.std.proofs.Common.{ap, sym, ◌∙◌, subst, ◌<◌, length, get_or}
-use Rattle.std.specs.List.{AllByRecursion}
-use Rattle.std.proofs.lemmas.List.{get_or_default}
+use Rattle.std.{specs.List.AllByRecursion, proofs.lemmas.List.get_or_default}
 use Rattle.tick_laws.specs.Reached.{table_before}
-use Rattle.tick_model.specs.declared.plan.Node.{Node}
-use Rattle.tick_model.specs.Operators.{inputs_of}
-use Rattle.update_graph.specs.declared.work.Ready.{Ready}
-use Rattle.update_graph.specs.Stands.{IsReady}
-use Rattle.update_graph.specs.Tags.{no_node}
-use Rattle.update_graph.proofs.ClaimedWorks.{next_step}
-use Rattle.update_graph.proofs.EnteredTicks.{lesser}
-use Rattle.update_graph.proofs.Sweeping.{length-tags}
+use Rattle.tick_model.{specs.declared.plan.Node.Node, specs.Operators.inputs_of}
+use Rattle.update_graph.{specs.declared.work.Ready.Ready, specs.Stands.IsReady, specs.Tags.no_node, proofs.ClaimedWorks.next_step, proofs.EnteredTicks.lesser, proofs.Sweeping.length-tags}
 use Rattle.update_graph.proofs.in_order.advance_node.Goals as goal
 
 pub into_ready-ready-requires-clause-next : goal.into_ready-ready-requires-clause-next

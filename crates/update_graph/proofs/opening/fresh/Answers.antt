@@ -1,20 +1,10 @@
 use Rattle.std.proofs.Common.{◌≡◌, refl, ap, sym, ◌∙◌, subst, ◌<◌, arith, [], length, map}
-use Rattle.std.specs.List.{AllByRecursion}
-use Rattle.std.proofs.lemmas.List.{length-map}
-use Rattle.std.proofs.lemmas.Bool.{not-true}
+use Rattle.std.{specs.List.AllByRecursion, proofs.lemmas.List.length-map, proofs.lemmas.Bool.not-true}
 use Rattle.key_lists.proofs.Every.{every_weaker}
-use Rattle.operators.specs.Operating.{CanBeMade, Operating, StandsFor}
-use Rattle.operators.specs.Planned.{input_widths}
-use Rattle.tick_model.specs.declared.plan.Op.{Op}
-use Rattle.tick_model.specs.Evaluation.{is_source}
-use Rattle.tick_model.specs.Operators.{inputs_of}
-use Rattle.tick_model.specs.Plans.{columns_at}
+use Rattle.operators.{specs.Operating.{CanBeMade, Operating, StandsFor}, specs.Planned.input_widths}
+use Rattle.tick_model.{specs.declared.plan.Op.Op, specs.Evaluation.is_source, specs.Operators.inputs_of, specs.Plans.columns_at}
 use Rattle.tick_table.specs.Ticking.{Ticking, no_rows}
-use Rattle.update_graph.specs.Stands.{HasStepped}
-use Rattle.update_graph.specs.Tags.{node_at}
-use Rattle.update_graph.proofs.EnteredTicks.{lesser}
-use Rattle.update_graph.proofs.OperatorLaws.{begin_inputs, begin_own, can_be_made}
-use Rattle.update_graph.proofs.StepInputs.{ok_is}
+use Rattle.update_graph.{specs.Stands.HasStepped, specs.Tags.node_at, proofs.EnteredTicks.lesser, proofs.OperatorLaws.{begin_inputs, begin_own, can_be_made}, proofs.StepInputs.ok_is}
 use Rattle.update_graph.proofs.opening.fresh.Goals as goal
 
 pub widths_of-requires-clause-inputs : goal.widths_of-requires-clause-inputs

@@ -1,6 +1,5 @@
 use Rattle.std.proofs.Common.{◌≡◌, ap, sym, subst, ◌+◌, arith, length}
-use Rattle.update_graph.specs.Sweeps.{IsSwept}
-use Rattle.update_graph.proofs.ClaimedWorks.{count_works}
+use Rattle.update_graph.{specs.Sweeps.IsSwept, proofs.ClaimedWorks.count_works}
 use Rattle.update_graph.proofs.opening.open_all.Goals as goal
 
 pub open_node-requires-clause-swept : goal.open_node-requires-clause-swept

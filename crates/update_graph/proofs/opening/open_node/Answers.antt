@@ -1,11 +1,7 @@
 use Rattle.std.proofs.Common.{ap, sym, ◌∙◌, subst, ◌<◌, length, get_or}
-use Rattle.std.specs.List.{AllByRecursion}
-use Rattle.std.proofs.lemmas.List.{get_or_default}
-use Rattle.tick_model.specs.declared.plan.Node.{Node}
-use Rattle.tick_model.specs.Operators.{inputs_of}
-use Rattle.update_graph.specs.Tags.{no_node, op_at}
-use Rattle.update_graph.proofs.EnteredTicks.{lesser}
-use Rattle.update_graph.proofs.Sweeping.{length-tags}
+use Rattle.std.{specs.List.AllByRecursion, proofs.lemmas.List.get_or_default}
+use Rattle.tick_model.{specs.declared.plan.Node.Node, specs.Operators.inputs_of}
+use Rattle.update_graph.{specs.Tags.{no_node, op_at}, proofs.EnteredTicks.lesser, proofs.Sweeping.length-tags}
 use Rattle.update_graph.proofs.opening.open_node.Goals as goal
 
 pub shares_for-requires-clause-inputs : goal.shares_for-requires-clause-inputs

@@ -2,8 +2,7 @@ use Rattle.std.proofs.Common.{ap, sym, ◌∙◌, arith, length, get_or}
 use Rattle.std.proofs.lemmas.List.{get_or_default}
 use Rattle.tick_laws.proofs.LawfulPlans.{columns_at-node}
 use Rattle.tick_model.specs.declared.plan.Node.{Node}
-use Rattle.update_graph.specs.Tags.{no_node}
-use Rattle.update_graph.proofs.PlanLimits.{width_at}
+use Rattle.update_graph.{specs.Tags.no_node, proofs.PlanLimits.width_at}
 use Rattle.update_graph.proofs.opening.width_of.Goals as goal
 
 pub returns-clause-width : goal.returns-clause-width

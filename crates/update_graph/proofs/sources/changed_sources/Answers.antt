@@ -1,11 +1,6 @@
 use Rattle.std.proofs.Common.{arith, length, get_or}
-use Rattle.std.specs.Iterator.Adapters.{zip_first, zip_second}
-use Rattle.std.proofs.lemmas.Iterator.{YieldsList-from_zip}
-use Rattle.std.proofs.lemmas.Iterator.Adapters.{YieldsList-from_vec}
-use Rattle.std.proofs.lemmas.Iterator.Consumers.{YieldsList-turn, YieldsList-end}
-use Rattle.std.proofs.lemmas.List.{length_push}
-use Rattle.tick_laws.proofs.LawfulSources.{lawful_tables}
-use Rattle.tick_laws.proofs.SourceTicks.{source_tick}
+use Rattle.std.{specs.Iterator.Adapters.{zip_first, zip_second}, proofs.lemmas.Iterator.YieldsList-from_zip, proofs.lemmas.Iterator.Adapters.YieldsList-from_vec, proofs.lemmas.Iterator.Consumers.{YieldsList-turn, YieldsList-end}, proofs.lemmas.List.length_push}
+use Rattle.tick_laws.{proofs.LawfulSources.lawful_tables, proofs.SourceTicks.source_tick}
 use Rattle.tick_model.specs.Sources.{source_ticks, no_tick}
 use Rattle.update_graph.proofs.Changing.{all_turned, change_fits, change_lawful, length_pairs, turn_at, turned}
 use Rattle.update_graph.proofs.sources.changed_sources.Goals as goal

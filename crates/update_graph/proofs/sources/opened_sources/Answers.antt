@@ -1,12 +1,8 @@
 use Rattle.std.proofs.Common.{length}
-use Rattle.source_changes.proofs.Opened.{opened_tables}
-use Rattle.source_changes.specs.Openings.{IsOpenedTable}
-use Rattle.tick_laws.proofs.LawfulSources.{lawful_tables}
-use Rattle.tick_laws.proofs.SourceTicks.{opened_tick}
-use Rattle.tick_model.specs.LawfulRuns.{sources_of}
-use Rattle.tick_model.specs.Tables.{IsTable}
-use Rattle.update_graph.proofs.Changing.{at_place}
-use Rattle.update_graph.proofs.PlanLimits.{IsNarrow, narrow_openings}
+use Rattle.source_changes.{proofs.Opened.opened_tables, specs.Openings.IsOpenedTable}
+use Rattle.tick_laws.{proofs.LawfulSources.lawful_tables, proofs.SourceTicks.opened_tick}
+use Rattle.tick_model.{specs.LawfulRuns.sources_of, specs.Tables.IsTable}
+use Rattle.update_graph.{proofs.Changing.at_place, proofs.PlanLimits.{IsNarrow, narrow_openings}}
 use Rattle.update_graph.proofs.sources.opened_sources.Goals as goal
 
 pub opened_source-requires-clause-opened : goal.opened_source-requires-clause-opened

@@ -1,13 +1,9 @@
 use Rattle.std.proofs.Common.{refl, ap₂, ◌∙◌, List, ℤ}
-use Rattle.std.specs.Arc.{arc_value}
-use Rattle.std.proofs.lemmas.Result.{on_ok_weaker}
+use Rattle.std.{specs.Arc.arc_value, proofs.lemmas.Result.on_ok_weaker}
 use Rattle.tick_laws.proofs.SourceTicks.{unchanged_tick}
-use Rattle.tick_model.specs.Changes.{Change}
-use Rattle.tick_model.specs.Sources.{unchanged}
-use Rattle.tick_model.specs.Updates.{Update}
+use Rattle.tick_model.{specs.Changes.Change, specs.Sources.unchanged, specs.Updates.Update}
 use Rattle.tick_table.specs.Ticking.{Ticking}
-use Rattle.update_graph.proofs.Changing.{change_fits, change_lawful}
-use Rattle.update_graph.proofs.Staying.{no_change}
+use Rattle.update_graph.{proofs.Changing.{change_fits, change_lawful}, proofs.Staying.no_change}
 use Rattle.update_graph.proofs.sources.rest_table.Goals as goal
 
 pub change_table-requires-clause-lawful : goal.change_table-requires-clause-lawful

@@ -2,13 +2,8 @@ use Rattle.std.proofs.Common.{◌≡◌, ◌+◌, ◌<◌, ◌∙◌, sym, ap, a
 use Rattle.std.proofs.lemmas.Bool.{eqb-true}
 use Rattle.steal_workers.proofs.Holding.{has_mark}
 use lib.ListN.{get_elem?}
-use Rattle.graph_words.specs.Marks.{at}
-use Rattle.graph_words.specs.declared.table.Mark.TheVariants.{PutBack}
-use Rattle.update_graph.specs.Edges.{comes_from, numbers_of}
-use Rattle.update_graph.specs.Steps.{IsHanding}
-use Rattle.update_graph.specs.Tags.{tag}
-use Rattle.update_graph.proofs.CrewNodes.{handing_had, handing_more, handing_none, handing_past}
-use Rattle.update_graph.proofs.Walking.{along_end, along_first, along_next, along_past, next_passes, next_there, no_edge}
+use Rattle.graph_words.{specs.Marks.at, specs.declared.table.Mark.TheVariants.PutBack}
+use Rattle.update_graph.{specs.Edges.{comes_from, numbers_of}, specs.Steps.IsHanding, specs.Tags.tag, proofs.CrewNodes.{handing_had, handing_more, handing_none, handing_past}, proofs.Walking.{along_end, along_first, along_next, along_past, next_passes, next_there, no_edge}}
 use Rattle.update_graph.proofs.step_work.hand_all.Goals as goal
 
 pub to-to-requires : goal.to-to-requires

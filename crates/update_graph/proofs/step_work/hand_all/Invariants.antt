@@ -1,8 +1,6 @@
 use Rattle.std.proofs.Common.{drop}
 use Rattle.graph_words.specs.Seats.{IsSeatOf}
-use Rattle.update_graph.specs.Edges.{comes_from}
-use Rattle.update_graph.specs.Steps.{IsHanding}
-use Rattle.update_graph.proofs.Walking.{IsAlong}
+use Rattle.update_graph.{specs.Edges.comes_from, specs.Steps.IsHanding, proofs.Walking.IsAlong}
 use Rattle.update_graph.proofs.step_work.hand_all.Given as goal
 
 abbrev pub invariant-loop-number : goal.invariant-loop-number

@@ -1,15 +1,7 @@
 use Rattle.std.proofs.Common.{◌≡◌, sym, subst, get_or, Some, None, append-nil, ℕ, Bool}
-use Rattle.graph_words.specs.declared.graph.Plan.{Plan}
-use Rattle.graph_words.specs.declared.table.Mark.TheVariants.{Delivered, Unmarked}
-use Rattle.graph_words.specs.declared.table.View.{View}
-use Rattle.graph_words.specs.Marks.{at}
-use Rattle.graph_words.specs.Views.{IsUntouched, gets, mark_late, mark_out}
+use Rattle.graph_words.{specs.declared.graph.Plan.Plan, specs.declared.table.Mark.TheVariants.{Delivered, Unmarked}, specs.declared.table.View.View, specs.Marks.at, specs.Views.{IsUntouched, gets, mark_late, mark_out}}
 use Rattle.steal_workers.proofs.Listing.{unlisted}
-use Rattle.update_graph.specs.Tags.{Kept}
-use Rattle.update_graph.proofs.Handing.{delivered_last, delivered_only, had_marked}
-use Rattle.update_graph.proofs.PlanEdges.{item_there}
-use Rattle.update_graph.proofs.Walking.{no_edge}
-use Rattle.update_graph.proofs.WorkSent.{sent}
+use Rattle.update_graph.{specs.Tags.Kept, proofs.Handing.{delivered_last, delivered_only, had_marked}, proofs.PlanEdges.item_there, proofs.Walking.no_edge, proofs.WorkSent.sent}
 use Rattle.update_graph.proofs.step_work.hand_over.Goals as goal
 
 -- the view after the delivery, where the edge goes to this node

@@ -1,6 +1,5 @@
 use Rattle.std.proofs.Common.{sym, subst, [], ◌∷◌, get_or, take}
-use Rattle.std.specs.List.{AllByRecursion}
-use Rattle.std.proofs.lemmas.List.{take_more}
+use Rattle.std.{specs.List.AllByRecursion, proofs.lemmas.List.take_more}
 use Rattle.key_lists.proofs.Every.{every-append}
 use Rattle.update_graph.specs.Stands.{Stays}
 use Rattle.update_graph.proofs.sweep.all_stay.Goals as goal

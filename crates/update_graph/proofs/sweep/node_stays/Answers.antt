@@ -1,7 +1,5 @@
 use Rattle.std.proofs.Common.{subst, length}
-use Rattle.update_graph.specs.Stands.{Stays}
-use Rattle.update_graph.specs.Tags.{Tag}
-use Rattle.update_graph.proofs.Sweeping.{is_tag}
+use Rattle.update_graph.{specs.Stands.Stays, specs.Tags.Tag, proofs.Sweeping.is_tag}
 use Rattle.update_graph.proofs.sweep.node_stays.Goals as goal
 
 pub returns : goal.returns

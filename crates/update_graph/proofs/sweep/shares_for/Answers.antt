@@ -1,9 +1,7 @@
 use Rattle.std.proofs.Common.{ap, ap₂, sym, ◌∙◌, subst, ◌<◌, ◌++◌, ◌∷◌, [], length, get_or}
-use Rattle.std.specs.List.{AllByRecursion}
-use Rattle.std.proofs.lemmas.List.{map_more}
+use Rattle.std.{specs.List.AllByRecursion, proofs.lemmas.List.map_more}
 use Rattle.key_lists.proofs.Every.{all_from}
-use Rattle.update_graph.specs.Tags.{Tag, tag}
-use Rattle.update_graph.proofs.Sweeping.{is_tag}
+use Rattle.update_graph.{specs.Tags.{Tag, tag}, proofs.Sweeping.is_tag}
 use Rattle.update_graph.proofs.sweep.shares_for.Goals as goal
 
 pub copy-requires : goal.copy-requires

@@ -1,8 +1,7 @@
 use Rattle.std.proofs.Common.{sym, ◌∙◌, subst, ◌<◌, length}
 use Rattle.std.proofs.lemmas.Bool.{not-false}
 use Rattle.tick_model.specs.Evaluation.{is_source}
-use Rattle.update_graph.specs.Tags.{node_at}
-use Rattle.update_graph.proofs.Sweeping.{place_there, source_defined, source_shown}
+use Rattle.update_graph.{specs.Tags.node_at, proofs.Sweeping.{place_there, source_defined, source_shown}}
 use Rattle.update_graph.proofs.sweep.source_at.Goals as goal
 
 pub bounds-sources-place : goal.bounds-sources-place

@@ -1,18 +1,10 @@
 use Rattle.std.proofs.Common.{refl, ap, sym, ◌∙◌, subst, ◌+◌, ◌-◌, ◌≤◌, arith, true≢false, None, Vec, Global}
-use Rattle.std.proofs.lemmas.Bool.{not-true}
+use Rattle.std.{proofs.lemmas.Bool.not-true, specs.Prelude.option_map, specs.declared.sync.Arc.Arc}
 use Rattle.table_operator.specs.Made.{IsCause}
 use Rattle.operators.specs.Operating.{StandsFor}
-use Rattle.std.specs.Prelude.{option_map}
-use Rattle.std.specs.declared.sync.Arc.{Arc}
-use Rattle.tick_model.specs.Evaluation.{has_table, is_source}
-use Rattle.tick_model.specs.Operators.{fault_of}
-use Rattle.tick_model.specs.States.{tick}
+use Rattle.tick_model.{specs.Evaluation.{has_table, is_source}, specs.Operators.fault_of, specs.States.tick}
 use Rattle.tick_table.specs.Ticking.{Ticking}
-use Rattle.update_graph.specs.Stands.{AreHanded, HasStepped}
-use Rattle.update_graph.specs.Tags.{node_at}
-use Rattle.update_graph.proofs.Changing.{change_fits, change_lawful}
-use Rattle.update_graph.proofs.Counting.{defined_all, stepped_once}
-use Rattle.update_graph.proofs.StepInputs.{exact_are, handed, keys_are, news_are, no_input, olds_are, own_change, own_fault, own_ticks, rows_are, tried_by, tried_is, widths_are}
+use Rattle.update_graph.{specs.Stands.{AreHanded, HasStepped}, specs.Tags.node_at, proofs.Changing.{change_fits, change_lawful}, proofs.Counting.{defined_all, stepped_once}, proofs.StepInputs.{exact_are, handed, keys_are, news_are, no_input, olds_are, own_change, own_fault, own_ticks, rows_are, tried_by, tried_is, widths_are}}
 use Rattle.update_graph.proofs.work.advance_inside.Goals as goal
 
 pub step-requires : goal.step-requires

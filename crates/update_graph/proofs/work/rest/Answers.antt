@@ -1,10 +1,8 @@
 use Rattle.std.proofs.Common.{ap, sym, ◌∙◌, subst}
 use Rattle.std.specs.Arc.{arc_value}
 use Rattle.tick_model.specs.Changes.{is_empty}
-use Rattle.tick_table.specs.Exact.{IsExact}
-use Rattle.tick_table.specs.Ticking.{Ticking}
-use Rattle.update_graph.specs.declared.work.Ready.{Ready}
-use Rattle.update_graph.proofs.Staying.{still_table}
+use Rattle.tick_table.{specs.Exact.IsExact, specs.Ticking.Ticking}
+use Rattle.update_graph.{specs.declared.work.Ready.Ready, proofs.Staying.still_table}
 use Rattle.update_graph.proofs.work.rest.Goals as goal
 
 pub returns-then-is_empty-clause-table : goal.returns-then-is_empty-clause-table

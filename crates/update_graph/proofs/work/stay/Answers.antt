@@ -1,15 +1,9 @@
 use Rattle.std.proofs.Common.{ap, sym, ◌∙◌, subst, ◌+◌, arith, map}
 use Rattle.operators.specs.Operating.{Operating, StandsFor}
-use Rattle.std.specs.Arc.{arc_value}
-use Rattle.std.proofs.lemmas.Bool.{not-true}
-use Rattle.tick_model.specs.Evaluation.{is_source, table_at}
-use Rattle.tick_model.specs.Operators.{inputs_of}
-use Rattle.tick_model.specs.States.{state}
+use Rattle.std.{specs.Arc.arc_value, proofs.lemmas.Bool.not-true}
+use Rattle.tick_model.{specs.Evaluation.{is_source, table_at}, specs.Operators.inputs_of, specs.States.state}
 use Rattle.tick_table.specs.Ticking.{Ticking}
-use Rattle.update_graph.specs.Stands.{HasStepped}
-use Rattle.update_graph.specs.Tags.{node_at, op_at}
-use Rattle.update_graph.proofs.Counting.{stepped_once}
-use Rattle.update_graph.proofs.Staying.{has_table, own_after, rested_is, same_inputs}
+use Rattle.update_graph.{specs.Stands.HasStepped, specs.Tags.{node_at, op_at}, proofs.Counting.stepped_once, proofs.Staying.{has_table, own_after, rested_is, same_inputs}}
 use Rattle.update_graph.proofs.work.stay.Goals as goal
 
 pub holding-requires-clause-defined : goal.holding-requires-clause-defined

@@ -1,10 +1,8 @@
 use Rattle.std.proofs.Common.{ap, sym, ◌∙◌, subst, ◌+◌}
 use Rattle.std.specs.Arc.{arc_value}
-use Rattle.tick_model.specs.Evaluation.{table_at}
-use Rattle.tick_model.specs.States.{state}
+use Rattle.tick_model.{specs.Evaluation.table_at, specs.States.state}
 use Rattle.tick_table.specs.Ticking.{Ticking}
-use Rattle.update_graph.specs.declared.work.Ready.{Ready}
-use Rattle.update_graph.specs.Stands.{IsReady}
+use Rattle.update_graph.{specs.declared.work.Ready.Ready, specs.Stands.IsReady}
 use Rattle.update_graph.proofs.work.with_table.Goals as goal
 
 pub holding-requires-clause-ready : goal.holding-requires-clause-ready

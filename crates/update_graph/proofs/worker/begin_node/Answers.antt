@@ -1,13 +1,8 @@
 use Rattle.std.proofs.Common.{map, ◌+◌, ◌<◌, ◌∙◌, sym, ap, subst, length}
 use Rattle.steal_workers.proofs.Holding.{has_mark}
 use lib.ListN.{get_elem?}
-use Rattle.graph_words.specs.declared.table.Mark.TheVariants.{Untaken}
-use Rattle.graph_words.specs.Marks.{at}
-use Rattle.update_graph.specs.Edges.{froms_to}
-use Rattle.update_graph.specs.Tags.{tag}
-use Rattle.update_graph.proofs.Claimed.{few_of_step, shares_taken, work_taken}
-use Rattle.update_graph.proofs.Handing.{begun_is}
-use Rattle.update_graph.proofs.WorkSent.{sent}
+use Rattle.graph_words.{specs.declared.table.Mark.TheVariants.Untaken, specs.Marks.at}
+use Rattle.update_graph.{specs.Edges.froms_to, specs.Tags.tag, proofs.Claimed.{few_of_step, shares_taken, work_taken}, proofs.Handing.begun_is, proofs.WorkSent.sent}
 use Rattle.update_graph.proofs.worker.begin_node.Goals as goal
 
 pub take_shares-requires-clause-few : goal.take_shares-requires-clause-few

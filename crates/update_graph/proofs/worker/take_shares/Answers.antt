@@ -1,16 +1,9 @@
 use Rattle.std.proofs.Common.{◌+◌, ◌<◌, ◌∙◌, sym, ap, subst, arith, length, get_or, map}
-use Rattle.std.proofs.lemmas.Bool.{eqb-true}
-use Rattle.std.proofs.lemmas.List.{take_all}
+use Rattle.std.{proofs.lemmas.Bool.eqb-true, proofs.lemmas.List.take_all}
 use Rattle.steal_workers.proofs.Holding.{has_mark}
 use lib.ListN.{get_elem?}
-use Rattle.graph_words.specs.Marks.{at}
-use Rattle.graph_words.specs.Seats.{Has}
-use Rattle.update_graph.specs.Edges.{froms_to}
-use Rattle.update_graph.specs.Tags.{tag}
-use Rattle.update_graph.proofs.ClaimedWorks.{as_tag}
-use Rattle.update_graph.proofs.Handing.{taken_more, taken_past, taking_none}
-use Rattle.update_graph.proofs.Walking.{along_end, along_first, along_next, along_past, next_passes, next_there, no_edge}
-use Rattle.update_graph.proofs.WorkSent.{sent}
+use Rattle.graph_words.{specs.Marks.at, specs.Seats.Has}
+use Rattle.update_graph.{specs.Edges.froms_to, specs.Tags.tag, proofs.ClaimedWorks.as_tag, proofs.Handing.{taken_more, taken_past, taking_none}, proofs.Walking.{along_end, along_first, along_next, along_past, next_passes, next_there, no_edge}, proofs.WorkSent.sent}
 use Rattle.update_graph.proofs.worker.take_shares.Goals as goal
 
 pub take_share-share-requires-clause-edge : goal.take_share-share-requires-clause-edge

@@ -1,9 +1,6 @@
 use Rattle.std.proofs.Common.{◌+◌, drop}
 use Rattle.graph_words.specs.Seats.{IsSeatOf}
-use Rattle.update_graph.specs.Edges.{goes_to}
-use Rattle.update_graph.specs.Tags.{tag}
-use Rattle.update_graph.proofs.Handing.{HasTaken}
-use Rattle.update_graph.proofs.Walking.{IsAlong}
+use Rattle.update_graph.{specs.Edges.goes_to, specs.Tags.tag, proofs.Handing.HasTaken, proofs.Walking.IsAlong}
 use Rattle.update_graph.proofs.worker.take_shares.Given as goal
 
 abbrev pub invariant-loop-number : goal.invariant-loop-number

@@ -2,10 +2,7 @@ use Rattle.std.proofs.Common.{◌≡◌, ap, ◌∙◌, subst, arith, ℕ, ◌+�
 use Rattle.std.specs.Prelude.{not}
 use mir.Val.{bool_byte}
 use Rattle.key_lists.specs.Keys.{runs}
-use Rattle.row_set.specs.Ranges.{ranges_of}
-use Rattle.row_set.specs.Sets.{IsKeySet}
-use Rattle.row_set.proofs.Counts.{few_keys}
-use Rattle.row_set.proofs.Longest.{keys_of-ranges_of, ranges_of_apart}
+use Rattle.row_set.{specs.Ranges.ranges_of, specs.Sets.IsKeySet, proofs.Counts.few_keys, proofs.Longest.{keys_of-ranges_of, ranges_of_apart}}
 use Rattle.tick_model.specs.Changes.{is_none}
 use Rattle.update_text.proofs.ChangeRecords.{length-ranges}
 use Rattle.update_text.proofs.changes.count_records.Goals as goal

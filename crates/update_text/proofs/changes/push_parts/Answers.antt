@@ -2,11 +2,8 @@ use Rattle.std.proofs.Common.{◌≡◌, ap, ◌∙◌, ◌++◌, ◌*◌, List,
 use Rattle.std.specs.Prelude.{codes}
 use Rattle.key_lists.specs.Keys.{runs}
 use Rattle.row_set.specs.declared.ranges.Range.{Range}
-use Rattle.tick_model.specs.declared.update.ShiftRange.{ShiftRange}
-use Rattle.tick_model.specs.Changes.{rows_under}
-use Rattle.tick_model.specs.Texts.{columns_record, records_text, removed_record, row_record, shift_record}
-use Rattle.update_text.specs.Told.{range_record}
-use Rattle.update_text.proofs.ChangeRecords.{five_texts, range_records}
+use Rattle.tick_model.{specs.declared.update.ShiftRange.ShiftRange, specs.Changes.rows_under, specs.Texts.{columns_record, records_text, removed_record, row_record, shift_record}}
+use Rattle.update_text.{specs.Told.range_record, proofs.ChangeRecords.{five_texts, range_records}}
 use Rattle.update_text.proofs.changes.push_parts.Goals as goal
 
 pub returns : goal.returns

@@ -1,7 +1,5 @@
 use Rattle.std.proofs.Common.{◌≡◌, sym, ap, ◌∙◌, subst, arith, ◌*◌, ◌≤◌, ◌++◌, length, drop, take, ℕ, ℤ, List, ◌∷◌, map, append_assoc, append-nil, zero-mul}
-use Rattle.tick_model.specs.declared.table.PlainRow.{PlainRow}
-use Rattle.tick_model.specs.Changes.{rows_under}
-use Rattle.tick_model.specs.Texts.{record_text, records_text, row_record}
+use Rattle.tick_model.{specs.declared.table.PlainRow.PlainRow, specs.Changes.rows_under, specs.Texts.{record_text, records_text, row_record}}
 use Rattle.tick_table.proofs.Puts.{rest_next, room_next, row_fits}
 use Rattle.update_text.proofs.changes.push_told.Goals as goal
 

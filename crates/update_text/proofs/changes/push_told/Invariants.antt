@@ -1,6 +1,5 @@
 use Rattle.std.proofs.Common.{◌≡◌, ◌*◌, ◌≤◌, ◌++◌, length, drop, map}
-use Rattle.tick_model.specs.Changes.{rows_under}
-use Rattle.tick_model.specs.Texts.{records_text, row_record}
+use Rattle.tick_model.{specs.Changes.rows_under, specs.Texts.{records_text, row_record}}
 use Rattle.update_text.proofs.changes.push_told.Given as goal
 
 -- the rows that are still to come stand after what was written

@@ -1,6 +1,5 @@
 use Rattle.std.proofs.Common.{rules, tests}
-use Rattle.std.proofs.lemmas.Iterator.Search.{any_from_yields_List}
-use Rattle.std.proofs.lemmas.Iterator.{YieldsList-from_slice}
+use Rattle.std.{proofs.lemmas.Iterator.Search.any_from_yields_List, proofs.lemmas.Iterator.YieldsList-from_slice}
 use Rattle.tick_model.specs.Texts.{needs_quotes}
 use Rattle.update_text.proofs.fields.is_quoted.Goals as goal
 

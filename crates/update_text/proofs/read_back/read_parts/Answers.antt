@@ -1,11 +1,7 @@
 use Rattle.std.proofs.Common.{◌≡◌, ap, sym, ◌∙◌, subst, ◌++◌, ◌^◌, [], List, ℕ, ℤ}
 use Rattle.key_lists.specs.Keys.{runs}
 use Rattle.tick_model.specs.declared.table.PlainRow.{PlainRow}
-use Rattle.update_text.specs.declared.printed.PrintedFault.TheVariants.{Memory}
-use Rattle.update_text.specs.Reading.{cells_of}
-use Rattle.update_text.proofs.ChangesBack.{rows_added, rows_modified}
-use Rattle.update_text.proofs.ReadBack.{behind_added, behind_columns, behind_removed, behind_shifts, removed_ahead, removed_rise, removed_same, shifts_ahead, added_ahead, added_keys, added_rise, columns_end, modified_ahead, modified_keys, modified_rise, cells_same, parts_same}
-use Rattle.update_text.proofs.ReadRows.{gives_memory}
+use Rattle.update_text.{specs.declared.printed.PrintedFault.TheVariants.Memory, specs.Reading.cells_of, proofs.ChangesBack.{rows_added, rows_modified}, proofs.ReadBack.{behind_added, behind_columns, behind_removed, behind_shifts, removed_ahead, removed_rise, removed_same, shifts_ahead, added_ahead, added_keys, added_rise, columns_end, modified_ahead, modified_keys, modified_rise, cells_same, parts_same}, proofs.ReadRows.gives_memory}
 use Rattle.update_text.proofs.read_back.read_parts.Goals as goal
 
 pub returns-in_err-rest-clause-told : goal.returns-in_err-rest-clause-told

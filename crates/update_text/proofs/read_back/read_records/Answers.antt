@@ -1,11 +1,6 @@
 use Rattle.std.proofs.Common.{◌≡◌, ap, sym, ◌∙◌, subst, List, ℕ}
-use Rattle.tick_model.specs.declared.plan.ColumnSpec.{ColumnSpec}
-use Rattle.tick_model.specs.Printable.{IsPrintable}
-use Rattle.tick_model.specs.Texts.{records_text}
-use Rattle.update_text.specs.OneToOne.{TellApart}
-use Rattle.update_text.specs.Told.{parts_shown}
-use Rattle.update_text.proofs.ReadBack.{told_text}
-use Rattle.update_text.proofs.ReadRows.{gives_memory}
+use Rattle.tick_model.{specs.declared.plan.ColumnSpec.ColumnSpec, specs.Printable.IsPrintable, specs.Texts.records_text}
+use Rattle.update_text.{specs.OneToOne.TellApart, specs.Told.parts_shown, proofs.ReadBack.told_text, proofs.ReadRows.gives_memory}
 use Rattle.update_text.proofs.read_back.read_records.Goals as goal
 
 -- a fact of columns and texts, at equal ones

@@ -1,10 +1,6 @@
 use Rattle.std.proofs.Common.{◌≡◌, ap, sym, ◌∙◌, subst, true≢false, false, List, ℕ, ◌^◌, ◌<◌}
-use Rattle.tick_model.specs.Changes.{Change, is_empty}
-use Rattle.tick_model.specs.Printable.{IsPrintable}
-use Rattle.update_text.specs.OneToOne.{IsPrinted, change_text}
-use Rattle.update_text.specs.Reading.{IsConsistent}
-use Rattle.update_text.specs.Told.{change_with}
-use Rattle.update_text.proofs.ReadBack.{ok_three, printable_from}
+use Rattle.tick_model.{specs.Changes.{Change, is_empty}, specs.Printable.IsPrintable}
+use Rattle.update_text.{specs.OneToOne.{IsPrinted, change_text}, specs.Reading.IsConsistent, specs.Told.change_with, proofs.ReadBack.{ok_three, printable_from}}
 use Rattle.update_text.proofs.read_back.read_update.Goals as goal
 
 pub returns-then-is_empty-clause-none : goal.returns-then-is_empty-clause-none

@@ -1,8 +1,6 @@
 use Rattle.std.proofs.Common.{◌≡◌, sym, ◌∙◌, map}
 use Rattle.tick_model.specs.Texts.{column_name}
-use Rattle.update_text.specs.Reading.{next_fields}
-use Rattle.update_text.proofs.Backwards.{rest_same}
-use Rattle.update_text.proofs.ReadColumns.{columns_ahead, columns_absent}
+use Rattle.update_text.{specs.Reading.next_fields, proofs.Backwards.rest_same, proofs.ReadColumns.{columns_ahead, columns_absent}}
 use Rattle.update_text.proofs.read_changes.read_columns.Goals as goal
 
 pub returns-in-Some-clause-told : goal.returns-in-Some-clause-told

@@ -1,14 +1,9 @@
 use Rattle.std.proofs.Common.{◌≡◌, ap, sym, ◌∙◌, subst, ◌∷◌, ◌++◌, ◌<◌, [], List, ℕ, true, false, length, map, arith, append_assoc}
-use Rattle.std.specs.List.{AllByRecursion}
-use Rattle.std.proofs.lemmas.List.{append-nil}
-use Rattle.std.proofs.lemmas.Option.{same_Some, none-some}
+use Rattle.std.{specs.List.AllByRecursion, proofs.lemmas.List.append-nil, proofs.lemmas.Option.{same_Some, none-some}}
 use Rattle.key_lists.specs.Keys.{IsRising}
-use Rattle.row_set.specs.Sets.{with_key}
-use Rattle.row_set.proofs.United.{with_key_rises, every-united}
-use Rattle.row_set.proofs.Windows.{rising_before}
+use Rattle.row_set.{specs.Sets.with_key, proofs.United.{with_key_rises, every-united}, proofs.Windows.rising_before}
 use Rattle.tick_model.specs.Texts.{column_name}
-use Rattle.update_text.proofs.ReadColumns.{gives_both, names_ahead, names_done}
-use Rattle.update_text.proofs.ReadRows.{gives_memory, united_behind}
+use Rattle.update_text.{proofs.ReadColumns.{gives_both, names_ahead, names_done}, proofs.ReadRows.{gives_memory, united_behind}}
 use Rattle.update_text.proofs.read_changes.read_names.Goals as goal
 
 pub returns-in_err-rest-clause-told : goal.returns-in_err-rest-clause-told

@@ -1,9 +1,7 @@
 use Rattle.std.proofs.Common.{◌≡◌, ℕ, List, ◌++◌, ◌<◌, length, map, true}
 use Rattle.std.specs.List.{AllByRecursion}
 use Rattle.key_lists.specs.Keys.{IsRising}
-use Rattle.tick_model.specs.declared.plan.ColumnSpec.{ColumnSpec}
-use Rattle.tick_model.specs.Names.{are_distinct}
-use Rattle.tick_model.specs.Texts.{column_name}
+use Rattle.tick_model.{specs.declared.plan.ColumnSpec.ColumnSpec, specs.Names.are_distinct, specs.Texts.column_name}
 use Rattle.update_text.specs.Reading.{next_fields}
 use Rattle.update_text.proofs.read_changes.read_names.Given as goal
 

@@ -1,16 +1,9 @@
 use Rattle.std.proofs.Common.{◌≡◌, refl, ap, sym, ◌∙◌, subst, ◌∷◌, ◌++◌, ◌+◌, ◌-◌, ◌<◌, [], List, ℕ, false, append_assoc, map, rules, arith}
-use Rattle.std.specs.Prelude.{flat_map}
-use Rattle.std.specs.Fmt.{decimal}
-use Rattle.std.specs.List.{AllByRecursion, range_with_len}
-use Rattle.std.proofs.lemmas.List.{append-nil}
+use Rattle.std.{specs.Prelude.flat_map, specs.Fmt.decimal, specs.List.{AllByRecursion, range_with_len}, proofs.lemmas.List.append-nil}
 use Rattle.key_lists.specs.Keys.{IsRising}
-use Rattle.row_set.specs.Ranges.{keys_from}
-use Rattle.row_set.proofs.Windows.{rising_before}
+use Rattle.row_set.{specs.Ranges.keys_from, proofs.Windows.rising_before}
 use Rattle.tick_model.specs.Texts.{records_text, removed_record}
-use Rattle.update_text.specs.Reading.{has_tag, is_run, next_fields, run_keys}
-use Rattle.update_text.proofs.Backwards.{rest_same}
-use Rattle.update_text.proofs.ReadChanges.{run_first}
-use Rattle.update_text.proofs.ReadRows.{first_ahead, gives_memory, none_ahead, tagged_here, tagged_text}
+use Rattle.update_text.{specs.Reading.{has_tag, is_run, next_fields, run_keys}, proofs.Backwards.rest_same, proofs.ReadChanges.run_first, proofs.ReadRows.{first_ahead, gives_memory, none_ahead, tagged_here, tagged_text}}
 use Rattle.update_text.proofs.read_changes.read_removed.Goals as goal
 
 abbrev all_keys : List (ℕ × ℕ) → List ℕ

@@ -1,8 +1,6 @@
 use Rattle.std.proofs.Common.{◌≡◌, [], ◌∷◌, arith, ◌<◌, ◌^◌, ◌∙◌, w64, SFits, to_z-of_z, rules}
 use Rattle.std.specs.Fmt.{decimal, signed_decimal}
-use Rattle.update_text.proofs.ChangesBack.{delta_bounded}
-use Rattle.update_text.proofs.ReadChanges.{same_range}
-use Rattle.update_text.proofs.ReadRows.{gives_memory}
+use Rattle.update_text.{proofs.ChangesBack.delta_bounded, proofs.ReadChanges.same_range, proofs.ReadRows.gives_memory}
 use Rattle.update_text.proofs.read_changes.read_shift.Goals as goal
 
 pub returns-in_err-begin-clause-told : goal.returns-in_err-begin-clause-told

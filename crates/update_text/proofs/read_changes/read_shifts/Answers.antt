@@ -1,13 +1,7 @@
 use Rattle.std.proofs.Common.{◌≡◌, refl, ap, sym, ◌∙◌, subst, ◌∷◌, ◌++◌, ◌^◌, [], List, ℕ, false, append_assoc, map, rules}
-use Rattle.std.specs.Fmt.{decimal, signed_decimal}
-use Rattle.std.proofs.lemmas.List.{append-nil}
-use Rattle.tick_model.specs.declared.update.ShiftRange.{ShiftRange}
-use Rattle.tick_model.specs.Printable.{IsShift, IsShiftRange}
-use Rattle.tick_model.specs.Texts.{records_text, shift_record}
-use Rattle.update_text.specs.Reading.{has_tag, next_fields}
-use Rattle.update_text.proofs.Backwards.{rest_same}
-use Rattle.update_text.proofs.ReadChanges.{shift_front}
-use Rattle.update_text.proofs.ReadRows.{first_ahead, gives_memory, none_ahead, tagged_here, tagged_text}
+use Rattle.std.{specs.Fmt.{decimal, signed_decimal}, proofs.lemmas.List.append-nil}
+use Rattle.tick_model.{specs.declared.update.ShiftRange.ShiftRange, specs.Printable.{IsShift, IsShiftRange}, specs.Texts.{records_text, shift_record}}
+use Rattle.update_text.{specs.Reading.{has_tag, next_fields}, proofs.Backwards.rest_same, proofs.ReadChanges.shift_front, proofs.ReadRows.{first_ahead, gives_memory, none_ahead, tagged_here, tagged_text}}
 use Rattle.update_text.proofs.read_changes.read_shifts.Goals as goal
 
 abbrev behind_begin : ShiftRange → List (List ℕ)

@@ -1,7 +1,5 @@
 use Rattle.std.proofs.Common.{◌≡◌, ℕ, List, ◌++◌, ◌^◌, length}
-use Rattle.tick_model.specs.declared.update.ShiftRange.{ShiftRange}
-use Rattle.tick_model.specs.Printable.{IsShift, IsShiftRange}
-use Rattle.tick_model.specs.Texts.{shift_record}
+use Rattle.tick_model.{specs.declared.update.ShiftRange.ShiftRange, specs.Printable.{IsShift, IsShiftRange}, specs.Texts.shift_record}
 use Rattle.update_text.specs.Reading.{AreAhead}
 use Rattle.update_text.proofs.read_changes.read_shifts.Given as goal
 

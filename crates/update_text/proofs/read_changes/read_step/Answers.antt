@@ -1,9 +1,6 @@
 use Rattle.std.proofs.Common.{◌≡◌, refl, ◌∙◌, [], ◌∷◌}
-use Rattle.std.specs.Prelude.{codes}
-use Rattle.std.specs.Fmt.{decimal}
-use Rattle.update_text.specs.Reading.{next_fields}
-use Rattle.update_text.proofs.Quoting.{record_before}
-use Rattle.update_text.proofs.ReadRows.{gives_memory}
+use Rattle.std.{specs.Prelude.codes, specs.Fmt.decimal}
+use Rattle.update_text.{specs.Reading.next_fields, proofs.Quoting.record_before, proofs.ReadRows.gives_memory}
 use Rattle.update_text.proofs.read_changes.read_step.Goals as goal
 
 pub returns-in_err-rest : goal.returns-in_err-rest

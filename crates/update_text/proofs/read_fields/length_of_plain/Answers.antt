@@ -1,11 +1,6 @@
 use Rattle.std.proofs.Common.{◌≡◌, ap, ◌∙◌, length, rules, tests}
-use Rattle.std.specs.List.{position_or_len}
-use Rattle.std.specs.Prelude.{unwrap_or}
-use Rattle.std.proofs.lemmas.Iterator.{YieldsList-from_slice}
-use Rattle.std.proofs.lemmas.Iterator.Search.{position_from_yields_List}
-use Rattle.std.proofs.lemmas.List.Sums.{prefix_len-le-length}
-use Rattle.update_text.specs.Reading.{is_end}
-use Rattle.update_text.proofs.ReadFields.{place_or_length}
+use Rattle.std.{specs.List.position_or_len, specs.Prelude.unwrap_or, proofs.lemmas.Iterator.YieldsList-from_slice, proofs.lemmas.Iterator.Search.position_from_yields_List, proofs.lemmas.List.Sums.prefix_len-le-length}
+use Rattle.update_text.{specs.Reading.is_end, proofs.ReadFields.place_or_length}
 use Rattle.update_text.proofs.read_fields.length_of_plain.Goals as goal
 
 pub returns-clause-place : goal.returns-clause-place

@@ -1,8 +1,5 @@
 use Rattle.std.proofs.Common.{◌≡◌, sym, ◌∙◌, subst, ℕ, List}
-use Rattle.std.specs.Prelude.{Result, Ok, Err}
-use Rattle.std.specs.Str.{IsUtf8}
-use Rattle.std.proofs.lemmas.Fmt.{parse-decimal, IsAscii-decimal}
-use Rattle.std.proofs.lemmas.Str.{IsUtf8-from_ascii}
+use Rattle.std.{specs.Prelude.{Result, Ok, Err}, specs.Str.IsUtf8, proofs.lemmas.Fmt.{parse-decimal, IsAscii-decimal}, proofs.lemmas.Str.IsUtf8-from_ascii}
 use Rattle.update_text.proofs.read_fields.number_of.Goals as goal
 
 ok_same : {E : Type 0} (a b : ℕ) (r : Result ℕ E) → r ≡ Ok a → r ≡ Ok b → a ≡ b

@@ -1,6 +1,5 @@
 use Rattle.std.proofs.Common.{◌≡◌, sym, ◌∙◌, subst, ◌++◌, List, ℕ}
-use Rattle.update_text.specs.Reading.{Gives}
-use Rattle.update_text.proofs.ReadFields.{in_quotes, without_quotes}
+use Rattle.update_text.{specs.Reading.Gives, proofs.ReadFields.{in_quotes, without_quotes}}
 use Rattle.update_text.proofs.read_fields.read_field.Goals as goal
 
 pub returns-in-Some-clause-told : goal.returns-in-Some-clause-told

@@ -1,8 +1,6 @@
 use Rattle.std.proofs.Common.{◌≡◌, sym, ◌∙◌, ◌++◌}
 use Rattle.tick_model.specs.Texts.{field_text}
-use Rattle.update_text.specs.Reading.{next_fields}
-use Rattle.update_text.proofs.Backwards.{rest_same}
-use Rattle.update_text.proofs.ReadFields.{fields_end, next_field}
+use Rattle.update_text.{specs.Reading.next_fields, proofs.Backwards.rest_same, proofs.ReadFields.{fields_end, next_field}}
 use Rattle.update_text.proofs.read_fields.read_next_field.Goals as goal
 
 pub returns-in-Some-clause-told : goal.returns-in-Some-clause-told

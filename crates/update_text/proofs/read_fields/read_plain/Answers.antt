@@ -1,8 +1,6 @@
 use Rattle.std.proofs.Common.{◌≡◌, ap, sym, ◌∙◌, ◌++◌, length, take, drop}
-use Rattle.std.specs.List.{position_or_len}
-use Rattle.std.proofs.lemmas.List.{take_at, drop_at}
-use Rattle.update_text.specs.Reading.{is_end}
-use Rattle.update_text.proofs.ReadFields.{plain_length}
+use Rattle.std.{specs.List.position_or_len, proofs.lemmas.List.{take_at, drop_at}}
+use Rattle.update_text.{specs.Reading.is_end, proofs.ReadFields.plain_length}
 use Rattle.update_text.proofs.read_fields.read_plain.Goals as goal
 
 pub returns-clause-told : goal.returns-clause-told

@@ -1,8 +1,5 @@
 use Rattle.std.proofs.Common.{◌≡◌, sym, ◌∙◌, subst, ℤ, List, w64, SFits, to_z-of_z, rules}
-use Rattle.std.specs.Prelude.{Result, Ok, Err}
-use Rattle.std.specs.Str.{IsUtf8}
-use Rattle.std.proofs.lemmas.Fmt.{parse-signed_decimal, IsAscii-signed}
-use Rattle.std.proofs.lemmas.Str.{IsUtf8-from_ascii}
+use Rattle.std.{specs.Prelude.{Result, Ok, Err}, specs.Str.IsUtf8, proofs.lemmas.Fmt.{parse-signed_decimal, IsAscii-signed}, proofs.lemmas.Str.IsUtf8-from_ascii}
 use Rattle.update_text.proofs.read_fields.signed_of.Goals as goal
 
 ok_same : {E : Type 0} (a b : ℤ) (r : Result ℤ E) → r ≡ Ok a → r ≡ Ok b → a ≡ b

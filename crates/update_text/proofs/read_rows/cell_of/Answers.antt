@@ -1,9 +1,6 @@
 use Rattle.std.proofs.Common.{◌≡◌, ap, sym, ◌∙◌, subst, ◌==◌, length, true, false, ℕ}
-use Rattle.tick_model.specs.declared.plan.Kind.{Kind}
-use Rattle.tick_model.specs.Printable.{fits_kind}
-use Rattle.tick_model.specs.Texts.{known_cell_text}
-use Rattle.update_text.proofs.ReadRows.{null_cell, known_cell, none_from_test}
-use Rattle.update_text.proofs.RowsBack.{known_rank}
+use Rattle.tick_model.{specs.declared.plan.Kind.Kind, specs.Printable.fits_kind, specs.Texts.known_cell_text}
+use Rattle.update_text.{proofs.ReadRows.{null_cell, known_cell, none_from_test}, proofs.RowsBack.known_rank}
 use Rattle.update_text.proofs.read_rows.cell_of.Goals as goal
 
 pub returns-then-is_empty-clause-told : goal.returns-then-is_empty-clause-told

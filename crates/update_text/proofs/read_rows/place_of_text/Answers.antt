@@ -1,8 +1,5 @@
 use Rattle.std.proofs.Common.{◌≡◌, ap, sym, ◌∙◌, subst, List, ℕ, rules, tests}
-use Rattle.std.proofs.lemmas.Fn.{always_returns_same}
-use Rattle.std.specs.Cmp.Lexicographic.{slice_cmp}
-use Rattle.std.specs.Ordering.{nat_cmp}
-use Rattle.std.specs.List.Sorted.{IsBinarySearchResult}
+use Rattle.std.{proofs.lemmas.Fn.always_returns_same, specs.Cmp.Lexicographic.slice_cmp, specs.Ordering.nat_cmp, specs.List.Sorted.IsBinarySearchResult}
 use Rattle.update_text.proofs.ReadRows.{found_text}
 use Rattle.update_text.proofs.read_rows.place_of_text.Goals as goal
 

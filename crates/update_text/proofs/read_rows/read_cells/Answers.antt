@@ -1,10 +1,8 @@
 use Rattle.std.proofs.Common.{◌≡◌, ap, sym, ◌∙◌, subst, ◌∷◌, ◌++◌, ◌+◌, [], List, ℤ, ℕ, append_assoc, arith, length, drop, take, w64, SFits, to_z-of_z, rules, ◌≤◌}
-use Rattle.std.specs.Prelude.{FitsSigned}
-use Rattle.std.specs.List.{AllByRecursion}
+use Rattle.std.{specs.Prelude.FitsSigned, specs.List.AllByRecursion}
 use Rattle.key_lists.proofs.Every.{every-append}
 use Rattle.tick_model.specs.Texts.{cell_texts}
-use Rattle.update_text.specs.Reading.{next_fields}
-use Rattle.update_text.proofs.ReadRows.{fit_more, next_cell}
+use Rattle.update_text.{specs.Reading.next_fields, proofs.ReadRows.{fit_more, next_cell}}
 use Rattle.update_text.proofs.read_rows.read_cells.Goals as goal
 
 pub loop-column-preserved : goal.loop-column-preserved

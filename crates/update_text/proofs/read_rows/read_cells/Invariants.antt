@@ -1,10 +1,6 @@
 use Rattle.std.proofs.Common.{◌≡◌, ℕ, ℤ, List, ◌∷◌, ◌++◌, true, ◌≤◌, length, take, drop}
-use Rattle.std.specs.Prelude.{FitsSigned}
-use Rattle.std.specs.Int.{w64}
-use Rattle.std.specs.List.{AllByRecursion}
-use Rattle.tick_model.specs.LawfulRuns.{AreTexts}
-use Rattle.tick_model.specs.Printable.{fit_columns}
-use Rattle.tick_model.specs.Texts.{cell_texts}
+use Rattle.std.{specs.Prelude.FitsSigned, specs.Int.w64, specs.List.AllByRecursion}
+use Rattle.tick_model.{specs.LawfulRuns.AreTexts, specs.Printable.fit_columns, specs.Texts.cell_texts}
 use Rattle.update_text.specs.Reading.{next_fields}
 use Rattle.update_text.proofs.read_rows.read_cells.Given as goal
 

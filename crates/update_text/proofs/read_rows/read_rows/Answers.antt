@@ -1,20 +1,9 @@
 use Rattle.std.proofs.Common.{◌≡◌, ap, sym, ◌∙◌, subst, ◌∷◌, ◌++◌, [], List, ℤ, ℕ, false, append_assoc, arith, map, rules, ◌^◌, ◌<◌}
-use Rattle.std.specs.Prelude.{flat_map}
-use Rattle.std.specs.Fmt.{decimal}
-use Rattle.std.specs.List.{AllByRecursion}
-use Rattle.std.proofs.lemmas.Grind.{flat_map-append}
-use Rattle.std.proofs.lemmas.List.{append-nil, map-append}
-use Rattle.key_lists.specs.Keys.{IsRising}
-use Rattle.key_lists.proofs.Every.{every-append}
-use Rattle.row_set.proofs.Windows.{rising_before}
-use Rattle.row_set.proofs.United.{one_key}
-use Rattle.tick_model.specs.declared.table.PlainRow.{PlainRow}
-use Rattle.tick_model.specs.Tables.{keys}
-use Rattle.tick_model.specs.Texts.{cell_texts, records_text, row_record}
-use Rattle.update_text.specs.declared.printed.PrintedFault.TheVariants.{Memory}
-use Rattle.update_text.specs.Reading.{IsToldRow, has_tag, next_fields}
-use Rattle.update_text.proofs.Backwards.{rest_same}
-use Rattle.update_text.proofs.ReadRows.{first_ahead, gives_memory, none_ahead, tagged_here, tagged_text}
+use Rattle.std.{specs.Prelude.flat_map, specs.Fmt.decimal, specs.List.AllByRecursion, proofs.lemmas.Grind.flat_map-append, proofs.lemmas.List.{append-nil, map-append}}
+use Rattle.key_lists.{specs.Keys.IsRising, proofs.Every.every-append}
+use Rattle.row_set.{proofs.Windows.rising_before, proofs.United.one_key}
+use Rattle.tick_model.{specs.declared.table.PlainRow.PlainRow, specs.Tables.keys, specs.Texts.{cell_texts, records_text, row_record}}
+use Rattle.update_text.{specs.declared.printed.PrintedFault.TheVariants.Memory, specs.Reading.{IsToldRow, has_tag, next_fields}, proofs.Backwards.rest_same, proofs.ReadRows.{first_ahead, gives_memory, none_ahead, tagged_here, tagged_text}}
 use Rattle.update_text.proofs.read_rows.read_rows.Goals as goal
 
 abbrev cells_of : List PlainRow → List ℤ

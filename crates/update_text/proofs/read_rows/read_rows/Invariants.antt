@@ -1,11 +1,7 @@
 use Rattle.std.proofs.Common.{◌≡◌, ℕ, List, [], ◌∷◌, ◌++◌, length}
-use Rattle.std.specs.Prelude.{flat_map}
-use Rattle.std.specs.List.{AllByRecursion}
+use Rattle.std.{specs.Prelude.flat_map, specs.List.AllByRecursion}
 use Rattle.key_lists.specs.Keys.{IsRising}
-use Rattle.tick_model.specs.declared.table.PlainRow.{PlainRow}
-use Rattle.tick_model.specs.LawfulRuns.{AreTexts}
-use Rattle.tick_model.specs.Tables.{keys}
-use Rattle.tick_model.specs.Texts.{row_record}
+use Rattle.tick_model.{specs.declared.table.PlainRow.PlainRow, specs.LawfulRuns.AreTexts, specs.Tables.keys, specs.Texts.row_record}
 use Rattle.update_text.specs.Reading.{AreAhead, IsToldRow}
 use Rattle.update_text.proofs.read_rows.read_rows.Given as goal
 

@@ -1,8 +1,5 @@
 use Rattle.std.proofs.Common.{ap, ◌∙◌, ◌∷◌, ◌++◌, [], List, ℕ}
-use Rattle.update_text.specs.Reading.{next_fields}
-use Rattle.update_text.proofs.Quoting.{record_before}
-use Rattle.update_text.proofs.ReadFields.{fields_end}
-use Rattle.update_text.proofs.ReadRows.{gives_memory}
+use Rattle.update_text.{specs.Reading.next_fields, proofs.Quoting.record_before, proofs.ReadFields.fields_end, proofs.ReadRows.gives_memory}
 use Rattle.update_text.proofs.record_back.read_first_fields.Goals as goal
 
 pub returns-in_err-rest : goal.returns-in_err-rest

@@ -1,8 +1,6 @@
 use Rattle.std.proofs.Common.{◌≡◌, ap, sym, ◌∙◌, ◌∷◌, ◌++◌, [], List, ℕ, append_assoc}
 use Rattle.std.proofs.lemmas.List.{append-nil}
-use Rattle.update_text.proofs.ReadColumns.{gives_both}
-use Rattle.update_text.proofs.ReadRows.{gives_memory}
-use Rattle.update_text.proofs.RecordsBack.{fields_ahead, fields_done}
+use Rattle.update_text.{proofs.ReadColumns.gives_both, proofs.ReadRows.gives_memory, proofs.RecordsBack.{fields_ahead, fields_done}}
 use Rattle.update_text.proofs.record_back.read_next_fields.Goals as goal
 
 pub returns-in_err-rest : goal.returns-in_err-rest

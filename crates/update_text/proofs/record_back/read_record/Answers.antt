@@ -1,6 +1,5 @@
 use Rattle.std.proofs.Common.{◌≡◌, ap, sym, ◌∙◌, ◌∷◌, [], true≢false}
-use Rattle.std.specs.Cmp.Lexicographic.{bytes_decides}
-use Rattle.std.proofs.lemmas.List.{append-nil}
+use Rattle.std.{specs.Cmp.Lexicographic.bytes_decides, proofs.lemmas.List.append-nil}
 use Rattle.tick_model.specs.Texts.{record_text}
 use Rattle.update_text.proofs.ReadRows.{gives_memory}
 use Rattle.update_text.proofs.record_back.read_record.Goals as goal

@@ -1,7 +1,5 @@
 use Rattle.std.proofs.Common.{ap, sym, ◌∙◌, ◌++◌}
-use Rattle.std.specs.Prelude.{flat_map}
-use Rattle.std.proofs.lemmas.List.{append-nil}
-use Rattle.std.proofs.lemmas.Slice.Zip.{zip_end}
+use Rattle.std.{specs.Prelude.flat_map, proofs.lemmas.List.append-nil, proofs.lemmas.Slice.Zip.zip_end}
 use Rattle.tick_model.specs.Texts.{comma_before}
 use Rattle.update_text.proofs.CellRows.{cell_texts-end}
 use Rattle.update_text.proofs.rows.push_cells.Goals as goal

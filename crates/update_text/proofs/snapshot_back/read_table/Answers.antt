@@ -1,16 +1,8 @@
 use Rattle.std.proofs.Common.{◌≡◌, refl, ap, sym, ◌∙◌, subst, ◌∷◌, ◌++◌, ◌*◌, ◌≤◌, [], List, ℕ, ℤ, length, map, arith}
-use Rattle.std.specs.List.{AllByRecursion}
-use Rattle.std.proofs.lemmas.List.{append-nil}
+use Rattle.std.{specs.List.AllByRecursion, proofs.lemmas.List.append-nil}
 use Rattle.key_lists.specs.Keys.{IsRising}
-use Rattle.tick_model.specs.declared.plan.ColumnSpec.{ColumnSpec}
-use Rattle.tick_model.specs.declared.table.PlainRow.{PlainRow}
-use Rattle.tick_model.specs.Changes.{rows_under}
-use Rattle.tick_model.specs.Tables.{keys}
-use Rattle.tick_model.specs.Texts.{records_text, row_record}
-use Rattle.update_text.specs.Reading.{AreAhead, IsToldRow, cells_of}
-use Rattle.update_text.proofs.AddedRows.{rows_under-keys}
-use Rattle.update_text.proofs.ReadBack.{count_cells, rows_whole}
-use Rattle.update_text.proofs.ReadRows.{gives_memory}
+use Rattle.tick_model.{specs.declared.plan.ColumnSpec.ColumnSpec, specs.declared.table.PlainRow.PlainRow, specs.Changes.rows_under, specs.Tables.keys, specs.Texts.{records_text, row_record}}
+use Rattle.update_text.{specs.Reading.{AreAhead, IsToldRow, cells_of}, proofs.AddedRows.rows_under-keys, proofs.ReadBack.{count_cells, rows_whole}, proofs.ReadRows.gives_memory}
 use Rattle.update_text.proofs.snapshot_back.read_table.Goals as goal
 
 ahead : (columns : List ColumnSpec) (texts : List (List ℕ)) (rows : List PlainRow) (bytes : List ℕ) → AllByRecursion (IsToldRow columns texts) rows → bytes ≡ records_text (map (row_record (119 ∷ []) texts columns) rows) →

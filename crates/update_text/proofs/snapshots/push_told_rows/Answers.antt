@@ -1,8 +1,7 @@
 use Rattle.std.proofs.Common.{refl, ap, sym, ◌∙◌, ◌++◌, ◌+◌, ◌-◌, ◌≤◌, ◌*◌, subst, map, length, drop, append_assoc}
 use Rattle.std.specs.Prelude.{codes}
 use Rattle.tick_model.specs.Texts.{record_text, records_text, row_record}
-use Rattle.update_text.specs.Snapshots.{row_told, rows_told}
-use Rattle.update_text.proofs.ToldRows.{rows_told-step, others_fit}
+use Rattle.update_text.{specs.Snapshots.{row_told, rows_told}, proofs.ToldRows.{rows_told-step, others_fit}}
 use Rattle.update_text.proofs.snapshots.push_told_rows.Goals as goal
 
 pub loop-row-preserved : goal.loop-row-preserved

@@ -1,8 +1,5 @@
 use Rattle.std.proofs.Common.{ap, sym, ◌∙◌, ◌++◌, ◌+◌, map, length, drop, append_assoc}
-use Rattle.std.specs.Prelude.{flat_map, min}
-use Rattle.std.specs.Int.{w64, cast_signed}
-use Rattle.std.proofs.lemmas.List.{append-nil, length-map, length_push}
-use Rattle.std.proofs.lemmas.Slice.Zip.{zip_end, zip_turn}
+use Rattle.std.{specs.Prelude.{flat_map, min}, specs.Int.{w64, cast_signed}, proofs.lemmas.List.{append-nil, length-map, length_push}, proofs.lemmas.Slice.Zip.{zip_end, zip_turn}}
 use Rattle.tick_model.specs.Texts.{comma_before, cell_texts}
 use Rattle.update_text.proofs.CellRows.{cell_texts-end, cell_texts-more_words}
 use Rattle.update_text.proofs.snapshots.push_words.Goals as goal

@@ -1,6 +1,5 @@
 use Rattle.std.proofs.Common.{◌≡◌, ◌++◌, length, drop, map}
-use Rattle.std.specs.Int.{w64, cast_signed}
-use Rattle.std.specs.Prelude.{flat_map}
+use Rattle.std.{specs.Int.{w64, cast_signed}, specs.Prelude.flat_map}
 use Rattle.tick_model.specs.Texts.{comma_before, cell_texts}
 use Rattle.update_text.proofs.snapshots.push_words.Given as goal
 

@@ -1,8 +1,7 @@
 use Rattle.std.proofs.Common.{◌≡◌, ◌≤◌, ◌+◌, ◌-◌, ◌*◌, ap, sym, ◌∙◌, ◌++◌, subst, rules, length, take, drop, map, get_or}
 use Rattle.std.specs.Prelude.{codes}
 use Rattle.tick_model.specs.Texts.{record_text, records_text, row_record}
-use Rattle.update_text.specs.Snapshots.{snap_record, rows_told}
-use Rattle.update_text.proofs.ToldRows.{told_rows, told_enough}
+use Rattle.update_text.{specs.Snapshots.{snap_record, rows_told}, proofs.ToldRows.{told_rows, told_enough}}
 use Rattle.update_text.proofs.snapshots.snapshot_text.Goals as goal
 
 pub push_told_rows-requires : goal.push_told_rows-requires

@@ -1,10 +1,8 @@
 use Rattle.std.proofs.Common.{◌≡◌, ◌+◌, ◌<◌, ap, sym, ◌∙◌, subst, length, rules}
-use Rattle.std.proofs.lemmas.List.{length-map}
-use Rattle.std.specs.Io.KnownBytes.{append_known}
+use Rattle.std.{proofs.lemmas.List.length-map, specs.Io.KnownBytes.append_known}
 use Rattle.tick_io.specs.Written.{AppendsPrefix}
 use Rattle.tick_model.specs.Texts.{records_text}
-use Rattle.update_text.specs.Added.{added_records}
-use Rattle.update_text.proofs.AddedRows.{records-adding}
+use Rattle.update_text.{specs.Added.added_records, proofs.AddedRows.records-adding}
 use Rattle.update_text.proofs.updates.write_added.Goals as goal
 
 pub returns-clause-count : goal.returns-clause-count

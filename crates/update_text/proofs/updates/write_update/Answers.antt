@@ -1,11 +1,8 @@
 use Rattle.std.proofs.Common.{◌≡◌, refl, ap, sym, ◌∙◌, ◌+◌, arith, rules, List, ℕ, false, length}
-use Rattle.std.specs.Prelude.{Option, Some, None}
-use Rattle.std.proofs.lemmas.List.{append-nil}
+use Rattle.std.{specs.Prelude.{Option, Some, None}, proofs.lemmas.List.append-nil}
 use Rattle.tick_io.specs.Written.{AppendsPrefix}
-use Rattle.tick_model.specs.Changes.{is_empty}
-use Rattle.tick_model.specs.Texts.{records_text}
-use Rattle.update_text.specs.Told.{parts_shown, records_of, told_change, update_shown}
-use Rattle.update_text.proofs.ChangeRecords.{first_and_parts, length-parts}
+use Rattle.tick_model.{specs.Changes.is_empty, specs.Texts.records_text}
+use Rattle.update_text.{specs.Told.{parts_shown, records_of, told_change, update_shown}, proofs.ChangeRecords.{first_and_parts, length-parts}}
 use Rattle.update_text.proofs.updates.write_update.Goals as goal
 
 none_written : (bytes : Option (List ℕ)) (text : List ℕ) → AppendsPrefix bytes bytes text

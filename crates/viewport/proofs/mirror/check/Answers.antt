@@ -1,11 +1,7 @@
 use Rattle.std.proofs.Common.{◌≡◌, ap, sym, ◌∙◌, subst, ◌⊎◌, inr, ◌^◌, None, Some}
 use Rattle.std.proofs.lemmas.Result.{err_from_is_err_and}
-use Rattle.tick_model.specs.declared.update.UpdateFault.TheVariants.{Memory as NoMemory}
-use Rattle.tick_model.specs.Changes.{Change}
-use Rattle.tick_model.specs.Rules.{update_fault}
-use Rattle.tick_model.specs.Tables.{keys}
-use Rattle.viewport.specs.Mirrored.{count_fault}
-use Rattle.viewport.proofs.Mirroring.{by_count, told_fault}
+use Rattle.tick_model.{specs.declared.update.UpdateFault.TheVariants.Memory as NoMemory, specs.Changes.Change, specs.Rules.update_fault, specs.Tables.keys}
+use Rattle.viewport.{specs.Mirrored.count_fault, proofs.Mirroring.{by_count, told_fault}}
 use Rattle.viewport.proofs.mirror.check.Goals as goal
 
 pub returns-in_err-check-clause-fault : goal.returns-in_err-check-clause-fault

@@ -2,13 +2,8 @@ use Rattle.std.proofs.Common.{◌≡◌, ap, ap₂, ◌∙◌, List, take, drop}
 use Rattle.key_lists.specs.Keys.{is_among, without}
 use Rattle.shift_data.specs.Moves.{unapplied}
 use Rattle.table_update.proofs.LawfulParts.{lawful_some}
-use Rattle.tick_model.specs.declared.update.ShiftRange.{ShiftRange}
-use Rattle.tick_model.specs.Rules.{landed}
-use Rattle.tick_model.specs.Shifts.{as_key, moved}
-use Rattle.tick_model.specs.Tables.{keys}
-use Rattle.viewport.specs.Slices.{cut}
-use Rattle.viewport.proofs.Messages.{parts_are, stayed, staying_lawful}
-use Rattle.viewport.proofs.SliceTables.{cut_keys}
+use Rattle.tick_model.{specs.declared.update.ShiftRange.ShiftRange, specs.Rules.landed, specs.Shifts.{as_key, moved}, specs.Tables.keys}
+use Rattle.viewport.{specs.Slices.cut, proofs.Messages.{parts_are, stayed, staying_lawful}, proofs.SliceTables.cut_keys}
 use Rattle.viewport.proofs.touched.touched_rows.Goals as goal
 
 pub apply-requires : goal.apply-requires

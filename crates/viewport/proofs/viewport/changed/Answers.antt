@@ -1,7 +1,6 @@
 use Rattle.std.proofs.Common.{sym, ◌∙◌, length}
 use Rattle.row_changes.proofs.MadeChange.{parts_there}
-use Rattle.viewport.specs.Slices.{cut}
-use Rattle.viewport.proofs.MessageReads.{few_reads}
+use Rattle.viewport.{specs.Slices.cut, proofs.MessageReads.few_reads}
 use Rattle.viewport.proofs.viewport.changed.Goals as goal
 
 pub change_of_touched-requires-clause-ready : goal.change_of_touched-requires-clause-ready

@@ -1,6 +1,5 @@
 use Rattle.std.proofs.Common.{◌≡◌, ap, subst, Err}
-use Rattle.replay.specs.Outcomes.{IsTold}
-use Rattle.replay.proofs.Exits.{all_written}
+use Rattle.replay.{specs.Outcomes.IsTold, proofs.Exits.all_written}
 use Rattle.watched_run.proofs.Tellings.{told_unless}
 use Rattle.watched_run.proofs.steps.ended.Goals as goal
 

@@ -1,15 +1,10 @@
 use Rattle.std.proofs.Common.{◌≡◌, ◌+◌, ◌++◌, ◌<◌, ◌≤◌, ◌∙◌, refl, suc, sym, ap, ap₂, subst, arith}
 use Rattle.std.specs.Io.KnownBytes.{append_known}
-use Rattle.tick_io.specs.Written.{AppendsPrefix}
-use Rattle.tick_io.proofs.Prefixes.{prefix_longer}
+use Rattle.tick_io.{specs.Written.AppendsPrefix, proofs.Prefixes.prefix_longer}
 use Rattle.tick_laws.specs.Reached.{IsReached}
 use Rattle.tick_model.specs.Texts.{records_text}
-use Rattle.replay.proofs.Exits.{none_written}
-use Rattle.replay.proofs.Prints.{on_err}
-use Rattle.watched_run.specs.Messages.{message_records}
-use Rattle.watched_run.specs.ToCome.{text_from}
-use Rattle.watched_run.proofs.Stood.{few_steps, node_of, table_of, tick_of_node}
-use Rattle.watched_run.proofs.TextsTold.{due, goes_nowhere, waits}
+use Rattle.replay.{proofs.Exits.none_written, proofs.Prints.on_err}
+use Rattle.watched_run.{specs.Messages.message_records, specs.ToCome.text_from, proofs.Stood.{few_steps, node_of, table_of, tick_of_node}, proofs.TextsTold.{due, goes_nowhere, waits}}
 use Rattle.watched_run.proofs.steps.next_told.Goals as goal
 
 pub table-table-requires : goal.table-table-requires

@@ -1,7 +1,6 @@
 use Rattle.std.proofs.Common.{refl}
 use Rattle.std.proofs.lemmas.Result.{err_from_is_err_and}
-use Rattle.replay.proofs.Reaching.{good_first}
-use Rattle.replay.proofs.Spoils.{past_is_cause, past_no_write, past_there, stop_is_cause, stop_no_write, within_there}
+use Rattle.replay.{proofs.Reaching.good_first, proofs.Spoils.{past_is_cause, past_no_write, past_there, stop_is_cause, stop_no_write, within_there}}
 use Rattle.watched_run.proofs.steps.opened.Goals as goal
 
 pub returns-in_err-graph-clause-cause : goal.returns-in_err-graph-clause-cause

@@ -1,10 +1,8 @@
 use Rattle.std.proofs.Common.{◌≡◌, ◌∙◌, ◌<◌, ℕ, sym, ap, subst, arith}
 use Rattle.std.specs.Io.KnownBytes.{append_known}
 use Rattle.tick_io.specs.Written.{AppendsPrefix}
-use Rattle.replay.proofs.Exits.{nothing_appended}
-use Rattle.replay.proofs.Prints.{on_err}
-use Rattle.watched_run.specs.ToCome.{rest_text}
-use Rattle.watched_run.proofs.Gaps.{rest_is, rest_none}
+use Rattle.replay.{proofs.Exits.nothing_appended, proofs.Prints.on_err}
+use Rattle.watched_run.{specs.ToCome.rest_text, proofs.Gaps.{rest_is, rest_none}}
 use Rattle.watched_run.proofs.steps.rest_told.Goals as goal
 
 pub returns-then-teller-eq0-clause-whole : goal.returns-then-teller-eq0-clause-whole

@@ -3,15 +3,8 @@ use Rattle.std.proofs.lemmas.Result.{err_from_is_err_and}
 use Rattle.tick_io.specs.Counts.{Rose}
 use Rattle.tick_laws.specs.Reached.{IsReached}
 use Rattle.tick_model.specs.Spoiled.{good}
-use Rattle.replay.specs.Causes.{IsCause}
-use Rattle.replay.specs.Standing.{IsGood}
-use Rattle.replay.proofs.Exits.{none_written}
-use Rattle.replay.proofs.Prints.{on_err}
-use Rattle.replay.proofs.Spoils.{cause_ends, good_before_next, none_is}
-use Rattle.watched_run.specs.Standing.{IsWatchedAt}
-use Rattle.watched_run.specs.ToCome.{watch_until}
-use Rattle.watched_run.proofs.Stood.{few_steps, node_of, table_of}
-use Rattle.watched_run.proofs.TextsTold.{all_told, goes_further, none_told, rests_at_end, some_told, stopped}
+use Rattle.replay.{specs.Causes.IsCause, specs.Standing.IsGood, proofs.Exits.none_written, proofs.Prints.on_err, proofs.Spoils.{cause_ends, good_before_next, none_is}}
+use Rattle.watched_run.{specs.Standing.IsWatchedAt, specs.ToCome.watch_until, proofs.Stood.{few_steps, node_of, table_of}, proofs.TextsTold.{all_told, goes_further, none_told, rests_at_end, some_told, stopped}}
 use Rattle.watched_run.proofs.steps.watch_feed.Goals as goal
 
 pub returns-in_err-hands-clause-prefix : goal.returns-in_err-hands-clause-prefix

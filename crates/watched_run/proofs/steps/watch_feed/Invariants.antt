@@ -1,7 +1,6 @@
 use Rattle.std.proofs.Common.{◌≡◌}
 use Rattle.tick_model.specs.Spoiled.{good}
-use Rattle.watched_run.specs.Standing.{GoesOn, IsWatchedAt}
-use Rattle.watched_run.specs.ToCome.{watch_until}
+use Rattle.watched_run.{specs.Standing.{GoesOn, IsWatchedAt}, specs.ToCome.watch_until}
 use Rattle.watched_run.proofs.steps.watch_feed.Given as goal
 
 -- the steps up to this one are taken in, their messages are written, and the others are to come

@@ -1,11 +1,7 @@
 use Rattle.std.proofs.Common.{◌≡◌, ◌∙◌, sym, ap, subst, length}
-use Rattle.std.specs.Prelude.{OnOk}
-use Rattle.std.specs.Io.KnownBytes.{append_known}
-use Rattle.std.proofs.lemmas.Result.{err_from_is_err_and}
+use Rattle.std.{specs.Prelude.OnOk, specs.Io.KnownBytes.append_known, proofs.lemmas.Result.err_from_is_err_and}
 use Rattle.tick_io.specs.Written.{AppendsPrefix}
-use Rattle.tick_model.specs.Changes.{Change}
-use Rattle.tick_model.specs.Printable.{IsPrintable}
-use Rattle.tick_model.specs.Texts.{change_records, records_text}
+use Rattle.tick_model.{specs.Changes.Change, specs.Printable.IsPrintable, specs.Texts.{change_records, records_text}}
 use Rattle.tick_table.specs.Ticking.{Ticking}
 use Rattle.update_text.specs.Told.{told_change}
 use Rattle.replay.proofs.Prints.{on_err}

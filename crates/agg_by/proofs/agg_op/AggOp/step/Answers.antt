@@ -2,8 +2,7 @@ use Rattle.std.proofs.Common.{ap, ◌∙◌, subst, ◌+◌, ◌*◌, ◌≤◌,
 use Rattle.row_changes.proofs.Comparing.{on_err}
 use Rattle.tick_model.specs.Changes.{change_of}
 use Rattle.tick_table.specs.Exact.{counted, tick_of}
-use Rattle.agg_by.specs.Aggregator.{Aggregator, grouped}
-use Rattle.agg_by.proofs.Whole.{wider_reads}
+use Rattle.agg_by.{specs.Aggregator.{Aggregator, grouped}, proofs.Whole.wider_reads}
 use Rattle.agg_by.proofs.agg_op.AggOp.step.Goals as goal
 
 pub returns-clause-change : goal.returns-clause-change

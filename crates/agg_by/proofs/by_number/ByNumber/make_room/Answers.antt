@@ -1,6 +1,5 @@
 use Rattle.std.proofs.Common.{ap, ◌∙◌, ◌≤◌, arith, length}
-use Rattle.agg_by.specs.ByNumber.{changed_at}
-use Rattle.agg_by.proofs.ByNumber.{changed_room}
+use Rattle.agg_by.{specs.ByNumber.changed_at, proofs.ByNumber.changed_room}
 use Rattle.agg_by.proofs.by_number.ByNumber.make_room.Goals as goal
 
 pub loop-self-preserved : goal.loop-self-preserved

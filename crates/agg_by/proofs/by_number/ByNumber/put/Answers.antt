@@ -1,9 +1,7 @@
 use Rattle.std.proofs.Common.{◌≡◌, ◌<◌, ap, sym, ◌∙◌, subst, rules, false, length, ℤ, w64}
-use Rattle.std.proofs.lemmas.Int.{to_z-of_z}
-use Rattle.std.proofs.lemmas.Result.{on_ok_weaker}
+use Rattle.std.{proofs.lemmas.Int.to_z-of_z, proofs.lemmas.Result.on_ok_weaker}
 use Rattle.tick_model.specs.Tables.{is_null}
-use Rattle.agg_by.specs.ByNumber.{changed_at}
-use Rattle.agg_by.proofs.ByNumber.{changed_held}
+use Rattle.agg_by.{specs.ByNumber.changed_at, proofs.ByNumber.changed_held}
 use Rattle.agg_by.proofs.by_number.ByNumber.put.Goals as goal
 
 pub returns : goal.returns

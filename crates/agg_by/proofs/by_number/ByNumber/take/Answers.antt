@@ -1,10 +1,7 @@
 use Rattle.std.proofs.Common.{◌≡◌, ◌<◌, ap, sym, ◌∙◌, subst, rules, false, length, ℤ, w64}
-use Rattle.std.proofs.lemmas.Int.{to_z-of_z}
-use Rattle.std.proofs.lemmas.List.{get_or_default}
-use Rattle.std.proofs.lemmas.Result.{on_ok_weaker}
+use Rattle.std.{proofs.lemmas.Int.to_z-of_z, proofs.lemmas.List.get_or_default, proofs.lemmas.Result.on_ok_weaker}
 use Rattle.tick_model.specs.Tables.{is_null}
-use Rattle.agg_by.specs.ByNumber.{at_number, changed_at}
-use Rattle.agg_by.proofs.ByNumber.{changed_held, changed_own}
+use Rattle.agg_by.{specs.ByNumber.{at_number, changed_at}, proofs.ByNumber.{changed_held, changed_own}}
 use Rattle.agg_by.proofs.by_number.ByNumber.take.Goals as goal
 
 pub take-requires : goal.take-requires

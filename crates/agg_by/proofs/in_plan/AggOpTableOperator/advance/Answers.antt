@@ -1,10 +1,7 @@
 use Rattle.std.proofs.Common.{◌≡◌, ◌+◌, ◌*◌, ◌≤◌, subst, sym, List, [], ◌∷◌, length}
 use Rattle.tick_model.specs.Changes.{Change, change_of}
-use Rattle.tick_table.specs.Exact.{counted}
-use Rattle.tick_table.specs.Ticking.{Ticking}
-use Rattle.table_operator.specs.Inputs.{news, olds, tables}
-use Rattle.table_operator.specs.Made.{own_tick}
-use Rattle.table_operator.proofs.Rooms.{count_is, one_room}
+use Rattle.tick_table.{specs.Exact.counted, specs.Ticking.Ticking}
+use Rattle.table_operator.{specs.Inputs.{news, olds, tables}, specs.Made.own_tick, proofs.Rooms.{count_is, one_room}}
 use Rattle.agg_by.specs.Made.{StandsForFirst, agg_made}
 use Rattle.agg_by.proofs.in_plan.AggOpTableOperator.advance.Goals as goal
 

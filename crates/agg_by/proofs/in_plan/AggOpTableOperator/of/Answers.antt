@@ -1,6 +1,5 @@
 use Rattle.std.proofs.Common.{◌≡◌, refl, subst, ℕ, arith, List, [], ◌∷◌, length, map, get_or}
-use Rattle.tick_model.specs.declared.plan.Op.{Op}
-use Rattle.tick_model.specs.Operators.{inputs_of}
+use Rattle.tick_model.{specs.declared.plan.Op.Op, specs.Operators.inputs_of}
 use Rattle.tick_table.specs.Ticking.{no_rows}
 use Rattle.agg_by.specs.Made.{StandsForFirst}
 use Rattle.agg_by.proofs.in_plan.AggOpTableOperator.of.Goals as goal

@@ -1,11 +1,8 @@
 use Rattle.std.proofs.Common.{◌≡◌, refl, ap, sym, ◌∙◌, subst, arith, ℕ, List, [], ◌∷◌, map, length, inl, inr}
-use Rattle.std.proofs.lemmas.Bool.{eqb-true}
-use Rattle.std.proofs.lemmas.List.{nil_from_length}
+use Rattle.std.{proofs.lemmas.Bool.eqb-true, proofs.lemmas.List.nil_from_length}
 use Rattle.row_groups.specs.Members.{Names}
-use Rattle.tick_model.specs.declared.plan.Agg.{Agg}
-use Rattle.tick_model.specs.declared.table.PlainRow.{PlainRow}
-use Rattle.agg_by.specs.declared.running.Running.{Running}
-use Rattle.agg_by.specs.Kept.{AnswerAll, Are, agg_of}
+use Rattle.tick_model.{specs.declared.plan.Agg.Agg, specs.declared.table.PlainRow.PlainRow}
+use Rattle.agg_by.{specs.declared.running.Running.Running, specs.Kept.{AnswerAll, Are, agg_of}}
 use Rattle.agg_by.proofs.kept.Kept.begin.Goals as goal
 
 none_of : (running : List Running) → map agg_of running ≡ [] → running ≡ []

@@ -3,18 +3,8 @@ use Rattle.std.specs.List.{AllByRecursion, AllZip, list_any}
 use Rattle.key_lists.specs.Keys.{is_among, without}
 use Rattle.row_groups.specs.Members.{Grouped, IsNumberUnder, IsPart, Numbered, groups_of, member_under}
 use Rattle.shift_data.specs.Moves.{IsLawful}
-use Rattle.tick_model.specs.declared.plan.Agg.{Agg}
-use Rattle.tick_model.specs.Tables.{keys}
-use Rattle.tick_model.specs.Updates.{removing, shifting}
-use Rattle.agg_by.specs.Kept.{AnswerAll, IsMade, Keeps, indexed}
-use Rattle.agg_by.specs.Steps.{changing, changing_before, coming, keeps_groups, key_at, leaving, starts, touched_cells}
-use Rattle.agg_by.specs.Touched.{AreNoted, is_named}
-use Rattle.agg_by.proofs.Answering.{both_ok, own_there}
-use Rattle.agg_by.proofs.Bringing.{members}
-use Rattle.agg_by.proofs.Changing.{carried, rows_before, rows_in, same_touched, stay_in}
-use Rattle.agg_by.proofs.Noted.{named_same, part_own, touched_now}
-use Rattle.agg_by.proofs.Touching.{came_there, left_there, moves_lawful}
-use Rattle.agg_by.proofs.Whole.{moving_reads}
+use Rattle.tick_model.{specs.declared.plan.Agg.Agg, specs.Tables.keys, specs.Updates.{removing, shifting}}
+use Rattle.agg_by.{specs.Kept.{AnswerAll, IsMade, Keeps, indexed}, specs.Steps.{changing, changing_before, coming, keeps_groups, key_at, leaving, starts, touched_cells}, specs.Touched.{AreNoted, is_named}, proofs.Answering.{both_ok, own_there}, proofs.Bringing.members, proofs.Changing.{carried, rows_before, rows_in, same_touched, stay_in}, proofs.Noted.{named_same, part_own, touched_now}, proofs.Touching.{came_there, left_there, moves_lawful}, proofs.Whole.moving_reads}
 use Rattle.agg_by.proofs.kept.Kept.bring_on.Goals as goal
 
 pub take_rows-requires-clause-gone : goal.take_rows-requires-clause-gone

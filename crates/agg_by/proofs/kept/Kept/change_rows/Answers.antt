@@ -1,20 +1,9 @@
 use Rattle.std.proofs.Common.{◌≡◌, refl, ap, ap₂, sym, ◌∙◌, subst, rules, arith, List, ℕ, ℤ, ◌+◌, get_or, length, map, take, None, [], ◌∷◌}
-use Rattle.std.specs.List.{AllByRecursion}
-use Rattle.std.specs.Vec.{with_items}
-use Rattle.std.proofs.lemmas.List.{take_all, with_items_is}
-use Rattle.std.proofs.lemmas.List.Elements.{length_all_zip}
+use Rattle.std.{specs.List.AllByRecursion, specs.Vec.with_items, proofs.lemmas.List.{take_all, with_items_is}, proofs.lemmas.List.Elements.length_all_zip}
 use Rattle.key_lists.proofs.Every.{every_weaker}
 use Rattle.row_groups.specs.Members.{IsNumberUnder, Numbered, groups_of}
-use Rattle.tick_model.specs.declared.plan.Agg.{Agg}
-use Rattle.tick_model.specs.declared.table.PlainRow.{PlainRow}
-use Rattle.tick_model.specs.Tables.{cells_at}
-use Rattle.tick_model.specs.Updates.{removing}
-use Rattle.agg_by.specs.declared.running.Running.{Running}
-use Rattle.agg_by.specs.Answers.{HasRow, with_row, without_row}
-use Rattle.agg_by.specs.Kept.{AnswerAll, Answers, indexed}
-use Rattle.agg_by.specs.Steps.{changing, coming, keeps_groups}
-use Rattle.agg_by.proofs.Changing.{comes, goes, number_at_turn, rows_after, rows_before, rows_in, rows_until, same_index, stay_in, turn, was_held}
-use Rattle.agg_by.proofs.KeptSteps.{all_changed, with_agg, without_agg}
+use Rattle.tick_model.{specs.declared.plan.Agg.Agg, specs.declared.table.PlainRow.PlainRow, specs.Tables.cells_at, specs.Updates.removing}
+use Rattle.agg_by.{specs.declared.running.Running.Running, specs.Answers.{HasRow, with_row, without_row}, specs.Kept.{AnswerAll, Answers, indexed}, specs.Steps.{changing, coming, keeps_groups}, proofs.Changing.{comes, goes, number_at_turn, rows_after, rows_before, rows_in, rows_until, same_index, stay_in, turn, was_held}, proofs.KeptSteps.{all_changed, with_agg, without_agg}}
 use Rattle.agg_by.proofs.kept.Kept.change_rows.Goals as goal
 
 pub loop-place-init : goal.loop-place-init

@@ -1,7 +1,5 @@
 use Rattle.std.proofs.Common.{◌≡◌, ◌+◌, ◌*◌, ◌≤◌, take}
-use Rattle.agg_by.specs.Kept.{AnswerAll}
-use Rattle.agg_by.specs.Steps.{changing, keeps_groups}
-use Rattle.agg_by.proofs.Changing.{rows_in}
+use Rattle.agg_by.{specs.Kept.AnswerAll, specs.Steps.{changing, keeps_groups}, proofs.Changing.rows_in}
 use Rattle.agg_by.proofs.kept.Kept.change_rows.Given as goal
 
 abbrev pub invariant-loop-place : goal.invariant-loop-place

@@ -3,13 +3,8 @@ use Rattle.std.specs.List.{AllByRecursion}
 use Rattle.key_lists.proofs.Every.{every_weaker}
 use Rattle.row_groups.specs.Members.{Grouped, Member, Names, group_of, groups_of, keys_of, left_members, member_under, moved_members, name_at}
 use Rattle.shift_data.specs.Moves.{IsLawful}
-use Rattle.tick_model.specs.declared.update.ShiftRange.{ShiftRange}
-use Rattle.tick_model.specs.Updates.{Update, removing, shifting}
-use Rattle.agg_by.specs.Kept.{Answers, cells_in, indexed}
-use Rattle.agg_by.proofs.Bringing.{left-members, members, moved-members, placed_none}
-use Rattle.agg_by.proofs.KeptSteps.{indexed_left, indexed_moved, left_lawful, moved_cells, same_answers}
-use Rattle.agg_by.proofs.Made.{same_named}
-use Rattle.agg_by.proofs.Noted.{moved_none}
+use Rattle.tick_model.{specs.declared.update.ShiftRange.ShiftRange, specs.Updates.{Update, removing, shifting}}
+use Rattle.agg_by.{specs.Kept.{Answers, cells_in, indexed}, proofs.Bringing.{left-members, members, moved-members, placed_none}, proofs.KeptSteps.{indexed_left, indexed_moved, left_lawful, moved_cells, same_answers}, proofs.Made.same_named, proofs.Noted.moved_none}
 use Rattle.agg_by.proofs.kept.Kept.move_rows.Goals as goal
 
 pub remove_numbered-requires-clause-numbers : goal.remove_numbered-requires-clause-numbers

@@ -1,12 +1,7 @@
 use Rattle.std.proofs.Common.{◌≡◌, refl, sym, ◌∙◌, subst, true, List, Option, is_some}
-use Rattle.std.proofs.lemmas.Result.{on_ok_weaker}
-use Rattle.std.proofs.lemmas.Option.{same_Some}
+use Rattle.std.{proofs.lemmas.Result.on_ok_weaker, proofs.lemmas.Option.same_Some}
 use Rattle.row_groups.specs.Members.{Member, group_of, groups_of}
-use Rattle.agg_by.specs.declared.running.Running.{Running}
-use Rattle.agg_by.specs.Kept.{AnswerAll}
-use Rattle.agg_by.specs.Moments.{table_at}
-use Rattle.agg_by.specs.Steps.{key_at}
-use Rattle.agg_by.proofs.Answering.{few_rows, known_at, led_at, led_cells, led_row, put_row, rows_there, there_at}
+use Rattle.agg_by.{specs.declared.running.Running.Running, specs.Kept.AnswerAll, specs.Moments.table_at, specs.Steps.key_at, proofs.Answering.{few_rows, known_at, led_at, led_cells, led_row, put_row, rows_there, there_at}}
 use Rattle.agg_by.proofs.kept.Kept.put_group.Goals as goal
 
 pub number_of-number-requires : goal.number_of-number-requires

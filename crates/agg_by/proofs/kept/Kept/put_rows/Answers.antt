@@ -1,25 +1,12 @@
 use Rattle.std.proofs.Common.{◌≡◌, refl, ap, ap₂, sym, ◌∙◌, subst, rules, arith, false, true, List, [], ◌∷◌, ◌++◌, ℕ, ℤ, ◌+◌, ◌*◌, ◌≤◌, IsTrue, length, map, append-nil, append_assoc, pos}
-use Rattle.std.specs.List.{AllByRecursion}
-use Rattle.std.proofs.lemmas.List.{length-map, map-append, with_items_is}
-use Rattle.key_lists.specs.Keys.{is_among, IsRising}
-use Rattle.key_lists.proofs.Among.{among_below}
-use Rattle.key_lists.proofs.Every.{every_weaker, filter_all}
+use Rattle.std.{specs.List.AllByRecursion, proofs.lemmas.List.{length-map, map-append, with_items_is}}
+use Rattle.key_lists.{specs.Keys.{is_among, IsRising}, proofs.Among.among_below, proofs.Every.{every_weaker, filter_all}}
 use Rattle.row_changes.proofs.Comparing.{reads_next, reads_within}
 use Rattle.row_groups.specs.Members.{Grouped, IsNumberOf, groups_of, member_of, with_member}
-use Rattle.row_set.proofs.Windows.{rising_back}
-use Rattle.row_set.proofs.Yielded.{next_has, next_small, yielded_all, yielded_next}
-use Rattle.tick_model.specs.Agg.{key_cells}
-use Rattle.tick_model.specs.Tables.{cell, cells_at, keys}
-use Rattle.tick_model.specs.Updates.{removing}
+use Rattle.row_set.{proofs.Windows.rising_back, proofs.Yielded.{next_has, next_small, yielded_all, yielded_next}}
+use Rattle.tick_model.{specs.Agg.key_cells, specs.Tables.{cell, cells_at, keys}, specs.Updates.removing}
 use Rattle.tick_table.specs.Ticking.{Ticking}
-use Rattle.agg_by.specs.declared.running.Running.{Running}
-use Rattle.agg_by.specs.Answers.{with_row}
-use Rattle.agg_by.specs.Kept.{AnswerAll, Answers, Keeps}
-use Rattle.agg_by.specs.Steps.{key_at}
-use Rattle.agg_by.specs.Touched.{AreNoted, with_number}
-use Rattle.agg_by.proofs.KeptSteps.{all_changed, gains, indexed_gains, indexed_room, same_answers, with_agg}
-use Rattle.agg_by.proofs.Made.{same_named}
-use Rattle.agg_by.proofs.Noted.{noted_more, noted_none, part_again}
+use Rattle.agg_by.{specs.declared.running.Running.Running, specs.Answers.with_row, specs.Kept.{AnswerAll, Answers, Keeps}, specs.Steps.key_at, specs.Touched.{AreNoted, with_number}, proofs.KeptSteps.{all_changed, gains, indexed_gains, indexed_room, same_answers, with_agg}, proofs.Made.same_named, proofs.Noted.{noted_more, noted_none, part_again}}
 use Rattle.agg_by.proofs.kept.Kept.put_rows.Goals as goal
 
 apart : (come yielded left : List ℕ) (key : ℕ) → IsRising come → come ≡ yielded ++ key ∷ left → is_among key left ≡ false

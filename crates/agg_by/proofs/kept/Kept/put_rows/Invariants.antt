@@ -1,9 +1,7 @@
 use Rattle.std.proofs.Common.{◌≡◌, ◌+◌, ◌*◌, ◌≤◌, ◌++◌, List, ℕ, length, map}
 use Rattle.row_groups.specs.Members.{IsPart}
 use Rattle.tick_model.specs.Updates.{removing}
-use Rattle.agg_by.specs.Kept.{Keeps}
-use Rattle.agg_by.specs.Steps.{key_at}
-use Rattle.agg_by.specs.Touched.{AreNoted}
+use Rattle.agg_by.{specs.Kept.Keeps, specs.Steps.key_at, specs.Touched.AreNoted}
 use Rattle.agg_by.proofs.kept.Kept.put_rows.Given as goal
 
 abbrev pub invariant-loop-key : goal.invariant-loop-key

@@ -1,22 +1,12 @@
 use Rattle.std.proofs.Common.{◌≡◌, refl, ap, ap₂, sym, ◌∙◌, subst, rules, arith, true, IsTrue, List, [], ◌∷◌, ◌++◌, ℕ, ℤ, ◌+◌, ◌*◌, ◌<◌, ◌≤◌, get_or, length, length-append, map}
-use Rattle.std.specs.List.{AllByRecursion}
-use Rattle.std.proofs.lemmas.List.{with_items_is}
-use Rattle.key_lists.specs.Keys.{is_among}
-use Rattle.key_lists.proofs.Every.{every_weaker, filter_all}
+use Rattle.std.{specs.List.AllByRecursion, proofs.lemmas.List.with_items_is}
+use Rattle.key_lists.{specs.Keys.is_among, proofs.Every.{every_weaker, filter_all}}
 use Rattle.row_changes.proofs.Comparing.{reads_next, reads_within}
-use Rattle.row_groups.specs.Members.{IsNumberOf, IsNumberUnder, groups_of}
-use Rattle.row_groups.proofs.Departing.{zipped_next, zipped_within}
+use Rattle.row_groups.{specs.Members.{IsNumberOf, IsNumberUnder, groups_of}, proofs.Departing.{zipped_next, zipped_within}}
 use Rattle.row_set.proofs.Yielded.{next_has, next_new, yielded_all, yielded_next}
-use Rattle.tick_model.specs.declared.table.PlainRow.{PlainRow}
-use Rattle.tick_model.specs.Tables.{cells_at, keys}
-use Rattle.tick_model.specs.Updates.{removing}
+use Rattle.tick_model.{specs.declared.table.PlainRow.PlainRow, specs.Tables.{cells_at, keys}, specs.Updates.removing}
 use Rattle.tick_table.specs.Ticking.{Ticking}
-use Rattle.agg_by.specs.declared.running.Running.{Running}
-use Rattle.agg_by.specs.Answers.{HasRow, without_row}
-use Rattle.agg_by.specs.Kept.{AnswerAll, Answers}
-use Rattle.agg_by.specs.Steps.{key_at}
-use Rattle.agg_by.proofs.Answering.{known_at}
-use Rattle.agg_by.proofs.KeptSteps.{all_changed, has_row, loses, removing-last, without_agg}
+use Rattle.agg_by.{specs.declared.running.Running.Running, specs.Answers.{HasRow, without_row}, specs.Kept.{AnswerAll, Answers}, specs.Steps.key_at, proofs.Answering.known_at, proofs.KeptSteps.{all_changed, has_row, loses, removing-last, without_agg}}
 use Rattle.agg_by.proofs.kept.Kept.take_rows.Goals as goal
 
 pub loop-key-init : goal.loop-key-init

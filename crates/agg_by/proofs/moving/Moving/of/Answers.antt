@@ -5,11 +5,8 @@ use Rattle.row_groups.specs.Members.{IsNumberUnder, groups_of}
 use Rattle.row_set.specs.Sets.{united}
 use Rattle.shown_rows.proofs.Restricted.{modified_new, modified_old}
 use Rattle.table_update.specs.Kept.{old_modified}
-use Rattle.tick_model.specs.Tables.{keys}
-use Rattle.tick_model.specs.Updates.{Update, new_keys, old_keys}
-use Rattle.agg_by.specs.Steps.{come, gone, keeps_groups}
-use Rattle.agg_by.proofs.Answering.{own_there}
-use Rattle.agg_by.proofs.Touching.{changing_there, left_there}
+use Rattle.tick_model.{specs.Tables.keys, specs.Updates.{Update, new_keys, old_keys}}
+use Rattle.agg_by.{specs.Steps.{come, gone, keeps_groups}, proofs.Answering.own_there, proofs.Touching.{changing_there, left_there}}
 use Rattle.agg_by.proofs.moving.Moving.of.Goals as goal
 
 pub numbers_of-requires : goal.numbers_of-requires

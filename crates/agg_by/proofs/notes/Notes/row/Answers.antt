@@ -1,6 +1,5 @@
 use Rattle.std.proofs.Common.{◌≡◌, ap, sym, ◌∙◌, Some, None, List, ℤ, if◌then◌else◌}
-use Rattle.std.specs.Result.{result_ok}
-use Rattle.std.proofs.lemmas.Option.{slice_get_within}
+use Rattle.std.{specs.Result.result_ok, proofs.lemmas.Option.slice_get_within}
 use Rattle.row_set.specs.Sets.{found}
 use Rattle.tick_model.specs.Tables.{cells_at}
 use Rattle.agg_by.proofs.Noting.{found_ok, noted_at, place_of_found, room_at}

@@ -1,8 +1,7 @@
 use Rattle.std.proofs.Common.{◌≡◌, ap, ap₂, sym, ◌∙◌, subst, ◌+◌, ◌++◌, ℕ, ℤ, List, length}
 use Rattle.std.specs.List.{AllByRecursion}
 use Rattle.row_changes.specs.Parts.{cells_under}
-use Rattle.tick_model.specs.Agg.{agg_table}
-use Rattle.tick_model.specs.Tables.{cells_at}
+use Rattle.tick_model.{specs.Agg.agg_table, specs.Tables.cells_at}
 use Rattle.agg_by.proofs.Noting.{whole_rows}
 use Rattle.agg_by.proofs.notes.Notes.take.Goals as goal
 

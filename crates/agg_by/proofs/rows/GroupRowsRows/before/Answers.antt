@@ -1,18 +1,8 @@
 use Rattle.std.proofs.Common.{◌≡◌, ◌^◌, ap, sym, ◌∙◌, subst, arith, true, false, ℕ, List, ℤ, ◌++◌}
 use Rattle.std.proofs.lemmas.Result.{on_ok_weaker}
 use Rattle.key_lists.specs.Keys.{is_among}
-use Rattle.tick_model.specs.Agg.{agg_table}
-use Rattle.tick_model.specs.declared.update.ShiftRange.{ShiftRange}
-use Rattle.tick_model.specs.Rules.{is_past}
-use Rattle.tick_model.specs.Shifts.{as_key, moved}
-use Rattle.tick_model.specs.Tables.{cells_at}
-use Rattle.tick_model.specs.Updates.{Update}
-use Rattle.agg_by.specs.Steps.{first_keys, touched_firsts}
-use Rattle.agg_by.proofs.Answering.{items_put}
-use Rattle.agg_by.proofs.GroupRows.{keys-agg}
-use Rattle.agg_by.proofs.Noting.{noted_room}
-use Rattle.agg_by.proofs.Quiet.{first_now, same_row, still_there}
-use Rattle.agg_by.proofs.StayingRows.{chosen_is, first_there, lands, none_chosen, small_row}
+use Rattle.tick_model.{specs.Agg.agg_table, specs.declared.update.ShiftRange.ShiftRange, specs.Rules.is_past, specs.Shifts.{as_key, moved}, specs.Tables.cells_at, specs.Updates.Update}
+use Rattle.agg_by.{specs.Steps.{first_keys, touched_firsts}, proofs.Answering.items_put, proofs.GroupRows.keys-agg, proofs.Noting.noted_room, proofs.Quiet.{first_now, same_row, still_there}, proofs.StayingRows.{chosen_is, first_there, lands, none_chosen, small_row}}
 use Rattle.agg_by.proofs.rows.GroupRowsRows.before.Goals as goal
 
 pub row-requires : goal.row-requires

@@ -1,9 +1,5 @@
 use Rattle.std.proofs.Common.{ℤ, sym, subst, [], List}
-use Rattle.agg_by.specs.declared.sums.Total.{Total}
-use Rattle.agg_by.specs.Kept.{AreMade}
-use Rattle.agg_by.specs.Sums.{minus, no_total, plus, total_of}
-use Rattle.agg_by.specs.Values.{in_order, opposite, opposites, placed, unplaced}
-use Rattle.agg_by.proofs.Made.{mirrored, none_made, sums, values}
+use Rattle.agg_by.{specs.declared.sums.Total.Total, specs.Kept.AreMade, specs.Sums.{minus, no_total, plus, total_of}, specs.Values.{in_order, opposite, opposites, placed, unplaced}, proofs.Made.{mirrored, none_made, sums, values}}
 use Rattle.agg_by.proofs.running.Running.new.Goals as goal
 
 pub returns-in-Sum-clause-answers : goal.returns-in-Sum-clause-answers

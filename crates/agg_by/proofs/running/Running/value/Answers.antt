@@ -4,9 +4,7 @@ use Rattle.key_lists.specs.Keys.{is_among}
 use Rattle.row_groups.specs.Members.{keys_of}
 use Rattle.shown_rows.proofs.Walks.{of_place}
 use Rattle.tick_model.specs.Tables.{keys}
-use Rattle.agg_by.specs.declared.running.Running.{Running}
-use Rattle.agg_by.specs.Answers.{answer}
-use Rattle.agg_by.specs.Moments.{table_at}
+use Rattle.agg_by.{specs.declared.running.Running.Running, specs.Answers.answer, specs.Moments.table_at}
 use Rattle.agg_by.proofs.running.Running.value.Goals as goal
 
 pub overflow_cast-result : goal.overflow_cast-result

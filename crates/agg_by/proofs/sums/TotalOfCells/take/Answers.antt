@@ -1,6 +1,5 @@
 use Rattle.std.proofs.Common.{ap₂, rules, pos, w64}
-use Rattle.std.specs.Prelude.{FitsSigned}
-use Rattle.std.proofs.lemmas.Int.{wrapping_sub_is}
+use Rattle.std.{specs.Prelude.FitsSigned, proofs.lemmas.Int.wrapping_sub_is}
 use Rattle.agg_by.specs.declared.sums.Total.{Total}
 use Rattle.agg_by.proofs.sums.TotalOfCells.take.Goals as goal
 

@@ -1,11 +1,6 @@
 use Rattle.std.proofs.Common.{◌≡◌, ap, sym, ◌∙◌, subst, ◌<◌, true, ℕ, Some, get_or, length}
-use Rattle.std.specs.Prelude.{slice_get}
-use Rattle.std.specs.List.{AllByRecursion}
-use Rattle.std.proofs.lemmas.List.{length-set}
-use Rattle.std.proofs.lemmas.Option.{slice_get-get_or}
-use Rattle.key_lists.specs.Keys.{is_among}
-use Rattle.key_lists.proofs.Among.{each_among}
-use Rattle.key_lists.proofs.Every.{every_weaker}
+use Rattle.std.{specs.Prelude.slice_get, specs.List.AllByRecursion, proofs.lemmas.List.length-set, proofs.lemmas.Option.slice_get-get_or}
+use Rattle.key_lists.{specs.Keys.is_among, proofs.Among.each_among, proofs.Every.every_weaker}
 use Rattle.shown_rows.proofs.Walks.{of_place}
 use Rattle.agg_by.proofs.Noted.{marked_within, unmarked}
 use Rattle.agg_by.proofs.touched.TouchedGroups.clear.Goals as goal

@@ -1,8 +1,5 @@
 use Rattle.std.proofs.Common.{◌≡◌, ap, sym, ◌∙◌, ◌||◌, ◌∷◌, [], ℕ, Some, get_or, take}
-use Rattle.std.specs.List.{list_any}
-use Rattle.std.specs.Prelude.{slice_get}
-use Rattle.std.proofs.lemmas.List.Folds.{list_any-append}
-use Rattle.std.proofs.lemmas.Option.{slice_get-get_or}
+use Rattle.std.{specs.List.list_any, specs.Prelude.slice_get, proofs.lemmas.List.Folds.list_any-append, proofs.lemmas.Option.slice_get-get_or}
 use Rattle.key_lists.proofs.Booleans.{or_assoc, or_false}
 use Rattle.shown_rows.proofs.Walks.{take_next}
 use Rattle.agg_by.proofs.Noted.{any_with}

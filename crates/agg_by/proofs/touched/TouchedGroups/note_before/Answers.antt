@@ -1,17 +1,9 @@
 use Rattle.std.proofs.Common.{◌≡◌, refl, ap, sym, ◌∙◌, ◌||◌, ◌==◌, ◌++◌, subst, true, List, ℤ, map}
-use Rattle.std.specs.List.{AllByRecursion, list_any}
-use Rattle.std.proofs.lemmas.Result.{on_ok_weaker}
-use Rattle.std.proofs.lemmas.List.Folds.{list_any-append}
-use Rattle.key_lists.specs.Keys.{is_among}
-use Rattle.key_lists.proofs.Booleans.{or_false}
+use Rattle.std.{specs.List.{AllByRecursion, list_any}, proofs.lemmas.Result.on_ok_weaker, proofs.lemmas.List.Folds.list_any-append}
+use Rattle.key_lists.{specs.Keys.is_among, proofs.Booleans.or_false}
 use Rattle.row_groups.specs.Members.{groups_of}
 use Rattle.tick_model.specs.Tables.{keys}
-use Rattle.agg_by.specs.Steps.{changing_before, keeps_groups, kept_cells, key_at, starts, touched_cells}
-use Rattle.agg_by.specs.Touched.{is_named, starts_numbered}
-use Rattle.agg_by.proofs.Answering.{own_there}
-use Rattle.agg_by.proofs.Changing.{kept_touched}
-use Rattle.agg_by.proofs.Noted.{named-append, named_nothing, named_one, named_same, starts_own, together, told_of}
-use Rattle.agg_by.proofs.Touching.{came_there, changing_there, left_there}
+use Rattle.agg_by.{specs.Steps.{changing_before, keeps_groups, kept_cells, key_at, starts, touched_cells}, specs.Touched.{is_named, starts_numbered}, proofs.Answering.own_there, proofs.Changing.kept_touched, proofs.Noted.{named-append, named_nothing, named_one, named_same, starts_own, together, told_of}, proofs.Touching.{came_there, changing_there, left_there}}
 use Rattle.agg_by.proofs.touched.TouchedGroups.note_before.Goals as goal
 
 pub note_coming-requires : goal.note_coming-requires

@@ -3,12 +3,9 @@ use Rattle.key_lists.specs.Keys.{is_among}
 use Rattle.row_changes.proofs.Comparing.{reads_next, reads_within}
 use Rattle.row_groups.specs.Members.{IsNumberOf, group_of, name_at}
 use Rattle.row_set.proofs.Yielded.{next_has, yielded_all, yielded_next}
-use Rattle.tick_model.specs.Agg.{key_cells}
-use Rattle.tick_model.specs.Tables.{cells_at, keys as keys_of}
+use Rattle.tick_model.{specs.Agg.key_cells, specs.Tables.{cells_at, keys as keys_of}}
 use Rattle.tick_table.specs.Ticking.{Ticking}
-use Rattle.agg_by.specs.Steps.{key_at}
-use Rattle.agg_by.specs.Touched.{with_number}
-use Rattle.agg_by.proofs.Noted.{HaveNoted, noted_alien, noted_first, noted_nothing, noted_own}
+use Rattle.agg_by.{specs.Steps.key_at, specs.Touched.with_number, proofs.Noted.{HaveNoted, noted_alien, noted_first, noted_nothing, noted_own}}
 use Rattle.agg_by.proofs.touched.TouchedGroups.note_coming.Goals as goal
 
 pub row-requires : goal.row-requires

@@ -1,6 +1,5 @@
 use Rattle.std.proofs.Common.{◌≡◌, ◌+◌, ◌*◌, ◌≤◌, length}
-use Rattle.agg_by.specs.Steps.{key_at}
-use Rattle.agg_by.proofs.Noted.{HaveNoted}
+use Rattle.agg_by.{specs.Steps.key_at, proofs.Noted.HaveNoted}
 use Rattle.agg_by.proofs.touched.TouchedGroups.note_coming.Given as goal
 
 abbrev pub invariant-loop-key : goal.invariant-loop-key

@@ -1,9 +1,6 @@
 use Rattle.std.proofs.Common.{◌≡◌, refl, ap, sym, ◌∙◌, arith, List, [], ◌∷◌, Option, Some, None, ℤ, Bor, true≢false}
-use Rattle.std.specs.Option.{option_copied}
-use Rattle.std.specs.Prelude.{slice_get}
-use Rattle.std.specs.Slice.{IsItemAt}
-use Rattle.agg_by.specs.Values.{last}
-use Rattle.agg_by.proofs.Counted.{last_left}
+use Rattle.std.{specs.Option.option_copied, specs.Prelude.slice_get, specs.Slice.IsItemAt}
+use Rattle.agg_by.{specs.Values.last, proofs.Counted.last_left}
 use Rattle.agg_by.proofs.values.Values.last.Goals as goal
 
 first_item : (xs : List ℤ) (item : Option (Bor ℤ)) → IsItemAt xs 0 item → option_copied item ≡ slice_get xs 0

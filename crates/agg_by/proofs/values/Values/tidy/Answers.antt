@@ -1,8 +1,6 @@
 use Rattle.std.proofs.Common.{◌≡◌, ◌+◌, ◌<◌, ◌∙◌, ap, refl, subst, sym, rules, arith, is_ok, length, true, Some, ◌∷◌, ℤ, w64, FitsSigned}
-use Rattle.std.specs.List.Sorted.{IsPermutation}
-use Rattle.std.proofs.lemmas.Int.{to_z-of_z}
-use Rattle.agg_by.specs.Values.{Ascends, IsSettled, left}
-use Rattle.agg_by.proofs.Counted.{IsPopped, kept_popped, left_ascends, moved_over, popped, rebuilt, top_of, when_ok}
+use Rattle.std.{specs.List.Sorted.IsPermutation, proofs.lemmas.Int.to_z-of_z}
+use Rattle.agg_by.{specs.Values.{Ascends, IsSettled, left}, proofs.Counted.{IsPopped, kept_popped, left_ascends, moved_over, popped, rebuilt, top_of, when_ok}}
 use Rattle.agg_by.proofs.values.Values.tidy.Goals as goal
 
 pub settle-requires : goal.settle-requires

@@ -1,6 +1,5 @@
 use Rattle.std.proofs.Common.{◌≡◌, ◌+◌, ◌≤◌, ℤ}
-use Rattle.std.specs.BinaryHeap.{IsHeap}
-use Rattle.std.specs.Ordering.{int_cmp}
+use Rattle.std.{specs.BinaryHeap.IsHeap, specs.Ordering.int_cmp}
 use Rattle.agg_by.specs.Values.{IsSettled, count, left}
 use Rattle.agg_by.proofs.values.Values.tidy.Given as goal
 

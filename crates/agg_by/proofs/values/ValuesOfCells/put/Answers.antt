@@ -1,8 +1,6 @@
 use Rattle.std.proofs.Common.{ap, ◌∙◌, subst, ◌∷◌, ℤ, w64}
-use Rattle.std.specs.List.Sorted.{IsPermutation}
-use Rattle.std.proofs.lemmas.Int.{to_z-of_z}
-use Rattle.agg_by.specs.Values.{placed}
-use Rattle.agg_by.proofs.Counted.{settled_more}
+use Rattle.std.{specs.List.Sorted.IsPermutation, proofs.lemmas.Int.to_z-of_z}
+use Rattle.agg_by.{specs.Values.placed, proofs.Counted.settled_more}
 use Rattle.agg_by.proofs.values.ValuesOfCells.put.Goals as goal
 
 pub invariant_of-self-2 : goal.invariant_of-self-2

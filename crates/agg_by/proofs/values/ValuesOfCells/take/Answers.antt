@@ -1,8 +1,6 @@
 use Rattle.std.proofs.Common.{ap, sym, ◌∙◌, subst, ◌∷◌, ℤ, w64}
-use Rattle.std.specs.List.Sorted.{IsPermutation}
-use Rattle.std.proofs.lemmas.Int.{to_z-of_z}
-use Rattle.agg_by.specs.Values.{IsAmong, unplaced}
-use Rattle.agg_by.proofs.Counted.{kept_gone}
+use Rattle.std.{specs.List.Sorted.IsPermutation, proofs.lemmas.Int.to_z-of_z}
+use Rattle.agg_by.{specs.Values.{IsAmong, unplaced}, proofs.Counted.kept_gone}
 use Rattle.agg_by.proofs.values.ValuesOfCells.take.Goals as goal
 
 pub settle-requires : goal.settle-requires

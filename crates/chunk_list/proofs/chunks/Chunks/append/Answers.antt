@@ -1,10 +1,7 @@
 use Rattle.std.proofs.Common.{◌≡◌, ◌++◌, ◌-◌, ◌+◌, ◌<◌, ap, arith, length, length-append, take, sym, ◌∙◌, ℕ}
 use Rattle.std.proofs.lemmas.Result.{on_ok_weaker, on_err_weaker}
 use Rattle.key_lists.proofs.Parts.{no_items}
-use Rattle.chunk_list.specs.Chunked.{joined, list_at, lists}
-use Rattle.chunk_list.proofs.Edits.{some_items}
-use Rattle.chunk_list.proofs.Extended.{filled, first_ones, none_filled, still_at}
-use Rattle.chunk_list.proofs.Joined.{length-lists}
+use Rattle.chunk_list.{specs.Chunked.{joined, list_at, lists}, proofs.Edits.some_items, proofs.Extended.{filled, first_ones, none_filled, still_at}, proofs.Joined.length-lists}
 use Rattle.chunk_list.proofs.chunks.Chunks.append.Goals as goal
 
 pub append_chunks-requires-clause-room : goal.append_chunks-requires-clause-room

@@ -1,8 +1,6 @@
 use Rattle.std.proofs.Common.{◌++◌, ◌∷◌, [], ap, arith, length, subst, sum, sym, ◌∙◌}
 use Rattle.std.specs.Prelude.{insert}
-use Rattle.chunk_list.specs.Chunked.{AreChunks, lists}
-use Rattle.chunk_list.proofs.Extended.{lists_pushed, pushed_kept}
-use Rattle.chunk_list.proofs.Joined.{length-joined, length-lists}
+use Rattle.chunk_list.{specs.Chunked.{AreChunks, lists}, proofs.Extended.{lists_pushed, pushed_kept}, proofs.Joined.{length-joined, length-lists}}
 use Rattle.chunk_list.proofs.chunks.Chunks.append_chunk.Goals as goal
 
 pub insert-requires-clause-fits : goal.insert-requires-clause-fits

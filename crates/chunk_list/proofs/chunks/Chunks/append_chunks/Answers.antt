@@ -1,10 +1,7 @@
 use Rattle.std.proofs.Common.{◌≡◌, ◌++◌, ap, arith, append-nil, length, length-append, drop, take, sym, ◌∙◌}
-use Rattle.std.proofs.Math.Seq.{take-length}
-use Rattle.std.proofs.lemmas.List.{drop_all}
+use Rattle.std.{proofs.Math.Seq.take-length, proofs.lemmas.List.drop_all}
 use Rattle.key_lists.proofs.Parts.{no_items}
-use Rattle.chunk_list.specs.Chunked.{joined, lists}
-use Rattle.chunk_list.proofs.Edits.{some_items}
-use Rattle.chunk_list.proofs.Extended.{joined_pushed, more_kept, more_put}
+use Rattle.chunk_list.{specs.Chunked.{joined, lists}, proofs.Edits.some_items, proofs.Extended.{joined_pushed, more_kept, more_put}}
 use Rattle.chunk_list.proofs.chunks.Chunks.append_chunks.Goals as goal
 
 pub loop-rest-init : goal.loop-rest-init

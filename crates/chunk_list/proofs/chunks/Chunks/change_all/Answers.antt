@@ -1,12 +1,7 @@
 use Rattle.std.proofs.Common.{◌≡◌, ◌<◌, ◌++◌, ◌∙◌, [], ap, arith, drop, get_or, length, map, subst, sym, take}
-use Rattle.std.specs.List.{AllByRecursion}
-use Rattle.std.specs.Vec.{with_items}
-use Rattle.std.proofs.lemmas.List.{length-map}
+use Rattle.std.{specs.List.AllByRecursion, specs.Vec.with_items, proofs.lemmas.List.length-map}
 use Rattle.key_lists.proofs.Parts.{take_front}
-use Rattle.chunk_list.specs.Chunked.{joined, list_at}
-use Rattle.chunk_list.proofs.Changing.{every_chunk, later_has, map_more}
-use Rattle.chunk_list.proofs.Edits.{lists_set}
-use Rattle.chunk_list.proofs.Joined.{contents, length-lists, list_at-items}
+use Rattle.chunk_list.{specs.Chunked.{joined, list_at}, proofs.Changing.{every_chunk, later_has, map_more}, proofs.Edits.lists_set, proofs.Joined.{contents, length-lists, list_at-items}}
 use Rattle.chunk_list.proofs.chunks.Chunks.change_all.Goals as goal
 
 pub loop-items-preserved : goal.loop-items-preserved

@@ -1,6 +1,5 @@
 use Rattle.std.proofs.Common.{ap, arith, ◌∙◌, take_all}
-use Rattle.chunk_list.proofs.Extended.{one_copied}
-use Rattle.chunk_list.proofs.Joined.{contents, length-lists}
+use Rattle.chunk_list.{proofs.Extended.one_copied, proofs.Joined.{contents, length-lists}}
 use Rattle.chunk_list.proofs.chunks.Chunks.copy.Goals as goal
 
 pub loop-items-preserved : goal.loop-items-preserved

@@ -1,7 +1,5 @@
 use Rattle.std.proofs.Common.{◌++◌, ap, arith, length, length-append, set, sum, subst, sym, ◌∙◌}
-use Rattle.chunk_list.specs.Chunked.{AreChunks, lists, list_at}
-use Rattle.chunk_list.proofs.Edits.{on_err, lists_same, lists_set, put_kept}
-use Rattle.chunk_list.proofs.Joined.{length-counts, length-joined, length-lists, own_list}
+use Rattle.chunk_list.{specs.Chunked.{AreChunks, lists, list_at}, proofs.Edits.{on_err, lists_same, lists_set, put_kept}, proofs.Joined.{length-counts, length-joined, length-lists, own_list}}
 use Rattle.chunk_list.proofs.chunks.Chunks.extend_chunk.Goals as goal
 
 pub index_mut-requires : goal.index_mut-requires

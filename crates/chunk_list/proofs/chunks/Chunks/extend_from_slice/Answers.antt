@@ -1,7 +1,5 @@
 use Rattle.std.proofs.Common.{◌≡◌, ap, arith, length, take, ◌∙◌}
-use Rattle.chunk_list.specs.Chunked.{lists}
-use Rattle.chunk_list.proofs.Extended.{first_ones}
-use Rattle.chunk_list.proofs.Joined.{length-lists}
+use Rattle.chunk_list.{specs.Chunked.lists, proofs.Extended.first_ones, proofs.Joined.length-lists}
 use Rattle.chunk_list.proofs.chunks.Chunks.extend_from_slice.Goals as goal
 
 pub truncate-requires-clause-within : goal.truncate-requires-clause-within

@@ -1,6 +1,5 @@
 use Rattle.std.proofs.Common.{ap, arith, sum}
-use Rattle.chunk_list.specs.Chunked.{lists}
-use Rattle.chunk_list.proofs.Joined.{length-joined, placed}
+use Rattle.chunk_list.{specs.Chunked.lists, proofs.Joined.{length-joined, placed}}
 use Rattle.chunk_list.proofs.chunks.Chunks.find.Goals as goal
 
 pub find-requires : goal.find-requires

@@ -1,7 +1,5 @@
 use Rattle.std.proofs.Common.{ap, arith, length}
-use Rattle.chunk_list.specs.Chunked.{lists}
-use Rattle.chunk_list.proofs.Edits.{size_at}
-use Rattle.chunk_list.proofs.Joined.{own_list}
+use Rattle.chunk_list.{specs.Chunked.lists, proofs.Edits.size_at, proofs.Joined.own_list}
 use Rattle.chunk_list.proofs.chunks.Chunks.first_of.Goals as goal
 
 pub index-requires-2 : goal.index-requires-2

@@ -1,8 +1,6 @@
 use Rattle.std.proofs.Common.{ap, arith, subst, sym, ◌∙◌}
 use Rattle.std.proofs.lemmas.Result.{on_ok_weaker}
-use Rattle.chunk_list.specs.Chunked.{IsReplaced, joined, lists}
-use Rattle.chunk_list.proofs.Edits.{item_put}
-use Rattle.chunk_list.proofs.Halves.{set_replaced}
+use Rattle.chunk_list.{specs.Chunked.{IsReplaced, joined, lists}, proofs.Edits.item_put, proofs.Halves.set_replaced}
 use Rattle.chunk_list.proofs.chunks.Chunks.insert.Goals as goal
 
 pub returns-then-len-lt-CHUNK_LEN-clause-ok : goal.returns-then-len-lt-CHUNK_LEN-clause-ok

@@ -1,6 +1,5 @@
 use Rattle.std.proofs.Common.{ap, sym, ◌∙◌, sum}
-use Rattle.chunk_list.specs.Chunked.{lists}
-use Rattle.chunk_list.proofs.Joined.{length-joined}
+use Rattle.chunk_list.{specs.Chunked.lists, proofs.Joined.length-joined}
 use Rattle.chunk_list.proofs.chunks.Chunks.len.Goals as goal
 
 pub returns : goal.returns

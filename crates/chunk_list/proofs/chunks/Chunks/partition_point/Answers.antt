@@ -1,11 +1,7 @@
 use Rattle.std.proofs.Common.{◌≡◌, ◌+◌, ◌-◌, ◌/◌, ◌≤◌, ◌<◌, ◌∙◌, ap, length, true, false, arith, refl, subst, sym, ℕ}
-use Rattle.std.specs.List.Sorted.{IsPartitionPoint, IsPartitionedBy}
-use Rattle.std.proofs.lemmas.Fn.{called}
+use Rattle.std.{specs.List.Sorted.{IsPartitionPoint, IsPartitionedBy}, proofs.lemmas.Fn.called}
 use borrow.Author.Rules.{of_calls}
-use Rattle.chunk_list.specs.Chunked.{joined, list_at, lists}
-use Rattle.chunk_list.proofs.Edits.{size_at}
-use Rattle.chunk_list.proofs.Joined.{length-counts, length-lists, own_list, start_summed}
-use Rattle.chunk_list.proofs.Searches.{answers_next, begun, failed, first_got, found, holds_at, own_parted, passed, start, within_all}
+use Rattle.chunk_list.{specs.Chunked.{joined, list_at, lists}, proofs.Edits.size_at, proofs.Joined.{length-counts, length-lists, own_list, start_summed}, proofs.Searches.{answers_next, begun, failed, first_got, found, holds_at, own_parted, passed, start, within_all}}
 use Rattle.chunk_list.proofs.chunks.Chunks.partition_point.Goals as goal
 
 pub loop-size-init : goal.loop-size-init

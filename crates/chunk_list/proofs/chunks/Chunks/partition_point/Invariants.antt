@@ -1,8 +1,7 @@
 use Rattle.std.proofs.Common.{Bool, ◌+◌, ◌≤◌, ◌<◌, length}
 use Rattle.std.specs.Fn.{ComputesKey}
 use denote.Param.Always.{always_mut}
-use Rattle.chunk_list.specs.Chunked.{lists}
-use Rattle.chunk_list.proofs.Searches.{Halved}
+use Rattle.chunk_list.{specs.Chunked.lists, proofs.Searches.Halved}
 use Rattle.chunk_list.proofs.chunks.Chunks.partition_point.Given as goal
 
 abbrev pub invariant-loop-size : goal.invariant-loop-size

@@ -1,9 +1,6 @@
 use Rattle.std.proofs.Common.{◌≡◌, ◌+◌, ◌-◌, ◌<◌, ◌∷◌, [], ap, arith, length, subst, sym, ◌∙◌, ℕ}
 use Rattle.std.proofs.lemmas.Result.{on_ok_weaker}
-use Rattle.chunk_list.specs.Chunked.{IsReplaced, joined, lists, list_at}
-use Rattle.chunk_list.proofs.Edits.{joined_last}
-use Rattle.chunk_list.proofs.Halves.{begun_replaced, set_replaced}
-use Rattle.chunk_list.proofs.Joined.{length-lists, own_list}
+use Rattle.chunk_list.{specs.Chunked.{IsReplaced, joined, lists, list_at}, proofs.Edits.joined_last, proofs.Halves.{begun_replaced, set_replaced}, proofs.Joined.{length-lists, own_list}}
 use Rattle.chunk_list.proofs.chunks.Chunks.push.Goals as goal
 
 pub returns-clause-ok : goal.returns-clause-ok

@@ -1,9 +1,6 @@
 use Rattle.std.proofs.Common.{◌≡◌, ◌+◌, ap, arith, length, set, sum, subst, sym, ◌∙◌}
-use Rattle.std.specs.Prelude.{insert}
-use Rattle.std.proofs.lemmas.List.Edits.{length-insert}
-use Rattle.chunk_list.specs.Chunked.{AreChunks, lists, list_at}
-use Rattle.chunk_list.proofs.Edits.{on_err, lists_same, lists_set, put_kept}
-use Rattle.chunk_list.proofs.Joined.{length-counts, length-joined, length-lists, own_list}
+use Rattle.std.{specs.Prelude.insert, proofs.lemmas.List.Edits.length-insert}
+use Rattle.chunk_list.{specs.Chunked.{AreChunks, lists, list_at}, proofs.Edits.{on_err, lists_same, lists_set, put_kept}, proofs.Joined.{length-counts, length-joined, length-lists, own_list}}
 use Rattle.chunk_list.proofs.chunks.Chunks.put.Goals as goal
 
 pub index_mut-requires : goal.index_mut-requires

@@ -1,11 +1,7 @@
 use Rattle.std.proofs.Common.{◌≡◌, ◌+◌, ap, arith, get_or, length, set, refl, subst, sym, vec_len, ◌∙◌}
-use Rattle.std.specs.Prelude.{remove, ◌==◌}
-use Rattle.std.proofs.lemmas.List.Edits.{length-remove}
+use Rattle.std.{specs.Prelude.{remove, ◌==◌}, proofs.lemmas.List.Edits.length-remove}
 use Rattle.key_lists.proofs.Parts.{no_items}
-use Rattle.chunk_list.specs.Chunked.{AreChunks, IsReplaced, joined, lists, list_at}
-use Rattle.chunk_list.proofs.Edits.{gone_kept, item_gone, item_taken, lists_gone, lists_set, some_items, taken_kept}
-use Rattle.chunk_list.proofs.Halves.{gone_replaced, set_replaced}
-use Rattle.chunk_list.proofs.Joined.{own_list, item_got}
+use Rattle.chunk_list.{specs.Chunked.{AreChunks, IsReplaced, joined, lists, list_at}, proofs.Edits.{gone_kept, item_gone, item_taken, lists_gone, lists_set, some_items, taken_kept}, proofs.Halves.{gone_replaced, set_replaced}, proofs.Joined.{own_list, item_got}}
 use Rattle.chunk_list.proofs.chunks.Chunks.remove.Goals as goal
 
 pub returns-then-is_empty-clause-item : goal.returns-then-is_empty-clause-item

@@ -1,7 +1,5 @@
 use Rattle.std.proofs.Common.{◌≡◌, ◌-◌, ◌<◌, ℕ, ap, arith, length}
-use Rattle.chunk_list.specs.Chunked.{lists, list_at}
-use Rattle.chunk_list.proofs.Edits.{size_at}
-use Rattle.chunk_list.proofs.Joined.{length-lists, own_list}
+use Rattle.chunk_list.{specs.Chunked.{lists, list_at}, proofs.Edits.size_at, proofs.Joined.{length-lists, own_list}}
 use Rattle.chunk_list.proofs.chunks.Chunks.room_at_end.Goals as goal
 
 pub overflow_sub-result : goal.overflow_sub-result

@@ -1,7 +1,6 @@
 use Rattle.std.proofs.Common.{ap, arith, drop, length, sym, ◌∙◌, length-drop}
 use Rattle.std.proofs.lemmas.List.{take_rest}
-use Rattle.chunk_list.specs.Chunked.{lists}
-use Rattle.chunk_list.proofs.Joined.{length-lists, own_list, run_got}
+use Rattle.chunk_list.{specs.Chunked.lists, proofs.Joined.{length-lists, own_list, run_got}}
 use Rattle.chunk_list.proofs.chunks.Chunks.run_at.Goals as goal
 
 pub index-requires : goal.index-requires

@@ -1,12 +1,6 @@
 use Rattle.std.proofs.Common.{◌≡◌, ◌+◌, ◌<◌, ◌≤◌, ap, arith, get_or, length, length-drop, set, subst, suc, sum, sym, ◌∙◌}
-use Rattle.std.specs.Prelude.{insert}
-use Rattle.std.proofs.lemmas.List.{length-take}
-use Rattle.std.proofs.lemmas.List.Edits.{length-insert}
-use Rattle.chunk_list.specs.Chunked.{AreChunks, IsChunk, IsReplaced, joined, list_at, lists}
-use Rattle.chunk_list.proofs.Edits.{lists_same}
-use Rattle.chunk_list.proofs.Halves.{counts_back, both_halves, counts_edited, halves_kept, halves_replaced, joined_halves, lists_halved, own_chunk, still_there}
-use Rattle.chunk_list.proofs.Joined.{contents, count_at, length-counts, length-joined}
-use Rattle.std.proofs.lemmas.List.Sums.{sum_by-insert}
+use Rattle.std.{specs.Prelude.insert, proofs.lemmas.List.length-take, proofs.lemmas.List.Edits.length-insert, proofs.lemmas.List.Sums.sum_by-insert}
+use Rattle.chunk_list.{specs.Chunked.{AreChunks, IsChunk, IsReplaced, joined, list_at, lists}, proofs.Edits.lists_same, proofs.Halves.{counts_back, both_halves, counts_edited, halves_kept, halves_replaced, joined_halves, lists_halved, own_chunk, still_there}, proofs.Joined.{contents, count_at, length-counts, length-joined}}
 use Rattle.chunk_list.proofs.chunks.Chunks.split.Goals as goal
 
 pub insert-requires-clause-fits : goal.insert-requires-clause-fits

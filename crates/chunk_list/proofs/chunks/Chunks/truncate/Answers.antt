@@ -1,10 +1,6 @@
 use Rattle.std.proofs.Common.{◌-◌, ◌<◌, ap, arith, length, refl, subst, sym, take, ◌∙◌, take_all}
-use Rattle.std.specs.Prelude.{remove}
-use Rattle.std.proofs.lemmas.List.Edits.{length-remove}
-use Rattle.chunk_list.specs.Chunked.{AreChunks, lists}
-use Rattle.chunk_list.proofs.Edits.{gone_kept}
-use Rattle.chunk_list.proofs.Extended.{chunk_gone, last_gone}
-use Rattle.chunk_list.proofs.Joined.{length-counts, length-lists}
+use Rattle.std.{specs.Prelude.remove, proofs.lemmas.List.Edits.length-remove}
+use Rattle.chunk_list.{specs.Chunked.{AreChunks, lists}, proofs.Edits.gone_kept, proofs.Extended.{chunk_gone, last_gone}, proofs.Joined.{length-counts, length-lists}}
 use Rattle.chunk_list.proofs.chunks.Chunks.truncate.Goals as goal
 
 pub loop-end-init : goal.loop-end-init

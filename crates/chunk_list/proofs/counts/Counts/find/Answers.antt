@@ -1,6 +1,5 @@
 use Rattle.std.proofs.Common.{◌+◌, ◌*◌, ◌≤◌, ap, ℕ, length, sum, take, drop, arith}
-use Rattle.std.proofs.lemmas.List.{take_rest}
-use Rattle.std.proofs.lemmas.List.Sums.{sum_by-take-drop}
+use Rattle.std.{proofs.lemmas.List.take_rest, proofs.lemmas.List.Sums.sum_by-take-drop}
 use Rattle.chunk_list.proofs.Sums.{all_blocks, blocks_sum, sum_add}
 use Rattle.chunk_list.proofs.counts.Counts.find.Goals as goal
 

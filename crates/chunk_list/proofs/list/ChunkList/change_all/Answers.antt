@@ -1,7 +1,6 @@
 use Rattle.std.proofs.Common.{map, subst, sym}
 use Rattle.std.specs.List.{AllByRecursion}
-use Rattle.chunk_list.specs.Chunked.{AreChunks, IsChunk, lists}
-use Rattle.chunk_list.proofs.Changing.{changed_kept}
+use Rattle.chunk_list.{specs.Chunked.{AreChunks, IsChunk, lists}, proofs.Changing.changed_kept}
 use Rattle.chunk_list.proofs.list.ChunkList.change_all.Goals as goal
 
 pub invariant_of-self : goal.invariant_of-self

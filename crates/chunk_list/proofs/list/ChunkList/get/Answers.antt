@@ -1,8 +1,6 @@
 use Rattle.std.proofs.Common.{◌∙◌, ap, arith, length, sym}
-use Rattle.std.specs.Prelude.{slice_get}
-use Rattle.std.proofs.lemmas.Option.{slice_get_past}
-use Rattle.chunk_list.specs.Chunked.{items_in, joined}
-use Rattle.chunk_list.proofs.Searches.{run_first}
+use Rattle.std.{specs.Prelude.slice_get, proofs.lemmas.Option.slice_get_past}
+use Rattle.chunk_list.{specs.Chunked.{items_in, joined}, proofs.Searches.run_first}
 use Rattle.chunk_list.proofs.list.ChunkList.get.Goals as goal
 
 pub returns-then-position-len : goal.returns-then-position-len

@@ -1,7 +1,6 @@
 use Rattle.std.proofs.Common.{◌∙◌, ap, arith, length, sym}
 use Rattle.std.proofs.lemmas.Result.{on_ok_weaker}
-use Rattle.chunk_list.specs.Chunked.{joined}
-use Rattle.chunk_list.proofs.Edits.{inserted_last}
+use Rattle.chunk_list.{specs.Chunked.joined, proofs.Edits.inserted_last}
 use Rattle.chunk_list.proofs.list.ChunkList.insert.Goals as goal
 
 pub returns-then-position-len-clause-ok : goal.returns-then-position-len-clause-ok

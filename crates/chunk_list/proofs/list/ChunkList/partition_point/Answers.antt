@@ -1,9 +1,7 @@
 use Rattle.std.proofs.Common.{◌≡◌, true, false, refl, subst, sym}
-use Rattle.std.specs.List.Sorted.{IsPartitionPoint, IsPartitionedBy}
-use Rattle.std.proofs.lemmas.Fn.{called}
+use Rattle.std.{specs.List.Sorted.{IsPartitionPoint, IsPartitionedBy}, proofs.lemmas.Fn.called}
 use borrow.Author.Rules.{of_calls}
-use Rattle.chunk_list.specs.Chunked.{joined}
-use Rattle.chunk_list.proofs.Searches.{answers_next, last_passes, none_passes}
+use Rattle.chunk_list.{specs.Chunked.joined, proofs.Searches.{answers_next, last_passes, none_passes}}
 use Rattle.chunk_list.proofs.list.ChunkList.partition_point.Goals as goal
 
 pub returns-then-pred-clause-partitioned : goal.returns-then-pred-clause-partitioned

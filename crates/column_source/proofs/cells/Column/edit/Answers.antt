@@ -1,8 +1,6 @@
 use Rattle.std.proofs.Common.{◌≡◌, ap, sym, ◌∙◌, subst, true, arith, ◌++◌, [], ◌∷◌}
 use Rattle.std.specs.Prelude.{is_ok}
-use Rattle.column_source.specs.Edits.{IsAllowed, LeadTo}
-use Rattle.column_source.specs.Entries.{Cells}
-use Rattle.column_source.proofs.Leading.{lead_on}
+use Rattle.column_source.{specs.Edits.{IsAllowed, LeadTo}, specs.Entries.Cells, proofs.Leading.lead_on}
 use Rattle.column_source.proofs.cells.Column.edit.Goals as goal
 
 pub invariant_of-self-2 : goal.invariant_of-self-2

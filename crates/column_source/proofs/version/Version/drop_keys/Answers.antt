@@ -2,9 +2,7 @@ use Rattle.std.proofs.Common.{refl, ap, sym, ◌∙◌, List, ℕ}
 use Rattle.chunk_list.specs.Chunked.{joined}
 use Rattle.key_lists.proofs.Every.{filter_all}
 use Rattle.row_set.proofs.Yielded.{yielded_all, yielded_next}
-use Rattle.column_source.specs.Entries.{left_entries}
-use Rattle.column_source.proofs.Made.{left, next}
-use Rattle.column_source.proofs.Paired.{are_of, cells_of, counted, shown}
+use Rattle.column_source.{specs.Entries.left_entries, proofs.Made.{left, next}, proofs.Paired.{are_of, cells_of, counted, shown}}
 use Rattle.column_source.proofs.version.Version.drop_keys.Goals as goal
 
 pub loop-key-init : goal.loop-key-init

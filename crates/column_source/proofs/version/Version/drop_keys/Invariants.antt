@@ -1,7 +1,6 @@
 use Rattle.std.proofs.Common.{◌≡◌}
 use Rattle.chunk_list.specs.Chunked.{joined}
-use Rattle.column_source.specs.Entries.{left_entries}
-use Rattle.column_source.proofs.Paired.{cells_of}
+use Rattle.column_source.{specs.Entries.left_entries, proofs.Paired.cells_of}
 use Rattle.column_source.proofs.version.Version.drop_keys.Given as goal
 
 abbrev pub invariant-loop-key : goal.invariant-loop-key

@@ -1,6 +1,5 @@
 use Rattle.std.proofs.Common.{sym, ◌∙◌}
-use Rattle.column_source.proofs.Made.{entry_list, got, none_got}
-use Rattle.column_source.proofs.Paired.{are_of}
+use Rattle.column_source.{proofs.Made.{entry_list, got, none_got}, proofs.Paired.are_of}
 use Rattle.column_source.proofs.version.Version.get.Goals as goal
 
 pub returns-in-Ok-clause-cell : goal.returns-in-Ok-clause-cell

@@ -1,10 +1,7 @@
 use Rattle.std.proofs.Common.{◌+◌, ap, sym, ◌∙◌, arith, length, ℤ, w64}
-use Rattle.std.specs.List.{insert, remove}
-use Rattle.std.proofs.lemmas.Int.{to_z-of_z}
-use Rattle.std.proofs.lemmas.List.Edits.{length-insert}
+use Rattle.std.{specs.List.{insert, remove}, proofs.lemmas.Int.to_z-of_z, proofs.lemmas.List.Edits.length-insert}
 use Rattle.chunk_list.specs.Chunked.{joined}
-use Rattle.column_source.proofs.Made.{put_in, refused, replaced, small, within, within_or_last}
-use Rattle.column_source.proofs.Paired.{are_of, counted, shown}
+use Rattle.column_source.{proofs.Made.{put_in, refused, replaced, small, within, within_or_last}, proofs.Paired.{are_of, counted, shown}}
 use Rattle.column_source.proofs.version.Version.set.Goals as goal
 
 pub insert-requires : goal.insert-requires

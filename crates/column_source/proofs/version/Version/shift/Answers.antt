@@ -1,5 +1,4 @@
-use Rattle.column_source.proofs.Made.{moved_on}
-use Rattle.column_source.proofs.Paired.{are_of, shown}
+use Rattle.column_source.{proofs.Made.moved_on, proofs.Paired.{are_of, shown}}
 use Rattle.column_source.proofs.version.Version.shift.Goals as goal
 
 pub apply-requires : goal.apply-requires

@@ -1,7 +1,5 @@
 use Rattle.std.proofs.Common.{◌≡◌, ℕ, List, map, ◌∙◌, sym, ap, rules}
-use Rattle.std.specs.Borrow.{Bor}
-use Rattle.std.specs.Map.Iter.{deref}
-use Rattle.std.proofs.lemmas.Map.Iter.{iter_end}
+use Rattle.std.{specs.Borrow.Bor, specs.Map.Iter.deref, proofs.lemmas.Map.Iter.iter_end}
 use Rattle.key_lists.proofs.Every.{map_map}
 use Rattle.feed_reader.proofs.noted.Noted.names.Goals as goal
 

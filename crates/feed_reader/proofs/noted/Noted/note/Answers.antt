@@ -1,16 +1,7 @@
 use Rattle.std.proofs.Common.{◌≡◌, ℕ, List, map, true, false, ◌∙◌, sym, ap, subst}
-use Rattle.std.specs.Borrow.{Bor}
-use Rattle.std.specs.BTreeSet.{BTreeSet, insert_key}
-use Rattle.std.specs.HashSet.{contains_by}
-use Rattle.std.specs.List.{list_any}
-use Rattle.std.specs.Str.{bytes_eq}
-use Rattle.std.proofs.lemmas.Bool.{cond-false}
-use Rattle.tick_model.specs.Changes.{is_none}
-use Rattle.tick_model.specs.LawfulRuns.{AreTexts}
-use Rattle.feed_reader.specs.Coding.{with_text}
-use Rattle.feed_reader.specs.Noted.{noted}
-use Rattle.feed_reader.proofs.OrderLemmas.{order, are_inserted, noted_already, seen_more, seen_before}
-use Rattle.feed_reader.proofs.TextLemmas.{inserted_same, not_none}
+use Rattle.std.{specs.Borrow.Bor, specs.BTreeSet.{BTreeSet, insert_key}, specs.HashSet.contains_by, specs.List.list_any, specs.Str.bytes_eq, proofs.lemmas.Bool.cond-false}
+use Rattle.tick_model.{specs.Changes.is_none, specs.LawfulRuns.AreTexts}
+use Rattle.feed_reader.{specs.Coding.with_text, specs.Noted.noted, proofs.OrderLemmas.{order, are_inserted, noted_already, seen_more, seen_before}, proofs.TextLemmas.{inserted_same, not_none}}
 use Rattle.feed_reader.proofs.noted.Noted.note.Goals as goal
 
 -- the list of the set with one more text

@@ -1,9 +1,5 @@
 use Rattle.std.proofs.Common.{◌-◌, ◌∙◌, ℕ, List, Option, Some, ap, cond, arith}
-use Rattle.std.specs.Borrow.{Bor}
-use Rattle.std.specs.HashMap.{get_by}
-use Rattle.std.specs.Str.{bytes_eq}
-use Rattle.std.proofs.lemmas.Cmp.{nat_list_eq_equiv}
-use Rattle.std.proofs.lemmas.Map.Text.{hash_map_updates_str}
+use Rattle.std.{specs.Borrow.Bor, specs.HashMap.get_by, specs.Str.bytes_eq, proofs.lemmas.Cmp.nat_list_eq_equiv, proofs.lemmas.Map.Text.hash_map_updates_str}
 use Rattle.feed_reader.proofs.TextLemmas.{ranked_more}
 use Rattle.feed_reader.proofs.ranks.Ranks.of.Goals as goal
 

@@ -1,6 +1,5 @@
 use Rattle.std.proofs.Common.{◌∙◌, ap, arith}
-use Rattle.feed_reader.specs.Coding.{rank_of}
-use Rattle.feed_reader.proofs.TextLemmas.{rank_there, rank_absent, rank_within}
+use Rattle.feed_reader.{specs.Coding.rank_of, proofs.TextLemmas.{rank_there, rank_absent, rank_within}}
 use Rattle.feed_reader.proofs.ranks.Ranks.rank.Goals as goal
 
 pub returns-in-Some-clause-place : goal.returns-in-Some-clause-place

@@ -1,9 +1,6 @@
 use Rattle.std.proofs.Common.{List, ℤ, pos, to_z, w64, ◌∙◌, sym, ap, subst, map, set, length, arith}
 use Rattle.std.proofs.lemmas.Int.{to_z_pos}
-use Rattle.feed_reader.specs.declared.row_cells.PlacedText.{PlacedText}
-use Rattle.feed_reader.specs.Coding.{coded_cell, rank_of}
-use Rattle.feed_reader.specs.RowCells.{cells_from, AreInOrder}
-use Rattle.feed_reader.proofs.RowCellLemmas.{ranked_step, ranked_within, ranked_all}
+use Rattle.feed_reader.{specs.declared.row_cells.PlacedText.PlacedText, specs.Coding.{coded_cell, rank_of}, specs.RowCells.{cells_from, AreInOrder}, proofs.RowCellLemmas.{ranked_step, ranked_within, ranked_all}}
 use Rattle.feed_reader.proofs.row_cells.RowCells.coded.Goals as goal
 
 pub loop-placed-init : goal.loop-placed-init

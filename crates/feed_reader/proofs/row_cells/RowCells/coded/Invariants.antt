@@ -1,6 +1,5 @@
 use Rattle.std.proofs.Common.{◌≡◌, map, drop, length}
-use Rattle.feed_reader.specs.Coding.{coded_cell}
-use Rattle.feed_reader.specs.RowCells.{cells_from, AreInOrder}
+use Rattle.feed_reader.{specs.Coding.coded_cell, specs.RowCells.{cells_from, AreInOrder}}
 use Rattle.feed_reader.proofs.row_cells.RowCells.coded.Given as goal
 
 abbrev pub invariant-loop-placed : goal.invariant-loop-placed

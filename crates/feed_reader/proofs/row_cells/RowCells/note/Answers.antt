@@ -1,9 +1,6 @@
 use Rattle.std.proofs.Common.{List, sym, ap, ◌∙◌, length, arith}
 use Rattle.std.specs.Prelude.{flat_map}
-use Rattle.feed_reader.specs.declared.row_cells.PlacedText.{PlacedText}
-use Rattle.feed_reader.specs.Coding.{cell_texts, with_texts}
-use Rattle.feed_reader.proofs.RowCellLemmas.{placed_texts, texts_are}
-use Rattle.feed_reader.proofs.TextLemmas.{texts_end}
+use Rattle.feed_reader.{specs.declared.row_cells.PlacedText.PlacedText, specs.Coding.{cell_texts, with_texts}, proofs.RowCellLemmas.{placed_texts, texts_are}, proofs.TextLemmas.texts_end}
 use Rattle.feed_reader.proofs.row_cells.RowCells.note.Goals as goal
 
 pub returns : goal.returns

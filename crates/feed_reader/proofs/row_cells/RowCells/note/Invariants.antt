@@ -1,7 +1,6 @@
 use Rattle.std.proofs.Common.{◌≡◌, drop}
 use Rattle.std.specs.Prelude.{flat_map}
-use Rattle.feed_reader.specs.Coding.{with_texts}
-use Rattle.feed_reader.proofs.RowCellLemmas.{placed_texts}
+use Rattle.feed_reader.{specs.Coding.with_texts, proofs.RowCellLemmas.placed_texts}
 use Rattle.feed_reader.proofs.row_cells.RowCells.note.Given as goal
 
 abbrev pub invariant-loop-placed : goal.invariant-loop-placed

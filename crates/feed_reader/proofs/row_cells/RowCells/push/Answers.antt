@@ -1,10 +1,6 @@
 use Rattle.std.proofs.Common.{◌^◌, ◌<◌, List, length, sym, ap, ◌∙◌, subst, rules}
-use Rattle.std.specs.Prelude.{unsigned_abs}
-use Rattle.std.specs.Int.{w64}
-use Rattle.std.proofs.lemmas.Int.{fits_signed_from_abs, to_z-of_z}
-use Rattle.feed_reader.specs.declared.row_cells.PlacedText.{PlacedText}
-use Rattle.feed_reader.specs.RowCells.{number_cell, AreInOrder, IsTelling}
-use Rattle.feed_reader.proofs.RowCellLemmas.{not_null, null_number, long_number, number_onto, order_kept, order_more, text_onto}
+use Rattle.std.{specs.Prelude.unsigned_abs, specs.Int.w64, proofs.lemmas.Int.{fits_signed_from_abs, to_z-of_z}}
+use Rattle.feed_reader.{specs.declared.row_cells.PlacedText.PlacedText, specs.RowCells.{number_cell, AreInOrder, IsTelling}, proofs.RowCellLemmas.{not_null, null_number, long_number, number_onto, order_kept, order_more, text_onto}}
 use Rattle.feed_reader.proofs.row_cells.RowCells.push.Goals as goal
 
 pub invariant_of-self : goal.invariant_of-self

@@ -1,10 +1,6 @@
 use Rattle.std.proofs.Common.{refl, ap, sym, ◌≡◌, ◌∷◌, ◌+◌, ◌∙◌, length, arith}
 use Rattle.atomic_table.specs.Table.{rest}
-use Rattle.graph_words.specs.declared.table.Slot.TheVariants.{Empty, Done}
-use Rattle.graph_words.specs.declared.table.Mark.TheVariants.{Drawn, PutBack}
-use Rattle.graph_words.specs.Views.{mark_node, tells}
-use Rattle.graph_words.proofs.Asks.{empty_lifts, node_lays, ticket_draws}
-use Rattle.graph_words.proofs.Twice.{drawn_after, item_of, node_after, tells_marked, tells_plan}
+use Rattle.graph_words.{specs.declared.table.Slot.TheVariants.{Empty, Done}, specs.declared.table.Mark.TheVariants.{Drawn, PutBack}, specs.Views.{mark_node, tells}, proofs.Asks.{empty_lifts, node_lays, ticket_draws}, proofs.Twice.{drawn_after, item_of, node_after, tells_marked, tells_plan}}
 use Rattle.graph_words.proofs.claims.Claims.draw_back.Goals as goal
 
 pub load-requires : goal.load-requires

@@ -2,9 +2,7 @@ use Rattle.std.proofs.Common.{ap, sym, ◌<◌, ◌+◌, ◌∙◌, arith, subst
 use Rattle.std.specs.Mem.Slots.{slots_len}
 use lib.ListN.{get_elem?}
 use mathlib.Core.Option.{some}
-use Rattle.graph_words.specs.Rule.{FollowsGiven, IsTagged, tags}
-use Rattle.graph_words.specs.Seats.{HasEachOnce}
-use Rattle.graph_words.proofs.Finals.{works_found, work_found, written_more, written_all, has_each_once, is_after_inputs, is_placed, ticket_below, flags_left, flags_gone, more_tagged}
+use Rattle.graph_words.{specs.Rule.{FollowsGiven, IsTagged, tags}, specs.Seats.HasEachOnce, proofs.Finals.{works_found, work_found, written_more, written_all, has_each_once, is_after_inputs, is_placed, ticket_below, flags_left, flags_gone, more_tagged}}
 use Rattle.graph_words.proofs.claims.Claims.finish_in_order.Goals as goal
 
 pub take-requires : goal.take-requires

@@ -1,9 +1,5 @@
 use Rattle.std.proofs.Common.{ap, sym, ◌≡◌, ◌+◌, ◌∙◌, subst, arith}
-use Rattle.graph_words.specs.declared.table.Mark.TheVariants.{Unmarked, PutBack, Delivered}
-use Rattle.graph_words.specs.Marks.{at, IsHadMark}
-use Rattle.graph_words.specs.Views.{mark_late, IsUntouched}
-use Rattle.graph_words.proofs.Asks.{edge_hands_on}
-use Rattle.graph_words.proofs.Marks.{item_there}
+use Rattle.graph_words.{specs.declared.table.Mark.TheVariants.{Unmarked, PutBack, Delivered}, specs.Marks.{at, IsHadMark}, specs.Views.{mark_late, IsUntouched}, proofs.Asks.edge_hands_on, proofs.Marks.item_there}
 use Rattle.graph_words.proofs.claims.Claims.hand_on.Goals as goal
 
 pub load-requires : goal.load-requires

@@ -1,6 +1,5 @@
 use Rattle.std.proofs.Common.{ap, sym, subst, ◌∙◌, ◌<◌, ◌==◌, ltb, arith}
-use Rattle.std.specs.List.{list_any}
-use Rattle.std.proofs.lemmas.List.{get_or_read}
+use Rattle.std.{specs.List.list_any, proofs.lemmas.List.get_or_read}
 use Rattle.graph_words.proofs.Opens.{any_input, inputs_count}
 use Rattle.graph_words.proofs.claims.Claims.has_inputs.Goals as goal
 

@@ -1,13 +1,9 @@
 use Rattle.std.proofs.Common.{ap, ◌∙◌, subst, ◌+◌, ◌*◌, ◌≤◌}
-use Rattle.head_tail.specs.Ends.{Kept, end_table}
-use Rattle.tick_model.specs.Changes.{Change}
-use Rattle.tick_model.specs.Updates.{between}
+use Rattle.head_tail.{specs.Ends.{Kept, end_table}, proofs.Crossed.ended_is, proofs.Parts.end_part, proofs.ReadRows.end_reads}
+use Rattle.tick_model.{specs.Changes.Change, specs.Updates.between}
 use Rattle.row_changes.proofs.Comparing.{on_err}
 use Rattle.shown_rows.specs.Shown.{through}
 use Rattle.tick_table.specs.Exact.{counted, tick_of}
-use Rattle.head_tail.proofs.Crossed.{ended_is}
-use Rattle.head_tail.proofs.Parts.{end_part}
-use Rattle.head_tail.proofs.ReadRows.{end_reads}
 use Rattle.head_tail.proofs.end_op.EndOp.step.Goals as goal
 
 pub shown_change-requires-clause-old_part : goal.shown_change-requires-clause-old_part

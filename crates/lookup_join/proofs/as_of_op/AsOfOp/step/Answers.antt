@@ -1,15 +1,9 @@
 use Rattle.std.proofs.Common.{ap, ap₂, sym, ◌∙◌, subst, ◌+◌, ◌<◌, ◌≤◌, ℕ, List, length}
 use Rattle.std.specs.List.{AllByRecursion}
-use Rattle.lookup_join.specs.declared.keyed.Side.TheVariants.{Left, Right}
-use Rattle.lookup_join.specs.declared.pick.Pick.TheVariants.{Latest}
-use Rattle.lookup_join.specs.Matcher.{Matcher, Stands, matched_ticks, standing}
-use Rattle.lookup_join.specs.Keyed.{indexed}
-use Rattle.lookup_join.specs.Matched.{matched_tick}
-use Rattle.lookup_join.proofs.Stepping.{step_within}
+use Rattle.lookup_join.{specs.declared.keyed.Side.TheVariants.{Left, Right}, specs.declared.pick.Pick.TheVariants.Latest, specs.Matcher.{Matcher, Stands, matched_ticks, standing}, specs.Keyed.indexed, specs.Matched.matched_tick, proofs.Stepping.step_within}
 use Rattle.row_changes.proofs.Comparing.{on_err}
 use Rattle.row_groups.specs.Members.{Grouped}
-use Rattle.tick_model.specs.Changes.{change_of}
-use Rattle.tick_model.specs.declared.plan.OnPair.{OnPair}
+use Rattle.tick_model.{specs.Changes.change_of, specs.declared.plan.OnPair.OnPair}
 use Rattle.tick_table.specs.Exact.{counted, tick_of}
 use Rattle.lookup_join.proofs.as_of_op.AsOfOp.step.Goals as goal
 

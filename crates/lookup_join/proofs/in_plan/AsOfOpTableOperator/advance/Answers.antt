@@ -1,10 +1,7 @@
 use Rattle.std.proofs.Common.{◌≡◌, ◌+◌, ◌*◌, ◌≤◌, subst, sym, List, [], ◌∷◌, length}
 use Rattle.tick_model.specs.Changes.{Change, change_of}
-use Rattle.tick_table.specs.Exact.{counted}
-use Rattle.tick_table.specs.Ticking.{Ticking}
-use Rattle.table_operator.specs.Inputs.{tables}
-use Rattle.table_operator.specs.Made.{own_tick}
-use Rattle.table_operator.proofs.Rooms.{count_is, two_room}
+use Rattle.tick_table.{specs.Exact.counted, specs.Ticking.Ticking}
+use Rattle.table_operator.{specs.Inputs.tables, specs.Made.own_tick, proofs.Rooms.{count_is, two_room}}
 use Rattle.lookup_join.specs.Made.{as_of_made}
 use Rattle.lookup_join.proofs.in_plan.AsOfOpTableOperator.advance.Goals as goal
 

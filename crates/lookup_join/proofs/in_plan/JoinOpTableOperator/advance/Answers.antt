@@ -1,14 +1,9 @@
 use Rattle.std.proofs.Common.{◌≡◌, ◌+◌, ◌*◌, ◌≤◌, subst, sym, List, [], ◌∷◌, length}
 use Rattle.std.proofs.lemmas.Result.{err_from_is_err_and}
-use Rattle.tick_model.specs.Changes.{Change, change_of}
-use Rattle.tick_model.specs.Join.{join_fault}
-use Rattle.tick_table.specs.Exact.{counted}
-use Rattle.tick_table.specs.Ticking.{Ticking}
-use Rattle.table_operator.specs.Inputs.{tables}
-use Rattle.table_operator.specs.Made.{IsCause, own_fault, own_tick}
-use Rattle.table_operator.proofs.Rooms.{count_is, two_room}
-use Rattle.lookup_join.specs.Made.{join_made, of_join}
-use Rattle.lookup_join.proofs.Planned.{cause_is}
+use Rattle.tick_model.{specs.Changes.{Change, change_of}, specs.Join.join_fault}
+use Rattle.tick_table.{specs.Exact.counted, specs.Ticking.Ticking}
+use Rattle.table_operator.{specs.Inputs.tables, specs.Made.{IsCause, own_fault, own_tick}, proofs.Rooms.{count_is, two_room}}
+use Rattle.lookup_join.{specs.Made.{join_made, of_join}, proofs.Planned.cause_is}
 use Rattle.lookup_join.proofs.in_plan.JoinOpTableOperator.advance.Goals as goal
 
 pub two_inputs-requires : goal.two_inputs-requires

@@ -1,24 +1,10 @@
 use Rattle.std.proofs.Common.{◌≡◌, refl, ap, ap₂, sym, ◌∙◌, subst, ◌+◌, ◌*◌, ◌<◌, ◌≤◌, ℕ, List, length}
-use Rattle.std.specs.Prelude.{option_map}
-use Rattle.std.specs.List.{AllByRecursion}
-use Rattle.lookup_join.specs.declared.keyed.Side.TheVariants.{Left, Right}
-use Rattle.lookup_join.specs.declared.pick.Pick.{Pick}
-use Rattle.lookup_join.specs.Joiner.{Joiner, Stands, joined_ticks, standing}
-use Rattle.lookup_join.specs.Keyed.{indexed}
-use Rattle.lookup_join.specs.Matched.{matched_tick, pick_of}
-use Rattle.lookup_join.proofs.Faults.{came_members, node_of, told_is}
-use Rattle.lookup_join.proofs.Stepping.{step_within}
+use Rattle.std.{specs.Prelude.option_map, specs.List.AllByRecursion}
+use Rattle.lookup_join.{specs.declared.keyed.Side.TheVariants.{Left, Right}, specs.declared.pick.Pick.Pick, specs.Joiner.{Joiner, Stands, joined_ticks, standing}, specs.Keyed.indexed, specs.Matched.{matched_tick, pick_of}, proofs.Faults.{came_members, node_of, told_is}, proofs.Stepping.step_within}
 use Rattle.row_changes.proofs.Comparing.{on_err}
 use Rattle.row_groups.specs.Members.{Grouped}
-use Rattle.tick_model.specs.Changes.{change_of}
-use Rattle.tick_model.specs.declared.plan.OnPair.{OnPair}
-use Rattle.tick_model.specs.declared.plan.Choice.{Choice}
-use Rattle.tick_model.specs.declared.plan.Choice.TheVariants.{Error, First, Last}
-use Rattle.tick_model.specs.Join.{join_fault}
-use Rattle.tick_model.specs.Updates.{Tick}
-use Rattle.tick_model.specs.declared.table.PlainTable.{PlainTable}
-use Rattle.tick_table.specs.Exact.{counted, tick_of}
-use Rattle.tick_table.specs.Ticking.{Ticking}
+use Rattle.tick_model.{specs.Changes.change_of, specs.declared.plan.OnPair.OnPair, specs.declared.plan.Choice.Choice, specs.declared.plan.Choice.TheVariants.{Error, First, Last}, specs.Join.join_fault, specs.Updates.Tick, specs.declared.table.PlainTable.PlainTable}
+use Rattle.tick_table.{specs.Exact.{counted, tick_of}, specs.Ticking.Ticking}
 use Rattle.lookup_join.proofs.join_op.JoinOp.step.Goals as goal
 
 -- what a choice takes makes the join's own table

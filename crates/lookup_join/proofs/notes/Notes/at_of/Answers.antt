@@ -1,9 +1,6 @@
 use Rattle.std.proofs.Common.{ap, sym, ◌∙◌, subst, ◌<◌, map, length, rules, w64, SFits}
-use Rattle.std.specs.Prelude.{Some, option_map, slice_get}
-use Rattle.std.proofs.lemmas.Int.{to_z-of_z}
-use Rattle.lookup_join.specs.Notes.{Note, NoteList}
-use Rattle.lookup_join.proofs.Numbered.{noted_there}
-use Rattle.lookup_join.proofs.Walks.{some_is_there}
+use Rattle.std.{specs.Prelude.{Some, option_map, slice_get}, proofs.lemmas.Int.to_z-of_z}
+use Rattle.lookup_join.{specs.Notes.{Note, NoteList}, proofs.Numbered.noted_there, proofs.Walks.some_is_there}
 use Rattle.row_groups.specs.Members.{Member}
 use Rattle.lookup_join.proofs.notes.Notes.at_of.Goals as goal
 

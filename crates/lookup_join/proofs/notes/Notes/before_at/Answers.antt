@@ -1,8 +1,6 @@
 use Rattle.std.proofs.Common.{◌≡◌, ap, sym, ◌∙◌, subst, rules, ◌<◌, map, length, vec_len, Some}
 use Rattle.std.specs.Prelude.{slice_get}
-use Rattle.lookup_join.specs.Notes.{Note, NoteList}
-use Rattle.lookup_join.proofs.Numbered.{before-notes, length-notes}
-use Rattle.lookup_join.proofs.Walks.{get_index}
+use Rattle.lookup_join.{specs.Notes.{Note, NoteList}, proofs.Numbered.{before-notes, length-notes}, proofs.Walks.get_index}
 use Rattle.lookup_join.proofs.notes.Notes.before_at.Goals as goal
 
 pub index-requires : goal.index-requires

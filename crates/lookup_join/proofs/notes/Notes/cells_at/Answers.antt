@@ -1,9 +1,7 @@
 use Rattle.std.proofs.Common.{ap, sym, ◌∙◌, subst, ◌<◌, map, length}
 use Rattle.std.specs.Prelude.{option_map, slice_get}
-use Rattle.lookup_join.specs.Notes.{Note, NoteList}
-use Rattle.lookup_join.proofs.Numbered.{noted_there}
-use Rattle.row_groups.proofs.Keys.{some_of}
-use Rattle.row_groups.specs.Members.{Member}
+use Rattle.lookup_join.{specs.Notes.{Note, NoteList}, proofs.Numbered.noted_there}
+use Rattle.row_groups.{proofs.Keys.some_of, specs.Members.Member}
 use Rattle.lookup_join.proofs.notes.Notes.cells_at.Goals as goal
 
 pub unwrap-requires : goal.unwrap-requires

@@ -1,6 +1,5 @@
 use Rattle.std.proofs.Common.{◌≡◌, ap, sym, ◌∙◌, rules, length}
-use Rattle.lookup_join.specs.Notes.{NoteList}
-use Rattle.lookup_join.proofs.Numbered.{length-notes}
+use Rattle.lookup_join.{specs.Notes.NoteList, proofs.Numbered.length-notes}
 use Rattle.lookup_join.proofs.notes.Notes.len.Goals as goal
 
 pub returns : goal.returns

@@ -1,8 +1,6 @@
 use Rattle.std.proofs.Common.{ap, sym, ◌∙◌, w64}
 use Rattle.std.proofs.lemmas.Int.{to_z-of_z}
-use Rattle.lookup_join.specs.Latest.{next_time}
-use Rattle.lookup_join.specs.Notes.{NoteList, next_after}
-use Rattle.lookup_join.proofs.Numbered.{next_noted}
+use Rattle.lookup_join.{specs.Latest.next_time, specs.Notes.{NoteList, next_after}, proofs.Numbered.next_noted}
 use Rattle.lookup_join.proofs.notes.Notes.next_time.Goals as goal
 
 pub returns : goal.returns

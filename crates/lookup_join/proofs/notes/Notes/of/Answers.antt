@@ -1,11 +1,6 @@
 use Rattle.std.proofs.Common.{◌≡◌, ap, sym, ◌∙◌, rules, ◌<◌, length, None, Some, subst, vec_len, w64, SFits}
-use Rattle.std.specs.Prelude.{option_map}
-use Rattle.std.proofs.lemmas.Int.{to_z-of_z}
-use Rattle.lookup_join.specs.declared.notes.Noted.{Noted}
-use Rattle.lookup_join.specs.declared.pick.Pick.TheVariants.{Last}
-use Rattle.lookup_join.specs.Latest.{match_of}
-use Rattle.lookup_join.specs.Notes.{NoteList, note_of, noted_of}
-use Rattle.lookup_join.proofs.Numbered.{found_noted, found_of, found_within, match_within, noted_is, not_found}
+use Rattle.std.{specs.Prelude.option_map, proofs.lemmas.Int.to_z-of_z}
+use Rattle.lookup_join.{specs.declared.notes.Noted.Noted, specs.declared.pick.Pick.TheVariants.Last, specs.Latest.match_of, specs.Notes.{NoteList, note_of, noted_of}, proofs.Numbered.{found_noted, found_of, found_within, match_within, noted_is, not_found}}
 use Rattle.lookup_join.proofs.notes.Notes.of.Goals as goal
 
 pub returns-in_err-found : goal.returns-in_err-found

@@ -1,7 +1,6 @@
 use Rattle.std.proofs.Common.{◌≡◌, ap, ap₂, sym, ◌∙◌, subst, rules, ℕ, List, ◌++◌, ◌∷◌, [], None, Option, length, w64}
 use Rattle.std.proofs.lemmas.Int.{to_z-of_z}
-use Rattle.lookup_join.specs.Notes.{IsNumbered, Note, NoteList, notes_of}
-use Rattle.lookup_join.proofs.Numbered.{next_absent, next_notes, next_numbered}
+use Rattle.lookup_join.{specs.Notes.{IsNumbered, Note, NoteList, notes_of}, proofs.Numbered.{next_absent, next_notes, next_numbered}}
 use Rattle.row_groups.specs.Members.{Grouped, Member, member_of, member_under, with_member}
 use Rattle.lookup_join.proofs.notes.Notes.put.Goals as goal
 

@@ -1,14 +1,6 @@
 use Rattle.std.proofs.Common.{◌≡◌, ap, sym, ◌∙◌, subst, rules, w64, SFits, List, ℤ, map, drop, length}
-use Rattle.std.specs.Prelude.{OnOk}
-use Rattle.std.proofs.lemmas.Int.{to_z-of_z}
-use Rattle.std.proofs.lemmas.List.{take_rest}
-use Rattle.lookup_join.specs.declared.keyed.Side.TheVariants.{Left, Right}
-use Rattle.lookup_join.specs.declared.matches.Match.{Match}
-use Rattle.lookup_join.specs.Keyed.{time_of}
-use Rattle.lookup_join.specs.Taken.{IsThere, cell_of}
-use Rattle.lookup_join.proofs.Latests.{timed_index}
-use Rattle.lookup_join.proofs.Taking.{now_cells, now_there}
-use Rattle.lookup_join.proofs.Reading.{taken_behind}
+use Rattle.std.{specs.Prelude.OnOk, proofs.lemmas.Int.to_z-of_z, proofs.lemmas.List.take_rest}
+use Rattle.lookup_join.{specs.declared.keyed.Side.TheVariants.{Left, Right}, specs.declared.matches.Match.Match, specs.Keyed.time_of, specs.Taken.{IsThere, cell_of}, proofs.Latests.timed_index, proofs.Taking.{now_cells, now_there}, proofs.Reading.taken_behind}
 use Rattle.lookup_join.proofs.rows.MatchedRows.put_taken_now.Goals as goal
 
 pub match_now-taken-requires : goal.match_now-taken-requires

@@ -1,11 +1,7 @@
 use Rattle.std.proofs.Common.{◌≡◌, ap, sym, ◌∙◌, subst, rules, arith, true, List, ℕ, ◌++◌, ◌+◌, ◌*◌, ◌≤◌, append-nil, [], ◌∷◌, refl, ℤ, length}
 use Rattle.key_lists.specs.Keys.{is_among}
-use Rattle.lookup_join.specs.Matched.{matched_table}
-use Rattle.lookup_join.proofs.Compared.{cells_new, matched_keys}
-use Rattle.lookup_join.proofs.Reading.{row_behind}
-use Rattle.lookup_join.proofs.Walks.{reader_has, row_given, row_read}
-use Rattle.row_changes.proofs.Comparing.{cells_more, reads_next, reads_within}
-use Rattle.row_changes.specs.Parts.{cells_under}
+use Rattle.lookup_join.{specs.Matched.matched_table, proofs.Compared.{cells_new, matched_keys}, proofs.Reading.row_behind, proofs.Walks.{reader_has, row_given, row_read}}
+use Rattle.row_changes.{proofs.Comparing.{cells_more, reads_next, reads_within}, specs.Parts.cells_under}
 use Rattle.row_set.proofs.Yielded.{next_has, yielded_all, yielded_next}
 use Rattle.tick_model.specs.Tables.{cells_at, keys}
 use Rattle.lookup_join.proofs.rows.MatchedRowsRows.all_now.Goals as goal

@@ -1,15 +1,7 @@
 use Rattle.std.proofs.Common.{◌≡◌, ap, sym, ◌∙◌, subst, rules, w64, SFits, true, List, ◌++◌, ℤ, map, drop, length}
-use Rattle.std.specs.Prelude.{OnOk}
-use Rattle.std.proofs.lemmas.Int.{to_z-of_z}
-use Rattle.std.proofs.lemmas.List.{take_rest}
+use Rattle.std.{specs.Prelude.OnOk, proofs.lemmas.Int.to_z-of_z, proofs.lemmas.List.take_rest}
 use Rattle.key_lists.specs.Keys.{is_among}
-use Rattle.lookup_join.specs.declared.keyed.Side.TheVariants.{Left, Right}
-use Rattle.lookup_join.specs.declared.matches.Match.{Match}
-use Rattle.lookup_join.specs.Keyed.{time_of}
-use Rattle.lookup_join.specs.Taken.{IsThere, cell_of}
-use Rattle.lookup_join.proofs.Latests.{timed_index}
-use Rattle.lookup_join.proofs.Reading.{row_behind, taken_behind}
-use Rattle.lookup_join.proofs.Compared.{cells_old, matched_keys}
+use Rattle.lookup_join.{specs.declared.keyed.Side.TheVariants.{Left, Right}, specs.declared.matches.Match.Match, specs.Keyed.time_of, specs.Taken.{IsThere, cell_of}, proofs.Latests.timed_index, proofs.Reading.{row_behind, taken_behind}, proofs.Compared.{cells_old, matched_keys}}
 use Rattle.tick_model.specs.Tables.{cells_at}
 use Rattle.lookup_join.proofs.rows.MatchedRowsRows.before.Goals as goal
 

@@ -1,8 +1,7 @@
 use Rattle.std.proofs.Common.{◌≡◌, ap, sym, ◌∙◌, subst, rules, true, List, ◌++◌, ℤ, length}
 use Rattle.std.specs.Prelude.{OnOk}
 use Rattle.key_lists.specs.Keys.{is_among}
-use Rattle.lookup_join.proofs.Reading.{row_behind}
-use Rattle.lookup_join.proofs.Compared.{cells_new, matched_keys}
+use Rattle.lookup_join.{proofs.Reading.row_behind, proofs.Compared.{cells_new, matched_keys}}
 use Rattle.tick_model.specs.Tables.{cells_at}
 use Rattle.lookup_join.proofs.rows.MatchedRowsRows.now.Goals as goal
 

@@ -3,8 +3,7 @@ use Rattle.std.proofs.lemmas.Result.{err_from_is_err_and}
 use Rattle.tick_model.specs.Changes.{Change, change_of}
 use Rattle.tick_table.specs.Exact.{counted}
 use Rattle.table_operator.specs.Inputs.{counted_in, tables}
-use Rattle.merge_op.specs.Merged.{rows_in}
-use Rattle.merge_op.proofs.Planned.{cause_is, count_is, not_over, ok_is_within, one_width, own_is, reads_within}
+use Rattle.merge_op.{specs.Merged.rows_in, proofs.Planned.{cause_is, count_is, not_over, ok_is_within, one_width, own_is, reads_within}}
 use Rattle.merge_op.proofs.in_plan.MergeOpTableOperator.advance.Goals as goal
 
 pub step-requires-clause-widths : goal.step-requires-clause-widths

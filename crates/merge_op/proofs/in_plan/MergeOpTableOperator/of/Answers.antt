@@ -1,11 +1,8 @@
 use Rattle.std.proofs.Common.{◌≡◌, ◌∙◌, ap, ap₂, sym, subst, arith, length}
 use Rattle.std.specs.Prelude.{replicate, slice_index}
-use Rattle.tick_model.specs.declared.plan.Op.{Op}
-use Rattle.tick_model.specs.Operators.{inputs_of}
-use Rattle.tick_model.specs.Tables.{keys}
+use Rattle.tick_model.{specs.declared.plan.Op.Op, specs.Operators.inputs_of, specs.Tables.keys}
 use Rattle.table_operator.specs.Made.{IsMadeOf}
-use Rattle.merge_op.specs.Made.{CanMerge, merge_made}
-use Rattle.merge_op.proofs.Planned.{alike, merge_is, none_merged}
+use Rattle.merge_op.{specs.Made.{CanMerge, merge_made}, proofs.Planned.{alike, merge_is, none_merged}}
 use Rattle.merge_op.proofs.in_plan.MergeOpTableOperator.of.Goals as goal
 
 pub new-requires-clause-some : goal.new-requires-clause-some

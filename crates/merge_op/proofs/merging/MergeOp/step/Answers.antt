@@ -1,23 +1,11 @@
 use Rattle.std.proofs.Common.{◌≡◌, ap, ap₂, sym, ◌∙◌, subst, ℕ, ◌+◌, ◌*◌, ◌<◌, ◌≤◌, ◌^◌, arith, List, length}
-use Rattle.std.specs.declared.alloc.Global.{Global}
-use Rattle.std.specs.declared.sync.Arc.{Arc}
-use Rattle.std.specs.Arc.{arc_value}
-use Rattle.std.specs.List.{AllByRecursion}
-use Rattle.std.proofs.lemmas.List.{length-map}
-use Rattle.row_changes.proofs.Comparing.{on_err}
-use Rattle.row_changes.specs.Parts.{AreParts, Parts}
+use Rattle.std.{specs.declared.alloc.Global.Global, specs.declared.sync.Arc.Arc, specs.Arc.arc_value, specs.List.AllByRecursion, proofs.lemmas.List.length-map}
+use Rattle.row_changes.{proofs.Comparing.on_err, specs.Parts.{AreParts, Parts}}
 use Rattle.tick_laws.specs.Checked.{keys_after}
-use Rattle.tick_model.specs.Changes.{Change, change_of}
-use Rattle.tick_model.specs.Tables.{keys}
-use Rattle.tick_model.specs.Updates.{Update, between}
-use Rattle.tick_table.proofs.Between.{between_lawful, keys_after_between}
-use Rattle.tick_table.specs.Exact.{counted}
-use Rattle.tick_table.specs.Ticking.{Ticking}
+use Rattle.tick_model.{specs.Changes.{Change, change_of}, specs.Tables.keys, specs.Updates.{Update, between}}
+use Rattle.tick_table.{proofs.Between.{between_lawful, keys_after_between}, specs.Exact.counted, specs.Ticking.Ticking}
 use Rattle.table_operator.specs.Inputs.{counted_in, tables}
-use Rattle.merge_op.specs.Merged.{Merger, merged}
-use Rattle.merge_op.proofs.Reading.{added_there, before_there, merged_width, now_there, reads_few}
-use Rattle.merge_op.proofs.Starting.{starts_are}
-use Rattle.merge_op.proofs.Ticked.{merged_is_tick}
+use Rattle.merge_op.{specs.Merged.{Merger, merged}, proofs.Reading.{added_there, before_there, merged_width, now_there, reads_few}, proofs.Starting.starts_are, proofs.Ticked.merged_is_tick}
 use Rattle.merge_op.proofs.merging.MergeOp.step.Goals as goal
 
 pub rows_of-rows-requires-clause-count : goal.rows_of-rows-requires-clause-count

@@ -2,13 +2,9 @@ use Rattle.std.proofs.Common.{◌≡◌, true, ap, sym, ◌∙◌, refl, subst, 
 use Rattle.std.specs.Prelude.{OnOk}
 use Rattle.key_lists.specs.Keys.{is_among}
 use Rattle.tick_model.specs.Tables.{cells_at, keys}
-use Rattle.tick_table.specs.Exact.{IsExact}
-use Rattle.tick_table.specs.Ticking.{Ticking}
+use Rattle.tick_table.{specs.Exact.IsExact, specs.Ticking.Ticking}
 use Rattle.table_operator.specs.Inputs.{tables}
-use Rattle.merge_op.specs.Regions.{room_now}
-use Rattle.merge_op.proofs.Found.{IsAheadNow, ahead_now, first_now, none_now, others_now}
-use Rattle.merge_op.proofs.Roomy.{room_is, room_small}
-use Rattle.merge_op.proofs.Sharing.{no_tables, read_or_not, table_at, tables_from}
+use Rattle.merge_op.{specs.Regions.room_now, proofs.Found.{IsAheadNow, ahead_now, first_now, none_now, others_now}, proofs.Roomy.{room_is, room_small}, proofs.Sharing.{no_tables, read_or_not, table_at, tables_from}}
 use Rattle.merge_op.proofs.rows.MergedRowsRows.now.Goals as goal
 
 pub loop-input-init : goal.loop-input-init

@@ -1,12 +1,8 @@
 use Rattle.std.proofs.Common.{◌≡◌, true, ap, sym, ◌∙◌, subst, ℕ, ◌+◌, ◌<◌, ◌^◌, List}
-use Rattle.std.specs.Prelude.{OnOk}
-use Rattle.std.specs.List.{AllByRecursion}
-use Rattle.tick_model.specs.declared.update.ShiftRange.{ShiftRange}
-use Rattle.merge_op.specs.declared.starts.Start.{Start}
-use Rattle.tick_model.specs.Tables.{keys}
+use Rattle.std.{specs.Prelude.OnOk, specs.List.AllByRecursion}
+use Rattle.tick_model.{specs.declared.update.ShiftRange.ShiftRange, specs.Tables.keys}
+use Rattle.merge_op.{specs.declared.starts.Start.Start, proofs.Going.{added_there, before_there, now_there, removed_there, small_part}, proofs.Paired.{modified_before, modified_now}}
 use Rattle.tick_table.proofs.ExactAgain.{exact_lawful}
-use Rattle.merge_op.proofs.Going.{added_there, before_there, now_there, removed_there, small_part}
-use Rattle.merge_op.proofs.Paired.{modified_before, modified_now}
 use Rattle.merge_op.proofs.touching.Gathered.put.Goals as goal
 
 pub put_keys-requires-clause-small : goal.put_keys-requires-clause-small

@@ -1,18 +1,11 @@
 use Rattle.std.proofs.Common.{◌≡◌, ap, sym, ◌∙◌, subst, ℕ, ◌+◌, ◌*◌, ◌≤◌, None}
-use Rattle.std.specs.Prelude.{sum}
-use Rattle.std.proofs.lemmas.Result.{err_from_is_err_and}
+use Rattle.std.{specs.Prelude.sum, proofs.lemmas.Result.err_from_is_err_and}
 use Rattle.row_changes.proofs.Comparing.{on_err}
 use Rattle.tick_laws.specs.Operated.{operated}
-use Rattle.tick_model.specs.declared.table.PlainTable.{PlainTable}
-use Rattle.tick_model.specs.Changes.{Change, change_of}
-use Rattle.tick_model.specs.Operators.{fault_of, result_width}
-use Rattle.tick_model.specs.Updates.{Tick}
+use Rattle.tick_model.{specs.declared.table.PlainTable.PlainTable, specs.Changes.{Change, change_of}, specs.Operators.{fault_of, result_width}, specs.Updates.Tick}
 use Rattle.tick_table.specs.Exact.{counted}
-use Rattle.table_operator.specs.Inputs.{counted_in, news, olds, tables}
-use Rattle.table_operator.specs.Made.{HasKeys, IsCause}
-use Rattle.operators.specs.Inputs.{AreTables, AreTicks}
-use Rattle.operators.specs.Operating.{Operating, StandsFor, made_of}
-use Rattle.operators.proofs.Stepped.{own_fault_is, own_tick_is, room_is}
+use Rattle.table_operator.{specs.Inputs.{counted_in, news, olds, tables}, specs.Made.{HasKeys, IsCause}}
+use Rattle.operators.{specs.Inputs.{AreTables, AreTicks}, specs.Operating.{Operating, StandsFor, made_of}, proofs.Stepped.{own_fault_is, own_tick_is, room_is}}
 use Rattle.operators.proofs.operator.Operator.step.Goals as goal
 
 pub advance-requires : goal.advance-requires

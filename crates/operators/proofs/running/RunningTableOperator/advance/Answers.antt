@@ -1,6 +1,5 @@
 use Rattle.table_operator.specs.Inputs.{tables}
-use Rattle.operators.specs.declared.running.Running.TheVariants.{Where, Agg, Head, Tail}
-use Rattle.operators.proofs.Stepped.{as_change, as_reads}
+use Rattle.operators.{specs.declared.running.Running.TheVariants.{Where, Agg, Head, Tail}, proofs.Stepped.{as_change, as_reads}}
 use Rattle.operators.proofs.running.RunningTableOperator.advance.Goals as goal
 
 pub returns-in_ok-filter-in-Where-clause-change : goal.returns-in_ok-filter-in-Where-clause-change

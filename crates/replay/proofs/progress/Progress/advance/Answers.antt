@@ -1,13 +1,8 @@
 use Rattle.std.proofs.Common.{◌≡◌, ◌+◌, ◌^◌, ◌<◌, ◌∙◌, ap, subst, arith, rules, length}
-use Rattle.std.specs.Io.KnownBytes.{append_known}
-use Rattle.std.proofs.lemmas.Result.{err_from_is_err_and}
+use Rattle.std.{specs.Io.KnownBytes.append_known, proofs.lemmas.Result.err_from_is_err_and}
 use Rattle.tick_io.specs.Written.{AppendsPrefix}
 use Rattle.tick_model.specs.Texts.{step_records}
-use Rattle.replay.specs.ToCome.{text_from}
-use Rattle.replay.proofs.Exits.{none_written, step_begun}
-use Rattle.replay.proofs.Prints.{count_is, on_err, step_is}
-use Rattle.replay.proofs.RecordCounts.{length-updates_more, updates_few}
-use Rattle.replay.proofs.Spoils.{good_before_next}
+use Rattle.replay.{specs.ToCome.text_from, proofs.Exits.{none_written, step_begun}, proofs.Prints.{count_is, on_err, step_is}, proofs.RecordCounts.{length-updates_more, updates_few}, proofs.Spoils.good_before_next}
 use Rattle.replay.proofs.progress.Progress.advance.Goals as goal
 
 pub returns-in_err-more-clause-prefix : goal.returns-in_err-more-clause-prefix

@@ -1,8 +1,6 @@
 use Rattle.std.proofs.Common.{◌≡◌, ◌∙◌, sym, ap, length}
-use Rattle.tick_model.specs.declared.feed.Run.{Run}
-use Rattle.tick_model.specs.Texts.{updates_records}
-use Rattle.replay.specs.Outcomes.{row_counts}
-use Rattle.replay.proofs.Spoils.{good_before_next, none_is}
+use Rattle.tick_model.{specs.declared.feed.Run.Run, specs.Texts.updates_records}
+use Rattle.replay.{specs.Outcomes.row_counts, proofs.Spoils.{good_before_next, none_is}}
 use Rattle.replay.proofs.progress.Progress.done.Goals as goal
 
 pub returns : goal.returns

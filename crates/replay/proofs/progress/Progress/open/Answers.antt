@@ -1,14 +1,8 @@
 use Rattle.std.proofs.Common.{◌∙◌, sym, ap, subst, arith, refl}
-use Rattle.std.specs.Io.KnownBytes.{append_known}
-use Rattle.std.proofs.lemmas.Result.{err_from_is_err_and}
+use Rattle.std.{specs.Io.KnownBytes.append_known, proofs.lemmas.Result.err_from_is_err_and}
 use Rattle.tick_io.specs.Written.{AppendsPrefix}
 use Rattle.tick_model.specs.declared.feed.Run.{Run}
-use Rattle.replay.specs.Standing.{IsGood, IsWithin}
-use Rattle.replay.proofs.Exits.{step_begun}
-use Rattle.replay.proofs.Prints.{count_is, on_err, step_is}
-use Rattle.replay.proofs.Reaching.{good_first}
-use Rattle.replay.proofs.RecordCounts.{lawful_printed, length-updates_none}
-use Rattle.replay.proofs.Spoils.{good_before_next, past_is_cause, past_no_write, past_there, stop_is_cause, within_there}
+use Rattle.replay.{specs.Standing.{IsGood, IsWithin}, proofs.Exits.step_begun, proofs.Prints.{count_is, on_err, step_is}, proofs.Reaching.good_first, proofs.RecordCounts.{lawful_printed, length-updates_none}, proofs.Spoils.{good_before_next, past_is_cause, past_no_write, past_there, stop_is_cause, within_there}}
 use Rattle.replay.proofs.progress.Progress.open.Goals as goal
 
 pub printed_nodes-requires : goal.printed_nodes-requires

@@ -1,11 +1,8 @@
 use Rattle.std.proofs.Common.{◌≡◌, ◌+◌, ◌%◌, ◌≤◌, ◌∷◌, ◌++◌, [], ◌∙◌, ap, sym, subst, arith, length, List}
 use Rattle.std.specs.Prelude.{slice_index}
-use Rattle.snapshot_store.specs.Answers.{IsSnapshot}
-use Rattle.snapshot_store.specs.Looks.{latest}
+use Rattle.snapshot_store.{specs.Answers.IsSnapshot, specs.Looks.latest}
 use Rattle.tick_model.specs.Words.{line}
-use Rattle.replay.specs.declared.readers.KeptSnapshot.{KeptSnapshot}
-use Rattle.replay.specs.Snapshots.{AreTried, HasKept, steps_of, table_number}
-use Rattle.replay.proofs.Keeping.{IsNext, kept_more, last_kept, snapshot_next, tried_more}
+use Rattle.replay.{specs.declared.readers.KeptSnapshot.KeptSnapshot, specs.Snapshots.{AreTried, HasKept, steps_of, table_number}, proofs.Keeping.{IsNext, kept_more, last_kept, snapshot_next, tried_more}}
 use Rattle.replay.proofs.readers.Reader.take.Goals as goal
 
 pub returns-clause-more : goal.returns-clause-more

@@ -3,8 +3,7 @@ use Rattle.std.specs.Prelude.{IsTrue}
 use Rattle.key_lists.specs.Keys.{is_among}
 use Rattle.row_set.proofs.Yielded.{next_has, yielded_all, yielded_next}
 use Rattle.tick_model.specs.Tables.{cells_at, keys}
-use Rattle.row_changes.specs.Parts.{cells_under}
-use Rattle.row_changes.proofs.Comparing.{cells_next, reads_next, reads_within}
+use Rattle.row_changes.{specs.Parts.cells_under, proofs.Comparing.{cells_next, reads_next, reads_within}}
 use Rattle.row_changes.proofs.rows.Rows.all_now.Goals as goal
 
 pub now-requires-clause-here : goal.now-requires-clause-here

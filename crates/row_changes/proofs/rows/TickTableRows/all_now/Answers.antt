@@ -4,8 +4,7 @@ use Rattle.key_lists.specs.Keys.{is_among}
 use Rattle.row_set.proofs.Yielded.{next_has, yielded_all, yielded_next}
 use Rattle.tick_model.specs.Tables.{cells_at, keys}
 use Rattle.tick_table.specs.Ticking.{Ticking}
-use Rattle.row_changes.specs.Parts.{cells_under}
-use Rattle.row_changes.proofs.Comparing.{cells_next, reads_next, reads_within}
+use Rattle.row_changes.{specs.Parts.cells_under, proofs.Comparing.{cells_next, reads_next, reads_within}}
 use Rattle.row_changes.proofs.rows.TickTableRows.all_now.Goals as goal
 
 pub row-requires : goal.row-requires

@@ -1,6 +1,5 @@
 use Rattle.std.proofs.Common.{ap, sym, ◌∙◌, map, option_map, rules, Some, w64}
-use Rattle.std.specs.Prelude.{slice_get}
-use Rattle.std.proofs.lemmas.Int.{to_z-of_z}
+use Rattle.std.{specs.Prelude.slice_get, proofs.lemmas.Int.to_z-of_z}
 use Rattle.row_groups.proofs.Groupings.{slot_of_member}
 use Rattle.row_groups.proofs.group.Group.at_at.Goals as goal
 

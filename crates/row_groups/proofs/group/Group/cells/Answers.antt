@@ -1,8 +1,7 @@
 use Rattle.std.proofs.Common.{◌≡◌, refl, subst}
 use Rattle.std.specs.List.{AllByRecursion}
 use Rattle.key_lists.proofs.Every.{every, every-map}
-use Rattle.row_groups.specs.Members.{Member}
-use Rattle.row_groups.specs.Slots.{member_at}
+use Rattle.row_groups.{specs.Members.Member, specs.Slots.member_at}
 use Rattle.row_groups.proofs.group.Group.cells.Goals as goal
 
 pub returns : goal.returns

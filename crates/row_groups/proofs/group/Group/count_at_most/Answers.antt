@@ -1,7 +1,6 @@
 use Rattle.std.proofs.Common.{◌≡◌, ◌^◌, ap, ap₂, sym, ◌∙◌, map, count_by, int_le, rules, true, w64, SFits}
 use Rattle.std.proofs.lemmas.Int.{to_z-of_z}
-use Rattle.row_groups.specs.Slots.{member_at}
-use Rattle.row_groups.proofs.Groupings.{all_at_most, counted_at_most, ranked_parted}
+use Rattle.row_groups.{specs.Slots.member_at, proofs.Groupings.{all_at_most, counted_at_most, ranked_parted}}
 use Rattle.row_groups.proofs.group.Group.count_at_most.Goals as goal
 
 pub count_before-requires-clause-parted : goal.count_before-requires-clause-parted

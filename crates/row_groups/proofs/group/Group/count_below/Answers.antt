@@ -1,7 +1,6 @@
 use Rattle.std.proofs.Common.{◌≡◌, ap, ap₂, sym, ◌∙◌, map, count_by, int_le, int_lt, arith, rules, true, false, ℤ, w64, SFits}
 use Rattle.std.proofs.lemmas.Int.{ints, to_z-of_z}
-use Rattle.row_groups.specs.Slots.{member_at}
-use Rattle.row_groups.proofs.Groupings.{counted_below, none_below, ranked_parted}
+use Rattle.row_groups.{specs.Slots.member_at, proofs.Groupings.{counted_below, none_below, ranked_parted}}
 use Rattle.row_groups.proofs.group.Group.count_below.Goals as goal
 
 pub count_before-requires-clause-parted : goal.count_before-requires-clause-parted

@@ -1,8 +1,6 @@
 use Rattle.std.proofs.Common.{ap, sym, ◌∙◌, option_map, unwrap_or, Some, Option, ℕ}
 use Rattle.std.specs.Prelude.{slice_get}
-use Rattle.row_groups.specs.Members.{keys_of}
-use Rattle.row_groups.specs.Slots.{key_in}
-use Rattle.row_groups.proofs.Groupings.{slot_of_member}
+use Rattle.row_groups.{specs.Members.keys_of, specs.Slots.key_in, proofs.Groupings.slot_of_member}
 use Rattle.row_groups.proofs.group.Group.key_at.Goals as goal
 
 pub returns : goal.returns

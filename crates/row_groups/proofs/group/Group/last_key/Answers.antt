@@ -1,9 +1,6 @@
 use Rattle.std.proofs.Common.{◌-◌, ap, sym, ◌∙◌, length, option_map, unwrap_or, Some, Option, ℕ}
-use Rattle.std.specs.Prelude.{slice_get}
-use Rattle.std.proofs.lemmas.List.{length-map}
-use Rattle.row_groups.specs.Members.{keys_of}
-use Rattle.row_groups.specs.Slots.{key_in, member_at}
-use Rattle.row_groups.proofs.Groupings.{slot_of_member}
+use Rattle.std.{specs.Prelude.slice_get, proofs.lemmas.List.length-map}
+use Rattle.row_groups.{specs.Members.keys_of, specs.Slots.{key_in, member_at}, proofs.Groupings.slot_of_member}
 use Rattle.row_groups.proofs.group.Group.last_key.Goals as goal
 
 pub returns : goal.returns

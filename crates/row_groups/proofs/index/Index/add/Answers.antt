@@ -1,10 +1,7 @@
 use Rattle.std.proofs.Common.{◌∷◌, [], ap, ◌∙◌, w64}
 use Rattle.std.proofs.lemmas.Int.{to_z-of_z}
 use Rattle.row_handles.specs.Entries.{left_rows, handle_under}
-use Rattle.row_groups.specs.Members.{member_of, with_member}
-use Rattle.row_groups.specs.Rows.{members_of, rows_of}
-use Rattle.row_groups.proofs.Keys.{ascending, left_again, under_own}
-use Rattle.row_groups.proofs.Indexed.{grouped_same, holds_before, index_left}
+use Rattle.row_groups.{specs.Members.{member_of, with_member}, specs.Rows.{members_of, rows_of}, proofs.Keys.{ascending, left_again, under_own}, proofs.Indexed.{grouped_same, holds_before, index_left}}
 use Rattle.row_groups.proofs.index.Index.add.Goals as goal
 
 pub enter-requires-clause-others : goal.enter-requires-clause-others

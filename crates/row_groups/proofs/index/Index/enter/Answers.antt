@@ -1,18 +1,7 @@
 use Rattle.std.proofs.Common.{◌≡◌, ◌<◌, ◌≤◌, ℕ, ◌∷◌, [], ◌∙◌, ap, arith, length, get_or, subst, refl, w64, pos, get_or-set_other, Some, IsSome}
-use Rattle.std.specs.List.{AllByRecursion}
-use Rattle.std.proofs.lemmas.Grind.{get_or-set_at}
-use Rattle.std.proofs.lemmas.Int.{to_z-of_z}
-use Rattle.std.proofs.lemmas.List.{length-set}
-use Rattle.row_handles.specs.Entries.{Entry, handle_under, left_rows}
-use Rattle.row_handles.proofs.Inserting.{on_err}
-use Rattle.row_groups.specs.declared.index.Index.{Index}
-use Rattle.row_groups.specs.declared.table.Kept.{Kept}
-use Rattle.row_groups.specs.declared.table.Table.{Table}
-use Rattle.row_groups.specs.Slots.{slots_with}
-use Rattle.row_groups.specs.Rows.{Becomes, ByNumber, IsSame, cells_with, kept_in, rows_of, slots_under}
-use Rattle.row_groups.specs.Indexes.{Holds}
-use Rattle.row_groups.proofs.Groupings.{ranked_parted, rows_same}
-use Rattle.row_groups.proofs.Indexed.{Enters, becomes_same, grouped_same, holds_as, holds_group, index_entered, kept_on, members_entered, others_same}
+use Rattle.std.{specs.List.AllByRecursion, proofs.lemmas.Grind.get_or-set_at, proofs.lemmas.Int.to_z-of_z, proofs.lemmas.List.length-set}
+use Rattle.row_handles.{specs.Entries.{Entry, handle_under, left_rows}, proofs.Inserting.on_err}
+use Rattle.row_groups.{specs.declared.index.Index.Index, specs.declared.table.Kept.Kept, specs.declared.table.Table.Table, specs.Slots.slots_with, specs.Rows.{Becomes, ByNumber, IsSame, cells_with, kept_in, rows_of, slots_under}, specs.Indexes.Holds, proofs.Groupings.{ranked_parted, rows_same}, proofs.Indexed.{Enters, becomes_same, grouped_same, holds_as, holds_group, index_entered, kept_on, members_entered, others_same}}
 use Rattle.row_groups.proofs.index.Index.enter.Goals as goal
 
 -- the table with more room, and groups that keep the cells of those that are there

@@ -1,10 +1,7 @@
 use Rattle.std.proofs.Common.{◌∙◌, sym, subst, rules, w64, List, ℕ}
 use Rattle.std.proofs.lemmas.Int.{to_z-of_z}
 use Rattle.row_set.proofs.Yielded.{next_new, yielded_all}
-use Rattle.row_groups.specs.Rows.{slots_numbered}
-use Rattle.row_groups.proofs.Groupings.{ranked_parted}
-use Rattle.row_groups.proofs.Indexed.{AreGone, grouped_same, index_left, kept_of, members_removed, none_gone, step_missing}
-use Rattle.row_groups.proofs.Departing.{departed, departs_group, departs_there}
+use Rattle.row_groups.{specs.Rows.slots_numbered, proofs.Groupings.ranked_parted, proofs.Indexed.{AreGone, grouped_same, index_left, kept_of, members_removed, none_gone, step_missing}, proofs.Departing.{departed, departs_group, departs_there}}
 use Rattle.row_groups.proofs.index.Index.remove.Goals as goal
 
 pub loop-key-init : goal.loop-key-init

@@ -1,11 +1,7 @@
 use Rattle.std.proofs.Common.{refl, subst, arith, rules, w64, ℕ, ◌<◌, ◌∷◌, [], List, length, length-append}
 use Rattle.std.proofs.lemmas.Int.{to_z-of_z}
 use Rattle.row_set.proofs.Yielded.{next_has, next_new, yielded_all, yielded_next}
-use Rattle.row_groups.specs.Members.{IsNumberUnder}
-use Rattle.row_groups.specs.Indexes.{numbered_of}
-use Rattle.row_groups.proofs.Groupings.{ranked_parted}
-use Rattle.row_groups.proofs.Indexed.{AreGone, grouped_same, index_left, members_removed, none_gone}
-use Rattle.row_groups.proofs.Departing.{departed, departs_group, departs_there, numbered_departs, zipped_within}
+use Rattle.row_groups.{specs.Members.IsNumberUnder, specs.Indexes.numbered_of, proofs.Groupings.ranked_parted, proofs.Indexed.{AreGone, grouped_same, index_left, members_removed, none_gone}, proofs.Departing.{departed, departs_group, departs_there, numbered_departs, zipped_within}}
 use Rattle.row_groups.proofs.index.Index.remove_numbered.Goals as goal
 
 pub loop-key-init : goal.loop-key-init

@@ -2,11 +2,7 @@ use Rattle.std.proofs.Common.{◌∷◌, [], ◌++◌, ap, sym, ◌∙◌, subst
 use Rattle.std.specs.Option.{option_map_or}
 use Rattle.slab.specs.Slab.{get}
 use Rattle.row_handles.proofs.Inserting.{on_err}
-use Rattle.row_groups.specs.declared.lists.KeyedRows.{KeyedRows}
-use Rattle.row_groups.specs.declared.lists.Lists.{Lists}
-use Rattle.row_groups.specs.declared.place.Slot.{Slot}
-use Rattle.row_groups.specs.Rows.{Becomes, ByNumber, Leads, number_under, slots_numbered}
-use Rattle.row_groups.proofs.Listed.{Begins, begins_numbered, begins_rows, unbegun}
+use Rattle.row_groups.{specs.declared.lists.KeyedRows.KeyedRows, specs.declared.lists.Lists.Lists, specs.declared.place.Slot.Slot, specs.Rows.{Becomes, ByNumber, Leads, number_under, slots_numbered}, proofs.Listed.{Begins, begins_numbered, begins_rows, unbegun}}
 use Rattle.row_groups.proofs.lists.Lists.begin.Goals as goal
 
 pub returns-in_err-push-clause-err : goal.returns-in_err-push-clause-err

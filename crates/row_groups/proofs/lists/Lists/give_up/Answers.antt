@@ -1,6 +1,5 @@
 use Rattle.std.proofs.Common.{None, refl, sym, ◌∙◌, subst}
-use Rattle.row_groups.specs.Rows.{Leads}
-use Rattle.row_groups.proofs.Listed.{GivesUp, gives_numbered, gives_rows}
+use Rattle.row_groups.{specs.Rows.Leads, proofs.Listed.{GivesUp, gives_numbered, gives_rows}}
 use Rattle.row_groups.proofs.lists.Lists.give_up.Goals as goal
 
 gives : (c : goal.After-drop-group-in-Some) → GivesUp c.args.number c.in-Some.group c.args.self.now (record c.args.self.now { numbers = c.remove.new.self; groups = c.try_remove.new.self })

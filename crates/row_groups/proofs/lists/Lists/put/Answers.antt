@@ -1,10 +1,7 @@
 use Rattle.std.proofs.Common.{ap, sym, ◌∙◌, subst, refl, true, true≢false, Some}
 use Rattle.row_handles.proofs.Inserting.{on_err}
 use Rattle.slab.specs.Slab.{with_value}
-use Rattle.row_groups.specs.declared.lists.Lists.{Lists}
-use Rattle.row_groups.specs.Slots.{slots_with}
-use Rattle.row_groups.specs.Rows.{Becomes}
-use Rattle.row_groups.proofs.Listed.{changed, changes_cells, changes_numbered, changes_rows, there_is_group, under_number, with_group, with_rows, with_same_cells}
+use Rattle.row_groups.{specs.declared.lists.Lists.Lists, specs.Slots.slots_with, specs.Rows.Becomes, proofs.Listed.{changed, changes_cells, changes_numbered, changes_rows, there_is_group, under_number, with_group, with_rows, with_same_cells}}
 use Rattle.row_groups.proofs.lists.Lists.put.Goals as goal
 
 pub index_mut-requires : goal.index_mut-requires

@@ -1,14 +1,8 @@
 use Rattle.std.proofs.Common.{◌≡◌, ◌≤◌, ap, sym, ◌∙◌, subst, refl, length, arith, ℕ, List, [], Some, inl, inr}
-use Rattle.std.proofs.lemmas.Bool.{cases_eq}
-use Rattle.std.proofs.lemmas.Option.{none-some}
+use Rattle.std.{proofs.lemmas.Bool.cases_eq, proofs.lemmas.Option.none-some}
 use Rattle.key_lists.proofs.Parts.{no_items}
-use Rattle.row_groups.specs.declared.lists.KeyedRows.{KeyedRows}
-use Rattle.row_groups.specs.declared.lists.Lists.{Lists}
-use Rattle.row_groups.specs.declared.place.Slot.{Slot}
-use Rattle.row_groups.specs.Slots.{slots_without}
-use Rattle.row_groups.specs.Rows.{AreNumbered, Becomes, cells_with}
+use Rattle.row_groups.{specs.declared.lists.KeyedRows.KeyedRows, specs.declared.lists.Lists.Lists, specs.declared.place.Slot.Slot, specs.Slots.slots_without, specs.Rows.{AreNumbered, Becomes, cells_with}, proofs.Listed.{becomes_after, changed, changes_cells, changes_numbered, changes_rows, own_short, same_items, shorter, under_number, with_rows}}
 use Rattle.slab.specs.Slab.{get, with_value}
-use Rattle.row_groups.proofs.Listed.{becomes_after, changed, changes_cells, changes_numbered, changes_rows, own_short, same_items, shorter, under_number, with_rows}
 use Rattle.row_groups.proofs.lists.Lists.take.Goals as goal
 
 pub returns-then-is_empty-clause-rows : goal.returns-then-is_empty-clause-rows

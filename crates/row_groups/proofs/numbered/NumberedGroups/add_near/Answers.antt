@@ -1,10 +1,6 @@
 use Rattle.std.proofs.Common.{◌≡◌, ap, ◌∙◌, subst, Some, ℕ}
 use Rattle.std.proofs.lemmas.Result.{IfOk-weaker}
-use Rattle.row_groups.specs.Members.{IsNumberOf, IsPart, Numbered, member_under}
-use Rattle.row_groups.specs.Rows.{cells_with}
-use Rattle.row_groups.specs.Indexes.{names_of, numbered_of}
-use Rattle.row_groups.proofs.Groupings.{absent_under}
-use Rattle.row_groups.proofs.Named.{keeps_all, number_is, part_of}
+use Rattle.row_groups.{specs.Members.{IsNumberOf, IsPart, Numbered, member_under}, specs.Rows.cells_with, specs.Indexes.{names_of, numbered_of}, proofs.Groupings.absent_under, proofs.Named.{keeps_all, number_is, part_of}}
 use Rattle.row_groups.proofs.numbered.NumberedGroups.add_near.Goals as goal
 
 pub add-requires-clause-absent : goal.add-requires-clause-absent

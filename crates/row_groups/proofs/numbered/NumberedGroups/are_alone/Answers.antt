@@ -1,9 +1,6 @@
 use Rattle.std.proofs.Common.{◌≡◌, ap, sym, ◌∙◌, subst, false, length, ◌≤◌, ℕ, rules}
 use Rattle.std.proofs.lemmas.List.{length-map}
-use Rattle.row_groups.specs.Members.{Numbered, group_of}
-use Rattle.row_groups.specs.Rows.{slots_under}
-use Rattle.row_groups.specs.Slots.{member_at}
-use Rattle.row_groups.proofs.Groupings.{listed_members}
+use Rattle.row_groups.{specs.Members.{Numbered, group_of}, specs.Rows.slots_under, specs.Slots.member_at, proofs.Groupings.listed_members}
 use Rattle.row_groups.proofs.numbered.NumberedGroups.are_alone.Goals as goal
 
 pub returns : goal.returns

@@ -1,9 +1,5 @@
 use Rattle.std.proofs.Common.{ap, sym, ◌∙◌, subst, refl, option_map, unwrap_or, List, [], ℤ, Option, Some, IsSome}
-use Rattle.row_groups.specs.declared.table.Kept.{Kept}
-use Rattle.row_groups.specs.Members.{AreGrouped, Numbered, groups_of, member_under}
-use Rattle.row_groups.specs.Rows.{IsKept, cells_in, cells_with}
-use Rattle.row_groups.proofs.Keys.{under_has}
-use Rattle.row_groups.proofs.Groupings.{are_grouped, under_same}
+use Rattle.row_groups.{specs.declared.table.Kept.Kept, specs.Members.{AreGrouped, Numbered, groups_of, member_under}, specs.Rows.{IsKept, cells_in, cells_with}, proofs.Keys.under_has, proofs.Groupings.{are_grouped, under_same}}
 use Rattle.row_groups.proofs.numbered.NumberedGroups.cells_of.Goals as goal
 
 pub returns-in_err-handle-clause-cells : goal.returns-in_err-handle-clause-cells

@@ -1,6 +1,5 @@
 use Rattle.std.proofs.Common.{◌≡◌, ◌≢◌, sym, ◌∙◌, subst, ℕ, [], Some, IfSome}
-use Rattle.row_groups.specs.Members.{IsNumberOf, Numbered, group_of, name_at}
-use Rattle.row_groups.proofs.Named.{empty_under, found_is, unnamed}
+use Rattle.row_groups.{specs.Members.{IsNumberOf, Numbered, group_of, name_at}, proofs.Named.{empty_under, found_is, unnamed}}
 use Rattle.row_groups.proofs.numbered.NumberedGroups.find.Goals as goal
 
 pub returns-clause-found : goal.returns-clause-found

@@ -1,8 +1,5 @@
 use Rattle.std.proofs.Common.{ap, sym, ◌∙◌, subst, map}
-use Rattle.row_groups.specs.Members.{AreGrouped, Numbered, group_of, groups_of}
-use Rattle.row_groups.specs.Slots.{AreKnown, AreRanked, member_at}
-use Rattle.row_groups.proofs.Keys.{ascending, known_all}
-use Rattle.row_groups.proofs.Groupings.{are_grouped, listed_group, listed_members}
+use Rattle.row_groups.{specs.Members.{AreGrouped, Numbered, group_of, groups_of}, specs.Slots.{AreKnown, AreRanked, member_at}, proofs.Keys.{ascending, known_all}, proofs.Groupings.{are_grouped, listed_group, listed_members}}
 use Rattle.row_groups.proofs.numbered.NumberedGroups.group.Goals as goal
 
 pub new-requires-clause-known : goal.new-requires-clause-known

@@ -1,9 +1,6 @@
 use Rattle.std.proofs.Common.{◌≡◌, ap, sym, ◌∙◌, subst, List, map, option_copied, option_map, ℤ, Some}
 use Rattle.slab.specs.Slab.{get}
-use Rattle.row_groups.specs.Members.{AreGrouped, Numbered, group_of, groups_of, name_at}
-use Rattle.row_groups.specs.Slots.{member_at}
-use Rattle.row_groups.proofs.Groupings.{are_grouped}
-use Rattle.row_groups.proofs.Named.{is_group, members_with, named}
+use Rattle.row_groups.{specs.Members.{AreGrouped, Numbered, group_of, groups_of, name_at}, specs.Slots.member_at, proofs.Groupings.are_grouped, proofs.Named.{is_group, members_with, named}}
 use Rattle.row_groups.proofs.numbered.NumberedGroups.group_at.Goals as goal
 
 pub returns-in_err-group-clause-members : goal.returns-in_err-group-clause-members

@@ -1,11 +1,5 @@
 use Rattle.std.proofs.Common.{ap, sym, ◌∙◌, subst, refl, option_map, List, ℤ}
-use Rattle.row_groups.specs.declared.table.Kept.{Kept}
-use Rattle.row_groups.specs.Members.{AreGrouped, Member, Numbered, group_of, groups_of, member_under, name_at}
-use Rattle.row_groups.specs.Rows.{IsKept, cells_in, cells_with, kept_in}
-use Rattle.row_groups.proofs.Keys.{under_has}
-use Rattle.row_groups.proofs.Groupings.{are_grouped, under_same}
-use Rattle.row_groups.proofs.Indexed.{some_cells}
-use Rattle.row_groups.proofs.Named.{name_is}
+use Rattle.row_groups.{specs.declared.table.Kept.Kept, specs.Members.{AreGrouped, Member, Numbered, group_of, groups_of, member_under, name_at}, specs.Rows.{IsKept, cells_in, cells_with, kept_in}, proofs.Keys.under_has, proofs.Groupings.{are_grouped, under_same}, proofs.Indexed.some_cells, proofs.Named.name_is}
 use Rattle.row_groups.proofs.numbered.NumberedGroups.group_of.Goals as goal
 
 pub returns-in_err-handle-clause-group : goal.returns-in_err-handle-clause-group

@@ -1,8 +1,7 @@
 use Rattle.std.proofs.Common.{◌≡◌, ◌↔◌, ◌∙◌, sym, subst, IsTrue, List, ℕ, ℤ, [], None}
 use Rattle.std.proofs.lemmas.Bool.{eq-eqb, eqb-true}
 use Rattle.slab.specs.Slab.{slab_len}
-use Rattle.row_groups.specs.Members.{Numbered, group_of, name_at}
-use Rattle.row_groups.proofs.Named.{all_listed, empty_named, none_listed}
+use Rattle.row_groups.{specs.Members.{Numbered, group_of, name_at}, proofs.Named.{all_listed, empty_named, none_listed}}
 use Rattle.row_groups.proofs.numbered.NumberedGroups.is_empty.Goals as goal
 
 pub returns-clause-unnamed : goal.returns-clause-unnamed

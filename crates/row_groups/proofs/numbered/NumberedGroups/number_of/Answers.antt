@@ -1,12 +1,6 @@
 use Rattle.std.proofs.Common.{◌≡◌, ap, sym, ◌∙◌, subst, refl, option_map, ℕ, Option, Some, IsSome}
 use Rattle.std.proofs.lemmas.Option.{same_Some}
-use Rattle.row_groups.specs.declared.table.Kept.{Kept}
-use Rattle.row_groups.specs.Members.{IsNumberOf, Numbered, member_under}
-use Rattle.row_groups.specs.Rows.{IsKept, cells_in, cells_with, kept_in}
-use Rattle.row_groups.proofs.Keys.{under_has}
-use Rattle.row_groups.proofs.Groupings.{there_under, under_same}
-use Rattle.row_groups.proofs.Indexed.{some_cells}
-use Rattle.row_groups.proofs.Named.{number_is}
+use Rattle.row_groups.{specs.declared.table.Kept.Kept, specs.Members.{IsNumberOf, Numbered, member_under}, specs.Rows.{IsKept, cells_in, cells_with, kept_in}, proofs.Keys.under_has, proofs.Groupings.{there_under, under_same}, proofs.Indexed.some_cells, proofs.Named.number_is}
 use Rattle.row_groups.proofs.numbered.NumberedGroups.number_of.Goals as goal
 
 pub unwrap-handle-requires : goal.unwrap-handle-requires

@@ -1,6 +1,5 @@
 use Rattle.std.proofs.Common.{IsSome, List, ℕ, [], sym, subst}
-use Rattle.std.specs.List.{AllZip}
-use Rattle.std.proofs.lemmas.List.Elements.{AllZip-push}
+use Rattle.std.{specs.List.AllZip, proofs.lemmas.List.Elements.AllZip-push}
 use Rattle.row_set.proofs.Yielded.{next_has, yielded_all}
 use Rattle.row_groups.specs.Members.{IsNumberUnder, member_under}
 use Rattle.row_groups.proofs.numbered.NumberedGroups.numbers_of.Goals as goal

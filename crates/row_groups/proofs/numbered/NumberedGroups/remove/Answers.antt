@@ -1,7 +1,5 @@
 use Rattle.std.proofs.Common.{subst}
-use Rattle.row_groups.specs.Members.{IsPart, Numbered}
-use Rattle.row_groups.specs.Indexes.{numbered_of}
-use Rattle.row_groups.proofs.Named.{part_of}
+use Rattle.row_groups.{specs.Members.{IsPart, Numbered}, specs.Indexes.numbered_of, proofs.Named.part_of}
 use Rattle.row_groups.proofs.numbered.NumberedGroups.remove.Goals as goal
 
 pub returns-clause-names : goal.returns-clause-names

@@ -1,9 +1,6 @@
 use Rattle.std.proofs.Common.{◌≡◌, sym, subst, ℕ, ℤ, Some, option_map, w64}
-use Rattle.std.proofs.lemmas.Int.{to_z-of_z}
-use Rattle.std.specs.List.{AllByRecursion, AllZip}
-use Rattle.row_groups.specs.Members.{IsNumberUnder, IsPart, Member, Numbered, member_under}
-use Rattle.row_groups.specs.Indexes.{numbered_of}
-use Rattle.row_groups.proofs.Named.{part_of}
+use Rattle.std.{proofs.lemmas.Int.to_z-of_z, specs.List.{AllByRecursion, AllZip}}
+use Rattle.row_groups.{specs.Members.{IsNumberUnder, IsPart, Member, Numbered, member_under}, specs.Indexes.numbered_of, proofs.Named.part_of}
 use Rattle.row_groups.proofs.numbered.NumberedGroups.remove_numbered.Goals as goal
 
 pub remove_numbered-requires-clause-numbers : goal.remove_numbered-requires-clause-numbers

@@ -1,8 +1,6 @@
 use Rattle.std.proofs.Common.{◌^◌, ap, sym, ◌∙◌}
 use Rattle.tick_model.specs.Rules.{shift_fault}
-use Rattle.row_groups.specs.Members.{Numbered, keys_of}
-use Rattle.row_groups.specs.Indexes.{names_of}
-use Rattle.row_groups.proofs.Groupings.{keys_same}
+use Rattle.row_groups.{specs.Members.{Numbered, keys_of}, specs.Indexes.names_of, proofs.Groupings.keys_same}
 use Rattle.row_groups.proofs.numbered.NumberedGroups.shift.Goals as goal
 
 pub shift-requires-clause-lawful : goal.shift-requires-clause-lawful

@@ -1,6 +1,5 @@
 use Rattle.std.proofs.Common.{◌≡◌, ◌∙◌, ◌<◌, ◌^◌, [], ◌∷◌, None, ap, arith, length, pos, subst, to_z, w64}
-use Rattle.std.specs.HashMap.{UpdatesBy, get_by}
-use Rattle.std.proofs.lemmas.Int.{to_z_pos}
+use Rattle.std.{specs.HashMap.{UpdatesBy, get_by}, proofs.lemmas.Int.to_z_pos}
 use Rattle.row_groups.proofs.Leading.{grown, has_cells, same_key}
 use Rattle.row_groups.proofs.numbers.Numbers.grow.Goals as goal
 

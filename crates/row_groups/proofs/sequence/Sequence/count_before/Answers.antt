@@ -1,8 +1,7 @@
 use Rattle.std.proofs.Common.{ap, sym, ◌∙◌, length, IsSome}
 use Rattle.key_lists.proofs.Parts.{every_got}
 use Rattle.row_handles.specs.Entries.{key_with}
-use Rattle.row_groups.specs.Slots.{is_before}
-use Rattle.row_groups.proofs.Ends.{failed_all, passed_all}
+use Rattle.row_groups.{specs.Slots.is_before, proofs.Ends.{failed_all, passed_all}}
 use Rattle.row_groups.proofs.sequence.Sequence.count_before.Goals as goal
 
 pub returns-then-is_after-clause-before : goal.returns-then-is_after-clause-before

@@ -1,7 +1,6 @@
 use Rattle.std.proofs.Common.{◌≡◌, ◌+◌, ◌<◌, ap, sym, ◌∙◌, subst, take, get_or, length}
 use Rattle.std.specs.Prelude.{slice_get}
-use Rattle.row_groups.specs.Slots.{joined}
-use Rattle.row_groups.proofs.Parts.{row_got}
+use Rattle.row_groups.{specs.Slots.joined, proofs.Parts.row_got}
 use Rattle.row_groups.proofs.sequence.Sequence.get.Goals as goal
 
 pub returns : goal.returns

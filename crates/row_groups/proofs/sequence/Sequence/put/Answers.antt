@@ -1,11 +1,8 @@
 use Rattle.std.proofs.Common.{◌≡◌, ◌-◌, ◌<◌, ◌≤◌, true, false, ap, sym, ◌∙◌, subst, take, drop, length, IsSome}
-use Rattle.std.specs.List.{AllByRecursion}
-use Rattle.std.proofs.lemmas.Result.{on_ok_weaker}
+use Rattle.std.{specs.List.AllByRecursion, proofs.lemmas.Result.on_ok_weaker}
 use Rattle.key_lists.proofs.Parts.{every_got}
 use Rattle.row_handles.specs.Entries.{key_with}
-use Rattle.row_groups.specs.Slots.{AtChunk, is_before, joined, position_in, slots_with}
-use Rattle.row_groups.proofs.Listed.{placed_alone, placed_last, placed_with}
-use Rattle.row_groups.proofs.Parts.{spot_within}
+use Rattle.row_groups.{specs.Slots.{AtChunk, is_before, joined, position_in, slots_with}, proofs.Listed.{placed_alone, placed_last, placed_with}, proofs.Parts.spot_within}
 use Rattle.row_groups.proofs.sequence.Sequence.put.Goals as goal
 
 pub returns-then-self-eq0-clause-ok : goal.returns-then-self-eq0-clause-ok

@@ -1,7 +1,6 @@
 use Rattle.std.proofs.Common.{◌≡◌, ◌+◌, ◌^◌, ◌<◌, ◌≤◌, true, false, ap, sym, ◌∙◌, subst, take, drop, length, arith}
 use Rattle.std.specs.List.{AllByRecursion}
-use Rattle.row_groups.specs.Slots.{AtChunk, is_before, joined, position_in}
-use Rattle.row_groups.proofs.Parts.{front_fits, spot_within}
+use Rattle.row_groups.{specs.Slots.{AtChunk, is_before, joined, position_in}, proofs.Parts.{front_fits, spot_within}}
 use Rattle.row_groups.proofs.sequence.Sequence.search.Goals as goal
 
 within : (c : goal.After-struct_known-1) → position_in c.self.inside.chunks.items c.spot_before-spot.result ≤ length (joined c.self.inside.chunks.items)

@@ -1,14 +1,8 @@
 use Rattle.std.proofs.Common.{◌≡◌, ◌+◌, ◌<◌, ◌≤◌, ◌++◌, true, false, ap, sym, ◌∙◌, subst, suc, take, drop, get_or, length, arith}
-use Rattle.std.specs.List.{AllByRecursion}
-use Rattle.std.specs.Global.{Vec}
+use Rattle.std.{specs.List.AllByRecursion, specs.Global.Vec}
 use Rattle.key_lists.proofs.Parts.{same_at}
-use Rattle.row_groups.specs.declared.chunks.Spot.{Spot}
-use Rattle.row_groups.specs.declared.place.Slot.{Slot}
-use Rattle.row_groups.specs.Slots.{AtChunk, is_before, joined, position_in, slots_without}
-use Rattle.row_groups.proofs.Listed.{none_there, placed_without}
-use Rattle.row_groups.proofs.Parts.{next_spot, one_less, some_in, spot_behind, spot_inside}
+use Rattle.row_groups.{specs.declared.chunks.Spot.Spot, specs.declared.place.Slot.Slot, specs.Slots.{AtChunk, is_before, joined, position_in, slots_without}, proofs.Listed.{none_there, placed_without}, proofs.Parts.{next_spot, one_less, some_in, spot_behind, spot_inside}, proofs.sequence.Sequence.take.Goals.{then-spot-len, else-spot-len}}
 use Rattle.row_groups.proofs.sequence.Sequence.take.Goals as goal
-use Rattle.row_groups.proofs.sequence.Sequence.take.Goals.{then-spot-len, else-spot-len}
 
 pub returns-then-spot-len-2 : goal.returns-then-spot-len-2
 returns-then-spot-len-2 c =

@@ -1,10 +1,7 @@
 use Rattle.std.proofs.Common.{◌-◌, ◌<◌, ◌≤◌, arith, drop, ltb, map, rules, subst, sym, take}
-use Rattle.std.specs.List.{AllByRecursion}
-use Rattle.std.proofs.lemmas.List.Sorted.{IsPartitionPoint-from_clause}
+use Rattle.std.{specs.List.AllByRecursion, proofs.lemmas.List.Sorted.IsPartitionPoint-from_clause}
 use Rattle.key_lists.proofs.Parts.{every-take}
-use Rattle.row_handles.specs.Entries.{Ascend}
-use Rattle.row_handles.specs.Blocks.{entry_at}
-use Rattle.row_handles.proofs.Listings.{keys_parted, keys_below, keys_from, keys_rise, until_last}
+use Rattle.row_handles.{specs.Entries.Ascend, specs.Blocks.entry_at, proofs.Listings.{keys_parted, keys_below, keys_from, keys_rise, until_last}}
 use Rattle.row_handles.proofs.block.Block.rows_below.Goals as goal
 
 pub returns-in-Some-clause-below : goal.returns-in-Some-clause-below

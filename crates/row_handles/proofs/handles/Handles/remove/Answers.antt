@@ -1,7 +1,5 @@
 use Rattle.std.proofs.Common.{ap, ◌∙◌}
-use Rattle.row_handles.specs.Entries.{left_rows}
-use Rattle.row_handles.specs.Blocks.{rows}
-use Rattle.row_handles.proofs.Leaving.{left_by_keys, ordered_ranges, small_ranges}
+use Rattle.row_handles.{specs.Entries.left_rows, specs.Blocks.rows, proofs.Leaving.{left_by_keys, ordered_ranges, small_ranges}}
 use Rattle.row_handles.proofs.handles.Handles.remove.Goals as goal
 
 pub leave_ranges-requires-clause-order : goal.leave_ranges-requires-clause-order

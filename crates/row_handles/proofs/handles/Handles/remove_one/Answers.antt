@@ -1,9 +1,6 @@
 use Rattle.std.proofs.Common.{◌≡◌, ℕ, ◌+◌, ◌-◌, ap, ◌∙◌, arith, List, [], ◌∷◌, ◌++◌}
 use Rattle.std.specs.List.{range_with_len}
-use Rattle.row_handles.specs.Entries.{Entry, left_rows}
-use Rattle.row_handles.specs.Blocks.{rows}
-use Rattle.row_handles.specs.Drops.{outside}
-use Rattle.row_handles.proofs.Leaving.{left_by_keys}
+use Rattle.row_handles.{specs.Entries.{Entry, left_rows}, specs.Blocks.rows, specs.Drops.outside, proofs.Leaving.left_by_keys}
 use Rattle.row_handles.proofs.handles.Handles.remove_one.Goals as goal
 
 -- the rows outside a range of one key

@@ -1,7 +1,6 @@
 use Rattle.std.proofs.Common.{◌+◌, ◌<◌, ◌≤◌, ap, sym, subst, take, drop, length, arith}
 use Rattle.std.specs.List.{AllByRecursion}
-use Rattle.row_handles.specs.Blocks.{rows}
-use Rattle.row_handles.proofs.Moving.{below_next, drop_later}
+use Rattle.row_handles.{specs.Blocks.rows, proofs.Moving.{below_next, drop_later}}
 use Rattle.row_handles.proofs.index.Index.add.Goals as goal
 
 pub insert_row-requires-clause-below : goal.insert_row-requires-clause-below

@@ -1,10 +1,8 @@
 use Rattle.std.proofs.Common.{◌+◌, ◌∙◌, get_or, take, pos}
 use Rattle.std.specs.List.{AllByRecursion}
-use Rattle.key_lists.proofs.Every.{every_weaker, every_both}
-use Rattle.key_lists.proofs.Parts.{every_next}
+use Rattle.key_lists.{proofs.Every.{every_weaker, every_both}, proofs.Parts.every_next}
 use Rattle.tick_model.specs.declared.update.ShiftRange.{ShiftRange}
-use Rattle.row_handles.specs.Moves.{IsBeside, IsBesideRange}
-use Rattle.row_handles.proofs.Cutting.{beside_kept}
+use Rattle.row_handles.{specs.Moves.{IsBeside, IsBesideRange}, proofs.Cutting.beside_kept}
 use Rattle.row_handles.proofs.index.Index.cut_ranges.Goals as goal
 
 pub loop-range-preserved : goal.loop-range-preserved

@@ -1,7 +1,6 @@
 use Rattle.std.proofs.Common.{◌≡◌, take}
 use Rattle.std.specs.List.{AllByRecursion}
-use Rattle.row_handles.specs.Blocks.{IsIndex, rows}
-use Rattle.row_handles.specs.Moves.{IsBesideRange}
+use Rattle.row_handles.{specs.Blocks.{IsIndex, rows}, specs.Moves.IsBesideRange}
 use Rattle.row_handles.proofs.index.Index.cut_ranges.Given as goal
 
 abbrev pub invariant-loop-range : goal.invariant-loop-range

@@ -1,12 +1,7 @@
 use Rattle.std.proofs.Common.{◌≡◌, ◌+◌, ◌<◌, ◌≤◌, ap, sym, ◌∙◌, subst, refl, take, drop, ◌++◌, ◌∷◌, []}
 use Rattle.std.specs.List.{AllByRecursion}
 use Rattle.slab.specs.Slab.{get}
-use Rattle.row_handles.specs.declared.block.Block.{Block}
-use Rattle.row_handles.specs.declared.index.Index.{Index}
-use Rattle.row_handles.specs.Entries.{with_row}
-use Rattle.row_handles.specs.Blocks.{rows}
-use Rattle.row_handles.proofs.Places.{keeps_fresh, located, vacant_none}
-use Rattle.row_handles.proofs.Inserting.{Begins, begun_index, begun_more, more_rows, same_index}
+use Rattle.row_handles.{specs.declared.block.Block.Block, specs.declared.index.Index.Index, specs.Entries.with_row, specs.Blocks.rows, proofs.Places.{keeps_fresh, located, vacant_none}, proofs.Inserting.{Begins, begun_index, begun_more, more_rows, same_index}}
 use Rattle.row_handles.proofs.index.Index.insert_block.Goals as goal
 
 pub returns-in_err-insert-clause-sound : goal.returns-in_err-insert-clause-sound

@@ -1,14 +1,7 @@
 use Rattle.std.proofs.Common.{◌≡◌, ◌+◌, ◌<◌, ap, sym, ◌∙◌, subst, refl, suc, drop, arith, None}
-use Rattle.std.specs.Vec.{with_item}
-use Rattle.std.specs.List.{AllByRecursion}
+use Rattle.std.{specs.Vec.with_item, specs.List.AllByRecursion}
 use Rattle.slab.specs.Slab.{get}
-use Rattle.row_handles.specs.declared.block.Block.{Block}
-use Rattle.row_handles.specs.declared.index.Index.{Index}
-use Rattle.row_handles.specs.Entries.{with_row}
-use Rattle.row_handles.specs.Blocks.{rows}
-use Rattle.row_handles.proofs.Listings.{own_ascend}
-use Rattle.row_handles.proofs.Places.{keeps_fresh, located, vacant_none}
-use Rattle.row_handles.proofs.Inserting.{Inserts, inserted_index, inserted_more, more_rows, kept_rows, kept_index, on_err}
+use Rattle.row_handles.{specs.declared.block.Block.Block, specs.declared.index.Index.Index, specs.Entries.with_row, specs.Blocks.rows, proofs.Listings.own_ascend, proofs.Places.{keeps_fresh, located, vacant_none}, proofs.Inserting.{Inserts, inserted_index, inserted_more, more_rows, kept_rows, kept_index, on_err}}
 use Rattle.row_handles.proofs.index.Index.insert_row.Goals as goal
 
 pub rows_below-place-requires : goal.rows_below-place-requires

@@ -1,15 +1,8 @@
 use Rattle.std.proofs.Common.{◌≡◌, ◌+◌, ◌<◌, ap, sym, ◌∙◌, subst, refl, suc, ◌++◌, get_or, set, map, length, arith, None, Some, ℕ, false, get_or-set_other}
-use Rattle.std.specs.Prelude.{IfSome}
-use Rattle.std.specs.List.{AllByRecursion, remove}
+use Rattle.std.{specs.Prelude.IfSome, specs.List.{AllByRecursion, remove}}
 use Rattle.key_lists.proofs.Parts.{same_at}
 use Rattle.slab.specs.Slab.{ContainsKey, Updates, get}
-use Rattle.row_handles.specs.declared.block.Block.{Block}
-use Rattle.row_handles.specs.declared.index.Index.{Index}
-use Rattle.row_handles.specs.Entries.{AreDistinct}
-use Rattle.row_handles.specs.Blocks.{AreRowsUnder, place_in, rows_of}
-use Rattle.row_handles.specs.Moves.{handle_in, has_handle}
-use Rattle.row_handles.proofs.Inserting.{kept_rows, kept_index}
-use Rattle.row_handles.proofs.Joining.{Joins, moved_there, moved_distinct, joins_rows, joins_index, removed_next}
+use Rattle.row_handles.{specs.declared.block.Block.Block, specs.declared.index.Index.Index, specs.Entries.AreDistinct, specs.Blocks.{AreRowsUnder, place_in, rows_of}, specs.Moves.{handle_in, has_handle}, proofs.Inserting.{kept_rows, kept_index}, proofs.Joining.{Joins, moved_there, moved_distinct, joins_rows, joins_index, removed_next}}
 use Rattle.row_handles.proofs.index.Index.join.Goals as goal
 
 pub returns-in_err-extend_from_slice-clause-same : goal.returns-in_err-extend_from_slice-clause-same

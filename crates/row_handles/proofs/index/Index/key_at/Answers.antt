@@ -1,8 +1,7 @@
 use Rattle.std.proofs.Common.{◌-◌, ap, sym, ◌∙◌, subst, Some, IsSome, refl}
 use Rattle.std.proofs.lemmas.Option.{same_Some}
 use Rattle.slab.specs.Slab.{get}
-use Rattle.row_handles.specs.Blocks.{rows}
-use Rattle.row_handles.proofs.Places.{located, found_key}
+use Rattle.row_handles.{specs.Blocks.rows, proofs.Places.{located, found_key}}
 use Rattle.row_handles.proofs.index.Index.key_at.Goals as goal
 
 pub index-place-requires : goal.index-place-requires

@@ -1,22 +1,8 @@
 use Rattle.std.proofs.Common.{◌≡◌, ◌<◌, ◌≤◌, ap, sym, ◌∙◌, subst, refl, suc, take, drop, ◌++◌, ◌∷◌, [], append-nil, map, length, arith, vec_len, ◌==◌, false, Some, ℕ}
-use Rattle.std.specs.Prelude.{slice_range}
-use Rattle.std.specs.List.{AllByRecursion}
-use Rattle.std.specs.Vec.{with_item}
-use Rattle.std.proofs.lemmas.Bool.{eqb-false}
-use Rattle.std.proofs.lemmas.List.{take_more_set}
-use Rattle.std.proofs.Math.Seq.{map-set_same}
-use Rattle.key_lists.proofs.Every.{every-append}
-use Rattle.key_lists.proofs.Parts.{every-take, every-drop, set_around, no_items}
+use Rattle.std.{specs.Prelude.slice_range, specs.List.AllByRecursion, specs.Vec.with_item, proofs.lemmas.Bool.eqb-false, proofs.lemmas.List.take_more_set, proofs.Math.Seq.map-set_same}
+use Rattle.key_lists.{proofs.Every.every-append, proofs.Parts.{every-take, every-drop, set_around, no_items}}
 use Rattle.slab.specs.Slab.{get}
-use Rattle.row_handles.specs.declared.block.Block.{Block}
-use Rattle.row_handles.specs.declared.index.Index.{Index}
-use Rattle.row_handles.specs.Entries.{AreDistinct}
-use Rattle.row_handles.specs.Blocks.{IsBlock, entry_at, rows, rows_of, number_of}
-use Rattle.row_handles.specs.Moves.{has_handle}
-use Rattle.row_handles.specs.Drops.{AreOutside}
-use Rattle.row_handles.proofs.Listings.{own_ascend, own_block}
-use Rattle.row_handles.proofs.Cutting.{begins_first}
-use Rattle.row_handles.proofs.Leaving.{Leaves, left_index, left_rest, left_done, all_held, held_less, distinct_gone, set_removed}
+use Rattle.row_handles.{specs.declared.block.Block.Block, specs.declared.index.Index.Index, specs.Entries.AreDistinct, specs.Blocks.{IsBlock, entry_at, rows, rows_of, number_of}, specs.Moves.has_handle, specs.Drops.AreOutside, proofs.Listings.{own_ascend, own_block}, proofs.Cutting.begins_first, proofs.Leaving.{Leaves, left_index, left_rest, left_done, all_held, held_less, distinct_gone, set_removed}}
 use Rattle.row_handles.proofs.index.Index.leave_at.Goals as goal
 
 pub rows_between-leaving-requires-clause-ascend : goal.rows_between-leaving-requires-clause-ascend

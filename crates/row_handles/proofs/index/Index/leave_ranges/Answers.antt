@@ -1,9 +1,7 @@
 use Rattle.std.proofs.Common.{◌≡◌, ◌+◌, ap, sym, ◌∙◌, suc, take, get_or, arith}
 use Rattle.std.proofs.Math.Seq.{take-suc}
 use Rattle.row_set.specs.declared.ranges.Range.{Range}
-use Rattle.row_handles.specs.Blocks.{rows}
-use Rattle.row_handles.specs.Drops.{outside, left_by}
-use Rattle.row_handles.proofs.Leaving.{left_by-append}
+use Rattle.row_handles.{specs.Blocks.rows, specs.Drops.{outside, left_by}, proofs.Leaving.left_by-append}
 use Rattle.row_handles.proofs.index.Index.leave_ranges.Goals as goal
 
 pub loop-range-preserved : goal.loop-range-preserved

@@ -1,6 +1,5 @@
 use Rattle.std.proofs.Common.{◌≡◌, take}
-use Rattle.row_handles.specs.Blocks.{IsIndex, rows}
-use Rattle.row_handles.specs.Drops.{left_by}
+use Rattle.row_handles.{specs.Blocks.{IsIndex, rows}, specs.Drops.left_by}
 use Rattle.row_handles.proofs.index.Index.leave_ranges.Given as goal
 
 abbrev pub invariant-loop-range : goal.invariant-loop-range

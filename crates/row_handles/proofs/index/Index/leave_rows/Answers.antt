@@ -1,10 +1,7 @@
 use Rattle.std.proofs.Common.{◌<◌, ◌≤◌, ◌-◌, ap, sym, subst, refl, take, length, arith}
 use Rattle.std.specs.List.{AllByRecursion}
 use Rattle.key_lists.proofs.Parts.{none_left}
-use Rattle.row_handles.specs.Blocks.{rows}
-use Rattle.row_handles.specs.Drops.{AreOutside}
-use Rattle.row_handles.proofs.Moving.{below_next}
-use Rattle.row_handles.proofs.Leaving.{begin_later, left_all, below_outside}
+use Rattle.row_handles.{specs.Blocks.rows, specs.Drops.AreOutside, proofs.Moving.below_next, proofs.Leaving.{begin_later, left_all, below_outside}}
 use Rattle.row_handles.proofs.index.Index.leave_rows.Goals as goal
 
 pub loop-index-init : goal.loop-index-init

@@ -1,6 +1,5 @@
 use Rattle.std.proofs.Common.{◌≡◌, ◌-◌, ◌≤◌, length, take}
-use Rattle.row_handles.specs.Blocks.{IsIndex, rows}
-use Rattle.row_handles.specs.Drops.{outside, AreOutside}
+use Rattle.row_handles.{specs.Blocks.{IsIndex, rows}, specs.Drops.{outside, AreOutside}}
 use Rattle.row_handles.proofs.index.Index.leave_rows.Given as goal
 
 abbrev pub invariant-loop-index : goal.invariant-loop-index

@@ -1,15 +1,9 @@
 use Rattle.std.proofs.Common.{◌≡◌, ◌≢◌, ◌+◌, ◌-◌, ◌<◌, ◌≤◌, ap, sym, ◌∙◌, subst, refl, suc, take, drop, set, ◌++◌, get_or, map, length, arith, pos, Some}
-use Rattle.std.specs.List.{AllByRecursion}
-use Rattle.std.proofs.lemmas.Bool.{eqb-false}
+use Rattle.std.{specs.List.AllByRecursion, proofs.lemmas.Bool.eqb-false}
 use Rattle.key_lists.proofs.Parts.{some_at, no_items}
-use Rattle.tick_model.specs.declared.update.ShiftRange.{ShiftRange}
-use Rattle.tick_model.specs.Printable.{IsShift}
+use Rattle.tick_model.{specs.declared.update.ShiftRange.ShiftRange, specs.Printable.IsShift}
 use Rattle.slab.specs.Slab.{get}
-use Rattle.row_handles.specs.Entries.{AreDistinct}
-use Rattle.row_handles.specs.Blocks.{number_of}
-use Rattle.row_handles.specs.Moves.{moved_block}
-use Rattle.row_handles.proofs.Leaving.{all_held}
-use Rattle.row_handles.proofs.Moving.{moves_begin, moves_end, moves_none, moved_more, length_partly, partly_numbers, held_more}
+use Rattle.row_handles.{specs.Entries.AreDistinct, specs.Blocks.number_of, specs.Moves.moved_block, proofs.Leaving.all_held, proofs.Moving.{moves_begin, moves_end, moves_none, moved_more, length_partly, partly_numbers, held_more}}
 use Rattle.row_handles.proofs.index.Index.move_blocks.Goals as goal
 
 pub returns-then-is_empty-clause-blocks : goal.returns-then-is_empty-clause-blocks

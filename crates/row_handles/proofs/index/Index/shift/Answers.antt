@@ -1,11 +1,7 @@
 use Rattle.std.proofs.Common.{◌≡◌, ◌^◌, ap, sym, ◌∙◌, subst, false}
 use Rattle.std.specs.List.{AllByRecursion}
-use Rattle.tick_model.specs.Shifts.{moved}
-use Rattle.tick_model.specs.Rules.{is_past, shift_fault}
-use Rattle.row_handles.specs.Entries.{moved_rows, keys_of}
-use Rattle.row_handles.specs.Blocks.{rows}
-use Rattle.row_handles.specs.Moves.{IsBesideRange}
-use Rattle.row_handles.proofs.Moving.{each_movable, inside_rows, rows-moved, moved_index}
+use Rattle.tick_model.{specs.Shifts.moved, specs.Rules.{is_past, shift_fault}}
+use Rattle.row_handles.{specs.Entries.{moved_rows, keys_of}, specs.Blocks.rows, specs.Moves.IsBesideRange, proofs.Moving.{each_movable, inside_rows, rows-moved, moved_index}}
 use Rattle.row_handles.proofs.index.Index.shift.Goals as goal
 
 pub move_blocks-moved-requires-clause-movable : goal.move_blocks-moved-requires-clause-movable

@@ -2,12 +2,7 @@ use Rattle.std.proofs.Common.{◌≡◌, ◌+◌, ◌-◌, ◌<◌, ◌≤◌, a
 use Rattle.std.specs.Vec.{with_item}
 use Rattle.key_lists.proofs.Parts.{same_at, split_list}
 use Rattle.slab.specs.Slab.{get}
-use Rattle.row_handles.specs.declared.block.Block.{Block}
-use Rattle.row_handles.specs.declared.index.Index.{Index}
-use Rattle.row_handles.specs.Moves.{AreRenamed, IsSplit}
-use Rattle.row_handles.proofs.Lists.{held_before}
-use Rattle.row_handles.proofs.Places.{keeps_fresh}
-use Rattle.row_handles.proofs.Cutting.{Splits, begins_first, split_made, split_rows, split_index}
+use Rattle.row_handles.{specs.declared.block.Block.Block, specs.declared.index.Index.Index, specs.Moves.{AreRenamed, IsSplit}, proofs.Lists.held_before, proofs.Places.keeps_fresh, proofs.Cutting.{Splits, begins_first, split_made, split_rows, split_index}}
 use Rattle.row_handles.proofs.index.Index.split.Goals as goal
 
 abbrev left : goal.After-insert_reserved → Block

@@ -1,10 +1,7 @@
 use Rattle.std.proofs.Common.{arith, get_or, subst, sym, List}
-use Rattle.tick_model.specs.declared.plan.Expr.{Expr}
-use Rattle.tick_model.specs.declared.plan.Op.{Op}
+use Rattle.tick_model.{specs.declared.plan.Expr.Expr, specs.declared.plan.Op.Op}
 use Rattle.table_operator.specs.Made.{IsMadeOf}
-use Rattle.row_ops.specs.Copies.{AreCopies}
-use Rattle.row_ops.specs.Made.{CanView, view_made}
-use Rattle.row_ops.proofs.Planned.{copies_within, length_copies, view_is}
+use Rattle.row_ops.{specs.Copies.AreCopies, specs.Made.{CanView, view_made}, proofs.Planned.{copies_within, length_copies, view_is}}
 use Rattle.row_ops.proofs.in_plan.ViewOpTableOperator.of.Goals as goal
 
 pub new-requires-clause-few : goal.new-requires-clause-few

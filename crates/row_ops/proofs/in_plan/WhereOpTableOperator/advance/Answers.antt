@@ -1,10 +1,7 @@
 use Rattle.std.proofs.Common.{◌≡◌, ◌+◌, ◌*◌, ◌≤◌, subst, sym, List}
 use Rattle.tick_model.specs.Changes.{Change, change_of}
-use Rattle.tick_table.specs.Exact.{counted}
-use Rattle.tick_table.specs.Ticking.{Ticking}
-use Rattle.table_operator.specs.Inputs.{tables}
-use Rattle.table_operator.specs.Made.{own_tick}
-use Rattle.table_operator.proofs.Rooms.{one_room}
+use Rattle.tick_table.{specs.Exact.counted, specs.Ticking.Ticking}
+use Rattle.table_operator.{specs.Inputs.tables, specs.Made.own_tick, proofs.Rooms.one_room}
 use Rattle.row_ops.specs.Made.{filter_made}
 use Rattle.row_ops.proofs.in_plan.WhereOpTableOperator.advance.Goals as goal
 

@@ -1,10 +1,7 @@
 use Rattle.std.proofs.Common.{get_or, subst, sym}
-use Rattle.tick_model.specs.declared.plan.Op.{Op}
-use Rattle.tick_model.specs.declared.plan.Pred.{Pred}
+use Rattle.tick_model.{specs.declared.plan.Op.Op, specs.declared.plan.Pred.Pred}
 use Rattle.table_operator.specs.Made.{IsMadeOf}
-use Rattle.row_ops.specs.Copies.{IsTestCopy}
-use Rattle.row_ops.specs.Made.{CanFilter, filter_made}
-use Rattle.row_ops.proofs.Planned.{filter_is}
+use Rattle.row_ops.{specs.Copies.IsTestCopy, specs.Made.{CanFilter, filter_made}, proofs.Planned.filter_is}
 use Rattle.row_ops.proofs.in_plan.WhereOpTableOperator.of.Goals as goal
 
 pub new-requires : goal.new-requires

@@ -2,11 +2,8 @@ use Rattle.std.proofs.Common.{◌≡◌, refl, ap, sym, ◌∙◌, subst, rules,
 use Rattle.std.specs.List.{AllByRecursion}
 use Rattle.key_lists.specs.Keys.{is_among}
 use Rattle.row_set.proofs.Yielded.{next_has, yielded_all, yielded_next}
-use Rattle.tick_model.specs.Formulas.{IsWithin}
-use Rattle.tick_model.specs.Tables.{cells_at, keys}
-use Rattle.tick_model.specs.View.{view_table}
-use Rattle.row_changes.specs.Parts.{cells_under}
-use Rattle.row_changes.proofs.Comparing.{behind, cells_more, reads_next, reads_within}
+use Rattle.tick_model.{specs.Formulas.IsWithin, specs.Tables.{cells_at, keys}, specs.View.view_table}
+use Rattle.row_changes.{specs.Parts.cells_under, proofs.Comparing.{behind, cells_more, reads_next, reads_within}}
 use Rattle.row_ops.proofs.Viewed.{keys-view, row_viewed}
 use Rattle.row_ops.proofs.view_op.ViewRowsRows.all_now.Goals as goal
 

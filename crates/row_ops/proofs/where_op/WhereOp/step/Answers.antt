@@ -1,13 +1,8 @@
 use Rattle.std.proofs.Common.{◌≡◌, refl, ap, sym, ◌∙◌, subst, arith, length, ℕ, ◌+◌, ◌*◌, ◌≤◌, List}
 use Rattle.row_changes.proofs.Comparing.{on_err}
-use Rattle.row_ops.specs.Filter.{Filter, filtered}
-use Rattle.tick_model.specs.Changes.{Change, change_of}
-use Rattle.tick_model.specs.Formulas.{IsTestWithin, truth}
-use Rattle.tick_model.specs.Tables.{keys}
-use Rattle.tick_model.specs.Where.{where_table}
+use Rattle.row_ops.{specs.Filter.{Filter, filtered}, proofs.Crossed.{new_part, old_part}, proofs.Walked.where_reads}
+use Rattle.tick_model.{specs.Changes.{Change, change_of}, specs.Formulas.{IsTestWithin, truth}, specs.Tables.keys, specs.Where.where_table}
 use Rattle.tick_table.specs.Exact.{counted, tick_of}
-use Rattle.row_ops.proofs.Crossed.{new_part, old_part}
-use Rattle.row_ops.proofs.Walked.{where_reads}
 use Rattle.row_ops.proofs.where_op.WhereOp.step.Goals as goal
 
 pub crossing_rows-requires-clause-within : goal.crossing_rows-requires-clause-within

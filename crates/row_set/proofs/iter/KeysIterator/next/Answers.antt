@@ -1,11 +1,6 @@
 use Rattle.std.proofs.Common.{◌≡◌, sym, ap, ◌∙◌, subst, ◌+◌, ◌-◌, ◌++◌, ◌∷◌, ℕ, List, Some, arith, length}
-use Rattle.std.specs.Iterator.{MakesProgress, item_count}
-use Rattle.std.specs.List.{range_with_len}
-use Rattle.std.proofs.lemmas.List.{nil_from_length}
-use Rattle.row_set.specs.declared.ranges.Range.{Range}
-use Rattle.row_set.specs.Ranges.{AreApart, keys_of}
-use Rattle.row_set.proofs.Apart.{apart_weaker}
-use Rattle.row_set.proofs.Coming.{next_in_range, next_range, none_in_range}
+use Rattle.std.{specs.Iterator.{MakesProgress, item_count}, specs.List.range_with_len, proofs.lemmas.List.nil_from_length}
+use Rattle.row_set.{specs.declared.ranges.Range.Range, specs.Ranges.{AreApart, keys_of}, proofs.Apart.apart_weaker, proofs.Coming.{next_in_range, next_range, none_in_range}}
 use Rattle.row_set.proofs.iter.KeysIterator.next.Goals as goal
 
 goes_on : (before after : List ℕ) (key : ℕ) → before ≡ key ∷ after → MakesProgress (λ _. Unit {0}) (item_count (λ keys. keys)) before (Some key) after

@@ -1,9 +1,6 @@
 use Rattle.std.proofs.Common.{◌≡◌, ℕ, ◌+◌, ◌-◌, ◌^◌, min, List, [], length, take, drop, IfOk, sym, ap, ◌∙◌, subst, arith}
-use Rattle.row_set.specs.Ranges.{keys_from}
-use Rattle.row_set.specs.Sets.{common, united}
-use Rattle.row_set.proofs.Windows.{window_at, window_none, low_to_high, get_small}
+use Rattle.row_set.{specs.Ranges.keys_from, specs.Sets.{common, united}, proofs.Windows.{window_at, window_none, low_to_high, get_small}, proofs.rows.RowSet.by_positions.Goals.{then-first-end+in_ok-insert_range, else-first-end}}
 use Rattle.row_set.proofs.rows.RowSet.by_positions.Goals as goal
-use Rattle.row_set.proofs.rows.RowSet.by_positions.Goals.{then-first-end+in_ok-insert_range, else-first-end}
 
 pub insert_range-requires-clause-order : goal.insert_range-requires-clause-order
 insert_range-requires-clause-order c =

@@ -1,10 +1,6 @@
 use Rattle.std.proofs.Common.{◌≡◌, ◌<◌, ◌≤◌, ◌^◌, ◌-◌, cond, sym, ap, ◌∙◌, arith}
-use Rattle.row_set.specs.Ranges.{keys_from}
-use Rattle.row_set.specs.Sets.{united}
-use Rattle.row_set.specs.Choice.{takes}
-use Rattle.row_set.proofs.Merged.{merged_more, merged_all}
+use Rattle.row_set.{specs.Ranges.keys_from, specs.Sets.united, specs.Choice.takes, proofs.Merged.{merged_more, merged_all}, proofs.rows.RowSet.combined.Goals.{then-takes+in_ok-insert_range, else-takes}}
 use Rattle.row_set.proofs.rows.RowSet.combined.Goals as goal
-use Rattle.row_set.proofs.rows.RowSet.combined.Goals.{then-takes+in_ok-insert_range, else-takes}
 
 pub loop-at-preserved : goal.loop-at-preserved
 loop-at-preserved c =

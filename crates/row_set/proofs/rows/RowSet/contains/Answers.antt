@@ -1,8 +1,6 @@
 use Rattle.std.proofs.Common.{◌∙◌, ap, sym, is_some}
 use Rattle.key_lists.specs.Keys.{is_among}
-use Rattle.row_set.specs.Ranges.{ranges_of}
-use Rattle.row_set.proofs.Longest.{keys_of-ranges_of}
-use Rattle.row_set.proofs.Lookups.{among_found}
+use Rattle.row_set.{specs.Ranges.ranges_of, proofs.Longest.keys_of-ranges_of, proofs.Lookups.among_found}
 use Rattle.row_set.proofs.rows.RowSet.contains.Goals as goal
 
 pub returns-clause-member : goal.returns-clause-member

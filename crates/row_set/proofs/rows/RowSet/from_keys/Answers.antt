@@ -1,16 +1,7 @@
 use Rattle.std.proofs.Common.{◌≡◌, refl, ap, ap₂, sym, ◌∙◌, subst, ◌+◌, ◌^◌, ◌<◌, ◌≤◌, ◌==◌, ◌∷◌, arith, get_or, length, List, suc, ℕ, take_all, true}
-use Rattle.std.specs.List.{AllByRecursion}
-use Rattle.std.specs.List.Sorted.{IsPermutation}
-use Rattle.std.proofs.lemmas.List.Elements.{recursion_from_All}
-use Rattle.std.proofs.lemmas.List.Sorted.{All-permutation, IsNonDecreasingBy-from_sort, length_permutation, list_any-IsPermutation}
-use Rattle.key_lists.specs.Keys.{IsRising, is_among}
-use Rattle.key_lists.proofs.Among.{each_among, of_among}
-use Rattle.key_lists.proofs.Every.{all_from, every_weaker}
-use Rattle.row_set.specs.Ranges.{keys_from}
-use Rattle.row_set.specs.Sets.{united}
-use Rattle.row_set.proofs.Adjacent.{no_more_than, run_begun, run_on}
-use Rattle.row_set.proofs.United.{united_rises}
-use Rattle.row_set.proofs.rows.RowSet.from_keys.Goals.{then-key-last+in_ok-insert_range, else-key-last}
+use Rattle.std.{specs.List.AllByRecursion, specs.List.Sorted.IsPermutation, proofs.lemmas.List.Elements.recursion_from_All, proofs.lemmas.List.Sorted.{All-permutation, IsNonDecreasingBy-from_sort, length_permutation, list_any-IsPermutation}}
+use Rattle.key_lists.{specs.Keys.{IsRising, is_among}, proofs.Among.{each_among, of_among}, proofs.Every.{all_from, every_weaker}}
+use Rattle.row_set.{specs.Ranges.keys_from, specs.Sets.united, proofs.Adjacent.{no_more_than, run_begun, run_on}, proofs.United.united_rises, proofs.rows.RowSet.from_keys.Goals.{then-key-last+in_ok-insert_range, else-key-last}}
 use Rattle.row_set.proofs.rows.RowSet.from_keys.Goals as goal
 
 abbrev small : ℕ → Type 0

@@ -1,7 +1,6 @@
 use Rattle.std.proofs.Common.{◌≡◌, ◌+◌, ◌≤◌, ◌∷◌, ℕ, get_or, length, take}
 use Rattle.key_lists.specs.Keys.{IsRising, is_among}
-use Rattle.row_set.specs.Ranges.{keys_from}
-use Rattle.row_set.specs.Sets.{united}
+use Rattle.row_set.{specs.Ranges.keys_from, specs.Sets.united}
 use Rattle.row_set.proofs.rows.RowSet.from_keys.Given as goal
 
 abbrev pub invariant-loop-key : goal.invariant-loop-key

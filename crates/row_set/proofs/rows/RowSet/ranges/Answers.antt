@@ -1,8 +1,5 @@
 use Rattle.std.proofs.Common.{◌∙◌, ap, sym}
-use Rattle.row_set.specs.Ranges.{keys_of, ranges_of}
-use Rattle.row_set.specs.Runs.{lying}
-use Rattle.row_set.proofs.Apart.{stored_set}
-use Rattle.row_set.proofs.Longest.{ranges_of-keys_of}
+use Rattle.row_set.{specs.Ranges.{keys_of, ranges_of}, specs.Runs.lying, proofs.Apart.stored_set, proofs.Longest.ranges_of-keys_of}
 use Rattle.row_set.proofs.rows.RowSet.ranges.Goals as goal
 
 pub returns-clause-keys : goal.returns-clause-keys

@@ -1,8 +1,6 @@
 use Rattle.std.proofs.Common.{◌≡◌, ap, sym, ◌∙◌, subst, ℤ, to_z, of_z, to_z-of_z, w64}
 use Rattle.std.specs.List.{AllByRecursion}
-use Rattle.row_set.specs.Moves.{IsKey, moved_key}
-use Rattle.row_set.specs.Ranges.{keys_of}
-use Rattle.row_set.specs.Runs.{lying}
+use Rattle.row_set.{specs.Moves.{IsKey, moved_key}, specs.Ranges.keys_of, specs.Runs.lying}
 use Rattle.row_set.proofs.rows.RowSet.shift_range.Goals as goal
 
 pub shift_keys-requires-clause-in_bounds : goal.shift_keys-requires-clause-in_bounds

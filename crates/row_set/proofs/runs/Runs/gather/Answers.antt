@@ -1,7 +1,5 @@
 use Rattle.std.proofs.Common.{sym, ◌∙◌, subst}
-use Rattle.row_set.specs.Ranges.{AreRanges}
-use Rattle.row_set.specs.Runs.{lying}
-use Rattle.row_set.proofs.Counts.{apart_ranges}
+use Rattle.row_set.{specs.Ranges.AreRanges, specs.Runs.lying, proofs.Counts.apart_ranges}
 use Rattle.row_set.proofs.runs.Runs.gather.Goals as goal
 
 pub recount-requires-clause-ranges : goal.recount-requires-clause-ranges

@@ -1,10 +1,6 @@
 use Rattle.std.proofs.Common.{◌≡◌, ◌-◌, ◌*◌, ◌≤◌, sym, ap, ap₂, ◌∙◌, subst, drop, length, slice_get, arith}
-use Rattle.std.specs.List.Sorted.{IsNonDecreasing}
-use Rattle.std.proofs.lemmas.List.{take_rest}
-use Rattle.row_set.specs.Ranges.{AreApart, keys_before, keys_of}
-use Rattle.row_set.specs.Runs.{lying, start_of}
-use Rattle.row_set.proofs.Apart.{apart-drop}
-use Rattle.row_set.proofs.Lookups.{key_behind, started_at, starts_rise}
+use Rattle.std.{specs.List.Sorted.IsNonDecreasing, proofs.lemmas.List.take_rest}
+use Rattle.row_set.{specs.Ranges.{AreApart, keys_before, keys_of}, specs.Runs.{lying, start_of}, proofs.Apart.apart-drop, proofs.Lookups.{key_behind, started_at, starts_rise}}
 use Rattle.row_set.proofs.runs.Runs.key_at.Goals as goal
 
 pub started_by-block-requires : goal.started_by-block-requires

@@ -1,9 +1,6 @@
 use Rattle.std.proofs.Common.{◌≡◌, ◌+◌, ◌-◌, ◌*◌, ◌≤◌, ap, sym, ◌∙◌, subst, length, slice_range, arith}
-use Rattle.row_set.specs.Ranges.{AreRanges, keys_before, keys_of}
-use Rattle.row_set.specs.Runs.{lying, start_of}
-use Rattle.row_set.proofs.Counts.{apart_ranges, few_before, keys_before_to, ranges-slice}
+use Rattle.row_set.{specs.Ranges.{AreRanges, keys_before, keys_of}, specs.Runs.{lying, start_of}, proofs.Counts.{apart_ranges, few_before, keys_before_to, ranges-slice}, proofs.runs.Runs.keys_before.Goals.After-count_in}
 use Rattle.row_set.proofs.runs.Runs.keys_before.Goals as goal
-use Rattle.row_set.proofs.runs.Runs.keys_before.Goals.{After-count_in}
 
 pub count_in-requires : goal.count_in-requires
 count_in-requires c =

@@ -1,6 +1,5 @@
 use Rattle.std.proofs.Common.{◌∙◌, ap, length, arith}
-use Rattle.row_set.specs.Runs.{lying}
-use Rattle.row_set.proofs.Counts.{keys_before_all}
+use Rattle.row_set.{specs.Runs.lying, proofs.Counts.keys_before_all}
 use Rattle.row_set.proofs.runs.Runs.len.Goals as goal
 
 pub returns : goal.returns

@@ -1,11 +1,6 @@
 use Rattle.std.proofs.Common.{◌≤◌, ap, sym, ◌∙◌, subst, take, arith}
-use Rattle.row_set.specs.Ranges.{AreApart, keys_before, keys_of}
-use Rattle.row_set.specs.Sets.{found}
-use Rattle.row_set.proofs.Apart.{apart-take}
-use Rattle.row_set.proofs.Counts.{few_keys}
-use Rattle.row_set.proofs.Lookups.{apart_at, every_at, found_in, found_between, found_past}
+use Rattle.row_set.{specs.Ranges.{AreApart, keys_before, keys_of}, specs.Sets.found, proofs.Apart.apart-take, proofs.Counts.few_keys, proofs.Lookups.{apart_at, every_at, found_in, found_between, found_past}, proofs.runs.Runs.position_of.Goals.{else-index-ranges-via-then-index-ranges+else-ranges-index, else-index-ranges-via-else-index-ranges}}
 use Rattle.row_set.proofs.runs.Runs.position_of.Goals as goal
-use Rattle.row_set.proofs.runs.Runs.position_of.Goals.{else-index-ranges-via-then-index-ranges+else-ranges-index, else-index-ranges-via-else-index-ranges}
 
 pub overflow_add-result : goal.overflow_add-result
 overflow_add-result c =

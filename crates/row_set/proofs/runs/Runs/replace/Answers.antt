@@ -1,13 +1,6 @@
 use Rattle.std.proofs.Common.{◌≡◌, ℕ, ◌+◌, ◌-◌, ◌≤◌, List, ◌++◌, ap, sym, ◌∙◌, subst, drop, length, length-take-le, slice_range, take, take_at, arith}
-use Rattle.std.specs.Vec.{with_items}
-use Rattle.std.proofs.lemmas.List.{drop-drop, with_items_is}
-use Rattle.row_set.specs.declared.ranges.Range.{Range}
-use Rattle.row_set.specs.declared.runs.Runs.{Runs}
-use Rattle.row_set.specs.Ranges.{AreRanges, keys_of}
-use Rattle.row_set.specs.Runs.{IsCounted, lying, start_of}
-use Rattle.row_set.proofs.Counts.{ranges_back, ranges_front, ranges-slice}
-use Rattle.row_set.proofs.Lying.{kept_before, length-lying, lying_spliced, put_lies, starts_behind}
-use Rattle.row_set.proofs.Starts.{part_of}
+use Rattle.std.{specs.Vec.with_items, proofs.lemmas.List.{drop-drop, with_items_is}}
+use Rattle.row_set.{specs.declared.ranges.Range.Range, specs.declared.runs.Runs.Runs, specs.Ranges.{AreRanges, keys_of}, specs.Runs.{IsCounted, lying, start_of}, proofs.Counts.{ranges_back, ranges_front, ranges-slice}, proofs.Lying.{kept_before, length-lying, lying_spliced, put_lies, starts_behind}, proofs.Starts.part_of}
 use Rattle.row_set.proofs.runs.Runs.replace.Goals as goal
 
 -- the ranges that go

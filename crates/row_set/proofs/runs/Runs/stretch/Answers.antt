@@ -1,9 +1,5 @@
 use Rattle.std.proofs.Common.{◌≡◌, ◌-◌, ◌<◌, ap, arith, length}
-use Rattle.row_set.specs.declared.ranges.Range.{Range}
-use Rattle.row_set.specs.Runs.{lying}
-use Rattle.row_set.proofs.Counts.{blank}
-use Rattle.row_set.proofs.Lying.{last_lies, length-lying, stretched_at}
-use Rattle.row_set.proofs.Places.{range_at}
+use Rattle.row_set.{specs.declared.ranges.Range.Range, specs.Runs.lying, proofs.Counts.blank, proofs.Lying.{last_lies, length-lying, stretched_at}, proofs.Places.range_at}
 use Rattle.row_set.proofs.runs.Runs.stretch.Goals as goal
 
 pub overflow_add-index : goal.overflow_add-index

@@ -1,10 +1,7 @@
 use Rattle.std.proofs.Common.{[], ◌∙◌, ap, subst, sym}
 use Rattle.std.proofs.lemmas.Result.{err_from_is_err_and}
 use Rattle.script_lines.specs.Answers.{◌>>=◌, Fails, Gives}
-use Rattle.script_reader.specs.Checks.{Draft, drafted, placed}
-use Rattle.script_reader.specs.SoFar.{so_far}
-use Rattle.script_reader.proofs.Each.{fails_on}
-use Rattle.script_reader.proofs.Saying.{before_plain}
+use Rattle.script_reader.{specs.Checks.{Draft, drafted, placed}, specs.SoFar.so_far, proofs.Each.fails_on, proofs.Saying.before_plain}
 use Rattle.script_reader.proofs.known.Known.node.Goals as goal
 
 pub returns-in_err-draft : goal.returns-in_err-draft

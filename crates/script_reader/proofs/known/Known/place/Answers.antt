@@ -1,11 +1,7 @@
 use Rattle.std.proofs.Common.{◌++◌, [], ◌∙◌, ap, Ok, List, map}
-use Rattle.std.proofs.lemmas.List.{append-nil}
-use Rattle.std.proofs.lemmas.Result.{err_from_is_err_and}
+use Rattle.std.{proofs.lemmas.List.append-nil, proofs.lemmas.Result.err_from_is_err_and}
 use Rattle.tick_model.specs.declared.plan.Node.{Node}
-use Rattle.script_reader.specs.declared.script.Script.{Script}
-use Rattle.script_reader.specs.declared.script.SourceFile.{SourceFile}
-use Rattle.script_reader.specs.Plain.{plain_node}
-use Rattle.script_reader.proofs.Placing.{placing_fails, placing_gives}
+use Rattle.script_reader.{specs.declared.script.Script.Script, specs.declared.script.SourceFile.SourceFile, specs.Plain.plain_node, proofs.Placing.{placing_fails, placing_gives}}
 use Rattle.script_reader.proofs.known.Known.place.Goals as goal
 
 pub returns-in_err-nodes : goal.returns-in_err-nodes

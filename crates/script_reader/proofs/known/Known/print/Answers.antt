@@ -1,10 +1,7 @@
 use Rattle.std.proofs.Common.{◌≡◌, ◌∙◌, ap, sym, true, false, ℕ, List, Ok, Err, refl}
 use Rattle.std.proofs.lemmas.Result.{err_from_is_err_and}
 use Rattle.script_lines.specs.declared.fault.ScriptKind.TheVariants.{TakenName}
-use Rattle.script_reader.specs.declared.script.Script.{Script}
-use Rattle.script_reader.specs.Checks.{printed, is_among, in_order}
-use Rattle.script_reader.specs.SoFar.{so_far}
-use Rattle.script_reader.proofs.Saying.{named_plain, unnamed_plain}
+use Rattle.script_reader.{specs.declared.script.Script.Script, specs.Checks.{printed, is_among, in_order}, specs.SoFar.so_far, proofs.Saying.{named_plain, unnamed_plain}}
 use Rattle.script_reader.proofs.known.Known.print.Goals as goal
 
 pub returns-in_err-node : goal.returns-in_err-node

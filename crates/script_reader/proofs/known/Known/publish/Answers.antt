@@ -1,13 +1,7 @@
 use Rattle.std.proofs.Common.{◌≡◌, ◌++◌, ◌∷◌, [], ◌∙◌, ◌<◌, ◌≤◌, ap, sym, true, false, ℕ, List, Ok, map, length, not, refl, arith, to_z-of_z, w64}
-use Rattle.std.specs.Prelude.{unwrap_or}
-use Rattle.std.proofs.lemmas.Result.{err_from_is_err_and}
-use Rattle.tick_model.specs.declared.plan.Published.{Published}
-use Rattle.tick_model.specs.Plans.{published_words}
-use Rattle.script_reader.specs.declared.script.Script.{Script}
-use Rattle.script_reader.specs.Checks.{published, is_among, is_no_limit, rows_of, publication_of, table_at, tables_of}
-use Rattle.script_reader.specs.SoFar.{so_far}
-use Rattle.script_reader.proofs.Plainly.{tables_plain}
-use Rattle.script_reader.proofs.Saying.{named_plain, unnamed_plain, no_rows, too_wide, one_more_published}
+use Rattle.std.{specs.Prelude.unwrap_or, proofs.lemmas.Result.err_from_is_err_and}
+use Rattle.tick_model.{specs.declared.plan.Published.Published, specs.Plans.published_words}
+use Rattle.script_reader.{specs.declared.script.Script.Script, specs.Checks.{published, is_among, is_no_limit, rows_of, publication_of, table_at, tables_of}, specs.SoFar.so_far, proofs.Plainly.tables_plain, proofs.Saying.{named_plain, unnamed_plain, no_rows, too_wide, one_more_published}}
 use Rattle.script_reader.proofs.known.Known.publish.Goals as goal
 
 pub returns-in_err-node : goal.returns-in_err-node

@@ -1,15 +1,8 @@
 use Rattle.std.proofs.Common.{◌≡◌, ◌++◌, ◌∷◌, [], ◌∙◌, ap, subst, sym, List, ℕ, true, Result, Option, length}
 use Rattle.std.proofs.lemmas.List.{length-map}
-use Rattle.tick_model.specs.declared.plan.ColumnSpec.{ColumnSpec}
-use Rattle.tick_model.specs.declared.plan.Op.TheVariants.{Source}
-use Rattle.script_lines.specs.declared.fault.ScriptKind.{ScriptKind}
-use Rattle.script_lines.specs.Answers.{Gives}
-use Rattle.script_reader.specs.declared.script.Script.{Script}
-use Rattle.script_reader.specs.declared.script.SourceFile.{SourceFile}
-use Rattle.script_reader.specs.Checks.{placed, draft_of, source_draft}
-use Rattle.script_reader.specs.Plain.{plain_node}
-use Rattle.script_reader.specs.SoFar.{so_far}
-use Rattle.script_reader.proofs.Saying.{placed_with_file}
+use Rattle.tick_model.{specs.declared.plan.ColumnSpec.ColumnSpec, specs.declared.plan.Op.TheVariants.Source}
+use Rattle.script_lines.{specs.declared.fault.ScriptKind.ScriptKind, specs.Answers.Gives}
+use Rattle.script_reader.{specs.declared.script.Script.Script, specs.declared.script.SourceFile.SourceFile, specs.Checks.{placed, draft_of, source_draft}, specs.Plain.plain_node, specs.SoFar.so_far, proofs.Saying.placed_with_file}
 use Rattle.script_reader.proofs.known.Known.source.Goals as goal
 
 pub returns : goal.returns

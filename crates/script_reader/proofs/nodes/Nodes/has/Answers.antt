@@ -1,7 +1,5 @@
 use Rattle.std.proofs.Common.{◌∙◌, ap, is_some}
-use Rattle.std.specs.Prelude.{position}
-use Rattle.std.specs.List.{list_any}
-use Rattle.std.specs.Str.{bytes_eq}
+use Rattle.std.{specs.Prelude.position, specs.List.list_any, specs.Str.bytes_eq}
 use Rattle.script_reader.proofs.Places.{is_some-position}
 use Rattle.script_reader.proofs.nodes.Nodes.has.Goals as goal
 

@@ -1,8 +1,6 @@
 use Rattle.std.proofs.Common.{◌∙◌, ap, subst, ℕ, Option}
-use Rattle.std.specs.Prelude.{position}
-use Rattle.std.specs.Str.{bytes_eq}
-use Rattle.script_lines.specs.declared.fault.ScriptKind.TheVariants.{UnknownName}
-use Rattle.script_lines.specs.Answers.{Gives}
+use Rattle.std.{specs.Prelude.position, specs.Str.bytes_eq}
+use Rattle.script_lines.{specs.declared.fault.ScriptKind.TheVariants.UnknownName, specs.Answers.Gives}
 use Rattle.script_reader.specs.Checks.{node_named, or_refused}
 use Rattle.script_reader.proofs.nodes.Nodes.named.Goals as goal
 

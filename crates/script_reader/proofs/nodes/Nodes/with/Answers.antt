@@ -1,12 +1,7 @@
 use Rattle.std.proofs.Common.{◌≡◌, ◌∙◌, ap, sym, ◌^◌, ◌<◌, List, ℕ, ◌++◌, ◌∷◌, []}
-use Rattle.std.specs.Prelude.{slice_index}
-use Rattle.std.specs.List.{All}
-use Rattle.std.proofs.lemmas.List.Elements.{All-push}
-use Rattle.tick_model.specs.declared.plan.Node.{Node}
-use Rattle.tick_model.specs.Plans.{key_bounds}
-use Rattle.tick_model.specs.Operators.{bound_of}
-use Rattle.script_reader.specs.Checks.{names_of, with_text}
-use Rattle.script_reader.proofs.Placing.{room_for, named_more, bounded_more}
+use Rattle.std.{specs.Prelude.slice_index, specs.List.All, proofs.lemmas.List.Elements.All-push}
+use Rattle.tick_model.{specs.declared.plan.Node.Node, specs.Plans.key_bounds, specs.Operators.bound_of}
+use Rattle.script_reader.{specs.Checks.{names_of, with_text}, proofs.Placing.{room_for, named_more, bounded_more}}
 use Rattle.script_reader.proofs.nodes.Nodes.with.Goals as goal
 
 pub invariant_of-result : goal.invariant_of-result

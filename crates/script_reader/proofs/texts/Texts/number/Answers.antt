@@ -1,7 +1,6 @@
 use Rattle.std.proofs.Common.{◌∙◌, sym, ap, map}
 use Rattle.std.specs.String.{string_bytes}
-use Rattle.script_reader.specs.Checks.{place_of, with_text}
-use Rattle.script_reader.proofs.Places.{numbered_there, numbered_last}
+use Rattle.script_reader.{specs.Checks.{place_of, with_text}, proofs.Places.{numbered_there, numbered_last}}
 use Rattle.script_reader.proofs.texts.Texts.number.Goals as goal
 
 pub returns-in-Some-clause-place : goal.returns-in-Some-clause-place

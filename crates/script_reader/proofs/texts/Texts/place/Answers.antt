@@ -1,7 +1,5 @@
 use Rattle.std.proofs.Common.{◌∙◌, sym, ap}
-use Rattle.std.specs.Prelude.{position}
-use Rattle.std.specs.Str.{bytes_eq}
-use Rattle.std.specs.String.{string_bytes}
+use Rattle.std.{specs.Prelude.position, specs.Str.bytes_eq, specs.String.string_bytes}
 use Rattle.script_reader.proofs.Places.{position-map}
 use Rattle.script_reader.proofs.texts.Texts.place.Goals as goal
 

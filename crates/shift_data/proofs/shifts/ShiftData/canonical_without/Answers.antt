@@ -1,6 +1,5 @@
 use Rattle.std.proofs.Common.{ap, sym, ◌∙◌, ◌==◌}
-use Rattle.key_lists.specs.Keys.{without}
-use Rattle.key_lists.proofs.Parts.{no_items}
+use Rattle.key_lists.{specs.Keys.without, proofs.Parts.no_items}
 use Rattle.shift_data.proofs.Parting.{canonical_still}
 use Rattle.shift_data.proofs.shifts.ShiftData.canonical_without.Goals as goal
 

@@ -1,6 +1,5 @@
 use Rattle.std.proofs.Common.{◌≡◌, ap, ap₂, ◌∙◌}
-use Rattle.key_lists.specs.Keys.{without}
-use Rattle.key_lists.proofs.Every.{filter_all}
+use Rattle.key_lists.{specs.Keys.without, proofs.Every.filter_all}
 use Rattle.tick_model.specs.Rules.{shift_fault}
 use Rattle.shift_data.proofs.shifts.ShiftData.keeps_order.Goals as goal
 

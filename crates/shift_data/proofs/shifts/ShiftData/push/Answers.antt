@@ -1,9 +1,6 @@
 use Rattle.std.proofs.Common.{◌≡◌, ap, sym, ◌∙◌, None, w64, is_ok}
-use Rattle.std.proofs.lemmas.Bool.{cond_both}
-use Rattle.std.proofs.lemmas.Int.{to_z-of_z}
-use Rattle.shift_data.specs.Pushes.{push_fault}
-use Rattle.shift_data.specs.ShiftLists.{IsShiftList}
-use Rattle.shift_data.proofs.Lists.{pushed}
+use Rattle.std.{proofs.lemmas.Bool.cond_both, proofs.lemmas.Int.to_z-of_z}
+use Rattle.shift_data.{specs.Pushes.push_fault, specs.ShiftLists.IsShiftList, proofs.Lists.pushed}
 use Rattle.shift_data.proofs.shifts.ShiftData.push.Goals as goal
 
 pub invariant_of-self : goal.invariant_of-self

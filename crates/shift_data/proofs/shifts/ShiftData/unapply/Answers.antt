@@ -1,6 +1,5 @@
 use Rattle.std.proofs.Common.{◌≡◌, ap, ap₂, sym, ◌∙◌, subst, IfOk}
-use Rattle.key_lists.specs.Keys.{without}
-use Rattle.key_lists.proofs.Every.{filter_all}
+use Rattle.key_lists.{specs.Keys.without, proofs.Every.filter_all}
 use Rattle.shift_data.specs.Moves.{IsLawful, unapplied}
 use Rattle.shift_data.proofs.shifts.ShiftData.unapply.Goals as goal
 

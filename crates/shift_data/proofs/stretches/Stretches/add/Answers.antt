@@ -1,12 +1,8 @@
 use Rattle.std.proofs.Common.{Some, sym, ap, ◌∙◌, w64, of_z, SFits, rules}
-use Rattle.std.proofs.lemmas.Int.{to_z-of_z}
-use Rattle.std.proofs.lemmas.Option.{same_Some}
+use Rattle.std.{proofs.lemmas.Int.to_z-of_z, proofs.lemmas.Option.same_Some}
 use Rattle.tick_model.specs.declared.update.ShiftRange.{ShiftRange}
-use Rattle.shift_data.specs.declared.stretches.Stretches.{Stretches}
-use Rattle.shift_data.specs.Stretches.{built}
-use Rattle.shift_data.proofs.Stretched.{range_by, goes_on, begins}
+use Rattle.shift_data.{specs.declared.stretches.Stretches.Stretches, specs.Stretches.built, proofs.Stretched.{range_by, goes_on, begins}, proofs.stretches.Stretches.add.Goals.{in-Some, in_default+in_ok-close-in_default, in_default-via-in-Some+else-last-part, in_default-via-in_default}}
 use Rattle.shift_data.proofs.stretches.Stretches.add.Goals as goal
-use Rattle.shift_data.proofs.stretches.Stretches.add.Goals.{in-Some, in_default+in_ok-close-in_default, in_default-via-in-Some+else-last-part, in_default-via-in_default}
 
 pub returns : goal.returns
 returns c =

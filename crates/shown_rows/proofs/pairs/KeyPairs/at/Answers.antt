@@ -1,6 +1,5 @@
 use Rattle.std.proofs.Common.{sym, ◌∙◌, ◌^◌, ap}
-use Rattle.std.specs.Prelude.{is_some}
-use Rattle.std.proofs.lemmas.Option.{slice_get-get_or}
+use Rattle.std.{specs.Prelude.is_some, proofs.lemmas.Option.slice_get-get_or}
 use Rattle.row_set.proofs.Windows.{get_small}
 use Rattle.shown_rows.proofs.Walks.{at_place, within_new, within_old}
 use Rattle.shown_rows.proofs.pairs.KeyPairs.at.Goals as goal

@@ -1,8 +1,7 @@
 use Rattle.std.proofs.Common.{sym, ◌∙◌, ap, ap₂, subst, ◌<◌, ◌++◌, ◌∷◌, [], List}
 use Rattle.std.specs.List.{AllByRecursion}
 use Rattle.shift_data.specs.Moves.{pairs_of}
-use Rattle.tick_model.specs.declared.update.KeyPair.{KeyPair}
-use Rattle.tick_model.specs.Updates.{new_keys, old_keys}
+use Rattle.tick_model.{specs.declared.update.KeyPair.KeyPair, specs.Updates.{new_keys, old_keys}}
 use Rattle.row_changes.proofs.Comparing.{new_keys-pairs_of, old_keys-pairs_of}
 use Rattle.shown_rows.proofs.Walks.{pairs_of-last}
 use Rattle.shown_rows.proofs.pairs.KeyPairs.with_last.Goals as goal

@@ -2,9 +2,8 @@ use Rattle.std.proofs.Common.{sym, ◌∙◌, ap, not, ◌&&◌}
 use Rattle.std.proofs.lemmas.Bool.{and_left, and_right, and_from}
 use Rattle.key_lists.specs.Keys.{is_among}
 use Rattle.tick_model.specs.declared.update.KeyPair.{KeyPair}
-use Rattle.shown_rows.proofs.Walks.{below_some, none_more, one_more}
+use Rattle.shown_rows.{proofs.Walks.{below_some, none_more, one_more}, proofs.pairs.KeyPairs.within.Goals.{then-contains+then-not-contains+in_ok-within, else-contains, else-contains-via-then-contains+else-not-contains, else-contains-via-else-contains}}
 use Rattle.shown_rows.proofs.pairs.KeyPairs.within.Goals as goal
-use Rattle.shown_rows.proofs.pairs.KeyPairs.within.Goals.{then-contains+then-not-contains+in_ok-within, else-contains, else-contains-via-then-contains+else-not-contains, else-contains-via-else-contains}
 
 pub with_last-requires-clause-old : goal.with_last-requires-clause-old
 with_last-requires-clause-old c =

@@ -1,7 +1,6 @@
 use Rattle.std.proofs.Common.{◌≡◌, sym, subst, true, List, ◌++◌, ℤ}
 use Rattle.std.specs.Prelude.{OnOk}
-use Rattle.key_lists.specs.Keys.{is_among}
-use Rattle.key_lists.proofs.Among.{of_among}
+use Rattle.key_lists.{specs.Keys.is_among, proofs.Among.of_among}
 use Rattle.tick_model.specs.Tables.{keys}
 use Rattle.shown_rows.proofs.Parts.{cells_there, keys_there}
 use Rattle.shown_rows.proofs.rows.ChosenRowsRows.now.Goals as goal

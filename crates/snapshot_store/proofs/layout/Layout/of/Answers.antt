@@ -1,13 +1,9 @@
 use Rattle.std.proofs.Common.{◌≡◌, ℕ, ◌<◌, ◌++◌, ◌∷◌, [], ◌∙◌, List, length, take, get_or, ap, sym, subst, arith}
 use mathlib.Core.Logic.{dite}
 use native.Mathlib.Decide.{ℕ_discrete}
-use Rattle.std.proofs.Math.ListN.{get_or-append}
-use Rattle.std.proofs.Math.Seq.{get_or-append_seam}
-use Rattle.tick_model.specs.declared.plan.Published.{Published}
-use Rattle.tick_model.specs.Plans.{table_words}
-use Rattle.snapshot_store.specs.Lines.{size_in, start_in}
-use Rattle.snapshot_store.specs.Models.{IsLaid}
-use Rattle.snapshot_store.proofs.Published.{ends_within, size_at, start_more, take_more, taken, total_is}
+use Rattle.std.{proofs.Math.ListN.get_or-append, proofs.Math.Seq.get_or-append_seam}
+use Rattle.tick_model.{specs.declared.plan.Published.Published, specs.Plans.table_words}
+use Rattle.snapshot_store.{specs.Lines.{size_in, start_in}, specs.Models.IsLaid, proofs.Published.{ends_within, size_at, start_more, take_more, taken, total_is}}
 use Rattle.snapshot_store.proofs.layout.Layout.of.Goals as goal
 
 pub overflow_add-bank : goal.overflow_add-bank

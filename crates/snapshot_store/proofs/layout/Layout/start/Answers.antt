@@ -1,8 +1,7 @@
 use Rattle.std.proofs.Common.{◌≡◌, ◌∙◌, ◌<◌, ◌≤◌, ◌+◌, ◌*◌, length, subst, sym, arith, List}
 use Rattle.std.proofs.lemmas.Grind.{get_or_default_zero}
 use Rattle.tick_model.specs.declared.plan.Published.{Published}
-use Rattle.snapshot_store.specs.Lines.{size_in, start_in, limit_in, width_in}
-use Rattle.snapshot_store.proofs.Places.{below_less}
+use Rattle.snapshot_store.{specs.Lines.{size_in, start_in, limit_in, width_in}, proofs.Places.below_less}
 use Rattle.snapshot_store.proofs.layout.Layout.start.Goals as goal
 
 pub returns-clause-small : goal.returns-clause-small

@@ -1,8 +1,6 @@
 use Rattle.std.proofs.Common.{◌≡◌, ℕ, List, [], ◌∷◌, ◌++◌, ap, ◌∙◌, sym, arith, append_assoc, vec_capacity, le_of_eq}
-use Rattle.snapshot_store.specs.Looks.{last_or}
-use Rattle.snapshot_store.proofs.Calls.{answers_taken, answers_moved, seen_first, calls_on}
+use Rattle.snapshot_store.{specs.Looks.last_or, proofs.Calls.{answers_taken, answers_moved, seen_first, calls_on}, proofs.store.Store.attempt.Goals.{then-last-step-lt-NEAR, else-last-step-lt-NEAR}}
 use Rattle.snapshot_store.proofs.store.Store.attempt.Goals as goal
-use Rattle.snapshot_store.proofs.store.Store.attempt.Goals.{then-last-step-lt-NEAR, else-last-step-lt-NEAR}
 
 pub invariant_of-caller : goal.invariant_of-caller
 invariant_of-caller c = calls_on _ _ _ _ _ _ _ c.caller.inside.seen (vec_capacity c.caller.inside.words) c.read-first.ensures.reading c.caller.invariant (vec_capacity c.read-first.new.words) (le_of_eq (sym c.read-first.ensures.room))

@@ -1,6 +1,5 @@
 use Rattle.std.proofs.Common.{◌≡◌}
-use Rattle.snapshot_store.specs.Models.{IsOf}
-use Rattle.snapshot_store.specs.declared.writers.Phase.TheVariants.{Idle}
+use Rattle.snapshot_store.{specs.Models.IsOf, specs.declared.writers.Phase.TheVariants.Idle}
 use Rattle.snapshot_store.proofs.store.Store.begin.Given as goal
 
 abbrev pub invariant-loop : goal.invariant-loop

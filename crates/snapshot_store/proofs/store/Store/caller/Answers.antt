@@ -1,8 +1,5 @@
-use Rattle.std.proofs.Common.{ap, ◌∙◌, sym, subst, arith}
-use Rattle.std.proofs.Common.{vec_capacity}
-use Rattle.snapshot_store.specs.declared.board.View.{View}
-use Rattle.snapshot_store.specs.Models.{IsAt, HasRoom}
-use Rattle.snapshot_store.proofs.Keeps.{parts}
+use Rattle.std.proofs.Common.{ap, ◌∙◌, sym, subst, arith, vec_capacity}
+use Rattle.snapshot_store.{specs.declared.board.View.View, specs.Models.{IsAt, HasRoom}, proofs.Keeps.parts}
 use Rattle.snapshot_store.proofs.store.Store.caller.Goals as goal
 
 pub split_seat-place-requires : goal.split_seat-place-requires

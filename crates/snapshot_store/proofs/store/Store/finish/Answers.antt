@@ -1,9 +1,5 @@
 use Rattle.std.proofs.Common.{ap, ◌∙◌, sym, subst, arith, Some}
-use Rattle.snapshot_store.specs.Lines.{count}
-use Rattle.snapshot_store.specs.Models.{IsAt}
-use Rattle.snapshot_store.specs.declared.writers.Phase.TheVariants.{Begun}
-use Rattle.snapshot_store.proofs.Keeps.{ticks}
-use Rattle.snapshot_store.proofs.Calls.{at_begun, all_stored, all_whole}
+use Rattle.snapshot_store.{specs.Lines.count, specs.Models.IsAt, specs.declared.writers.Phase.TheVariants.Begun, proofs.Keeps.ticks, proofs.Calls.{at_begun, all_stored, all_whole}}
 use Rattle.snapshot_store.proofs.store.Store.finish.Goals as goal
 
 pub store-requires : goal.store-requires

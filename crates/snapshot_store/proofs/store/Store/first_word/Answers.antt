@@ -1,7 +1,6 @@
 use Rattle.std.proofs.Common.{◌%◌, ap, ◌∙◌}
-use Rattle.snapshot_store.specs.Lines.{spot}
+use Rattle.snapshot_store.{specs.Lines.spot, proofs.Calls.first_place}
 use Rattle.tick_model.specs.declared.feed.Run.{Run}
-use Rattle.snapshot_store.proofs.Calls.{first_place}
 use Rattle.snapshot_store.proofs.store.Store.first_word.Goals as goal
 
 pub returns-clause-value : goal.returns-clause-value

@@ -1,7 +1,5 @@
 use Rattle.std.proofs.Common.{◌≡◌, ap, ◌∙◌, sym, arith, Some}
-use Rattle.snapshot_store.specs.Models.{CallerModel}
-use Rattle.snapshot_store.proofs.Keeps.{meets}
-use Rattle.snapshot_store.proofs.Calls.{popped}
+use Rattle.snapshot_store.{specs.Models.CallerModel, proofs.Keeps.meets, proofs.Calls.popped}
 use Rattle.snapshot_store.proofs.store.Store.gather.Goals as goal
 
 pub join_seat-requires : goal.join_seat-requires

@@ -1,7 +1,6 @@
 use Rattle.std.specs.List.{All}
 use Rattle.std.proofs.Common.{◌≡◌, ◌≤◌, List, ◌++◌, vec_len, Some}
-use Rattle.snapshot_store.specs.Models.{CallerModel, IsSamePlace}
-use Rattle.snapshot_store.specs.Looks.{last_or}
+use Rattle.snapshot_store.{specs.Models.{CallerModel, IsSamePlace}, specs.Looks.last_or}
 use Rattle.snapshot_store.proofs.store.Store.gather.Given as goal
 
 abbrev pub invariant-loop-caller : goal.invariant-loop-caller

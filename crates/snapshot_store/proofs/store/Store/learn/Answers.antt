@@ -1,7 +1,5 @@
 use Rattle.std.proofs.Common.{◌≡◌, ℕ, ◌≤◌, max, List, [], ◌∷◌, ◌++◌, ap, ◌∙◌, sym, subst, arith, Some}
-use Rattle.snapshot_store.specs.Looks.{last_or, NeverFalls}
-use Rattle.snapshot_store.proofs.Keeps.{meets, learns}
-use Rattle.snapshot_store.proofs.Calls.{last_more, never_falls_more}
+use Rattle.snapshot_store.{specs.Looks.{last_or, NeverFalls}, proofs.Keeps.{meets, learns}, proofs.Calls.{last_more, never_falls_more}}
 use Rattle.snapshot_store.proofs.store.Store.learn.Goals as goal
 
 pub join_seat-requires : goal.join_seat-requires

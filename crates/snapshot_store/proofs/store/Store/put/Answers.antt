@@ -2,16 +2,8 @@ use Rattle.std.proofs.Common.{◌≡◌, ℕ, ◌+◌, ◌*◌, ◌≤◌, ◌�
 use mathlib.Core.Logic.{dite}
 use native.Mathlib.Decide.{ℕ_discrete}
 use Rattle.tick_laws.specs.Reached.{KeepsRules}
-use Rattle.tick_model.specs.LawfulRuns.{IsLawfulRun}
-use Rattle.tick_model.specs.Words.{words}
-use Rattle.tick_model.specs.declared.feed.Run.{Run}
-use Rattle.tick_model.specs.declared.plan.Published.{Published}
-use Rattle.tick_model.specs.declared.table.PlainTable.{PlainTable}
-use Rattle.snapshot_store.specs.Lines.{limit, limit_in, size, line_of, IsWhole}
-use Rattle.snapshot_store.specs.Models.{IsAt, HasRoom}
-use Rattle.snapshot_store.proofs.Calls.{at_begun, line_fits, room_on}
-use Rattle.snapshot_store.proofs.Published.{few_tables, line_named, line_whole, table_fits}
-use Rattle.snapshot_store.proofs.RowWords.{keys_long}
+use Rattle.tick_model.{specs.LawfulRuns.IsLawfulRun, specs.Words.words, specs.declared.feed.Run.Run, specs.declared.plan.Published.Published, specs.declared.table.PlainTable.PlainTable}
+use Rattle.snapshot_store.{specs.Lines.{limit, limit_in, size, line_of, IsWhole}, specs.Models.{IsAt, HasRoom}, proofs.Calls.{at_begun, line_fits, room_on}, proofs.Published.{few_tables, line_named, line_whole, table_fits}, proofs.RowWords.keys_long}
 use Rattle.snapshot_store.proofs.store.Store.put.Goals as goal
 
 pub copy_table-requires : goal.copy_table-requires

@@ -1,12 +1,6 @@
 use Rattle.std.proofs.Common.{◌≡◌, ℕ, ◌+◌, ◌*◌, ◌<◌, List, [], ◌∷◌, ◌++◌, length, get_or, ap, ◌∙◌, sym, arith, Some}
-use Rattle.tick_model.specs.declared.feed.Run.{Run}
-use Rattle.snapshot_store.specs.Lines.{count, width, width_in}
-use Rattle.tick_model.specs.Clock.{completed}
-use Rattle.tick_model.specs.declared.plan.Published.{Published}
-use Rattle.snapshot_store.proofs.Calls.{place_read}
-use Rattle.snapshot_store.proofs.Published.{line_named}
-use Rattle.snapshot_store.proofs.Places.{whole_line}
-use Rattle.snapshot_store.proofs.Keeps.{looks, counts, looks_again}
+use Rattle.tick_model.{specs.declared.feed.Run.Run, specs.Clock.completed, specs.declared.plan.Published.Published}
+use Rattle.snapshot_store.{specs.Lines.{count, width, width_in}, proofs.Calls.place_read, proofs.Published.line_named, proofs.Places.whole_line, proofs.Keeps.{looks, counts, looks_again}}
 use Rattle.snapshot_store.proofs.store.Store.read.Goals as goal
 
 pub load-first-requires : goal.load-first-requires

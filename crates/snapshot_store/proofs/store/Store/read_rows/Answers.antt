@@ -1,10 +1,7 @@
 use Rattle.std.proofs.Common.{◌≡◌, ℕ, ◌+◌, ◌*◌, ◌%◌, List, [], ◌∷◌, length, get_or, ap, ◌∙◌, sym, arith}
 use Rattle.std.proofs.Math.ListN.{get_or-append}
-use Rattle.snapshot_store.specs.Lines.{width, spot}
+use Rattle.snapshot_store.{specs.Lines.{width, spot}, specs.declared.board.Doing.TheVariants.Reading, proofs.Calls.place_read, proofs.Keeps.reads}
 use Rattle.tick_model.specs.Clock.{completed}
-use Rattle.snapshot_store.specs.declared.board.Doing.TheVariants.{Reading}
-use Rattle.snapshot_store.proofs.Calls.{place_read}
-use Rattle.snapshot_store.proofs.Keeps.{reads}
 use Rattle.snapshot_store.proofs.store.Store.read_rows.Goals as goal
 
 pub overflow_add-start : goal.overflow_add-start

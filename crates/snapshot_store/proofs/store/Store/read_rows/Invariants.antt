@@ -1,7 +1,5 @@
 use Rattle.std.proofs.Common.{◌≡◌, slice_index, vec_len, vec_capacity}
-use Rattle.snapshot_store.specs.Views.{IsSameSight}
-use Rattle.snapshot_store.specs.Models.{IsSamePlace}
-use Rattle.snapshot_store.specs.declared.board.Doing.TheVariants.{Reading}
+use Rattle.snapshot_store.{specs.Views.IsSameSight, specs.Models.IsSamePlace, specs.declared.board.Doing.TheVariants.Reading}
 use Rattle.snapshot_store.proofs.store.Store.read_rows.Given as goal
 
 abbrev pub invariant-loop-i : goal.invariant-loop-i

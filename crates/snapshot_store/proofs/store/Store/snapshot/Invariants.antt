@@ -1,5 +1,4 @@
-use Rattle.snapshot_store.specs.Answers.{AreMoved}
-use Rattle.snapshot_store.specs.Models.{IsOf}
+use Rattle.snapshot_store.{specs.Answers.AreMoved, specs.Models.IsOf}
 use Rattle.snapshot_store.proofs.store.Store.snapshot.Given as goal
 
 abbrev pub invariant-loop : goal.invariant-loop

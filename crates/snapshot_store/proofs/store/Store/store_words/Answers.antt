@@ -1,8 +1,5 @@
 use Rattle.std.proofs.Common.{◌≡◌, ◌≢◌, ℕ, ◌+◌, ◌<◌, length, get_or, ap, ◌∙◌, sym, arith, List, refl}
-use Rattle.snapshot_store.specs.Lines.{line_of}
-use Rattle.snapshot_store.specs.Models.{words_of}
-use Rattle.snapshot_store.proofs.Calls.{place_stored}
-use Rattle.snapshot_store.proofs.Keeps.{finds, stores}
+use Rattle.snapshot_store.{specs.Lines.line_of, specs.Models.words_of, proofs.Calls.place_stored, proofs.Keeps.{finds, stores}}
 use Rattle.snapshot_store.proofs.store.Store.store_words.Goals as goal
 
 pub overflow_add-word : goal.overflow_add-word

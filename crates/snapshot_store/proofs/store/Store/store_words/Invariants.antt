@@ -1,7 +1,5 @@
 use Rattle.std.proofs.Common.{◌≡◌, ◌+◌}
-use Rattle.snapshot_store.specs.Views.{IsSameSight}
-use Rattle.snapshot_store.specs.Models.{IsSamePlace, words_of}
-use Rattle.snapshot_store.specs.declared.board.Doing.TheVariants.{Writing}
+use Rattle.snapshot_store.{specs.Views.IsSameSight, specs.Models.{IsSamePlace, words_of}, specs.declared.board.Doing.TheVariants.Writing}
 use Rattle.snapshot_store.proofs.store.Store.store_words.Given as goal
 
 abbrev pub invariant-loop-i : goal.invariant-loop-i

@@ -1,11 +1,6 @@
-use Rattle.std.proofs.Common.{◌≡◌, ap, ◌∙◌, sym, subst, arith}
-use Rattle.snapshot_store.specs.Models.{IsAt}
-use Rattle.snapshot_store.specs.declared.writers.Phase.TheVariants.{Idle}
+use Rattle.std.proofs.Common.{◌≡◌, ap, ◌∙◌, sym, subst, arith, vec_capacity}
+use Rattle.snapshot_store.{specs.Models.IsAt, specs.declared.writers.Phase.TheVariants.Idle, specs.declared.board.Doing.TheVariants.Writing, proofs.Calls.room_on, proofs.Keeps.ticks}
 use Rattle.tick_model.specs.Clock.{completed}
-use Rattle.snapshot_store.specs.declared.board.Doing.TheVariants.{Writing}
-use Rattle.std.proofs.Common.{vec_capacity}
-use Rattle.snapshot_store.proofs.Calls.{room_on}
-use Rattle.snapshot_store.proofs.Keeps.{ticks}
 use Rattle.snapshot_store.proofs.store.Store.try_begin.Goals as goal
 
 -- a caller has the turn

@@ -1,6 +1,5 @@
 use Rattle.std.proofs.Common.{◌≡◌}
-use Rattle.snapshot_store.specs.Answers.{AreMoved}
-use Rattle.snapshot_store.specs.Models.{IsOf}
+use Rattle.snapshot_store.{specs.Answers.AreMoved, specs.Models.IsOf}
 use Rattle.snapshot_store.proofs.store.Store.try_snapshot.Given as goal
 
 abbrev pub invariant-loop-tried : goal.invariant-loop-tried

@@ -1,11 +1,8 @@
 use Rattle.std.proofs.Common.{◌≡◌, ◌∙◌, ap, ap₂, subst, sym, ◌+◌, ◌*◌, ◌≤◌, List}
 use Rattle.row_changes.proofs.Comparing.{on_err}
-use Rattle.tick_model.specs.declared.plan.SortBy.{SortBy}
-use Rattle.tick_model.specs.Changes.{Change, change_of}
+use Rattle.tick_model.{specs.declared.plan.SortBy.SortBy, specs.Changes.{Change, change_of}}
 use Rattle.tick_table.specs.Exact.{counted, tick_of}
-use Rattle.sort_op.specs.declared.entry.Entry.{Entry}
-use Rattle.sort_op.specs.Sorted.{entries_of}
-use Rattle.sort_op.specs.Sorter.{Sorter, sorted}
+use Rattle.sort_op.{specs.declared.entry.Entry.Entry, specs.Sorted.entries_of, specs.Sorter.{Sorter, sorted}}
 use Rattle.sort_op.proofs.operator.SortOp.step.Goals as goal
 
 pub step_order-requires-clause-stands : goal.step_order-requires-clause-stands

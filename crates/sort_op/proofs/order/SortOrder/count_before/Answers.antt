@@ -1,10 +1,8 @@
 use Rattle.std.proofs.Common.{◌≡◌, rules, subst, sym, true, false, take, drop}
-use Rattle.std.specs.List.{AllByRecursion}
-use Rattle.std.proofs.lemmas.List.Sorted.{IsPartitionPoint-from_clause}
+use Rattle.std.{specs.List.AllByRecursion, proofs.lemmas.List.Sorted.IsPartitionPoint-from_clause}
 use Rattle.key_lists.proofs.Parts.{front_part, back_part}
 use Rattle.chunk_list.specs.Chunked.{joined}
-use Rattle.sort_op.specs.Entries.{comes_before, entries, IsOrder, Rises}
-use Rattle.sort_op.proofs.Rises.{parted}
+use Rattle.sort_op.{specs.Entries.{comes_before, entries, IsOrder, Rises}, proofs.Rises.parted}
 use Rattle.sort_op.proofs.order.SortOrder.count_before.Goals as goal
 
 pub returns-clause-before : goal.returns-clause-before

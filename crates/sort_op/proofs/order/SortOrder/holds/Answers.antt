@@ -1,10 +1,8 @@
 use Rattle.std.proofs.Common.{◌∙◌, ap, subst, sym, false}
-use Rattle.std.specs.Prelude.{slice_get}
-use Rattle.std.specs.Option.{option_map_or}
+use Rattle.std.{specs.Prelude.slice_get, specs.Option.option_map_or}
 use Rattle.key_lists.proofs.Parts.{every_got}
 use Rattle.chunk_list.specs.Chunked.{joined}
-use Rattle.sort_op.specs.Entries.{entries, entry_cmp, is_same, IsWhole, Order}
-use Rattle.sort_op.proofs.Comparing.{tied_is_same}
+use Rattle.sort_op.{specs.Entries.{entries, entry_cmp, is_same, IsWhole, Order}, proofs.Comparing.tied_is_same}
 use Rattle.sort_op.proofs.order.SortOrder.holds.Goals as goal
 
 pub returns-in-Some : goal.returns-in-Some

@@ -1,8 +1,7 @@
 use Rattle.std.proofs.Common.{◌∙◌, ap, subst, sym}
 use Rattle.std.specs.Prelude.{insert}
 use Rattle.chunk_list.specs.Chunked.{IsReplaced}
-use Rattle.sort_op.specs.Entries.{entries, IsOrder, Order}
-use Rattle.sort_op.proofs.Made.{count_at, order_more}
+use Rattle.sort_op.{specs.Entries.{entries, IsOrder, Order}, proofs.Made.{count_at, order_more}}
 use Rattle.sort_op.proofs.order.SortOrder.insert.Goals as goal
 
 pub returns-clause-position : goal.returns-clause-position

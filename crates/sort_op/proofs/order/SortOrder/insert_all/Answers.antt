@@ -1,10 +1,7 @@
 use Rattle.std.proofs.Common.{◌≡◌, ◌||◌, ◌∙◌, ◌∷◌, [], false, refl, ap, arith, sym, subst}
-use Rattle.std.specs.List.{AllByRecursion}
-use Rattle.std.proofs.lemmas.List.{nil_from_length}
-use Rattle.key_lists.proofs.Booleans.{or_false}
-use Rattle.key_lists.proofs.Parts.{every_front}
-use Rattle.sort_op.specs.Entries.{entries, is_in, is_same, AreDistinct, IsWhole, Order}
-use Rattle.sort_op.proofs.Inserted.{distinct_front, distinct_permuted, every_permuted, in_insert, in_permuted, in_step, last_has, out_step, place_out}
+use Rattle.std.{specs.List.AllByRecursion, proofs.lemmas.List.nil_from_length}
+use Rattle.key_lists.{proofs.Booleans.or_false, proofs.Parts.every_front}
+use Rattle.sort_op.{specs.Entries.{entries, is_in, is_same, AreDistinct, IsWhole, Order}, proofs.Inserted.{distinct_front, distinct_permuted, every_permuted, in_insert, in_permuted, in_step, last_has, out_step, place_out}}
 use Rattle.sort_op.proofs.order.SortOrder.insert_all.Goals as goal
 
 pub loop-entry-init : goal.loop-entry-init

@@ -1,7 +1,6 @@
 use Rattle.std.proofs.Common.{◌≡◌, ◌||◌, false, true, vec_len}
 use Rattle.std.specs.List.{AllByRecursion}
-use Rattle.sort_op.specs.declared.entry.Entry.{Entry}
-use Rattle.sort_op.specs.Entries.{entries, is_in, AreDistinct, IsOrder, IsWhole}
+use Rattle.sort_op.{specs.declared.entry.Entry.Entry, specs.Entries.{entries, is_in, AreDistinct, IsOrder, IsWhole}}
 use Rattle.sort_op.proofs.order.SortOrder.insert_all.Given as goal
 
 abbrev pub invariant-loop-entry : goal.invariant-loop-entry

@@ -1,6 +1,5 @@
 use Rattle.std.proofs.Common.{◌∙◌, refl, sym, true, false}
-use Rattle.sort_op.specs.Entries.{entries}
-use Rattle.sort_op.proofs.Made.{found_nowhere, found_there}
+use Rattle.sort_op.{specs.Entries.entries, proofs.Made.{found_nowhere, found_there}}
 use Rattle.sort_op.proofs.order.SortOrder.position.Goals as goal
 
 pub returns-then-holds-clause-position : goal.returns-then-holds-clause-position

@@ -1,15 +1,10 @@
 use Rattle.std.proofs.Common.{◌≡◌, ◌∙◌, ◌^◌, ap, false, length, map, subst, sym}
-use Rattle.std.proofs.lemmas.Bool.{eqb-true}
-use Rattle.std.proofs.lemmas.List.{nil_from_length}
+use Rattle.std.{proofs.lemmas.Bool.eqb-true, proofs.lemmas.List.nil_from_length}
 use Rattle.chunk_list.specs.Chunked.{joined}
 use Rattle.key_lists.proofs.Every.{every_weaker}
-use Rattle.shift_data.specs.Moves.{IsLawful}
-use Rattle.shift_data.specs.ShiftLists.{IsShiftList}
-use Rattle.tick_model.specs.Rules.{is_past}
-use Rattle.tick_model.specs.Shifts.{moved}
-use Rattle.sort_op.specs.declared.entry.Entry.{Entry}
-use Rattle.sort_op.specs.Entries.{entries, rekeyed, rising_keys, Order}
-use Rattle.sort_op.proofs.Rekeyed.{all_inside, none_rekeyed, order_rekeyed}
+use Rattle.shift_data.{specs.Moves.IsLawful, specs.ShiftLists.IsShiftList}
+use Rattle.tick_model.{specs.Rules.is_past, specs.Shifts.moved}
+use Rattle.sort_op.{specs.declared.entry.Entry.Entry, specs.Entries.{entries, rekeyed, rising_keys, Order}, proofs.Rekeyed.{all_inside, none_rekeyed, order_rekeyed}}
 use Rattle.sort_op.proofs.order.SortOrder.rekey.Goals as goal
 
 pub returns-then-is_empty-clause-chunks : goal.returns-then-is_empty-clause-chunks

@@ -1,8 +1,7 @@
 use Rattle.std.proofs.Common.{◌∙◌, ◌<◌, ap, length, refl, subst, sym, true, false}
 use Rattle.std.specs.Prelude.{remove}
 use Rattle.chunk_list.specs.Chunked.{IsReplaced}
-use Rattle.sort_op.specs.Entries.{entries, is_same, Order}
-use Rattle.sort_op.proofs.Made.{held_within, order_less, place_absent, place_held}
+use Rattle.sort_op.{specs.Entries.{entries, is_same, Order}, proofs.Made.{held_within, order_less, place_absent, place_held}}
 use Rattle.sort_op.proofs.order.SortOrder.remove.Goals as goal
 
 pub returns-then-not-holds-clause-position : goal.returns-then-not-holds-clause-position

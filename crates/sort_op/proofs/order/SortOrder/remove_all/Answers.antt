@@ -1,7 +1,6 @@
 use Rattle.std.proofs.Common.{◌∙◌, refl, subst, sym}
 use Rattle.key_lists.proofs.Every.{all_from}
-use Rattle.sort_op.specs.Entries.{entries, IsWhole}
-use Rattle.sort_op.proofs.Batched.{none_entries, removed_more, removed_none}
+use Rattle.sort_op.{specs.Entries.{entries, IsWhole}, proofs.Batched.{none_entries, removed_more, removed_none}}
 use Rattle.sort_op.proofs.order.SortOrder.remove_all.Goals as goal
 
 pub loop-entry-init : goal.loop-entry-init

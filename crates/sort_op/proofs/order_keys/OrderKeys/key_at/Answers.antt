@@ -1,13 +1,9 @@
 use Rattle.std.proofs.Common.{◌≡◌, ◌∙◌, ◌+◌, ◌-◌, ◌<◌, ap, arith, length, sym, Some, IsSome}
-use Rattle.std.specs.Prelude.{slice_get}
-use Rattle.std.proofs.lemmas.Option.{slice_get-get_or, slice_get_within}
+use Rattle.std.{specs.Prelude.slice_get, proofs.lemmas.Option.{slice_get-get_or, slice_get_within}}
 use Rattle.key_lists.proofs.Parts.{every_got}
 use Rattle.row_handles.specs.Entries.{key_with}
-use Rattle.sort_op.specs.Places.{key_at}
-use Rattle.sort_op.specs.Ranks.{Ranking, listed}
-use Rattle.sort_op.proofs.Runs.{first_none, key_listed, key_past}
+use Rattle.sort_op.{specs.Places.key_at, specs.Ranks.{Ranking, listed}, proofs.Runs.{first_none, key_listed, key_past}, proofs.order_keys.OrderKeys.key_at.Goals.{in-Some, in-None}}
 use Rattle.sort_op.proofs.order_keys.OrderKeys.key_at.Goals as goal
-use Rattle.sort_op.proofs.order_keys.OrderKeys.key_at.Goals.{in-Some, in-None}
 
 pub returns-then-position-self-clause-key : goal.returns-then-position-self-clause-key
 returns-then-position-self-clause-key c =

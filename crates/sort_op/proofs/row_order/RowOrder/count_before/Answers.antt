@@ -1,12 +1,8 @@
 use Rattle.std.proofs.Common.{◌≡◌, ◌+◌, ◌-◌, ◌/◌, ◌∙◌, add-one, ap, arith, false, length, subst, suc, sym, take, take_all, true, ℕ}
-use Rattle.std.specs.Prelude.{slice_get}
-use Rattle.std.specs.List.{AllByRecursion}
-use Rattle.std.specs.Option.{option_map_or}
+use Rattle.std.{specs.Prelude.slice_get, specs.List.AllByRecursion, specs.Option.option_map_or}
 use Rattle.key_lists.proofs.Parts.{none_left}
 use Rattle.chunk_list.specs.Chunked.{joined}
-use Rattle.sort_op.specs.Entries.{comes_before}
-use Rattle.sort_op.specs.Ranks.{IsRanking, Ranking, arrived, listed}
-use Rattle.sort_op.proofs.Ranked.{from_on, listed_count, up_to}
+use Rattle.sort_op.{specs.Entries.comes_before, specs.Ranks.{IsRanking, Ranking, arrived, listed}, proofs.Ranked.{from_on, listed_count, up_to}}
 use Rattle.sort_op.proofs.row_order.RowOrder.count_before.Goals as goal
 
 pub returns-then-stands_before-clause-before : goal.returns-then-stands_before-clause-before

@@ -1,7 +1,6 @@
 use Rattle.std.proofs.Common.{◌≡◌, ◌-◌, ◌≤◌, drop, false, length, take, true}
 use Rattle.std.specs.List.{AllByRecursion}
-use Rattle.sort_op.specs.Entries.{comes_before}
-use Rattle.sort_op.specs.Ranks.{arrived, listed}
+use Rattle.sort_op.{specs.Entries.comes_before, specs.Ranks.{arrived, listed}}
 use Rattle.sort_op.proofs.row_order.RowOrder.count_before.Given as goal
 
 abbrev pub invariant-loop-low : goal.invariant-loop-low

@@ -1,11 +1,8 @@
 use Rattle.std.proofs.Common.{◌≡◌, ◌∙◌, ap, arith, length, rules, subst, sym, take, true}
-use Rattle.std.specs.List.{AllByRecursion}
-use Rattle.std.proofs.lemmas.List.Sorted.{IsPartitionPoint-from_clause}
+use Rattle.std.{specs.List.AllByRecursion, proofs.lemmas.List.Sorted.IsPartitionPoint-from_clause}
 use Rattle.key_lists.proofs.Parts.{front_part}
 use Rattle.chunk_list.specs.Chunked.{joined}
-use Rattle.sort_op.specs.Entries.{comes_before}
-use Rattle.sort_op.specs.Ranks.{IsRanking, Ranking, arrived, listed}
-use Rattle.sort_op.proofs.Ranked.{cells_before, cells_parted, front_before, listed_count}
+use Rattle.sort_op.{specs.Entries.comes_before, specs.Ranks.{IsRanking, Ranking, arrived, listed}, proofs.Ranked.{cells_before, cells_parted, front_before, listed_count}}
 use Rattle.sort_op.proofs.row_order.RowOrder.count_cells_before.Goals as goal
 
 pub returns-clause-within : goal.returns-clause-within

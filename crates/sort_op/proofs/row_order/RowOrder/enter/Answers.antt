@@ -3,10 +3,7 @@ use Rattle.std.proofs.lemmas.Option.{same_Some}
 use Rattle.chunk_list.specs.Chunked.{joined}
 use Rattle.key_lists.specs.Keys.{is_among}
 use Rattle.row_handles.specs.Entries.{key_with}
-use Rattle.sort_op.specs.Entries.{keys_in}
-use Rattle.sort_op.specs.Ranks.{HasArrived, Ranking, listed}
-use Rattle.sort_op.proofs.Entering.{still_arrived}
-use Rattle.sort_op.proofs.RankedEdits.{listed_entered, ranking_entered}
+use Rattle.sort_op.{specs.Entries.keys_in, specs.Ranks.{HasArrived, Ranking, listed}, proofs.Entering.still_arrived, proofs.RankedEdits.{listed_entered, ranking_entered}}
 use Rattle.sort_op.proofs.row_order.RowOrder.enter.Goals as goal
 
 pub invariant_of-self : goal.invariant_of-self

@@ -4,15 +4,9 @@ use Rattle.key_lists.specs.Keys.{is_among}
 use Rattle.row_changes.proofs.Comparing.{reads_within}
 use Rattle.row_handles.specs.Entries.{keys_of}
 use Rattle.row_set.proofs.Yielded.{next_has, next_new, next_small, yielded_all, yielded_next}
-use Rattle.tick_model.specs.declared.plan.SortBy.{SortBy}
-use Rattle.tick_model.specs.Tables.{cells_at, keys}
+use Rattle.tick_model.{specs.declared.plan.SortBy.SortBy, specs.Tables.{cells_at, keys}}
 use Rattle.tick_table.specs.Ticking.{Ticking}
-use Rattle.sort_op.specs.declared.entry.Entry.{Entry}
-use Rattle.sort_op.specs.declared.row_order.Row.{Row}
-use Rattle.sort_op.specs.Entries.{keys_in}
-use Rattle.sort_op.specs.Ranks.{AreArrived, HasArrived, listed}
-use Rattle.sort_op.specs.Reading.{entries_under, entry_under, entry_with}
-use Rattle.sort_op.proofs.Entering.{arrived_more, keys_apart, key_more, none_arrived, reads_one_more}
+use Rattle.sort_op.{specs.declared.entry.Entry.Entry, specs.declared.row_order.Row.Row, specs.Entries.keys_in, specs.Ranks.{AreArrived, HasArrived, listed}, specs.Reading.{entries_under, entry_under, entry_with}, proofs.Entering.{arrived_more, keys_apart, key_more, none_arrived, reads_one_more}}
 use Rattle.sort_op.proofs.row_order.RowOrder.enter_rows.Goals as goal
 
 pub loop-key-init : goal.loop-key-init

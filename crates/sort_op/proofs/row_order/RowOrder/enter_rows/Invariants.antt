@@ -1,8 +1,7 @@
 use Rattle.std.proofs.Common.{◌≡◌, ◌+◌, ◌*◌, ◌||◌, length, ℕ}
 use Rattle.key_lists.specs.Keys.{is_among}
 use Rattle.row_handles.specs.Entries.{keys_of}
-use Rattle.sort_op.specs.Ranks.{AreArrived, listed}
-use Rattle.sort_op.specs.Reading.{entries_under}
+use Rattle.sort_op.{specs.Ranks.{AreArrived, listed}, specs.Reading.entries_under}
 use Rattle.sort_op.proofs.row_order.RowOrder.enter_rows.Given as goal
 
 abbrev pub invariant-loop-key : goal.invariant-loop-key

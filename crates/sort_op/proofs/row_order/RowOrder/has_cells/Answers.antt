@@ -3,10 +3,7 @@ use Rattle.chunk_list.specs.Chunked.{joined}
 use Rattle.key_lists.specs.Keys.{is_among}
 use Rattle.row_handles.specs.Entries.{handle_under}
 use Rattle.tick_model.specs.Tables.{same_cells}
-use Rattle.sort_op.specs.Entries.{is_in, keys_in}
-use Rattle.sort_op.specs.Ranks.{Ranking, kept_cells, listed}
-use Rattle.sort_op.specs.Sorted.{sort_cells}
-use Rattle.sort_op.proofs.Ranked.{cells_of_entry, handle_found}
+use Rattle.sort_op.{specs.Entries.{is_in, keys_in}, specs.Ranks.{Ranking, kept_cells, listed}, specs.Sorted.sort_cells, proofs.Ranked.{cells_of_entry, handle_found}}
 use Rattle.sort_op.proofs.row_order.RowOrder.has_cells.Goals as goal
 
 pub unwrap-handle-requires : goal.unwrap-handle-requires

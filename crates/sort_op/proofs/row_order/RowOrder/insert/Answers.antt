@@ -1,8 +1,7 @@
 use Rattle.std.proofs.Common.{◌∙◌, ap, subst, sym, List, ℕ}
 use Rattle.std.specs.Prelude.{insert}
 use Rattle.chunk_list.specs.Chunked.{joined}
-use Rattle.sort_op.specs.Ranks.{IsRanking, Ranking}
-use Rattle.sort_op.proofs.RankedEdits.{ranking_more}
+use Rattle.sort_op.{specs.Ranks.{IsRanking, Ranking}, proofs.RankedEdits.ranking_more}
 use Rattle.sort_op.proofs.row_order.RowOrder.insert.Goals as goal
 
 pub invariant_of-self-2 : goal.invariant_of-self-2

@@ -1,24 +1,8 @@
 use Rattle.std.proofs.Common.{◌≡◌, ◌||◌, ◌∙◌, ◌++◌, ◌∷◌, [], false, map, refl, ap, arith, sym, subst, true, true≢false, Some}
-use Rattle.std.specs.Prelude.{insert}
-use Rattle.std.specs.List.{AllByRecursion}
-use Rattle.std.specs.List.Sorted.{IsPermutation}
-use Rattle.std.proofs.lemmas.Bool.{eqb-true}
-use Rattle.std.proofs.lemmas.List.{map-append, nil_from_length}
-use Rattle.std.proofs.lemmas.List.Sorted.{IsPermutation-map}
-use Rattle.key_lists.proofs.Booleans.{or_false}
-use Rattle.key_lists.proofs.Every.{every, every-map}
-use Rattle.key_lists.proofs.Parts.{every_front, every_back}
+use Rattle.std.{specs.Prelude.insert, specs.List.AllByRecursion, specs.List.Sorted.IsPermutation, proofs.lemmas.Bool.eqb-true, proofs.lemmas.List.{map-append, nil_from_length}, proofs.lemmas.List.Sorted.IsPermutation-map}
+use Rattle.key_lists.{proofs.Booleans.or_false, proofs.Every.{every, every-map}, proofs.Parts.{every_front, every_back}}
 use Rattle.row_handles.specs.Entries.{key_with}
-use Rattle.sort_op.specs.declared.arrivals.Coming.{Coming}
-use Rattle.sort_op.specs.declared.entry.Entry.{Entry}
-use Rattle.sort_op.specs.declared.row_order.Row.{Row}
-use Rattle.sort_op.specs.Entries.{comes_before, is_in, place_of, AreDistinct, Falls, IsWhole, Rises}
-use Rattle.sort_op.specs.Firsts.{rows_in}
-use Rattle.sort_op.specs.Ranks.{IsRanking, Ranking, arrived, listed, row_entry}
-use Rattle.sort_op.proofs.Arrived.{all_arrived, last_ahead, none_arrived, one_arrived, HaveArrived}
-use Rattle.sort_op.proofs.Inserted.{distinct_front, distinct_permuted, every_permuted, in_permuted, in_step, last_has, out_step, place_out}
-use Rattle.sort_op.proofs.Ranked.{arrived_whole}
-use Rattle.sort_op.proofs.RankedEdits.{listed_more}
+use Rattle.sort_op.{specs.declared.arrivals.Coming.Coming, specs.declared.entry.Entry.Entry, specs.declared.row_order.Row.Row, specs.Entries.{comes_before, is_in, place_of, AreDistinct, Falls, IsWhole, Rises}, specs.Firsts.rows_in, specs.Ranks.{IsRanking, Ranking, arrived, listed, row_entry}, proofs.Arrived.{all_arrived, last_ahead, none_arrived, one_arrived, HaveArrived}, proofs.Inserted.{distinct_front, distinct_permuted, every_permuted, in_permuted, in_step, last_has, out_step, place_out}, proofs.Ranked.arrived_whole, proofs.RankedEdits.listed_more}
 use Rattle.sort_op.proofs.row_order.RowOrder.insert_rows.Goals as goal
 
 pub loop-next-init : goal.loop-next-init

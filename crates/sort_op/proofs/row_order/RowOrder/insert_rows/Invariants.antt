@@ -1,13 +1,7 @@
 use Rattle.std.proofs.Common.{◌≡◌, ◌||◌, false, map, true, vec_len, Some}
-use Rattle.std.specs.Prelude.{IsTrue}
-use Rattle.std.specs.List.{AllByRecursion}
+use Rattle.std.{specs.Prelude.IsTrue, specs.List.AllByRecursion}
 use Rattle.row_handles.specs.Entries.{key_with}
-use Rattle.sort_op.specs.declared.entry.Entry.{Entry}
-use Rattle.sort_op.specs.declared.row_order.Row.{Row}
-use Rattle.sort_op.specs.Entries.{comes_before, is_in, AreDistinct, Rises}
-use Rattle.sort_op.specs.Firsts.{rows_in}
-use Rattle.sort_op.specs.Ranks.{arrived, listed}
-use Rattle.sort_op.proofs.Arrived.{HaveArrived}
+use Rattle.sort_op.{specs.declared.entry.Entry.Entry, specs.declared.row_order.Row.Row, specs.Entries.{comes_before, is_in, AreDistinct, Rises}, specs.Firsts.rows_in, specs.Ranks.{arrived, listed}, proofs.Arrived.HaveArrived}
 use Rattle.sort_op.proofs.row_order.RowOrder.insert_rows.Given as goal
 
 abbrev pub invariant-loop-next : goal.invariant-loop-next

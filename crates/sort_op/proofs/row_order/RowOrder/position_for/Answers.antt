@@ -1,8 +1,7 @@
 use Rattle.std.proofs.Common.{◌≡◌, arith, false, subst, sym, take_all, true}
 use Rattle.std.specs.List.{AllByRecursion}
 use Rattle.key_lists.proofs.Parts.{none_left}
-use Rattle.sort_op.specs.Entries.{comes_before}
-use Rattle.sort_op.specs.Ranks.{arrived, listed}
+use Rattle.sort_op.{specs.Entries.comes_before, specs.Ranks.{arrived, listed}}
 use Rattle.sort_op.proofs.row_order.RowOrder.position_for.Goals as goal
 
 pub returns-then-is_last-clause-before : goal.returns-then-is_last-clause-before

@@ -2,9 +2,7 @@ use Rattle.std.proofs.Common.{◌≡◌, ◌∙◌, ap, refl, subst, sym, true, 
 use Rattle.chunk_list.specs.Chunked.{joined}
 use Rattle.key_lists.specs.Keys.{is_among}
 use Rattle.row_handles.specs.Entries.{handle_under}
-use Rattle.sort_op.specs.Entries.{keys_in}
-use Rattle.sort_op.specs.Ranks.{IsRanking, Ranking, listed}
-use Rattle.sort_op.proofs.Ranked.{handle_found, position_counted}
+use Rattle.sort_op.{specs.Entries.keys_in, specs.Ranks.{IsRanking, Ranking, listed}, proofs.Ranked.{handle_found, position_counted}}
 use Rattle.sort_op.proofs.row_order.RowOrder.position_of.Goals as goal
 
 pub unwrap-handle-requires : goal.unwrap-handle-requires

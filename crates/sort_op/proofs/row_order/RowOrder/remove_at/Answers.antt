@@ -1,7 +1,6 @@
 use Rattle.std.proofs.Common.{subst, sym, List, ℕ}
 use Rattle.chunk_list.specs.Chunked.{joined}
-use Rattle.sort_op.specs.Ranks.{IsRanking, Ranking}
-use Rattle.sort_op.proofs.RankedEdits.{ranking_less}
+use Rattle.sort_op.{specs.Ranks.{IsRanking, Ranking}, proofs.RankedEdits.ranking_less}
 use Rattle.sort_op.proofs.row_order.RowOrder.remove_at.Goals as goal
 
 pub invariant_of-self : goal.invariant_of-self

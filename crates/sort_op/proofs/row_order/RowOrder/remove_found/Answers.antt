@@ -1,8 +1,6 @@
 use Rattle.std.proofs.Common.{◌≡◌, ◌-◌, ◌<◌, ◌∙◌, ap, arith, drop, length, subst, suc, sym, List, ℕ}
 use Rattle.std.specs.Prelude.{remove}
-use Rattle.sort_op.specs.Places.{left_from}
-use Rattle.sort_op.specs.Ranks.{Ranking}
-use Rattle.sort_op.proofs.LeftOut.{left_all, left_more}
+use Rattle.sort_op.{specs.Places.left_from, specs.Ranks.Ranking, proofs.LeftOut.{left_all, left_more}}
 use Rattle.sort_op.proofs.row_order.RowOrder.remove_found.Goals as goal
 
 pub loop-place-init : goal.loop-place-init

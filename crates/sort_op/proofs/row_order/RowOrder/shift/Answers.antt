@@ -1,15 +1,11 @@
 use Rattle.std.proofs.Common.{◌≡◌, ◌∙◌, ap, false, map, subst, sym}
-use Rattle.std.specs.Prelude.{OnOk}
-use Rattle.std.specs.List.{AllByRecursion}
+use Rattle.std.{specs.Prelude.OnOk, specs.List.AllByRecursion}
 use Rattle.key_lists.specs.Keys.{is_among, without}
 use Rattle.row_handles.specs.Entries.{keys_of}
 use Rattle.shift_data.specs.Moves.{IsLawful}
 use Rattle.tick_model.specs.Shifts.{as_key, moved}
 use Rattle.chunk_list.specs.Chunked.{joined}
-use Rattle.sort_op.specs.declared.entry.Entry.{Entry}
-use Rattle.sort_op.specs.Entries.{rekeyed}
-use Rattle.sort_op.specs.Ranks.{Ranking, listed}
-use Rattle.sort_op.proofs.RankedEdits.{keys_left, shifted_keys, shifted_listed, shifted_ranking}
+use Rattle.sort_op.{specs.declared.entry.Entry.Entry, specs.Entries.rekeyed, specs.Ranks.{Ranking, listed}, proofs.RankedEdits.{keys_left, shifted_keys, shifted_listed, shifted_ranking}}
 use Rattle.sort_op.proofs.row_order.RowOrder.shift.Goals as goal
 
 pub shift-requires : goal.shift-requires

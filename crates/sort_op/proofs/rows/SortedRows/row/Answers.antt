@@ -2,8 +2,7 @@ use Rattle.std.proofs.Common.{◌≡◌, ◌∙◌, ◌++◌, ap, subst, sym, Li
 use Rattle.std.specs.Prelude.{OnOk}
 use Rattle.key_lists.specs.Keys.{is_among}
 use Rattle.tick_model.specs.Tables.{cells_at, keys}
-use Rattle.sort_op.specs.Places.{key_at}
-use Rattle.sort_op.proofs.PlacedCells.{place_found, place_within}
+use Rattle.sort_op.{specs.Places.key_at, proofs.PlacedCells.{place_found, place_within}}
 use Rattle.sort_op.proofs.rows.SortedRows.row.Goals as goal
 
 pub row-requires : goal.row-requires

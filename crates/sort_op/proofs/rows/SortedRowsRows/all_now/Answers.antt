@@ -1,13 +1,9 @@
 use Rattle.std.proofs.Common.{◌≡◌, ap, sym, ◌∙◌, subst, arith, true, ℕ, ◌+◌, ◌*◌, ◌≤◌, List, ◌++◌, ℤ, length}
 use Rattle.key_lists.specs.Keys.{is_among}
 use Rattle.row_set.proofs.Yielded.{next_has, yielded_all, yielded_next}
-use Rattle.tick_model.specs.Sort.{sort_table}
-use Rattle.tick_model.specs.Tables.{cells_at, keys}
-use Rattle.row_changes.specs.Parts.{cells_under}
-use Rattle.row_changes.proofs.Comparing.{cells_next, reads_next, reads_within}
-use Rattle.sort_op.specs.Places.{key_at}
-use Rattle.sort_op.specs.Ranks.{Ranking, listed}
-use Rattle.sort_op.proofs.PlacedCells.{place_found, place_within}
+use Rattle.tick_model.{specs.Sort.sort_table, specs.Tables.{cells_at, keys}}
+use Rattle.row_changes.{specs.Parts.cells_under, proofs.Comparing.{cells_next, reads_next, reads_within}}
+use Rattle.sort_op.{specs.Places.key_at, specs.Ranks.{Ranking, listed}, proofs.PlacedCells.{place_found, place_within}}
 use Rattle.sort_op.proofs.rows.SortedRowsRows.all_now.Goals as goal
 
 pub row-requires : goal.row-requires

@@ -2,9 +2,7 @@ use Rattle.std.proofs.Common.{◌≡◌, ◌∙◌, ◌++◌, ap, arith, subst, 
 use Rattle.std.specs.Prelude.{OnOk}
 use Rattle.key_lists.specs.Keys.{is_among}
 use Rattle.tick_model.specs.Tables.{cells_at, keys}
-use Rattle.sort_op.specs.Sorted.{entries_of}
-use Rattle.sort_op.proofs.PlacedCells.{place_found, place_within}
-use Rattle.sort_op.proofs.PlacesFound.{key_found}
+use Rattle.sort_op.{specs.Sorted.entries_of, proofs.PlacedCells.{place_found, place_within}, proofs.PlacesFound.key_found}
 use Rattle.sort_op.proofs.rows.SortedRowsRows.before.Goals as goal
 
 pub index-old_key-requires : goal.index-old_key-requires

@@ -1,8 +1,7 @@
 use Rattle.std.proofs.Common.{◌∙◌, ◌+◌, ap₂, get_or, rules, sym, w64, SFits}
 use Rattle.std.proofs.lemmas.Int.{to_z-of_z}
 use Rattle.tick_model.specs.Sort.{column_cmp}
-use Rattle.sort_op.proofs.CellOrders.{decided, passed}
-use Rattle.sort_op.proofs.KeptCells.{blank, cmp_from, cmp_more}
+use Rattle.sort_op.{proofs.CellOrders.{decided, passed}, proofs.KeptCells.{blank, cmp_from, cmp_more}}
 use Rattle.sort_op.proofs.sort_cells.SortCells.compare.Goals as goal
 
 pub returns-then-ne : goal.returns-then-ne

@@ -1,11 +1,7 @@
 use Rattle.std.proofs.Common.{◌≡◌, ◌∙◌, ap, inl, inr, rules, set, subst, sym, w64, SFits, ℤ}
-use Rattle.std.specs.Global.{Vec}
-use Rattle.std.specs.Prelude.{OnOk}
-use Rattle.std.proofs.lemmas.Bool.{cases_eq}
-use Rattle.std.proofs.lemmas.Int.{to_z-of_z}
+use Rattle.std.{specs.Global.Vec, specs.Prelude.OnOk, proofs.lemmas.Bool.cases_eq, proofs.lemmas.Int.to_z-of_z}
 use Rattle.tick_model.specs.Tables.{cell}
-use Rattle.sort_op.specs.Ranks.{cell_in, lists_of}
-use Rattle.sort_op.proofs.KeptCells.{column_at, column_others, column_set}
+use Rattle.sort_op.{specs.Ranks.{cell_in, lists_of}, proofs.KeptCells.{column_at, column_others, column_set}}
 use Rattle.sort_op.proofs.sort_cells.SortCells.put.Goals as goal
 
 pub returns-clause-put : goal.returns-clause-put

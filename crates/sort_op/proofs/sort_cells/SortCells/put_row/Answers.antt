@@ -1,6 +1,5 @@
 use Rattle.std.proofs.Common.{◌≡◌, ◌+◌, ◌∙◌, ap, arith}
-use Rattle.sort_op.specs.Ranks.{cell_in}
-use Rattle.sort_op.proofs.KeptCells.{cells_are}
+use Rattle.sort_op.{specs.Ranks.cell_in, proofs.KeptCells.cells_are}
 use Rattle.sort_op.proofs.sort_cells.SortCells.put_row.Goals as goal
 
 pub returns-clause-put : goal.returns-clause-put

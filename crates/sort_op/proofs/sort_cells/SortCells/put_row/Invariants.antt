@@ -1,7 +1,6 @@
 use Rattle.std.proofs.Common.{◌≡◌, ◌≢◌, ◌<◌, get_or, ℕ}
 use Rattle.tick_model.specs.Tables.{cell}
-use Rattle.sort_op.specs.Ranks.{cell_in}
-use Rattle.sort_op.proofs.KeptCells.{blank}
+use Rattle.sort_op.{specs.Ranks.cell_in, proofs.KeptCells.blank}
 use Rattle.sort_op.proofs.sort_cells.SortCells.put_row.Given as goal
 
 abbrev pub invariant-loop-place : goal.invariant-loop-place

@@ -2,18 +2,9 @@ use Rattle.std.proofs.Common.{◌≡◌, ap, ap₂, sym, ◌∙◌, subst, arith
 use Rattle.std.specs.Prelude.{sum_by}
 use Rattle.key_lists.proofs.Every.{map_map}
 use Rattle.tick_laws.specs.Bounded.{AreSourceTables}
-use Rattle.tick_model.specs.declared.feed.Block.{Block}
-use Rattle.tick_model.specs.Changes.{change_of}
-use Rattle.tick_model.specs.LawfulRuns.{sources_of}
-use Rattle.tick_model.specs.Sources.{after_blocks}
-use Rattle.tick_model.specs.Tables.{keys}
-use Rattle.tick_model.specs.Updates.{Tick}
+use Rattle.tick_model.{specs.declared.feed.Block.Block, specs.Changes.change_of, specs.LawfulRuns.sources_of, specs.Sources.after_blocks, specs.Tables.keys, specs.Updates.Tick}
 use Rattle.tick_table.specs.Ticking.{Ticking}
-use Rattle.source_changes.specs.declared.taking.TakenBlocks.{TakenBlocks}
-use Rattle.source_changes.specs.Reads.{block_reads, step_reads}
-use Rattle.source_changes.specs.Stepping.{ticked}
-use Rattle.source_changes.specs.Taking.{taking}
-use Rattle.source_changes.proofs.Turns.{news_follow, whole}
+use Rattle.source_changes.{specs.declared.taking.TakenBlocks.TakenBlocks, specs.Reads.{block_reads, step_reads}, specs.Stepping.ticked, specs.Taking.taking, proofs.Turns.{news_follow, whole}}
 use Rattle.source_changes.proofs.changes.SourceKeys.changes.Goals as goal
 
 pub take_blocks-requires-clause-tables : goal.take_blocks-requires-clause-tables

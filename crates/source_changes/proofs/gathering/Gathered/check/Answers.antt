@@ -1,8 +1,7 @@
 use Rattle.std.proofs.Common.{sym, subst, Option}
 use Rattle.std.specs.Prelude.{IfErr}
 use Rattle.tick_model.specs.Updates.{Update}
-use Rattle.source_changes.specs.Faults.{IsRuleOf, keys_fault}
-use Rattle.source_changes.specs.Waiting.{keys_with}
+use Rattle.source_changes.{specs.Faults.{IsRuleOf, keys_fault}, specs.Waiting.keys_with}
 use Rattle.source_changes.proofs.gathering.Gathered.check.Goals as goal
 
 pub returns-in-None-clause-cause : goal.returns-in-None-clause-cause

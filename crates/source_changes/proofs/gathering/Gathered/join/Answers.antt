@@ -2,9 +2,7 @@ use Rattle.std.proofs.Common.{◌≡◌, ap, sym, ◌∙◌, subst, Option, List
 use Rattle.table_update.specs.Coalesced.{Follow}
 use Rattle.tick_laws.specs.Checked.{keys_after}
 use Rattle.tick_model.specs.Updates.{Update}
-use Rattle.source_changes.specs.Stepping.{update_after}
-use Rattle.source_changes.specs.Waiting.{AreSets, IsGathered}
-use Rattle.source_changes.proofs.Joining.{made, next_follows, next_joins}
+use Rattle.source_changes.{specs.Stepping.update_after, specs.Waiting.{AreSets, IsGathered}, proofs.Joining.{made, next_follows, next_joins}}
 use Rattle.source_changes.proofs.gathering.Gathered.join.Goals as goal
 
 pub update_after-requires : goal.update_after-requires

@@ -1,9 +1,6 @@
 use Rattle.std.proofs.Common.{◌≡◌, ap, sym, ◌∙◌, subst, Option, ◌^◌, Some, None}
-use Rattle.tick_model.specs.Rules.{update_fault}
-use Rattle.tick_model.specs.Updates.{Update}
-use Rattle.source_changes.specs.Stepping.{update_after}
-use Rattle.source_changes.specs.Waiting.{AreSets, IsGathered, MayFollow, joined, keys_with}
-use Rattle.source_changes.proofs.Joining.{both_join, both_wait, made, on_both, still_behind}
+use Rattle.tick_model.{specs.Rules.update_fault, specs.Updates.Update}
+use Rattle.source_changes.{specs.Stepping.update_after, specs.Waiting.{AreSets, IsGathered, MayFollow, joined, keys_with}, proofs.Joining.{both_join, both_wait, made, on_both, still_behind}}
 use Rattle.source_changes.proofs.gathering.Gathered.put.Goals as goal
 
 pub returns-in_ok-both-in-Some-clause-gathered : goal.returns-in_ok-both-in-Some-clause-gathered

@@ -1,10 +1,7 @@
-use Rattle.std.proofs.Common.{◌≡◌, ap, sym, ◌∙◌, subst, List, ◌++◌, ℤ, None, Bor}
-use Rattle.std.specs.Prelude.{OnOk, option_map}
-use Rattle.std.proofs.lemmas.List.{append-nil}
+use Rattle.std.proofs.Common.{◌≡◌, ap, sym, ◌∙◌, subst, List, ◌++◌, ℤ, None, Bor, true}
+use Rattle.std.{specs.Prelude.{OnOk, option_map}, proofs.lemmas.List.append-nil}
 use Rattle.key_lists.specs.Keys.{is_among}
-use Rattle.tick_model.specs.declared.table.PlainTable.{PlainTable}
-use Rattle.tick_model.specs.Tables.{cells_at, keys}
-use Rattle.std.proofs.Common.{true}
+use Rattle.tick_model.{specs.declared.table.PlainTable.PlainTable, specs.Tables.{cells_at, keys}}
 use Rattle.source_changes.proofs.Reading.{before_there, key_small, none_of, now_before, now_none, now_told}
 use Rattle.source_changes.proofs.rows.SourceStepRows.now.Goals as goal
 

@@ -1,7 +1,6 @@
 use Rattle.std.proofs.Common.{◌≡◌, sym, subst, ◌+◌, ◌*◌, ◌≤◌, length}
 use Rattle.row_changes.specs.Parts.{AreParts, AreThere, Parts}
-use Rattle.source_changes.specs.Stepping.{now_of, ticked}
-use Rattle.source_changes.proofs.Ticked.{even, parts_are, ready, there}
+use Rattle.source_changes.{specs.Stepping.{now_of, ticked}, proofs.Ticked.{even, parts_are, ready, there}}
 use Rattle.source_changes.proofs.steps.SourceStep.change.Goals as goal
 
 pub change_of_touched-requires-clause-ready : goal.change_of_touched-requires-clause-ready

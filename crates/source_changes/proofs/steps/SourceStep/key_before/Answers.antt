@@ -2,10 +2,8 @@ use Rattle.std.proofs.Common.{◌≡◌, refl, ap, ◌∙◌, ℕ, List, [], ◌
 use Rattle.std.specs.Prelude.{slice_get}
 use Rattle.key_lists.specs.Keys.{is_among, without}
 use Rattle.table_update.proofs.Occupied.{get-filter}
-use Rattle.tick_model.specs.Shifts.{as_key, moved}
-use Rattle.tick_model.specs.Tables.{keys}
-use Rattle.source_changes.specs.Stepping.{Stepping, key_before}
-use Rattle.source_changes.proofs.Gathered.{one_key}
+use Rattle.tick_model.{specs.Shifts.{as_key, moved}, specs.Tables.keys}
+use Rattle.source_changes.{specs.Stepping.{Stepping, key_before}, proofs.Gathered.one_key}
 use Rattle.source_changes.proofs.steps.SourceStep.key_before.Goals as goal
 
 pub returns : goal.returns

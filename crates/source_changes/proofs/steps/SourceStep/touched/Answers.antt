@@ -1,8 +1,6 @@
 use Rattle.std.proofs.Common.{◌≡◌, ap, sym, ◌∙◌, subst, ℕ, ◌^◌, None, List}
-use Rattle.tick_model.specs.Rules.{update_fault}
-use Rattle.tick_model.specs.Tables.{keys}
-use Rattle.source_changes.specs.Stepping.{Stepping, ticked}
-use Rattle.source_changes.proofs.Standing.{first_applies}
+use Rattle.tick_model.{specs.Rules.update_fault, specs.Tables.keys}
+use Rattle.source_changes.{specs.Stepping.{Stepping, ticked}, proofs.Standing.first_applies}
 use Rattle.source_changes.proofs.steps.SourceStep.touched.Goals as goal
 
 pub modified_before-requires : goal.modified_before-requires

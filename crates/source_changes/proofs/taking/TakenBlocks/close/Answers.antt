@@ -1,10 +1,6 @@
 use Rattle.std.proofs.Common.{◌≡◌, ap, sym, ◌∙◌, subst, List, ℕ, ◌+◌, ◌≤◌}
 use Rattle.tick_model.specs.Changes.{change_of}
-use Rattle.source_changes.specs.Reads.{step_reads}
-use Rattle.source_changes.specs.Stepping.{IsStepping, Stepping, ticked}
-use Rattle.source_changes.specs.Taking.{taking}
-use Rattle.source_changes.specs.Waiting.{joined, keys_with}
-use Rattle.source_changes.proofs.Turned.{closes, keys_now}
+use Rattle.source_changes.{specs.Reads.step_reads, specs.Stepping.{IsStepping, Stepping, ticked}, specs.Taking.taking, specs.Waiting.{joined, keys_with}, proofs.Turned.{closes, keys_now}}
 use Rattle.source_changes.proofs.taking.TakenBlocks.close.Goals as goal
 
 pub change-requires : goal.change-requires

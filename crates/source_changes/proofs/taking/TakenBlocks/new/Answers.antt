@@ -1,9 +1,6 @@
 use Rattle.std.proofs.Common.{◌≡◌, ap, ap₂, ◌∙◌, ◌*◌, arith}
-use Rattle.tick_model.specs.Tables.{keys}
-use Rattle.tick_model.specs.Updates.{Update}
-use Rattle.source_changes.specs.Reads.{read_rows}
-use Rattle.source_changes.specs.Waiting.{joined}
-use Rattle.source_changes.proofs.Turned.{starts}
+use Rattle.tick_model.{specs.Tables.keys, specs.Updates.Update}
+use Rattle.source_changes.{specs.Reads.read_rows, specs.Waiting.joined, proofs.Turned.starts}
 use Rattle.source_changes.proofs.taking.TakenBlocks.new.Goals as goal
 
 pub returns-clause-taking : goal.returns-clause-taking

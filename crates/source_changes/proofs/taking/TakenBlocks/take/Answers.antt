@@ -1,12 +1,6 @@
 use Rattle.std.proofs.Common.{◌≡◌, refl, ap, ◌∙◌, subst, Option, List, ℕ}
-use Rattle.tick_model.specs.declared.update.FeedRule.{FeedRule}
-use Rattle.tick_model.specs.Tables.{keys}
-use Rattle.tick_model.specs.Updates.{Update}
-use Rattle.source_changes.specs.declared.taking.TakenBlocks.{TakenBlocks}
-use Rattle.source_changes.specs.Faults.{IsFault, record_fault}
-use Rattle.source_changes.specs.Stepping.{update_after}
-use Rattle.source_changes.specs.Waiting.{IsGathered, joined, keys_with}
-use Rattle.source_changes.proofs.Turned.{block_fine, fault_is, may_apply, now_below, reads_on, takes_on, ticked_on, told_moves}
+use Rattle.tick_model.{specs.declared.update.FeedRule.FeedRule, specs.Tables.keys, specs.Updates.Update}
+use Rattle.source_changes.{specs.declared.taking.TakenBlocks.TakenBlocks, specs.Faults.{IsFault, record_fault}, specs.Stepping.update_after, specs.Waiting.{IsGathered, joined, keys_with}, proofs.Turned.{block_fine, fault_is, may_apply, now_below, reads_on, takes_on, ticked_on, told_moves}}
 use Rattle.source_changes.proofs.taking.TakenBlocks.take.Goals as goal
 
 pub check-requires-clause-below : goal.check-requires-clause-below

@@ -1,7 +1,6 @@
 use Rattle.std.proofs.Common.{ap, ◌∙◌, List, ℤ, Bor}
 use Rattle.std.specs.Prelude.{option_map}
-use Rattle.tick_model.specs.declared.table.PlainRow.{PlainRow}
-use Rattle.tick_model.specs.Tables.{row_at}
+use Rattle.tick_model.{specs.declared.table.PlainRow.PlainRow, specs.Tables.row_at}
 use Rattle.source_changes.proofs.Mapped.{cells_found}
 use Rattle.source_changes.proofs.told.ToldRows.get.Goals as goal
 

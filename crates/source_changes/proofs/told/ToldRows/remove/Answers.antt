@@ -1,8 +1,7 @@
 use Rattle.std.proofs.Common.{ap, ap₂, ◌∙◌, map}
 use Rattle.row_set.specs.Ranges.{keys_of}
 use Rattle.tick_model.specs.Updates.{removing}
-use Rattle.source_changes.specs.Told.{told_row}
-use Rattle.source_changes.proofs.Mapped.{ranges_ascend, told_left}
+use Rattle.source_changes.{specs.Told.told_row, proofs.Mapped.{ranges_ascend, told_left}}
 use Rattle.source_changes.proofs.told.ToldRows.remove.Goals as goal
 
 pub remove_ranges-requires : goal.remove_ranges-requires

@@ -1,12 +1,8 @@
 use Rattle.std.proofs.Common.{◌≡◌, ap, sym, ◌∙◌, subst, eqb-true, ℕ, length, map, List, ℤ, Bor}
-use Rattle.std.specs.BTreeMap.{BTreeMap}
-use Rattle.std.specs.Map.{keys_of as map_keys}
-use Rattle.std.proofs.lemmas.List.{nil_from_length}
+use Rattle.std.{specs.BTreeMap.BTreeMap, specs.Map.keys_of as map_keys, proofs.lemmas.List.nil_from_length}
 use Rattle.shift_data.specs.Moves.{IsLawful}
-use Rattle.tick_model.specs.Tables.{keys}
-use Rattle.tick_model.specs.Updates.{shifting}
-use Rattle.source_changes.specs.Told.{told_row}
-use Rattle.source_changes.proofs.Mapped.{keys-told, none_shifted, small_keys}
+use Rattle.tick_model.{specs.Tables.keys, specs.Updates.shifting}
+use Rattle.source_changes.{specs.Told.told_row, proofs.Mapped.{keys-told, none_shifted, small_keys}}
 use Rattle.source_changes.proofs.told.ToldRows.shift.Goals as goal
 
 pub returns-then-is_empty : goal.returns-then-is_empty

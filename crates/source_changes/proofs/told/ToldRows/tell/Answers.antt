@@ -2,10 +2,7 @@ use Rattle.std.proofs.Common.{◌≡◌, ap, sym, ◌∙◌, subst, List, ℕ}
 use Rattle.tick_table.proofs.CarriedRows.{keys-removing}
 use Rattle.key_lists.specs.Keys.{without}
 use Rattle.shift_data.specs.Moves.{IsLawful}
-use Rattle.tick_model.specs.declared.update.ShiftRange.{ShiftRange}
-use Rattle.tick_model.specs.Sources.{update_of}
-use Rattle.tick_model.specs.Tables.{keys}
-use Rattle.tick_model.specs.Updates.{Update}
+use Rattle.tick_model.{specs.declared.update.ShiftRange.ShiftRange, specs.Sources.update_of, specs.Tables.keys, specs.Updates.Update}
 use Rattle.source_changes.proofs.told.ToldRows.tell.Goals as goal
 
 pub shift-requires : goal.shift-requires

@@ -1,7 +1,6 @@
 use Rattle.std.proofs.Common.{eqb, sym, subst, arith}
 use Rattle.std.specs.List.{IsDistinct}
-use Rattle.steal_workers.specs.Lists.{IsListed}
-use Rattle.steal_workers.proofs.Listing.{below_push, distinct_push, room_left}
+use Rattle.steal_workers.{specs.Lists.IsListed, proofs.Listing.{below_push, distinct_push, room_left}}
 use Rattle.steal_workers.proofs.ready.Ready.add.Goals as goal
 
 pub push-requires : goal.push-requires

@@ -1,7 +1,6 @@
 use Rattle.std.proofs.Common.{eqb, sym, subst}
 use Rattle.std.specs.List.{IsDistinct}
-use Rattle.steal_workers.specs.Lists.{IsListed}
-use Rattle.steal_workers.proofs.Listing.{distinct_none, true_false}
+use Rattle.steal_workers.{specs.Lists.IsListed, proofs.Listing.{distinct_none, true_false}}
 use Rattle.steal_workers.proofs.ready.Ready.new.Goals as goal
 
 pub invariant_of-result : goal.invariant_of-result

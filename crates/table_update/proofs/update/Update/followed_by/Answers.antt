@@ -3,9 +3,7 @@ use Rattle.key_lists.specs.Keys.{without}
 use Rattle.row_set.specs.Sets.{united}
 use Rattle.tick_model.specs.Rules.{landed}
 use Rattle.shift_data.specs.Moves.{IsLawful}
-use Rattle.table_update.specs.Coalesced.{added_by_both, modified_after, modified_by_both, removed_by_both}
-use Rattle.table_update.proofs.CoalescedKeys.{modified_lawful, new_lawful, united_added, united_modified}
-use Rattle.table_update.proofs.Parts.{columns_where, made}
+use Rattle.table_update.{specs.Coalesced.{added_by_both, modified_after, modified_by_both, removed_by_both}, proofs.CoalescedKeys.{modified_lawful, new_lawful, united_added, united_modified}, proofs.Parts.{columns_where, made}}
 use Rattle.table_update.proofs.update.Update.followed_by.Goals as goal
 
 pub places_of-requires : goal.places_of-requires

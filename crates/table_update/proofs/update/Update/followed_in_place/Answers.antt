@@ -1,11 +1,8 @@
 use Rattle.std.proofs.Common.{◌≡◌, ap, ap₂, sym, ◌∙◌, subst}
 use Rattle.key_lists.specs.Keys.{IsRising, without}
 use Rattle.row_set.specs.Sets.{united}
-use Rattle.tick_model.specs.Shifts.{shifted}
-use Rattle.tick_model.specs.Updates.{Update}
-use Rattle.table_update.specs.Coalesced.{added_by_both, kept_by_both, modified_by_both, removed_by_both}
-use Rattle.table_update.proofs.Parts.{columns_where, made}
-use Rattle.table_update.proofs.StillKeys.{still_added, still_modified, still_removed, still_shifted}
+use Rattle.tick_model.{specs.Shifts.shifted, specs.Updates.Update}
+use Rattle.table_update.{specs.Coalesced.{added_by_both, kept_by_both, modified_by_both, removed_by_both}, proofs.Parts.{columns_where, made}, proofs.StillKeys.{still_added, still_modified, still_removed, still_shifted}}
 use Rattle.table_update.proofs.update.Update.followed_in_place.Goals as goal
 
 pub returns : goal.returns

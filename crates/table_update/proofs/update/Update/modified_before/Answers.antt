@@ -1,11 +1,8 @@
 use Rattle.std.proofs.Common.{◌≡◌, ◌^◌, sym, subst, true}
 use Rattle.std.specs.List.{AllByRecursion}
-use Rattle.key_lists.specs.Keys.{is_among, without}
-use Rattle.key_lists.proofs.Among.{each_among}
-use Rattle.key_lists.proofs.Every.{every_weaker}
+use Rattle.key_lists.{specs.Keys.{is_among, without}, proofs.Among.each_among, proofs.Every.every_weaker}
 use Rattle.tick_model.specs.Rules.{landed}
-use Rattle.table_update.proofs.CoalescedKeys.{modified_stays}
-use Rattle.table_update.proofs.KeysAfter.{rules_kept}
+use Rattle.table_update.{proofs.CoalescedKeys.modified_stays, proofs.KeysAfter.rules_kept}
 use Rattle.table_update.proofs.update.Update.modified_before.Goals as goal
 
 pub keys_before-requires-clause-lawful : goal.keys_before-requires-clause-lawful

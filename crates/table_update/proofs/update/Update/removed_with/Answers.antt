@@ -2,9 +2,7 @@ use Rattle.std.proofs.Common.{◌≡◌, ap, ap₂, sym, ◌∙◌, subst, IfOk,
 use Rattle.key_lists.specs.Keys.{without}
 use Rattle.row_set.specs.Sets.{united}
 use Rattle.shift_data.specs.Moves.{IsLawful, unapplied}
-use Rattle.table_update.specs.Coalesced.{removed_by_both}
-use Rattle.table_update.proofs.KeysAfter.{rules_kept}
-use Rattle.table_update.proofs.CoalescedKeys.{united_removed}
+use Rattle.table_update.{specs.Coalesced.removed_by_both, proofs.KeysAfter.rules_kept, proofs.CoalescedKeys.united_removed}
 use Rattle.table_update.proofs.update.Update.removed_with.Goals as goal
 
 pub unapply_without-requires : goal.unapply_without-requires

@@ -1,8 +1,6 @@
 use Rattle.std.proofs.Common.{ap, ap₂, sym, ◌∙◌, drop, filter}
 use Rattle.std.proofs.lemmas.List.{drop_all}
-use Rattle.tick_model.specs.Evaluation.{is_source}
-use Rattle.tick_model.specs.Fits.{are_source_tables}
-use Rattle.tick_model.proofs.SourceTables.{no_tables_left}
+use Rattle.tick_model.{specs.Evaluation.is_source, specs.Fits.are_source_tables, proofs.SourceTables.no_tables_left}
 use Rattle.tick_model.proofs.plan.Plan.fits.Goals as goal
 
 pub returns : goal.returns

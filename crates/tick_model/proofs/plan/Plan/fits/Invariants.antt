@@ -1,6 +1,5 @@
 use Rattle.std.proofs.Common.{◌≡◌, ◌≤◌, length, drop, filter}
-use Rattle.tick_model.specs.Evaluation.{is_source}
-use Rattle.tick_model.specs.Fits.{are_source_tables}
+use Rattle.tick_model.{specs.Evaluation.is_source, specs.Fits.are_source_tables}
 use Rattle.tick_model.proofs.plan.Plan.fits.Given as goal
 
 abbrev pub invariant-loop-node : goal.invariant-loop-node

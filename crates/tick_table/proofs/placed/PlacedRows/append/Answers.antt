@@ -1,10 +1,7 @@
 use Rattle.std.proofs.Common.{refl, ap, sym, ◌∙◌, ◌++◌, ◌*◌, length, List, ℕ}
 use Rattle.std.specs.List.{range_with_len}
 use Rattle.chunk_list.specs.Chunked.{joined}
-use Rattle.tick_table.specs.Placed.{Placed, cells_of}
-use Rattle.tick_table.specs.Slots.{slot_list}
-use Rattle.tick_table.proofs.Own.{cells_appended, cells_stay, own_appended, own_as, own_opened}
-use Rattle.tick_table.proofs.SlotCells.{length-slot_list}
+use Rattle.tick_table.{specs.Placed.{Placed, cells_of}, specs.Slots.slot_list, proofs.Own.{cells_appended, cells_stay, own_appended, own_as, own_opened}, proofs.SlotCells.length-slot_list}
 use Rattle.tick_table.proofs.placed.PlacedRows.append.Goals as goal
 
 pub open_all-requires : goal.open_all-requires

@@ -1,8 +1,6 @@
 use Rattle.std.proofs.Common.{refl, ap, sym, ◌∙◌, subst, ◌++◌, [], reverse, List, ℕ}
 use Rattle.chunk_list.specs.Chunked.{joined}
-use Rattle.tick_table.specs.Slots.{SlotCells}
-use Rattle.tick_table.specs.Placed.{AreOwn, Placed, cells_of}
-use Rattle.tick_table.proofs.Own.{own_as, own_released, own_reversed}
+use Rattle.tick_table.{specs.Slots.SlotCells, specs.Placed.{AreOwn, Placed, cells_of}, proofs.Own.{own_as, own_released, own_reversed}}
 use Rattle.tick_table.proofs.placed.PlacedRows.begin_step.Goals as goal
 
 pub invariant_of-self : goal.invariant_of-self

@@ -1,8 +1,7 @@
 use Rattle.std.proofs.Common.{ap, sym, ◌∙◌, ◌<◌, arith, get_or, length, [], ℕ}
 use Rattle.std.proofs.lemmas.List.{get_or_read}
 use Rattle.key_lists.proofs.Parts.{every_at}
-use Rattle.tick_table.specs.Placed.{Placed}
-use Rattle.tick_table.proofs.Own.{at-cells, length-cells}
+use Rattle.tick_table.{specs.Placed.Placed, proofs.Own.{at-cells, length-cells}}
 use Rattle.tick_table.proofs.placed.PlacedRows.left_row.Goals as goal
 
 pub index-requires : goal.index-requires

@@ -1,7 +1,6 @@
 use Rattle.std.proofs.Common.{ap, sym, ◌∙◌, length}
 use Rattle.chunk_list.specs.Chunked.{joined}
-use Rattle.tick_table.specs.Placed.{Placed}
-use Rattle.tick_table.proofs.Own.{length-cells}
+use Rattle.tick_table.{specs.Placed.Placed, proofs.Own.length-cells}
 use Rattle.tick_table.proofs.placed.PlacedRows.len.Goals as goal
 
 pub returns : goal.returns

@@ -1,8 +1,7 @@
 use Rattle.std.proofs.Common.{refl, ap, ap₂, ◌∙◌, [], arith, get_or, length, List, ℕ, ℤ}
 use Rattle.std.specs.List.{insert}
 use Rattle.chunk_list.specs.Chunked.{joined}
-use Rattle.tick_table.specs.Placed.{Placed, cells_of}
-use Rattle.tick_table.proofs.Own.{left_same, length-cells, map-insert, own_as, own_filled, own_put, places_same}
+use Rattle.tick_table.{specs.Placed.{Placed, cells_of}, proofs.Own.{left_same, length-cells, map-insert, own_as, own_filled, own_put, places_same}}
 use Rattle.tick_table.proofs.placed.PlacedRows.put_in.Goals as goal
 
 pub insert-requires : goal.insert-requires

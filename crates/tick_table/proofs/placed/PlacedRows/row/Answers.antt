@@ -1,8 +1,7 @@
 use Rattle.std.proofs.Common.{ap, sym, ◌∙◌, ◌<◌, arith, get_or, length, [], ℕ}
 use Rattle.key_lists.proofs.Parts.{every_at}
 use Rattle.chunk_list.specs.Chunked.{joined}
-use Rattle.tick_table.specs.Placed.{Placed}
-use Rattle.tick_table.proofs.Own.{at-cells, length-cells}
+use Rattle.tick_table.{specs.Placed.Placed, proofs.Own.{at-cells, length-cells}}
 use Rattle.tick_table.proofs.placed.PlacedRows.row.Goals as goal
 
 pub slot_at-requires : goal.slot_at-requires

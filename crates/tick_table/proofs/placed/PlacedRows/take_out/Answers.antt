@@ -1,9 +1,7 @@
 use Rattle.std.proofs.Common.{◌≡◌, ap, sym, ◌∙◌, ◌<◌, ◌++◌, ◌∷◌, [], arith, get_or, length, List, ℕ, ℤ}
-use Rattle.std.specs.List.{remove}
-use Rattle.std.proofs.lemmas.Option.{get_or_from_slice_get}
+use Rattle.std.{specs.List.remove, proofs.lemmas.Option.get_or_from_slice_get}
 use Rattle.chunk_list.specs.Chunked.{joined}
-use Rattle.tick_table.specs.Placed.{Placed, cells_of}
-use Rattle.tick_table.proofs.Own.{at-cells, cells-push, length-cells, map-remove, own_as, own_left, own_out}
+use Rattle.tick_table.{specs.Placed.{Placed, cells_of}, proofs.Own.{at-cells, cells-push, length-cells, map-remove, own_as, own_left, own_out}}
 use Rattle.tick_table.proofs.placed.PlacedRows.take_out.Goals as goal
 
 pub remove-slot-requires : goal.remove-slot-requires

@@ -1,7 +1,6 @@
 use Rattle.std.proofs.Common.{ap, ◌∙◌, subst}
 use Rattle.row_set.specs.Sets.{found}
-use Rattle.tick_table.specs.Places.{IsPassing}
-use Rattle.tick_table.proofs.Passing.{found_next, found_none}
+use Rattle.tick_table.{specs.Places.IsPassing, proofs.Passing.{found_next, found_none}}
 use Rattle.tick_table.proofs.places.Places.find.Goals as goal
 
 pub returns-then-next-key-clause-position : goal.returns-then-next-key-clause-position

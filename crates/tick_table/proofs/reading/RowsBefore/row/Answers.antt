@@ -1,7 +1,6 @@
 use Rattle.std.proofs.Common.{ap₂, sym, ◌∙◌}
 use Rattle.tick_model.specs.Tables.{cells_at}
-use Rattle.tick_table.specs.Ticking.{Ticking}
-use Rattle.tick_table.proofs.Found.{found_place}
+use Rattle.tick_table.{specs.Ticking.Ticking, proofs.Found.found_place}
 use Rattle.tick_table.proofs.reading.RowsBefore.row.Goals as goal
 
 pub removed_row-requires : goal.removed_row-requires

@@ -1,7 +1,6 @@
 use Rattle.std.proofs.Common.{ap, sym, ◌∙◌, subst, ◌++◌, ◌∷◌, [], ◌<◌, length, set, arith, List, ℕ}
 use Rattle.key_lists.proofs.Parts.{every_back}
-use Rattle.tick_table.specs.Slots.{AreSlots, SlotCells}
-use Rattle.tick_table.proofs.SlotCells.{filled_over, length-slot_list}
+use Rattle.tick_table.{specs.Slots.{AreSlots, SlotCells}, proofs.SlotCells.{filled_over, length-slot_list}}
 use Rattle.tick_table.proofs.slots.Slots.fill.Goals as goal
 
 pub overwrite-requires-clause-slot : goal.overwrite-requires-clause-slot

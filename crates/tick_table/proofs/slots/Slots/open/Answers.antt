@@ -1,6 +1,5 @@
 use Rattle.std.proofs.Common.{◌≡◌, ap, sym, ◌∙◌, ◌+◌, ◌++◌, ◌∷◌, [], length}
-use Rattle.tick_table.specs.Slots.{SlotCells, slot_list}
-use Rattle.tick_table.proofs.SlotCells.{length-slot_list, slot_list-open}
+use Rattle.tick_table.{specs.Slots.{SlotCells, slot_list}, proofs.SlotCells.{length-slot_list, slot_list-open}}
 use Rattle.tick_table.proofs.slots.Slots.open.Goals as goal
 
 pub returns-clause-slot : goal.returns-clause-slot

@@ -1,7 +1,6 @@
 use Rattle.std.proofs.Common.{ap, sym, ◌∙◌, ◌+◌, ◌*◌, ◌++◌, length, arith, List, ℤ, subst}
 use Rattle.std.specs.List.{range_with_len}
-use Rattle.tick_table.specs.Slots.{IsSlotList, SlotCells, slot_list}
-use Rattle.tick_table.proofs.SlotCells.{count_fits, length-slot_list, more_slots, slot_list-append}
+use Rattle.tick_table.{specs.Slots.{IsSlotList, SlotCells, slot_list}, proofs.SlotCells.{count_fits, length-slot_list, more_slots, slot_list-append}}
 use Rattle.tick_table.proofs.slots.Slots.open_all.Goals as goal
 
 pub slots_from-requires : goal.slots_from-requires

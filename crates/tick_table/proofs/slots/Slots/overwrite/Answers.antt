@@ -1,8 +1,7 @@
 use Rattle.std.proofs.Common.{◌≡◌, ap, ap₂, sym, ◌∙◌, ◌+◌, ◌*◌, ◌-◌, ◌<◌, ◌≤◌, arith, rules, drop, set, length, List, ℤ, ℕ}
 use Rattle.std.proofs.lemmas.List.{take_at}
 use borrow.Rule.Slice.PartMut.{put_mid}
-use Rattle.tick_table.specs.Slots.{SlotCells, slot_list}
-use Rattle.tick_table.proofs.SlotCells.{length-written, slot_list-set, slot_within}
+use Rattle.tick_table.{specs.Slots.{SlotCells, slot_list}, proofs.SlotCells.{length-written, slot_list-set, slot_within}}
 use Rattle.tick_table.proofs.slots.Slots.overwrite.Goals as goal
 
 pub overflow_mul-start : goal.overflow_mul-start

@@ -1,8 +1,7 @@
 use Rattle.std.proofs.Common.{◌≡◌, ap, sym, ◌∙◌, subst, true, false, cond, ◌++◌, ◌<◌, length}
 use Rattle.std.specs.Result.{is_ok}
 use Rattle.key_lists.proofs.Every.{every-append}
-use Rattle.tick_table.specs.Slots.{AreSlots, SlotCells}
-use Rattle.tick_table.proofs.SlotCells.{length-slot_list}
+use Rattle.tick_table.{specs.Slots.{AreSlots, SlotCells}, proofs.SlotCells.length-slot_list}
 use Rattle.tick_table.proofs.slots.Slots.release.Goals as goal
 
 pub invariant_of-self : goal.invariant_of-self

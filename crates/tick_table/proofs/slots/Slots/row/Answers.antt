@@ -1,6 +1,5 @@
 use Rattle.std.proofs.Common.{ap, sym, ◌∙◌, ◌*◌, arith, take, drop, get_or, length, List, [], ℤ}
-use Rattle.tick_table.specs.Slots.{SlotCells}
-use Rattle.tick_table.proofs.SlotCells.{at-slot_list, slot_within}
+use Rattle.tick_table.{specs.Slots.SlotCells, proofs.SlotCells.{at-slot_list, slot_within}}
 use Rattle.tick_table.proofs.slots.Slots.row.Goals as goal
 
 pub row_at-requires : goal.row_at-requires

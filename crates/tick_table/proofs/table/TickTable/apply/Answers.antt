@@ -1,8 +1,6 @@
 use Rattle.std.proofs.Common.{ap, ap₂, sym, ◌∙◌, length}
 use Rattle.tick_model.specs.Changes.{Change, changed}
-use Rattle.tick_table.specs.Ticking.{Ticking}
-use Rattle.tick_table.proofs.Applied.{kept_is, lawful, new_is, old_is, whole}
-use Rattle.tick_table.proofs.ExactAgain.{applied_is}
+use Rattle.tick_table.{specs.Ticking.Ticking, proofs.Applied.{kept_is, lawful, new_is, old_is, whole}, proofs.ExactAgain.applied_is}
 use Rattle.tick_table.proofs.table.TickTable.apply.Goals as goal
 
 pub bring_on-requires-clause-lawful : goal.bring_on-requires-clause-lawful

@@ -1,7 +1,6 @@
 use Rattle.std.proofs.Common.{◌≡◌, ap, sym, ◌∙◌, ◌+◌, ◌-◌, ◌≤◌, ◌^◌, arith, get_or, length, length-append, ℕ}
 use Rattle.std.proofs.lemmas.List.{get_or-append_right}
-use Rattle.key_lists.proofs.Every.{every}
-use Rattle.key_lists.proofs.Rising.{rising_count}
+use Rattle.key_lists.{proofs.Every.every, proofs.Rising.rising_count}
 use Rattle.tick_model.specs.Tables.{cells_at}
 use Rattle.tick_table.specs.Ticking.{Ticking}
 use Rattle.tick_table.proofs.table.TickTable.modified_row.Goals as goal

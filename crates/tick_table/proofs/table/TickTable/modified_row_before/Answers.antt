@@ -1,6 +1,5 @@
 use Rattle.std.proofs.Common.{ap, ◌∙◌, arith, ◌*◌, take, drop}
-use Rattle.tick_table.specs.Ticking.{Ticking}
-use Rattle.tick_table.proofs.Before.{modified_cells, modified_within}
+use Rattle.tick_table.{specs.Ticking.Ticking, proofs.Before.{modified_cells, modified_within}}
 use Rattle.tick_table.proofs.table.TickTable.modified_row_before.Goals as goal
 
 pub saved_row-row-requires : goal.saved_row-row-requires

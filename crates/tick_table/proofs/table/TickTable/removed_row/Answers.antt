@@ -1,6 +1,5 @@
 use Rattle.std.proofs.Common.{ap, ◌∙◌, arith, length}
-use Rattle.tick_table.specs.Ticking.{Ticking}
-use Rattle.tick_table.proofs.Before.{removed_cells}
+use Rattle.tick_table.{specs.Ticking.Ticking, proofs.Before.removed_cells}
 use Rattle.tick_table.proofs.table.TickTable.removed_row.Goals as goal
 
 pub left_row-row-requires : goal.left_row-row-requires

@@ -1,6 +1,5 @@
 use Rattle.std.proofs.Common.{ap, sym, ◌∙◌}
-use Rattle.tick_table.specs.Ticking.{Ticking}
-use Rattle.tick_table.proofs.Before.{left_cells, left_within, not_removed}
+use Rattle.tick_table.{specs.Ticking.Ticking, proofs.Before.{left_cells, left_within, not_removed}}
 use Rattle.tick_table.proofs.table.TickTable.row_before.Goals as goal
 
 pub left_row-requires : goal.left_row-requires

@@ -1,8 +1,6 @@
 use Rattle.std.proofs.Common.{ap, sym, ◌∙◌, ◌<◌, ◌^◌}
-use Rattle.key_lists.specs.Keys.{is_among}
-use Rattle.key_lists.proofs.Among.{of_among}
-use Rattle.tick_table.specs.Ticking.{Ticking}
-use Rattle.tick_table.proofs.Before.{before_keys, now_own, place_inside, same_cells, saved_cells, saved_within}
+use Rattle.key_lists.{specs.Keys.is_among, proofs.Among.of_among}
+use Rattle.tick_table.{specs.Ticking.Ticking, proofs.Before.{before_keys, now_own, place_inside, same_cells, saved_cells, saved_within}}
 use Rattle.tick_table.proofs.table.TickTable.row_stayed.Goals as goal
 
 pub landing-now-requires-clause-key : goal.landing-now-requires-clause-key

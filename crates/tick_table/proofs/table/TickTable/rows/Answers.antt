@@ -1,7 +1,6 @@
 use Rattle.std.proofs.Common.{subst}
 use Rattle.tick_model.specs.Tables.{IsTable}
-use Rattle.tick_table.specs.Ticking.{Ticking}
-use Rattle.tick_table.proofs.Before.{now_keys}
+use Rattle.tick_table.{specs.Ticking.Ticking, proofs.Before.now_keys}
 use Rattle.tick_table.proofs.table.TickTable.rows.Goals as goal
 
 pub returns-clause-keys : goal.returns-clause-keys

@@ -1,6 +1,5 @@
 use Rattle.std.proofs.Common.{ap, ap₂, sym, ◌∙◌, subst, ◌+◌, ◌*◌, ◌≤◌, take, drop, length, List, ℕ, ℤ}
-use Rattle.tick_table.specs.Ticking.{Ticking}
-use Rattle.tick_table.proofs.Before.{told_cells, told_within}
+use Rattle.tick_table.{specs.Ticking.Ticking, proofs.Before.{told_cells, told_within}}
 use Rattle.tick_table.proofs.table.TickTable.told_row.Goals as goal
 
 pub row_at-requires : goal.row_at-requires

@@ -2,10 +2,7 @@ use Rattle.std.proofs.Common.{◌<◌, ◌∙◌, ap, sym, subst, arith, length,
 use Rattle.std.proofs.lemmas.List.{take_all}
 use lib.ListN.{get_elem?}
 use Rattle.graph_words.specs.declared.graph.Edge.{Edge}
-use Rattle.update_graph.specs.Edges.{comes_from, goes_to, numbers_of}
-use Rattle.update_graph.proofs.Numbered.{more_numbers}
-use Rattle.update_graph.proofs.PlanEdges.{edge_ends, item_there, few_edges}
-use Rattle.update_graph.proofs.Walking.{no_edge}
+use Rattle.update_graph.{specs.Edges.{comes_from, goes_to, numbers_of}, proofs.Numbered.more_numbers, proofs.PlanEdges.{edge_ends, item_there, few_edges}, proofs.Walking.no_edge}
 use Rattle.update_graph.proofs.edges.Edges.of.Goals as goal
 
 pub overflow_cast-number : goal.overflow_cast-number

@@ -1,10 +1,5 @@
 use Rattle.std.proofs.Common.{sym, subst, ◌+◌, ◌-◌, ◌≤◌, length}
-use Rattle.update_graph.specs.Graphs.{GraphView, SteppedOnce, most_in, read_in}
-use Rattle.update_graph.specs.Tags.{all_reads}
-use Rattle.update_graph.proofs.ClaimedWorks.{count_works}
-use Rattle.update_graph.proofs.Counting.{all_within}
-use Rattle.update_graph.proofs.Following.{all_once}
-use Rattle.update_graph.proofs.Sweeping.{numbers_in_order, ran_once}
+use Rattle.update_graph.{specs.Graphs.{GraphView, SteppedOnce, most_in, read_in}, specs.Tags.all_reads, proofs.ClaimedWorks.count_works, proofs.Counting.all_within, proofs.Following.all_once, proofs.Sweeping.{numbers_in_order, ran_once}}
 use Rattle.update_graph.proofs.graph.Graph.cycle.Goals as goal
 
 pub finished-requires-clause-works : goal.finished-requires-clause-works

@@ -1,6 +1,5 @@
 use Rattle.std.proofs.Common.{ap, sym, ◌≡◌, ◌∙◌, subst, ◌+◌, true}
-use Rattle.update_graph.specs.Stands.{HasStepped, is_defined}
-use Rattle.update_graph.specs.Tags.{Tag, is_operator, op_at}
+use Rattle.update_graph.{specs.Stands.{HasStepped, is_defined}, specs.Tags.{Tag, is_operator, op_at}}
 use Rattle.update_graph.proofs.graph.Graph.operator.Goals as goal
 
 pub operator-requires-clause-operator : goal.operator-requires-clause-operator

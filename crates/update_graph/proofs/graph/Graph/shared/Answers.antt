@@ -1,8 +1,5 @@
 use Rattle.std.proofs.Common.{ap, sym, ◌≡◌, ◌∙◌, subst, ◌<◌, arith, true, length}
-use Rattle.update_graph.specs.Entered.{IsEntered}
-use Rattle.update_graph.specs.Graphs.{AreSources, GraphView}
-use Rattle.update_graph.specs.Stands.{is_defined, shown}
-use Rattle.update_graph.specs.Tags.{Tag}
+use Rattle.update_graph.{specs.Entered.IsEntered, specs.Graphs.{AreSources, GraphView}, specs.Stands.{is_defined, shown}, specs.Tags.Tag}
 use Rattle.update_graph.proofs.graph.Graph.shared.Goals as goal
 
 pub table-requires-clause-entered : goal.table-requires-clause-entered

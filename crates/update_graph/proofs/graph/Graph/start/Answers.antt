@@ -1,13 +1,7 @@
 use Rattle.std.proofs.Common.{ap, sym, ◌∙◌, length, map}
 use Rattle.source_changes.proofs.Opened.{opened_tables}
-use Rattle.tick_model.specs.declared.table.PlainTable.{PlainTable}
-use Rattle.tick_model.specs.LawfulRuns.{sources_of}
-use Rattle.tick_model.specs.Tables.{keys}
-use Rattle.update_graph.specs.Graphs.{reads_at}
-use Rattle.update_graph.proofs.Batches.{entered_first, first_sources}
-use Rattle.update_graph.proofs.Counting.{all_within}
-use Rattle.update_graph.proofs.Following.{one_read}
-use Rattle.update_graph.proofs.Sweeping.{numbers_in_order, ran_once}
+use Rattle.tick_model.{specs.declared.table.PlainTable.PlainTable, specs.LawfulRuns.sources_of, specs.Tables.keys}
+use Rattle.update_graph.{specs.Graphs.reads_at, proofs.Batches.{entered_first, first_sources}, proofs.Counting.all_within, proofs.Following.one_read, proofs.Sweeping.{numbers_in_order, ran_once}}
 use Rattle.update_graph.proofs.graph.Graph.start.Goals as goal
 
 pub new-requires : goal.new-requires

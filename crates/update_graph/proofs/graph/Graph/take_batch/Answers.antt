@@ -2,9 +2,7 @@ use Rattle.std.proofs.Common.{◌≡◌, ap, sym, subst, ◌∙◌, ◌+◌, ◌
 use Rattle.table_operator.specs.Inputs.{news, tables}
 use Rattle.tick_laws.specs.Reached.{IsReached}
 use Rattle.tick_model.specs.LawfulRuns.{IsLawfulRun}
-use Rattle.update_graph.specs.Graphs.{GraphView, IsBase}
-use Rattle.update_graph.specs.Tags.{tags}
-use Rattle.update_graph.proofs.Batches.{sources_new, sources_old}
+use Rattle.update_graph.{specs.Graphs.{GraphView, IsBase}, specs.Tags.tags, proofs.Batches.{sources_new, sources_old}}
 use Rattle.update_graph.proofs.graph.Graph.take_batch.Goals as goal
 
 pub changes_of-requires-clause-lawful : goal.changes_of-requires-clause-lawful

@@ -1,11 +1,7 @@
 use Rattle.std.proofs.Common.{ap, sym, ◌≡◌, ◌∙◌, subst, ◌<◌, arith, true, [], length, get_or}
 use Rattle.std.proofs.lemmas.List.{get_or-map}
 use Rattle.tick_laws.proofs.ReachedTables.{reached_tables}
-use Rattle.update_graph.specs.Graphs.{GraphView, reads_at}
-use Rattle.update_graph.specs.Stands.{is_defined}
-use Rattle.update_graph.specs.Tags.{Kept, tag}
-use Rattle.update_graph.proofs.ClaimedWorks.{count_works}
-use Rattle.update_graph.proofs.Sweeping.{is_named}
+use Rattle.update_graph.{specs.Graphs.{GraphView, reads_at}, specs.Stands.is_defined, specs.Tags.{Kept, tag}, proofs.ClaimedWorks.count_works, proofs.Sweeping.is_named}
 use Rattle.update_graph.proofs.graph.Graph.work.Goals as goal
 
 pub bounds-works-node : goal.bounds-works-node

@@ -1,8 +1,6 @@
 use Rattle.std.proofs.Common.{take}
-use Rattle.std.specs.List.{AllByRecursion, flat_map}
-use Rattle.std.specs.Option.{option_to_list}
-use Rattle.update_graph.specs.Stands.{Stays}
-use Rattle.update_graph.specs.Tags.{Tag}
+use Rattle.std.{specs.List.{AllByRecursion, flat_map}, specs.Option.option_to_list}
+use Rattle.update_graph.{specs.Stands.Stays, specs.Tags.Tag}
 use Rattle.update_graph.proofs.shares.Shares.all_stay.Given as goal
 
 abbrev pub invariant-loop-share : goal.invariant-loop-share

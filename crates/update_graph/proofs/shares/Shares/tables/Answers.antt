@@ -1,8 +1,6 @@
 use Rattle.std.proofs.Common.{sym, ap, ◌∙◌, subst, None}
-use Rattle.std.specs.Prelude.{option_map, option_to_list}
-use Rattle.std.specs.List.{flat_map}
-use Rattle.update_graph.specs.Stands.{IsHanded, all_defined}
-use Rattle.update_graph.proofs.Counting.{one_undefined}
+use Rattle.std.{specs.Prelude.{option_map, option_to_list}, specs.List.flat_map}
+use Rattle.update_graph.{specs.Stands.{IsHanded, all_defined}, proofs.Counting.one_undefined}
 use Rattle.update_graph.proofs.shares.Shares.tables.Goals as goal
 
 pub returns-in-None : goal.returns-in-None

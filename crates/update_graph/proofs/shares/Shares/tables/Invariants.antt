@@ -1,9 +1,7 @@
 use Rattle.std.proofs.Common.{◌≡◌, true, map, take}
-use Rattle.std.specs.List.{AllByRecursion, flat_map}
-use Rattle.std.specs.Option.{option_to_list}
+use Rattle.std.{specs.List.{AllByRecursion, flat_map}, specs.Option.option_to_list}
 use Rattle.table_operator.specs.Inputs.{tables}
-use Rattle.update_graph.specs.Stands.{is_defined, shown}
-use Rattle.update_graph.specs.Tags.{Tag}
+use Rattle.update_graph.{specs.Stands.{is_defined, shown}, specs.Tags.Tag}
 use Rattle.update_graph.proofs.shares.Shares.tables.Given as goal
 
 abbrev pub invariant-loop-share : goal.invariant-loop-share

@@ -2,17 +2,8 @@ use Rattle.std.proofs.Common.{◌≡◌, ◌<◌, ◌∙◌, sym, ap, subst, len
 use Rattle.std.specs.Prelude.{IfOk}
 use lib.ListN.{get_elem?}
 use Rattle.graph_words.specs.Models.{SeatModel}
-use Rattle.update_graph.specs.Crews.{StepView}
-use Rattle.update_graph.specs.Steps.{IsListing, IsWorked}
-use Rattle.update_graph.specs.Stands.{Follows}
-use Rattle.update_graph.specs.Tags.{Kept, Tag, named, tag}
-use Rattle.update_graph.proofs.Claimed.{few_of_step, next_tagged, operator_of_step, small_of_step, step_of_view, within_of_step}
-use Rattle.steal_workers.specs.Lists.{IsListed}
-use Rattle.steal_workers.proofs.Listing.{true_false}
-use Rattle.update_graph.proofs.CrewNodes.{handing_all, listed_came, listed_others, listed_settled}
-use Rattle.update_graph.proofs.Following.{follows_taken}
-use Rattle.update_graph.proofs.Handing.{begun_taken, worked_is}
-use Rattle.update_graph.proofs.WorkSent.{sent}
+use Rattle.update_graph.{specs.Crews.StepView, specs.Steps.{IsListing, IsWorked}, specs.Stands.Follows, specs.Tags.{Kept, Tag, named, tag}, proofs.Claimed.{few_of_step, next_tagged, operator_of_step, small_of_step, step_of_view, within_of_step}, proofs.CrewNodes.{handing_all, listed_came, listed_others, listed_settled}, proofs.Following.follows_taken, proofs.Handing.{begun_taken, worked_is}, proofs.WorkSent.sent}
+use Rattle.steal_workers.{specs.Lists.IsListed, proofs.Listing.true_false}
 use Rattle.update_graph.proofs.step_work.StepWorkNodeWorkWorkShare.work.Goals as goal
 
 pub begin_node-requires-clause-node : goal.begin_node-requires-clause-node

@@ -1,9 +1,7 @@
 use Rattle.std.proofs.Common.{ap₂, sym, ◌∙◌, ◌++◌, ◌∷◌, [], length}
 use Rattle.std.proofs.lemmas.Bool.{not-true}
 use Rattle.tick_model.specs.Evaluation.{is_source}
-use Rattle.update_graph.specs.Tags.{is_operator, node_at}
-use Rattle.update_graph.proofs.Numbering.{filter_more, no_next_source}
-use Rattle.update_graph.proofs.Sweeping.{tags_more, works_more}
+use Rattle.update_graph.{specs.Tags.{is_operator, node_at}, proofs.Numbering.{filter_more, no_next_source}, proofs.Sweeping.{tags_more, works_more}}
 use Rattle.update_graph.proofs.sweep.Sweep.put.Goals as goal
 
 pub returns-clause-swept : goal.returns-clause-swept

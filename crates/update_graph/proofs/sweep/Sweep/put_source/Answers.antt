@@ -1,10 +1,7 @@
 use Rattle.std.proofs.Common.{◌≡◌, ap, sym, ◌∙◌, subst, ◌+◌, ◌<◌, length, false}
 use Rattle.std.proofs.lemmas.Bool.{not-false}
 use Rattle.tick_model.specs.Evaluation.{is_source, source_number}
-use Rattle.update_graph.specs.Tags.{is_operator, node_at, tag}
-use Rattle.update_graph.proofs.Numbering.{filter_same_more, next_source}
-use Rattle.update_graph.proofs.Following.{source_is}
-use Rattle.update_graph.proofs.Sweeping.{tags_more, works_more}
+use Rattle.update_graph.{specs.Tags.{is_operator, node_at, tag}, proofs.Numbering.{filter_same_more, next_source}, proofs.Following.source_is, proofs.Sweeping.{tags_more, works_more}}
 use Rattle.update_graph.proofs.sweep.Sweep.put_source.Goals as goal
 
 pub source_at-requires : goal.source_at-requires

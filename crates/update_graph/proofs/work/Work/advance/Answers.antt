@@ -1,10 +1,7 @@
 use Rattle.std.proofs.Common.{ap, sym, ◌∙◌, subst, ◌+◌, ◌≤◌, map}
 use Rattle.std.proofs.lemmas.Bool.{not-true}
-use Rattle.tick_model.specs.Evaluation.{is_source}
-use Rattle.tick_model.specs.Operators.{inputs_of}
-use Rattle.update_graph.specs.Stands.{all_defined, most_tried}
-use Rattle.update_graph.specs.Tags.{Kept, node_at, op_at, tag}
-use Rattle.update_graph.proofs.StepInputs.{tried_is}
+use Rattle.tick_model.{specs.Evaluation.is_source, specs.Operators.inputs_of}
+use Rattle.update_graph.{specs.Stands.{all_defined, most_tried}, specs.Tags.{Kept, node_at, op_at, tag}, proofs.StepInputs.tried_is}
 use Rattle.update_graph.proofs.work.Work.advance.Goals as goal
 
 pub returns-clause-reads : goal.returns-clause-reads

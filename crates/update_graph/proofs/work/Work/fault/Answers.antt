@@ -1,7 +1,6 @@
 use Rattle.std.proofs.Common.{ap, sym, ◌∙◌, subst, true≢false, ◌+◌}
 use Rattle.tick_model.specs.Evaluation.{has_table}
-use Rattle.update_graph.specs.Stands.{HasStepped, IsKept, reads_of}
-use Rattle.update_graph.specs.Tags.{Kept}
+use Rattle.update_graph.{specs.Stands.{HasStepped, IsKept, reads_of}, specs.Tags.Kept}
 use Rattle.update_graph.proofs.work.Work.fault.Goals as goal
 
 pub returns-in-Source-clause-stepped : goal.returns-in-Source-clause-stepped

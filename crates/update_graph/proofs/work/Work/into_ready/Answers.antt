@@ -1,15 +1,9 @@
 use Rattle.std.proofs.Common.{ap, sym, ◌∙◌, subst, true≢false, add-one, ◌≡◌, ◌+◌, None}
 use Rattle.std.proofs.lemmas.Bool.{not-true}
 use Rattle.tick_laws.specs.Reached.{table_before}
-use Rattle.tick_model.specs.Evaluation.{has_table, is_source}
-use Rattle.tick_model.specs.Operators.{fault_of}
-use Rattle.tick_model.specs.States.{tick}
-use Rattle.tick_table.specs.Exact.{IsExact}
-use Rattle.tick_table.proofs.ExactAgain.{exact_again}
-use Rattle.update_graph.specs.Entered.{IsEntered}
-use Rattle.update_graph.specs.Stands.{IsKept, IsReady, reads_of}
-use Rattle.update_graph.specs.Tags.{Kept, Tag, named, node_at, op_at}
-use Rattle.update_graph.proofs.EnteredTicks.{all_before, before_entered, entered_tick, made}
+use Rattle.tick_model.{specs.Evaluation.{has_table, is_source}, specs.Operators.fault_of, specs.States.tick}
+use Rattle.tick_table.{specs.Exact.IsExact, proofs.ExactAgain.exact_again}
+use Rattle.update_graph.{specs.Entered.IsEntered, specs.Stands.{IsKept, IsReady, reads_of}, specs.Tags.{Kept, Tag, named, node_at, op_at}, proofs.EnteredTicks.{all_before, before_entered, entered_tick, made}}
 use Rattle.update_graph.proofs.work.Work.into_ready.Goals as goal
 
 pub returns-clause-ready : goal.returns-clause-ready

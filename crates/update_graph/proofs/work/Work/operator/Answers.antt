@@ -1,7 +1,6 @@
 use Rattle.std.proofs.Common.{ap, sym, ◌∙◌, subst, true≢false}
 use Rattle.tick_model.specs.Evaluation.{has_table}
-use Rattle.update_graph.specs.Stands.{IsKept}
-use Rattle.update_graph.specs.Tags.{Kept}
+use Rattle.update_graph.{specs.Stands.IsKept, specs.Tags.Kept}
 use Rattle.update_graph.proofs.work.Work.operator.Goals as goal
 
 pub unreachable-requires-in-Failed : goal.unreachable-requires-in-Failed

@@ -1,12 +1,8 @@
 use Rattle.std.proofs.Common.{ap, sym, ◌∙◌, subst, true≢false, ◌<◌, length}
-use Rattle.std.proofs.lemmas.Bool.{not-false}
-use Rattle.std.specs.Arc.{arc_value}
+use Rattle.std.{proofs.lemmas.Bool.not-false, specs.Arc.arc_value}
 use Rattle.tick_model.specs.Evaluation.{has_table, is_source}
 use Rattle.tick_table.specs.Ticking.{Ticking}
-use Rattle.update_graph.specs.declared.work.Ready.{Ready}
-use Rattle.update_graph.specs.Stands.{IsKept}
-use Rattle.update_graph.specs.Tags.{Kept, node_at}
-use Rattle.update_graph.proofs.Sweeping.{place_there, source_shown}
+use Rattle.update_graph.{specs.declared.work.Ready.Ready, specs.Stands.IsKept, specs.Tags.{Kept, node_at}, proofs.Sweeping.{place_there, source_shown}}
 use Rattle.update_graph.proofs.work.Work.table.Goals as goal
 
 pub bounds-sources-place : goal.bounds-sources-place

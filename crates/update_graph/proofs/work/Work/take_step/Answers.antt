@@ -1,13 +1,9 @@
 use Rattle.std.proofs.Common.{ap, sym, ◌∙◌, subst}
-use Rattle.std.proofs.lemmas.Result.{IfOk-weaker}
-use Rattle.std.specs.List.{AllByRecursion}
+use Rattle.std.{proofs.lemmas.Result.IfOk-weaker, specs.List.AllByRecursion}
 use Rattle.key_lists.proofs.Every.{every_unmapped}
 use Rattle.tick_laws.specs.Reached.{table_before}
 use Rattle.tick_model.specs.Operators.{inputs_of}
-use Rattle.update_graph.specs.Stands.{IsReady, Stays}
-use Rattle.update_graph.specs.Tags.{Tag, op_at, tag}
-use Rattle.update_graph.specs.declared.work.Ready.{Ready}
-use Rattle.update_graph.proofs.Following.{follows_ok}
+use Rattle.update_graph.{specs.Stands.{IsReady, Stays}, specs.Tags.{Tag, op_at, tag}, specs.declared.work.Ready.Ready, proofs.Following.follows_ok}
 use Rattle.update_graph.proofs.work.Work.take_step.Goals as goal
 
 pub stay-requires-clause-inputs : goal.stay-requires-clause-inputs

@@ -1,22 +1,9 @@
 use Rattle.std.proofs.Common.{◌≡◌, refl, ap, ap₂, sym, ◌∙◌, subst, ◌+◌, ◌*◌, ◌^◌, ◌≤◌, None, length, List}
 use Rattle.row_changes.specs.Parts.{tick_along}
 use Rattle.table_update.specs.Coalesced.{key_pairs}
-use Rattle.tick_model.specs.declared.table.PlainTable.{PlainTable}
-use Rattle.tick_model.specs.declared.update.KeyPair.{KeyPair}
-use Rattle.tick_model.specs.Changes.{Change, change_of, told_keys}
-use Rattle.tick_model.specs.Rules.{update_fault}
-use Rattle.tick_model.specs.Tables.{keys}
-use Rattle.tick_model.specs.Updates.{Update}
-use Rattle.tick_table.specs.Exact.{ticking}
-use Rattle.tick_table.specs.Ticking.{Ticking}
-use Rattle.tick_table.proofs.Between.{between_lawful}
-use Rattle.tick_table.proofs.ExactAgain.{change_whole}
-use Rattle.viewport.specs.declared.slice.Slice.{Slice}
-use Rattle.viewport.specs.Slices.{cut}
-use Rattle.viewport.specs.Standing.{IsStanding}
-use Rattle.viewport.specs.Watching.{Watching, message_tick, started}
-use Rattle.viewport.proofs.Messages.{in_both, message_is_tick, none_kept, started_stands}
-use Rattle.viewport.proofs.SliceTables.{cut_table}
+use Rattle.tick_model.{specs.declared.table.PlainTable.PlainTable, specs.declared.update.KeyPair.KeyPair, specs.Changes.{Change, change_of, told_keys}, specs.Rules.update_fault, specs.Tables.keys, specs.Updates.Update}
+use Rattle.tick_table.{specs.Exact.ticking, specs.Ticking.Ticking, proofs.Between.between_lawful, proofs.ExactAgain.change_whole}
+use Rattle.viewport.{specs.declared.slice.Slice.Slice, specs.Slices.cut, specs.Standing.IsStanding, specs.Watching.{Watching, message_tick, started}, proofs.Messages.{in_both, message_is_tick, none_kept, started_stands}, proofs.SliceTables.cut_table}
 use Rattle.viewport.proofs.viewport.Viewport.message.Goals as goal
 
 pub touched_rows-requires : goal.touched_rows-requires

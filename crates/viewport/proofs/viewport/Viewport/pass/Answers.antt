@@ -1,15 +1,9 @@
 use Rattle.std.proofs.Common.{◌≡◌, ap, ap₂, sym, ◌∙◌, subst, ℕ, List}
 use Rattle.table_update.specs.Coalesced.{Follow, coalesced, key_pairs}
 use Rattle.tick_laws.specs.Checked.{keys_after}
-use Rattle.tick_model.specs.declared.update.KeyPair.{KeyPair}
-use Rattle.tick_model.specs.Tables.{keys}
-use Rattle.tick_model.specs.Updates.{Update}
-use Rattle.tick_table.specs.Exact.{tick_of}
-use Rattle.tick_table.specs.Ticking.{Ticking}
-use Rattle.viewport.specs.Passing.{passing}
-use Rattle.viewport.specs.Standing.{IsStanding}
-use Rattle.viewport.specs.Watching.{Watching, passed}
-use Rattle.viewport.proofs.KeptRows.{both, both_pairs, passed_stands, step_lawful}
+use Rattle.tick_model.{specs.declared.update.KeyPair.KeyPair, specs.Tables.keys, specs.Updates.Update}
+use Rattle.tick_table.{specs.Exact.tick_of, specs.Ticking.Ticking}
+use Rattle.viewport.{specs.Passing.passing, specs.Standing.IsStanding, specs.Watching.{Watching, passed}, proofs.KeptRows.{both, both_pairs, passed_stands, step_lawful}}
 use Rattle.viewport.proofs.viewport.Viewport.pass.Goals as goal
 
 pub coalesce-requires : goal.coalesce-requires

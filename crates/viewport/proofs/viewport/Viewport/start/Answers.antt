@@ -1,15 +1,9 @@
 use Rattle.std.proofs.Common.{◌≡◌, ap, ap₂, sym, ◌∙◌, subst, length, []}
 use Rattle.std.specs.Prelude.{IfOk}
 use Rattle.table_update.specs.Coalesced.{key_pairs}
-use Rattle.tick_model.specs.Changes.{change_of}
-use Rattle.tick_model.specs.Sources.{opened}
-use Rattle.tick_model.specs.Tables.{keys}
-use Rattle.tick_model.specs.Updates.{Tick, Update}
+use Rattle.tick_model.{specs.Changes.change_of, specs.Sources.opened, specs.Tables.keys, specs.Updates.{Tick, Update}}
 use Rattle.tick_table.specs.Ticking.{Ticking, fresh}
-use Rattle.viewport.specs.Slices.{cut}
-use Rattle.viewport.specs.Standing.{IsStanding}
-use Rattle.viewport.specs.Watching.{Watching, message_tick}
-use Rattle.viewport.proofs.Messages.{empty_stands}
+use Rattle.viewport.{specs.Slices.cut, specs.Standing.IsStanding, specs.Watching.{Watching, message_tick}, proofs.Messages.empty_stands}
 use Rattle.viewport.proofs.viewport.Viewport.start.Goals as goal
 
 pub invariant_of-viewport : goal.invariant_of-viewport

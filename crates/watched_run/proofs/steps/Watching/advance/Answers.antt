@@ -1,21 +1,9 @@
 use Rattle.std.proofs.Common.{◌≡◌, ◌+◌, ◌≤◌, ◌<◌, ◌∙◌, sym, ap, subst, inl, inr, arith, Err}
-use Rattle.std.specs.Prelude.{IfErr, IfOk}
-use Rattle.std.specs.Io.KnownBytes.{append_known}
-use Rattle.std.proofs.lemmas.Result.{IfErr-weaker}
+use Rattle.std.{specs.Prelude.{IfErr, IfOk}, specs.Io.KnownBytes.append_known, proofs.lemmas.Result.IfErr-weaker}
 use Rattle.tick_io.specs.Written.{AppendsPrefix}
 use Rattle.tick_laws.specs.Reached.{IsReached}
-use Rattle.replay.specs.declared.outcome.Outcome.{Outcome}
-use Rattle.replay.specs.declared.outcome.Outcome.TheVariants.{Write}
-use Rattle.replay.specs.Causes.{IsCause}
-use Rattle.replay.specs.Outcomes.{IsTold}
-use Rattle.replay.specs.Standing.{IsGood}
-use Rattle.replay.proofs.Exits.{none_written, nothing_appended}
-use Rattle.replay.proofs.Prints.{on_err}
-use Rattle.watched_run.specs.Standing.{IsWatchedAt}
-use Rattle.watched_run.specs.ToCome.{rest_text, text_from}
-use Rattle.watched_run.proofs.Stood.{few_steps, node_of, none_held, some_held, table_of}
-use Rattle.watched_run.proofs.Tellings.{told_or_not}
-use Rattle.watched_run.proofs.TextsTold.{rests_before}
+use Rattle.replay.{specs.declared.outcome.Outcome.Outcome, specs.declared.outcome.Outcome.TheVariants.Write, specs.Causes.IsCause, specs.Outcomes.IsTold, specs.Standing.IsGood, proofs.Exits.{none_written, nothing_appended}, proofs.Prints.on_err}
+use Rattle.watched_run.{specs.Standing.IsWatchedAt, specs.ToCome.{rest_text, text_from}, proofs.Stood.{few_steps, node_of, none_held, some_held, table_of}, proofs.Tellings.told_or_not, proofs.TextsTold.rests_before}
 use Rattle.watched_run.proofs.steps.Watching.advance.Goals as goal
 
 pub held_table-requires : goal.held_table-requires

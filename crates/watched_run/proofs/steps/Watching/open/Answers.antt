@@ -1,13 +1,8 @@
 use Rattle.std.proofs.Common.{◌+◌, ◌<◌, ◌++◌, ◌∙◌, ap₂, arith}
 use Rattle.std.proofs.lemmas.Result.{err_from_is_err_and}
-use Rattle.tick_model.specs.Spoiled.{good}
-use Rattle.tick_model.specs.Texts.{records_text}
-use Rattle.replay.proofs.Exits.{none_written}
-use Rattle.replay.proofs.Prints.{on_err}
-use Rattle.watched_run.specs.Messages.{first_records}
-use Rattle.watched_run.specs.ToCome.{text_from, watch_until}
-use Rattle.watched_run.proofs.TextsTold.{first_begun, opens}
-use Rattle.watched_run.proofs.Stood.{node_of, table_of}
+use Rattle.tick_model.{specs.Spoiled.good, specs.Texts.records_text}
+use Rattle.replay.{proofs.Exits.none_written, proofs.Prints.on_err}
+use Rattle.watched_run.{specs.Messages.first_records, specs.ToCome.{text_from, watch_until}, proofs.TextsTold.{first_begun, opens}, proofs.Stood.{node_of, table_of}}
 use Rattle.watched_run.proofs.steps.Watching.open.Goals as goal
 
 pub table-table-requires : goal.table-table-requires

@@ -1,18 +1,10 @@
 use Rattle.std.proofs.Common.{◌≡◌, ◌+◌, ◌∙◌, sym, ap, subst, length}
-use Rattle.std.specs.Prelude.{OnErr}
-use Rattle.std.specs.Io.KnownBytes.{append_known}
+use Rattle.std.{specs.Prelude.OnErr, specs.Io.KnownBytes.append_known}
 use Rattle.tick_io.specs.Written.{AppendsPrefix}
-use Rattle.tick_model.specs.Changes.{Change, change_of}
-use Rattle.tick_model.specs.Slices.{slice_tick}
-use Rattle.tick_model.specs.Texts.{change_records, records_text}
-use Rattle.viewport.specs.Slices.{cut}
-use Rattle.viewport.specs.Watching.{Watching}
-use Rattle.replay.specs.declared.printed.PrintedNode.{PrintedNode}
-use Rattle.replay.proofs.Exits.{none_written}
-use Rattle.replay.proofs.Prints.{on_err}
-use Rattle.watched_run.specs.Messages.{message_records, slice_of}
-use Rattle.watched_run.specs.Told.{IsMessage}
-use Rattle.watched_run.proofs.WatchedRows.{later_made, later_message, starts_again, tells_slice}
+use Rattle.tick_model.{specs.Changes.{Change, change_of}, specs.Slices.slice_tick, specs.Texts.{change_records, records_text}}
+use Rattle.viewport.{specs.Slices.cut, specs.Watching.Watching}
+use Rattle.replay.{specs.declared.printed.PrintedNode.PrintedNode, proofs.Exits.none_written, proofs.Prints.on_err}
+use Rattle.watched_run.{specs.Messages.{message_records, slice_of}, specs.Told.IsMessage, proofs.WatchedRows.{later_made, later_message, starts_again, tells_slice}}
 use Rattle.watched_run.proofs.teller.Teller.message.Goals as goal
 
 pub message-requires : goal.message-requires

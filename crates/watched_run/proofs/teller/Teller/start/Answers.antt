@@ -1,21 +1,11 @@
 use Rattle.std.proofs.Common.{◌≡◌, ◌∙◌, sym, ap, subst, length}
 use Rattle.std.specs.Io.KnownBytes.{append_known}
 use Rattle.tick_io.specs.Written.{AppendsPrefix}
-use Rattle.tick_model.specs.Changes.{Change, change_of}
-use Rattle.tick_model.specs.Slices.{first_tick}
-use Rattle.tick_model.specs.Texts.{change_records, records_text}
-use Rattle.tick_model.specs.Sources.{opened}
-use Rattle.tick_model.specs.declared.table.PlainTable.{PlainTable}
+use Rattle.tick_model.{specs.Changes.{Change, change_of}, specs.Slices.first_tick, specs.Texts.{change_records, records_text}, specs.Sources.opened, specs.declared.table.PlainTable.PlainTable}
 use Rattle.tick_table.specs.Ticking.{Ticking}
-use Rattle.viewport.specs.declared.slice.Slice.{Slice}
-use Rattle.viewport.specs.Slices.{IsSlice, cut}
-use Rattle.replay.specs.declared.printed.PrintedNode.{PrintedNode}
-use Rattle.replay.specs.Printed.{printed_of}
-use Rattle.replay.proofs.Exits.{none_written}
-use Rattle.replay.proofs.Prints.{on_err}
-use Rattle.watched_run.specs.Messages.{first_records, slice_of}
-use Rattle.watched_run.specs.Told.{IsMessage}
-use Rattle.watched_run.proofs.WatchedRows.{asked_is, asks, first_made, first_message, starts}
+use Rattle.viewport.{specs.declared.slice.Slice.Slice, specs.Slices.{IsSlice, cut}}
+use Rattle.replay.{specs.declared.printed.PrintedNode.PrintedNode, specs.Printed.printed_of, proofs.Exits.none_written, proofs.Prints.on_err}
+use Rattle.watched_run.{specs.Messages.{first_records, slice_of}, specs.Told.IsMessage, proofs.WatchedRows.{asked_is, asks, first_made, first_message, starts}}
 use Rattle.watched_run.proofs.teller.Teller.start.Goals as goal
 
 pub start-requires : goal.start-requires
