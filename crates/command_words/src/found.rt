@@ -8,6 +8,7 @@ use crate::command::Task;
 use crate::numbers::number_within;
 use clap::ArgMatches;
 use std::alloc::{AllocError, Global};
+use tick_model::limits::MOST_ROWS;
 use tick_model::name::Name;
 
 /// The word that was found for a name.
@@ -68,10 +69,10 @@ fn watch_task(alloc: Global, matches: &ArgMatches<'_>) -> Result<Option<Task>, A
     let Some(node) = name_in(alloc, matches, "name")? else {
         return Ok(None);
     };
-    let Some(first) = number_in(matches, "first", 0, 4_194_303) else {
+    let Some(first) = number_in(matches, "first", 0, MOST_ROWS - 1) else {
         return Ok(None);
     };
-    let Some(count) = number_in(matches, "count", 1, 4_194_304) else {
+    let Some(count) = number_in(matches, "count", 1, MOST_ROWS) else {
         return Ok(None);
     };
     Ok(Some(Task::Watch {

@@ -36,4 +36,4 @@ pub use laws::{
 };
 pub use raw::{RawBatch, RawBlock, RawCell, RawFeed, RawRow, RawTable};
 pub use row_cells::RowCells;
-pub use tables::read_table;
+pub use tables::{MOST_BYTES, read_table};

@@ -17,7 +17,7 @@ use tick_model::limits::MOST_ROWS;
 use tick_model::plan::ColumnSpec;
 
 /// The most bytes of a table file and of a feed.
-pub(crate) const MOST_BYTES: usize = 67_108_864;
+pub const MOST_BYTES: usize = 67_108_864;
 
 /// Whether the fields are the names of the columns.
 fn are_names(columns: &[ColumnSpec], fields: &StringRecord) -> bool

@@ -11,12 +11,6 @@ use std::alloc::Global;
 use tick_io::{Inputs, LoadFault};
 use tick_model::name::Name;
 
-/// The most bytes of a script.
-pub(crate) const MOST_SCRIPT_BYTES: usize = 1_048_576;
-
-/// The most bytes of a table file and of a feed.
-pub(crate) const MOST_BYTES: usize = 67_108_864;
-
 /// That a file could not be read.
 fn unread(alloc: Global, name: &str) -> Stop
     ensures { IsUnread name.now result }

@@ -10,12 +10,12 @@ ghost use Rattle.feed_run.specs.Readings.{feed_in, script_in, table_in};
 ghost use Rattle.feed_run.specs.Stops.{IsRefusal, OnFound, Reads, Says};
 ghost use Rattle.feed_run.specs.declared.refusal.Refusal.TheVariants.{Table};
 
-use crate::loading::{MOST_BYTES, MOST_SCRIPT_BYTES, load};
+use crate::loading::load;
 use crate::refusal::{Refusal, Stop};
-use feed_reader::{RawFeed, RawTable, TextFault, TextKind, read_feed, read_table};
+use feed_reader::{MOST_BYTES, RawFeed, RawTable, TextFault, TextKind, read_feed, read_table};
 use script_lines::fault::ScriptKind;
 use script_reader::fault::ScriptFault;
-use script_reader::reader::read_script;
+use script_reader::reader::{MOST_SCRIPT_BYTES, read_script};
 use script_reader::script::Script;
 use std::alloc::Global;
 use tick_io::Inputs;

@@ -9,9 +9,7 @@ use crate::place::Place;
 use crate::sequence::Sequence;
 use row_handles::Handles;
 use std::marker::Model;
-
-/// Above all keys.
-const KEYS_END: u64 = 1 << 62;
+use tick_model::limits::KEY_SPACE;
 
 /// The rows of a group, by rising `at` and then by rising key.
 #[derive(Drop)]
@@ -116,7 +114,7 @@ impl<'a> Group<'a> {
         self.rows.count_before(&Place {
             handles: self.handles,
             at,
-            key: KEYS_END,
+            key: KEY_SPACE,
         })
     }
 

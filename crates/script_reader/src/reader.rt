@@ -17,7 +17,7 @@ use script_lines::token::Token;
 use std::alloc::Global;
 
 /// The most bytes of a script.
-const MOST_BYTES: usize = 1_048_576;
+pub const MOST_SCRIPT_BYTES: usize = 1_048_576;
 
 fn at_line(number: u64, fault: LineFault) -> ScriptFault
     ensures { result ≡ fault_at number fault }
@@ -84,7 +84,7 @@ pub fn read_script(alloc: Global, bytes: &[u8]) -> Result<Script, ScriptFault>
     ensures script { IfOk result (λ script. script_of bytes.now ≡ Ok (plain_script script)) }
     ensures refused { IfErr result (Refuses (script_of bytes.now)) }
 {
-    if bytes.len() > MOST_BYTES {
+    if bytes.len() > MOST_SCRIPT_BYTES {
         return Err(ScriptFault::Refused {
             line: 0,
             kind: ScriptKind::TooLong,

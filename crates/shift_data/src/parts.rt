@@ -11,10 +11,8 @@ ghost use Rattle.shift_data.specs.Parts.{from_on, IsPart, IsSegment, IsLastUpTo}
 use crate::apply::landing;
 use crate::search::ended_before;
 use row_set::RowSet;
+use tick_model::limits::KEY_SPACE;
 use tick_model::update::ShiftRange;
-
-/// The greatest key.
-const LAST_KEY: u64 = (1 << 62) - 1;
 
 /// The keys from `first` to `last`, which all move by `delta`. Both are keys of the set that it is a part of.
 #[derive(Clone, Copy)]
@@ -49,7 +47,7 @@ pub(crate) fn segment_at(shifts: &[ShiftRange], key: u64) -> Segment
             delta: 0,
         },
         None => Segment {
-            last: LAST_KEY,
+            last: KEY_SPACE - 1,
             delta: 0,
         },
     }

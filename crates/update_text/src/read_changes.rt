@@ -15,11 +15,12 @@ use crate::read_fields::{
     after_tag, begins_with_comma, read_field, read_line_end, read_next_field, read_next_number,
     read_next_signed,
 };
-use crate::read_rows::{KEYS_END, put_last};
+use crate::read_rows::put_last;
 use row_set::RowSet;
 use shift_data::{ShiftData, ShiftFault};
 use std::mem;
 use table_update::ColumnSet;
+use tick_model::limits::KEY_SPACE;
 use tick_model::plan::ColumnSpec;
 use tick_model::update::ShiftRange;
 
@@ -93,7 +94,7 @@ fn put_shift(shifts: &mut ShiftData, range: ShiftRange) -> Result<(), PrintedFau
     ensures put { OnOk result (shifts.new ≡ shifts.old ++ range ∷ []) }
     ensures told { IsShift (shifts.old ++ range ∷ []) → IsShiftRange (2 ^ 62) range → Gives result (λ _. Unit {0}) }
 {
-    if range.begin >= KEYS_END || range.end >= KEYS_END {
+    if range.begin >= KEY_SPACE || range.end >= KEY_SPACE {
         return Err(PrintedFault::NotPrinted);
     }
     if range.delta >= MOVES_END || range.delta <= -MOVES_END {

@@ -17,11 +17,9 @@ use crate::printed::PrintedFault;
 use crate::read_fields::{after_tag, read_line_end, read_next_field, read_next_number, signed_of};
 use row_set::RowSet;
 use tick_model::formula::NULL;
+use tick_model::limits::KEY_SPACE;
 use tick_model::name::Name;
 use tick_model::plan::{ColumnSpec, Kind};
-
-/// The number past the greatest key.
-pub(crate) const KEYS_END: u64 = 1 << 62;
 
 /// Whether a key stands behind those of a set.
 fn is_behind(keys: &RowSet, key: u64) -> bool
@@ -41,7 +39,7 @@ pub(crate) fn put_last(keys: &mut RowSet, first: u64, last: u64) -> Result<(), P
     ensures small { OnOk result (last < 2 ^ 62) }
     ensures told { first ≤ last → last < 2 ^ 62 → AllByRecursion (λ key. key < first) keys.old → Gives result (λ _. Unit {0}) }
 {
-    if last < first || last >= KEYS_END {
+    if last < first || last >= KEY_SPACE {
         return Err(PrintedFault::NotPrinted);
     }
     if is_behind(keys, first) {
