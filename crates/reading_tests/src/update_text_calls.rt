@@ -6,15 +6,13 @@ ghost use Rattle.tick_model.specs.Names.{are_distinct};
 use std::alloc::{AllocError, Global};
 use std::test::Fail;
 use tick_io::{MemorySink, Sink, SinkFault};
-use tick_model::formula::NULL;
 use tick_model::items::Items;
 use tick_model::name::Name;
 use tick_model::plan::{ColumnSpec, Kind};
-use tick_model::table::PlainRow;
 use tick_model::update::ShiftRange;
 use update_text::{
     PrintedFault, Shown, WriteFault, read_first_fields, read_number, read_record, read_snapshot,
-    read_update, write_added, write_fields,
+    read_update, write_fields,
 };
 
 /// A sink that takes one byte at a time, and fails where it is full.
@@ -66,22 +64,6 @@ pub(crate) fn big(alloc: Global) -> Result<Shown, AllocError>
     })
 }
 
-fn texts(alloc: Global) -> Result<Items<Name>, AllocError> {
-    let mut texts = Items::new(alloc);
-    texts.push(name(alloc, "AAPL")?)?;
-    texts.push(name(alloc, "x, \"y\"\r\n")?)?;
-    Ok(texts)
-}
-
-fn row(alloc: Global, key: u64, sym: i64, qty: i64) -> Result<PlainRow, AllocError>
-    ensures { IfOk result (λ row. length row.cells ≡ 2) }
-{
-    Ok(PlainRow {
-        key,
-        cells: Items::of([sym, qty].to_vec(alloc)?),
-    })
-}
-
 #[test]
 fn a_record_quotes_its_fields(rt: HostRuntime) -> Result<(), Fail> {
     let mut fields = Vec::new(rt.alloc());
@@ -91,24 +73,6 @@ fn a_record_quotes_its_fields(rt: HostRuntime) -> Result<(), Fail> {
     let mut sink = MemorySink::new(rt.alloc(), Vec::new(rt.alloc()));
     write_fields(rt.alloc(), &mut sink, fields.as_slice())?;
     let want = b"done,,\"a\"\"b\",\"c,d\",\"e\rf\",\"g\nh\"\n";
-    assert_eq!(rt; sink.bytes(), want.as_slice());
-    Ok(())
-}
-
-#[test]
-fn added_rows_are_told(rt: HostRuntime) -> Result<(), Fail> {
-    let shown = big(rt.alloc())?;
-    let texts = texts(rt.alloc())?;
-    let mut sink = MemorySink::new(rt.alloc(), Vec::new(rt.alloc()));
-    let mut rows = Items::new(rt.alloc());
-    rows.push(row(rt.alloc(), 1, 0, 20)?)?;
-    rows.push(row(rt.alloc(), 2, NULL, -7)?)?;
-    rows.push(row(rt.alloc(), 3, 1, NULL)?)?;
-    assert_eq!(rt;
-        write_added(rt.alloc(), &mut sink, 1, &shown, &texts, &rows)?,
-        4
-    );
-    let want = b"step,1,big\na,1,AAPL,20\na,2,,-7\na,3,\"x, \"\"y\"\"\r\n\",\n";
     assert_eq!(rt; sink.bytes(), want.as_slice());
     Ok(())
 }

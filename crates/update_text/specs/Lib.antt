@@ -1,4 +1,3 @@
-pub mod Added
 pub mod Faults
 pub mod OneToOne
 pub mod Reading

@@ -20,7 +20,7 @@ use tick_model::plan::ColumnSpec;
 use tick_model::update::ShiftRange;
 
 /// Appends the first record of a change.
-pub(crate) fn push_step(text: &mut Vec<u8>, step: u64, name: &[u8]) -> Result<(), AllocError>
+fn push_step(text: &mut Vec<u8>, step: u64, name: &[u8]) -> Result<(), AllocError>
     ensures { OnOk result (text.new.items ≡ text.old.items ++ record_text (step_record step name.now)) }
 {
     push_field(text, b"step")?;

@@ -33,4 +33,4 @@ pub use record_back::{read_first_fields, read_number, read_record};
 pub use shown::Shown;
 pub use snapshot_back::read_snapshot;
 pub use snapshots::write_snapshot;
-pub use updates::{write_added, write_update};
+pub use updates::write_update;
