@@ -1,7 +1,7 @@
 -- Items that are changed one by one.
 use Rattle.std.proofs.Common.{◌≡◌, refl, ap, ap₂, sym, ◌∙◌, subst, ℕ, zero, suc, ◌+◌, ◌<◌, arith, List, [], ◌∷◌, ◌++◌, map, length, take, drop, get_or, set, length-append, length-drop}
 use Rattle.std.{specs.List.AllByRecursion, proofs.lemmas.List.{get_or_default, length-take-le, length-map, map-append}, proofs.lemmas.List.Edits.map_over_more}
-use Rattle.chunk_list.specs.Chunked.{AreChunks, IsChunk, joined}
+use Rattle.chunk_list.specs.Chunked.{AreChunks, AreFilled, IsChunk, joined}
 
 -- one more that is changed
 pub map_more : {X : Type 0} (f : X → X) (xs ys : List X) (i : ℕ) (d : X) → i < length xs → ys ≡ map f (take i xs) ++ drop i xs → set ys i (f (get_or ys i d)) ≡ map f (take (i + 1) xs) ++ drop (i + 1) xs
@@ -37,6 +37,10 @@ joined-changed f (l ∷ ls) = ap (λ xs. map f l ++ xs) (joined-changed f ls) �
 sizes_changed : {X : Type 0} (f : X → X) (ls : List (List X)) → AllByRecursion IsChunk ls → AllByRecursion IsChunk (map (map f) ls)
 sizes_changed f [] h = tt
 sizes_changed f (l ∷ ls) h = (record { some = omega (arith, length-map l f, h.0.some); few = omega (arith, length-map l f, h.0.few) }, sizes_changed f ls h.1)
+
+pub filled_changed : {X : Type 0} (f : X → X) (ls : List (List X)) → AreFilled ls → AreFilled (map (map f) ls)
+filled_changed f [] h = tt
+filled_changed f (l ∷ ls) h = (omega (arith, length-map l f, h.0), filled_changed f ls h.1)
 
 counts_changed : {X : Type 0} (f : X → X) (ls : List (List X)) → map length (map (map f) ls) ≡ map length ls
 counts_changed f [] = refl

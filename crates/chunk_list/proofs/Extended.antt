@@ -1,8 +1,8 @@
 -- Chunks that are put behind others or taken off again.
 use Rattle.std.proofs.Common.{◌≡◌, refl, ap, sym, ◌∙◌, ℕ, zero, suc, ◌+◌, ◌^◌, ◌<◌, ◌≤◌, arith, List, [], ◌∷◌, ◌++◌, length, map, take, drop, get_or, set, append_assoc, append-nil, length-append, take-append-drop}
-use Rattle.std.{specs.Prelude.{insert, remove}, specs.Global.Vec, proofs.lemmas.List.{drop-append-le, length-take, map-append, take-append-le, take_more}}
-use Rattle.key_lists.proofs.Every.{every-append}
-use Rattle.chunk_list.{specs.Chunked.{AreChunks, IsChunk, joined, list_at}, proofs.Edits.{inserted_last, map_remove}, proofs.Joined.{contents, length-counts, length-lists, own_list}}
+use Rattle.std.{specs.Prelude.{insert, remove}, specs.Global.Vec, proofs.lemmas.List.{drop-append-le, length-take, map-append, take-append-le, take-map, take_more}}
+use Rattle.key_lists.{proofs.Every.every-append, proofs.Parts.every-take}
+use Rattle.chunk_list.{specs.Chunked.{AreChunks, IsChunk, contents, joined, list_at}, proofs.Edits.inserted_last, proofs.Joined.{length-counts, length-lists, own_list}, proofs.Searches.start_within}
 
 pub joined-append : {X : Type 0} (ls ks : List (List X)) → joined (ls ++ ks) ≡ joined ls ++ joined ks
 joined-append [] ks = refl
@@ -11,9 +11,6 @@ joined-append (l ∷ ls) ks = ap (λ xs. l ++ xs) (joined-append ls ks) ∙ sym 
 -- a chunk behind all others
 pub joined_pushed : {X : Type 0} (ls : List (List X)) (l : List X) → joined (ls ++ l ∷ []) ≡ joined ls ++ l
 joined_pushed ls l = joined-append ls (l ∷ []) ∙ ap (λ xs. joined ls ++ xs) (append-nil l)
-
-pub lists_pushed : {X : Type 0} (chunks after : List (Vec X)) (n : ℕ) (chunk : Vec X) → n ≡ length chunks → after ≡ insert chunks n chunk → contents after ≡ contents chunks ++ chunk.items ∷ []
-lists_pushed {X = X} chunks after n chunk e put = ap contents (put ∙ inserted_last chunks n chunk e) ∙ map-append (λ (c : Vec X). c.items) chunks (chunk ∷ [])
 
 pub pushed_kept : {X : Type 0} (ls : List (List X)) (counts : List ℕ) (n count : ℕ) (l : List X) → AreChunks ls counts → n ≡ length ls → count ≡ length l → IsChunk l → length (joined ls) + length l ≤ 2 ^ 62 → AreChunks (ls ++ l ∷ []) (insert counts n count)
 pushed_kept ls counts n count l are end size chunk room = record {
@@ -83,14 +80,19 @@ front_stays (x ∷ xs) (suc n) (suc i) le = ap (λ ys. x ∷ ys) (front_stays xs
 pub last_gone : {X : Type 0} (xs all : List X) (n i : ℕ) → n ≤ i → take n xs ≡ take n all → take n (remove xs i) ≡ take n all
 last_gone xs all n i le e = front_stays xs n i le ∙ e
 
-pub chunk_gone : {X : Type 0} (chunks after : List (Vec X)) (i : ℕ) → after ≡ remove chunks i → contents after ≡ remove (contents chunks) i
-chunk_gone {X = X} chunks after i e = ap contents e ∙ map_remove (λ (c : Vec X). c.items) chunks i
-
 -- copies of the first chunks, with one more
 pub one_copied : {X : Type 0} (chunks copies : List (Vec X)) (i : ℕ) (chunk copied : Vec X) → i < length chunks → chunk ≡ get_or chunks i chunk → copied.items ≡ chunk.items → contents copies ≡ take i (contents chunks) → contents (copies ++ copied ∷ []) ≡ take (i + 1) (contents chunks)
 one_copied {X = X} chunks copies i chunk copied lt is same so_far =
     let within : i < length (contents chunks) = omega (arith, length-lists chunks, lt) in
     map-append (λ (c : Vec X). c.items) copies (copied ∷ [])
     ∙ ap (λ ls. ls ++ copied.items ∷ []) so_far
-    ∙ ap (λ l. take i (contents chunks) ++ l ∷ []) (same ∙ sym (own_list chunks i chunk within is))
+    ∙ ap (λ l. take i (contents chunks) ++ l ∷ []) (same ∙ sym (own_list chunks (contents chunks) i chunk refl within is))
     ∙ sym (take_more (contents chunks) i [] within)
+
+-- the first chunks, and their counts
+pub front_kept : {X : Type 0} (ls : List (List X)) (counts : List ℕ) (n : ℕ) → AreChunks ls counts → AreChunks (take n ls) (take n counts)
+front_kept ls counts n are = record {
+  sizes = every-take IsChunk n ls are.sizes;
+  counted = ap (take n) are.counted ∙ take-map length n ls;
+  few = omega (arith, are.few, start_within ls n);
+}

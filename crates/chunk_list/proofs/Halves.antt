@@ -1,8 +1,8 @@
 -- A chunk of which two are made, and what an edit replaces.
-use Rattle.std.proofs.Common.{◌≡◌, refl, ap, ap₂, sym, ◌∙◌, ℕ, zero, suc, ◌+◌, ◌-◌, ◌^◌, ◌<◌, ◌≤◌, arith, List, [], ◌∷◌, ◌++◌, length, map, take, drop, get_or, set, append_assoc, take-append-drop}
-use Rattle.std.{specs.Prelude.{insert, remove}, specs.Global.Vec}
+use Rattle.std.proofs.Common.{◌≡◌, refl, ap, ap₂, sym, ◌∙◌, subst, ℕ, zero, suc, ◌+◌, ◌-◌, ◌^◌, ◌<◌, ◌≤◌, arith, List, [], ◌∷◌, ◌++◌, length, map, take, drop, get_or, set, append_assoc, length-append, take-append-drop}
+use Rattle.std.{specs.Prelude.{insert, remove}, specs.Global.Vec, proofs.lemmas.List.{length-set, set-get_or}, proofs.lemmas.List.Edits.length-insert}
 use Rattle.key_lists.proofs.Parts.{set_around, every_set, every_insert, map_set}
-use Rattle.chunk_list.{specs.Chunked.{AreChunks, IsChunk, IsReplaced, joined, list_at}, proofs.Edits.{length_instead, lists_set, map_insert}, proofs.Joined.{contents, length-counts, own_list}}
+use Rattle.chunk_list.{specs.Chunked.{AreChunks, IsChunk, IsReplaced, IsSplit, contents, joined, list_at}, proofs.Edits.{inserted_last, length_instead, lists_set, map_insert}, proofs.Joined.{count_at, length-counts}}
 
 -- a list in two
 pub joined_halves : {X : Type 0} (ls : List (List X)) (i : ℕ) (lower upper l : List X) → i < length ls → lower ++ upper ≡ l → joined (insert (set ls i lower) (suc i) upper) ≡ joined (set ls i l)
@@ -31,12 +31,12 @@ halves_kept ls counts i low up lower upper l are lt room both one small large lo
 }
 
 -- chunks of which one becomes two
-pub lists_halved : {X : Type 0} (chunks after : List (Vec X)) (i : ℕ) (lower upper : Vec X) → after ≡ insert (set chunks i lower) (i + 1) upper → contents after ≡ insert (set (contents chunks) i lower.items) (suc i) upper.items
-lists_halved {X = X} chunks after i lower upper put =
+pub lists_halved : {X : Type 0} (chunks after : List (Vec X)) (ls : List (List X)) (i : ℕ) (lower upper : Vec X) → contents chunks ≡ ls → after ≡ insert (set chunks i lower) (i + 1) upper → contents after ≡ insert (set ls i lower.items) (suc i) upper.items
+lists_halved {X = X} chunks after ls i lower upper e put =
     let next : i + 1 ≡ suc i = omega arith in
     ap contents (put ∙ ap (λ n. insert (set chunks i lower) n upper) next)
     ∙ map_insert (λ (c : Vec X). c.items) (set chunks i lower) (suc i) upper
-    ∙ ap (λ ks. insert ks (suc i) upper.items) (lists_set chunks i lower lower.items refl)
+    ∙ ap (λ ks. insert ks (suc i) upper.items) (lists_set chunks ls i lower lower.items e refl)
 
 -- one chunk becomes another, or two, or goes
 pub set_replaced : {X : Type 0} (few most : ℕ) (ls : List (List X)) (i : ℕ) (l : List X) → few ≤ 1 → 1 ≤ most → i < length ls → IsReplaced few most ls (set ls i l)
@@ -67,22 +67,20 @@ halves_replaced ls i lower upper lt = record {
   list = halves_around ls i lower upper lt;
 }
 
--- a chunk behind all others
-last_around : {X : Type 0} (xs : List X) (x : X) (i : ℕ) (d : X) → i + 1 ≡ length xs → xs ++ x ∷ [] ≡ take i xs ++ get_or xs i d ∷ x ∷ drop (suc i) xs
-last_around [] x i d e = absurd (omega arith)
-last_around (y ∷ []) x zero d e = refl
-last_around (y ∷ z ∷ xs) x zero d e = absurd (omega arith)
-last_around (y ∷ xs) x (suc i) d e = ap (λ ys. y ∷ ys) (last_around xs x i d (omega arith))
+-- the first chunk
+pub begun_replaced : {X : Type 0} (ls : List (List X)) (l : List X) → length ls ≡ 0 → IsReplaced 1 2 ls (ls ++ l ∷ [])
+begun_replaced [] l e = record { at = 0; parts = l ∷ []; within = omega arith; some = omega arith; no_more = omega arith; list = refl }
+begun_replaced (k ∷ ls) l e = absurd (omega arith)
 
-pub begun_replaced : {X : Type 0} (ls : List (List X)) (l : List X) → IsReplaced 1 2 ls (ls ++ l ∷ [])
-begun_replaced [] l = record { at = 0; parts = l ∷ []; within = omega arith; some = omega arith; no_more = omega arith; list = refl }
-begun_replaced (k ∷ ls) l = record {
-  at = length ls;
-  parts = list_at (length ls) (k ∷ ls) ∷ l ∷ [];
-  within = omega arith;
-  some = omega arith;
-  no_more = omega arith;
-  list = last_around (k ∷ ls) l (length ls) [] (omega arith);
+-- an item behind the end of a chunk begins one
+pub begun_split : {X : Type 0} (ls : List (List X)) (i n : ℕ) (x : X) → 0 < length (list_at i ls) → n ≡ length (list_at i ls) → IsSplit i (insert (list_at i ls) n x) ls (insert ls (suc i) (x ∷ []))
+begun_split ls i n x some end = record {
+  lower = list_at i ls;
+  upper = x ∷ [];
+  some_below = some;
+  some_above = omega arith;
+  both = sym (inserted_last (list_at i ls) n x end);
+  lists = ap (λ ks. insert ks (suc i) (x ∷ [])) (sym (set-get_or ls i []));
 }
 
 -- an item put into the second of two lists
@@ -97,8 +95,8 @@ remove_insert [] (suc i) x le = absurd (omega arith)
 remove_insert (y ∷ xs) (suc i) x le = ap (λ ys. y ∷ ys) (remove_insert xs i x (omega arith))
 
 -- counts with one more, which goes again
-pub counts_back : (counts more back : List ℕ) (n : ℕ) → n ≤ length counts → more ≡ insert counts n 0 → back ≡ remove more n → back ≡ counts
-counts_back counts more back n le p q = q ∙ ap (λ ns. remove ns n) p ∙ remove_insert counts n 0 le
+pub counts_back : (counts more back : List ℕ) (n x : ℕ) → n ≤ length counts → more ≡ insert counts n x → back ≡ remove more n → back ≡ counts
+counts_back counts more back n x le p q = q ∙ ap (λ ns. remove ns n) p ∙ remove_insert counts n x le
 
 number_put : (ns : List ℕ) (i x : ℕ) → i ≤ length ns → get_or (insert ns i x) i 0 ≡ x
 number_put ns zero x le = refl
@@ -123,15 +121,47 @@ module _ (counts more added : List ℕ) (i n up : ℕ) (lt : i < length counts) 
   still_there = ap (λ ns. get_or ns i 0) begun ∙ number_below counts i 0 up lt
 
   -- the counts after an edit of both
-  pub counts_edited : (after : List ℕ) (low : ℕ) → get_or counts i 0 ≡ 512 → low ≤ 512 → after ≡ set added i (get_or added i 0 - (512 - low)) → after ≡ set (set (insert counts (suc i) 0) (suc i) up) i low
-  counts_edited after low full le r =
+  pub counts_edited : (after : List ℕ) (low gone : ℕ) → get_or counts i 0 ≡ low + gone → after ≡ set added i (get_or added i 0 - gone) → after ≡ set (set (insert counts (suc i) 0) (suc i) up) i low
+  counts_edited after low gone full r =
       r
-      ∙ ap (set added i) (let e : get_or added i 0 - (512 - low) ≡ low = omega (arith, still_there, full) in e)
+      ∙ ap (set added i) (let e : get_or added i 0 - gone ≡ low = omega (arith, still_there, full) in e)
       ∙ ap (λ ns. set ns i low) begun
 
 -- the chunk that is cut, and its halves
-pub own_chunk : {X : Type 0} (chunks now : List (Vec X)) (i : ℕ) (chunk : Vec X) → i < length (contents chunks) → now ≡ chunks → chunk ≡ get_or now i chunk → list_at i (contents chunks) ≡ chunk.items
-own_chunk chunks now i chunk lt same is = own_list chunks i chunk lt (is ∙ ap (λ cs. get_or cs i chunk) same)
+pub both_halves : {X : Type 0} (items lower upper low up own : List X) (n offset : ℕ) (x : X) → own ≡ items → lower ≡ take n items → upper ≡ drop n items → low ++ up ≡ insert (lower ++ upper) offset x → low ++ up ≡ insert own offset x
+both_halves {X} items lower upper low up own n offset x e l u put = put ∙ ap (λ xs. insert xs offset x) (ap₂ (λ (xs ys : List X). xs ++ ys) l u ∙ take-append-drop n items ∙ sym e)
 
-pub both_halves : {X : Type 0} (items lower upper low up own : List X) (offset : ℕ) (x : X) → own ≡ items → lower ≡ take 256 items → upper ≡ drop 256 items → low ++ up ≡ insert (lower ++ upper) offset x → low ++ up ≡ insert own offset x
-both_halves {X} items lower upper low up own offset x e l u put = put ∙ ap (λ xs. insert xs offset x) (ap₂ (λ (xs ys : List X). xs ++ ys) l u ∙ take-append-drop 256 items ∙ sym e)
+-- the counts of chunks of which one became two
+lower_at : {X : Type 0} (ls : List (List X)) (i : ℕ) (lower upper : List X) → i < length ls → list_at i (insert (set ls i lower) (suc i) upper) ≡ lower
+lower_at [] i lower upper lt = absurd (omega arith)
+lower_at (l ∷ ls) zero lower upper lt = refl
+lower_at (l ∷ ls) (suc i) lower upper lt = lower_at ls i lower upper (omega arith)
+
+module _ {X : Type 0} (ls now : List (List X)) (i offset : ℕ) (x : X) (lt : i < length ls) (le : offset ≤ length (list_at i ls)) (full : length (list_at i ls) ≡ 512) (s : IsSplit i (insert (list_at i ls) offset x) ls now) where
+  long : length (insert (list_at i ls) offset x) ≡ 513
+  long = omega (arith, length-insert (list_at i ls) offset x le, full)
+
+  low : length (list_at i now) ≡ length s.lower
+  low = ap (λ ks. length (list_at i ks)) s.lists ∙ ap length (lower_at ls i s.lower s.upper lt)
+
+  parts : length s.lower + length s.upper ≡ 513
+  parts = sym (length-append s.lower s.upper) ∙ ap length s.both ∙ long
+
+  pub low_few : length (list_at i now) ≤ 512
+  low_few = omega (arith, low, parts, s.some_above)
+
+  pub longer : length now ≡ length ls + 1
+  longer =
+      let within : suc i ≤ length (set ls i s.lower) = omega (arith, length-set ls i s.lower) in
+      omega (arith, ap length s.lists, length-insert (set ls i s.lower) (suc i) s.upper within, length-set ls i s.lower)
+
+  pub split_kept : (counts more added after : List ℕ) (n gone : ℕ) → AreChunks ls counts → length (joined ls) < 2 ^ 62 → n ≡ suc i → length (list_at i now) + gone ≡ 512 → more ≡ insert counts n 0
+      → added ≡ set more n (get_or more n 0 + (gone + 1)) → after ≡ set added i (get_or added i 0 - gone) → AreChunks now after
+  split_kept counts more added after n gone are room next is p q r =
+      let within : i < length counts = omega (arith, lt, ap length are.counted, length-counts ls) in
+      let counted : get_or counts i 0 ≡ length s.lower + gone = omega (arith, ap (λ ns. get_or ns i 0) are.counted, count_at ls i, full, low, is) in
+      let small : IsChunk s.lower = record { some = omega (arith, s.some_below); few = omega (arith, parts, s.some_above) } in
+      let large : IsChunk s.upper = record { some = omega (arith, s.some_above); few = omega (arith, parts, s.some_below) } in
+      subst (λ ks. AreChunks ks after) (sym s.lists)
+      (subst (AreChunks (insert (set ls i s.lower) (suc i) s.upper)) (sym (counts_edited counts more added i n (gone + 1) within next p q after (length s.lower) gone counted r))
+      (halves_kept ls counts i (length s.lower) (gone + 1) s.lower s.upper (insert (list_at i ls) offset x) are lt room s.both (omega (arith, long, full)) small large refl (omega (arith, low, is, parts))))

@@ -1,8 +1,8 @@
--- Lists joined to one, and what stands at a position there.
-use Rattle.std.proofs.Common.{◌≡◌, refl, ap, sym, ◌∙◌, ℕ, zero, suc, ◌+◌, ◌<◌, arith, List, [], ◌∷◌, ◌++◌, length, map, take, drop, get_or, set, sum, append_assoc, length-append, Some}
-use Rattle.std.{specs.Prelude.slice_get, specs.Global.Vec}
-use Rattle.key_lists.proofs.Parts.{drop_among, got_among, take_front}
-use Rattle.chunk_list.{specs.declared.counts.Place.Place, specs.Chunked.{IsPlace, joined, list_at}, proofs.Sums.sum-cons}
+-- Lists joined to one, and what stands at a place there.
+use Rattle.std.proofs.Common.{◌≡◌, refl, ap, sym, ◌∙◌, ℕ, zero, suc, ◌+◌, ◌-◌, ◌<◌, arith, List, [], ◌∷◌, ◌++◌, length, map, take, drop, get_or, set, sum, append_assoc, append-nil, length-append, Some}
+use Rattle.std.{specs.Prelude.slice_get, specs.Global.Vec, proofs.lemmas.List.take-map, proofs.lemmas.Option.slice_get_read}
+use Rattle.key_lists.proofs.Parts.{drop_among, get-append, got_among, some_at, take_front}
+use Rattle.chunk_list.{specs.declared.counts.Place.Place, specs.Chunked.{AreFilled, IsPlace, contents, joined, list_at, position_in}, proofs.Sums.sum-cons}
 
 pub length-joined : {X : Type 0} (ls : List (List X)) → length (joined ls) ≡ sum (map length ls)
 length-joined [] = refl
@@ -17,14 +17,9 @@ count_at [] i = refl
 count_at (l ∷ ls) zero = refl
 count_at (l ∷ ls) (suc i) = count_at ls i
 
-counts_to : {X : Type 0} (i : ℕ) (ls : List (List X)) → take i (map length ls) ≡ map length (take i ls)
-counts_to zero ls = refl
-counts_to (suc i) [] = refl
-counts_to (suc i) (l ∷ ls) = ap (λ ns. length l ∷ ns) (counts_to i ls)
-
 -- where a chunk begins
 pub start_summed : {X : Type 0} (ls : List (List X)) (counts : List ℕ) (i : ℕ) → counts ≡ map length ls → sum (take i counts) ≡ length (joined (take i ls))
-start_summed ls counts i e = ap (λ ns. sum (take i ns)) e ∙ ap sum (counts_to i ls) ∙ sym (length-joined (take i ls))
+start_summed ls counts i e = ap (λ ns. sum (take i ns)) e ∙ ap sum (take-map length i ls) ∙ sym (length-joined (take i ls))
 
 pub joined_around : {X : Type 0} (ls : List (List X)) (i : ℕ) → i < length ls → joined ls ≡ joined (take i ls) ++ (list_at i ls ++ joined (drop (suc i) ls))
 joined_around [] i lt = absurd (omega arith)
@@ -36,10 +31,6 @@ joined_set [] i l lt = absurd (omega arith)
 joined_set (k ∷ ls) zero l lt = refl
 joined_set (k ∷ ls) (suc i) l lt = ap (λ xs. k ++ xs) (joined_set ls i l (omega arith)) ∙ sym (append_assoc k (joined (take i ls)) (l ++ joined (drop (suc i) ls)))
 
--- the items of each chunk
-abbrev pub contents : {X : Type 0} → List (Vec X) → List (List X)
-contents chunks = map (λ chunk. chunk.items) chunks
-
 pub list_at-items : {X : Type 0} (chunks : List (Vec X)) (i : ℕ) (chunk : Vec X) → i < length chunks → list_at i (contents chunks) ≡ (get_or chunks i chunk).items
 list_at-items [] i chunk lt = absurd (omega arith)
 list_at-items (c ∷ chunks) zero chunk lt = refl
@@ -49,20 +40,25 @@ pub length-lists : {X : Type 0} (chunks : List (Vec X)) → length (contents chu
 length-lists [] = refl
 length-lists (c ∷ chunks) = ap suc (length-lists chunks)
 
-pub own_list : {X : Type 0} (chunks : List (Vec X)) (i : ℕ) (chunk : Vec X) → i < length (contents chunks) → chunk ≡ get_or chunks i chunk → list_at i (contents chunks) ≡ chunk.items
-own_list chunks i chunk lt is = list_at-items chunks i chunk (omega (arith, lt, length-lists chunks)) ∙ ap (λ c. c.items) (sym is)
+pub own_list : {X : Type 0} (chunks : List (Vec X)) (ls : List (List X)) (i : ℕ) (chunk : Vec X) → contents chunks ≡ ls → i < length ls → chunk ≡ get_or chunks i chunk → list_at i ls ≡ chunk.items
+own_list chunks ls i chunk e lt is =
+    ap (list_at i) (sym e)
+    ∙ list_at-items chunks i chunk (omega (arith, lt, ap length e, length-lists chunks))
+    ∙ ap (λ c. c.items) (sym is)
 
-pub item_got : {X : Type 0} (ls : List (List X)) (position : ℕ) (place : Place) (x : X) → IsPlace ls position place → x ≡ get_or (list_at place.index ls) place.offset x → slice_get (joined ls) position ≡ Some x
-item_got ls position place x at is =
-    ap (λ xs. slice_get xs position) (joined_around ls place.index at.index)
-    ∙ got_among (joined (take place.index ls)) (list_at place.index ls) (joined (drop (suc place.index) ls)) position place.offset x at.position_is at.offset is
+pub item_got : {X : Type 0} (ls : List (List X)) (place : Place) → place.index < length ls → place.offset < length (list_at place.index ls) → slice_get (joined ls) (position_in ls place) ≡ slice_get (list_at place.index ls) place.offset
+item_got ls place lt less =
+    let x = some_at (list_at place.index ls) place.offset less in
+    ap (λ xs. slice_get xs (position_in ls place)) (joined_around ls place.index lt)
+    ∙ got_among (joined (take place.index ls)) (list_at place.index ls) (joined (drop (suc place.index) ls)) (position_in ls place) place.offset x.0 refl less x.1
+    ∙ sym (slice_get_read (list_at place.index ls) (length (list_at place.index ls)) place.offset x.0 refl less x.1)
 
 -- where a sum of counts stands, the item stands
 pub placed : {X : Type 0} (ls : List (List X)) (counts : List ℕ) (position : ℕ) (place : Place) → counts ≡ map length ls → place.index < length counts → place.offset < get_or counts place.index 0 → sum (take place.index counts) + place.offset ≡ position → IsPlace ls position place
 placed ls counts position place e lt less at = record {
   index = omega (arith, ap length e, length-counts ls);
   offset = omega (arith, ap (λ ns. get_or ns place.index 0) e, count_at ls place.index);
-  position_is = omega (arith, ap (λ ns. sum (take place.index ns)) e, ap sum (counts_to place.index ls), length-joined (take place.index ls));
+  position_is = omega (arith, ap (λ ns. sum (take place.index ns)) e, ap sum (take-map length place.index ls), length-joined (take place.index ls));
 }
 
 pub run_got : {X : Type 0} (ls : List (List X)) (position : ℕ) (place : Place) (run : List X) → IsPlace ls position place → run ≡ drop place.offset (list_at place.index ls) → take (length run) (drop position (joined ls)) ≡ run
@@ -71,7 +67,25 @@ run_got ls position place run at is =
     ∙ ap (take (length run)) (drop_among (joined (take place.index ls)) (list_at place.index ls) (joined (drop (suc place.index) ls)) position place.offset at.position_is (omega (arith, at.offset)) ∙ ap (λ xs. xs ++ joined (drop (suc place.index) ls)) (sym is))
     ∙ take_front run (joined (drop (suc place.index) ls))
 
-pub set_own : {X : Type 0} (xs : List X) (i : ℕ) (d : X) → set xs i (get_or xs i d) ≡ xs
-set_own [] i d = refl
-set_own (x ∷ xs) zero d = refl
-set_own (x ∷ xs) (suc i) d = ap (λ ys. x ∷ ys) (set_own xs i d)
+-- the last item is that of the last chunk
+some_joined : {X : Type 0} (ls : List (List X)) → 0 < length ls → AreFilled ls → 0 < length (joined ls)
+some_joined [] lt h = absurd (omega arith)
+some_joined (l ∷ ls) lt h = omega (arith, h.0, length-append l (joined ls))
+
+pub last_in : {X : Type 0} (ls : List (List X)) (i : ℕ) → i + 1 ≡ length ls → AreFilled ls → slice_get (list_at i ls) (length (list_at i ls) - 1) ≡ slice_get (joined ls) (length (joined ls) - 1)
+last_in [] i e h = refl
+last_in (l ∷ []) zero e h = ap (λ xs. slice_get xs (length xs - 1)) (sym (append-nil l))
+last_in (l ∷ k ∷ ls) zero e h = absurd (omega arith)
+last_in (l ∷ ls) (suc i) e h =
+    let end : length (l ++ joined ls) - 1 ≡ length l + (length (joined ls) - 1) = omega (arith, length-append l (joined ls), some_joined ls (omega arith) h.1) in
+    last_in ls i (omega arith) h.1
+    ∙ sym (ap (slice_get (l ++ joined ls)) end ∙ get-append l (joined ls) (length (joined ls) - 1))
+
+pub from_got : {X : Type 0} (xs : List X) (i : ℕ) (x : X) → slice_get xs i ≡ Some x → (i < length xs) × (x ≡ get_or xs i x)
+from_got [] i x e = absurd (cc)
+from_got (y ∷ xs) zero x e = (omega arith, cc)
+from_got (y ∷ xs) (suc i) x e = let rest = from_got xs i x e in (omega (arith, rest.0), rest.1)
+
+pub some_lists : {X : Type 0} (ls : List (List X)) → 0 < length (joined ls) → 0 < length ls
+some_lists [] lt = absurd (omega arith)
+some_lists (l ∷ ls) lt = omega arith

@@ -1,9 +1,9 @@
 -- What a binary search for a partition point has found.
-use Rattle.std.proofs.Common.{◌≡◌, refl, ap, sym, ◌∙◌, ℕ, zero, suc, ◌+◌, ◌-◌, ◌≤◌, ◌<◌, arith, List, [], ◌∷◌, ◌++◌, length, take, drop, get_or, Bool, true, false, true≢false, inl, inr, ◌⊎◌, Some, None, length-append}
+use Rattle.std.proofs.Common.{◌≡◌, refl, ap, sym, ◌∙◌, ℕ, zero, suc, ◌+◌, ◌-◌, ◌≤◌, ◌<◌, arith, List, [], ◌∷◌, ◌++◌, length, take, take_all, drop, get_or, Bool, true, false, true≢false, inl, inr, ◌⊎◌, Some, None, length-append}
 use Rattle.std.{specs.Prelude.slice_get, specs.List.{AllWithin, HoldsAt}, specs.List.Sorted.{IsPartitionPoint, IsPartitionedBy}, specs.Fn.{AlwaysReturns, Called}, proofs.lemmas.Bool.{cases_lt, false_from_ne_true}}
 use Rattle.key_lists.proofs.Parts.{get-append}
 use denote.Param.Members.{Mut}
-use Rattle.chunk_list.{specs.Chunked.{joined, list_at}, proofs.Joined.joined_around}
+use Rattle.chunk_list.{specs.declared.counts.Place.Place, specs.Chunked.{joined, list_at, position_in}, proofs.Joined.joined_around}
 
 pub holds_at : {X : Type 0} (P : X → Type 0) (xs : List X) (i : ℕ) (x : X) → slice_get xs i ≡ Some x → P x → HoldsAt P xs i
 holds_at P [] i x e p d = absurd (cc)
@@ -17,21 +17,42 @@ answers_next g P f a r f' c h = ((h.at (a ∷ []) r f' c).0, record { at = λ xs
 abbrev pub start : {X : Type 0} → List (List X) → ℕ → ℕ
 start ls i = length (joined (take i ls))
 
-start_rises : {X : Type 0} (ls : List (List X)) (a b : ℕ) → a ≤ b → start ls a ≤ start ls b
+pub start_rises : {X : Type 0} (ls : List (List X)) (a b : ℕ) → a ≤ b → start ls a ≤ start ls b
 start_rises ls zero b le = omega arith
 start_rises [] (suc a) b le = omega arith
 start_rises (l ∷ ls) (suc a) zero le = absurd (omega arith)
 start_rises (l ∷ ls) (suc a) (suc b) le = omega (arith, length-append l (joined (take a ls)), length-append l (joined (take b ls)), start_rises ls a b (omega arith))
 
-start_next : {X : Type 0} (ls : List (List X)) (i : ℕ) → start ls (suc i) ≡ start ls i + length (list_at i ls)
+pub start_next : {X : Type 0} (ls : List (List X)) (i : ℕ) → start ls (suc i) ≡ start ls i + length (list_at i ls)
 start_next [] zero = refl
 start_next [] (suc i) = refl
 start_next (l ∷ ls) zero = omega (arith, length-append l [])
 start_next (l ∷ ls) (suc i) = omega (arith, length-append l (joined (take (suc i) ls)), length-append l (joined (take i ls)), start_next ls i)
 
-start_all : {X : Type 0} (ls : List (List X)) → start ls (length ls) ≡ length (joined ls)
+pub start_all : {X : Type 0} (ls : List (List X)) → start ls (length ls) ≡ length (joined ls)
 start_all [] = refl
 start_all (l ∷ ls) = omega (arith, length-append l (joined (take (length ls) ls)), length-append l (joined ls), start_all ls)
+
+pub start_within : {X : Type 0} (ls : List (List X)) (i : ℕ) → start ls i ≤ length (joined ls)
+start_within ls zero = omega arith
+start_within [] (suc i) = omega arith
+start_within (l ∷ ls) (suc i) = omega (arith, length-append l (joined (take i ls)), length-append l (joined ls), start_within ls i)
+
+pub next_within : {X : Type 0} (ls : List (List X)) (i n : ℕ) → start ls (suc i) ≤ n → n < length (joined ls) → suc i < length ls
+next_within ls i n le lt =
+    elim (cases_lt (suc i) (length ls)) [
+      | inl less ↦ less
+      | inr all ↦ absurd (omega (arith, le, lt, ap (λ ks. length (joined ks)) (take_all (suc i) ls all)))
+    ]
+
+pub position_within : {X : Type 0} (ls : List (List X)) (place : Place) → place.offset ≤ length (list_at place.index ls) → position_in ls place ≤ length (joined ls)
+position_within ls place le = omega (arith, le, start_next ls place.index, start_within ls (suc place.index))
+
+-- where all items end
+pub end_at : {X : Type 0} (ls : List (List X)) (i : ℕ) → i + 1 ≡ length ls → start ls i + length (list_at i ls) ≡ length (joined ls)
+end_at ls i e =
+    let all : suc i ≡ length ls = omega (arith, e) in
+    omega (arith, start_next ls i, ap (start ls) all, start_all ls)
 
 -- where the first item of a chunk stands
 pub first_got : {X : Type 0} (ls : List (List X)) (i : ℕ) (x : X) → slice_get (list_at i ls) 0 ≡ Some x → slice_get (joined ls) (start ls i) ≡ Some x

@@ -1,60 +1,67 @@
-//! Chunks of a list, and how many items each has.
-ghost use Rattle.std.specs.Prelude.{◌≡◌, ◌+◌, ◌-◌, ◌^◌, ◌<◌, ◌≤◌, ◌++◌, ◌∷◌, [], Bool, true, false, length, map, take, drop, insert, remove, option_copied, slice_get, slice_set, slice_index_or, vec_capacity, vec_len, IfOk, OnOk, OnErr, Some};
+//! Items in chunks, none of which is empty: an item comes or leaves in their midst at the cost of one chunk and of the list of chunks.
+ghost use Rattle.std.specs.Prelude.{◌≡◌, ◌≢◌, ◌+◌, ◌-◌, ◌/◌, ◌^◌, ◌<◌, ◌≤◌, ◌++◌, ◌∷◌, [], ℕ, Bool, true, false, length, map, take, drop, insert, remove, option_copied, slice_get, slice_set, slice_index_or, vec_capacity, vec_len, IfOk, IfSome, OnOk, OnErr, None, Some};
 ghost use Rattle.std.specs.Fn.{ComputesKey};
 ghost use Rattle.std.specs.List.{AllByRecursion};
 ghost use Rattle.std.specs.List.Sorted.{IsPartitionedBy, IsPartitionPoint};
-ghost use Rattle.chunk_list.specs.Chunked.{IsChunk, IsChunked, IsPlace, IsReplaced, items_in, joined, list_at, lists};
+ghost use Rattle.chunk_list.specs.Chunked.{IsPlace, IsSplit, joined, list_at, position_in};
 
 use crate::change::Change;
-use crate::counts::{Counts, Place, put_within};
+use crate::counts::{Place, put_within};
 use std::alloc::{AllocError, Global};
+use std::marker::Model;
 
-/// A chunk with so many items is full.
-pub(crate) const CHUNK_LEN: usize = 512;
-
-/// A list has at most so many items.
-pub(crate) const MOST_ITEMS: usize = 1 << 62;
-
-/// Chunks of items. None of them is empty.
-#[derive(Drop)]
-pub(crate) struct Chunks<T> {
-    pub(crate) chunks: Vec<Vec<T>>,
-    /// How many items each chunk has.
-    pub(crate) counts: Counts,
+/// Items in chunks. A contract sees the items of each chunk; none is empty. The owner says how many items a chunk has at most,
+/// and knows how many there are.
+pub struct Chunks<T> {
+    chunks: Vec<Vec<T>>,
 }
 
-/// Takes the upper half of a full chunk out, into room for as many items as a chunk may have.
-fn upper_half<T: Drop>(items: &mut Vec<T>) -> Result<Vec<T>, AllocError>
-    requires { vec_len items.old ≡ 512 }
-    ensures lower { OnOk result (items.new.items ≡ take 256 items.old.items) }
-    ensures upper { IfOk result (λ upper. upper.items ≡ drop 256 items.old.items) }
-    ensures room { IfOk result (λ upper. 512 ≤ vec_capacity upper) }
+impl<T: Drop> Drop for Chunks<T> {
+    fn drop(self) {
+        let Self { chunks: _ } = self;
+    }
+}
+
+impl<T> Model for Chunks<T> {
+    ghost use Rattle.std.specs.Prelude.{List};
+    ghost use Rattle.chunk_list.specs.Chunked.{AreFilled, contents};
+
+    ghost Value = { List (List T) };
+
+    ghost view = { λ chunks. contents chunks.chunks.items };
+
+    ghost invariant = { λ chunks. AreFilled (contents chunks.chunks.items) };
+}
+
+/// Takes the upper half of a chunk out, into room for as many items as the chunk has, or for more.
+fn upper_half<T: Drop>(items: &mut Vec<T>, most: usize) -> Result<Vec<T>, AllocError>
+    ensures lower { OnOk result (items.new.items ≡ take (vec_len items.old / 2) items.old.items) }
+    ensures upper { IfOk result (λ upper. upper.items ≡ drop (vec_len items.old / 2) items.old.items) }
+    ensures room { IfOk result (λ upper. vec_len items.old ≤ vec_capacity upper) }
     ensures capacity { vec_capacity items.new ≡ vec_capacity items.old }
     ensures err { OnErr result (items.new.items ≡ items.old.items) }
 {
-    let mut upper = Vec::with_capacity(*items.allocator(), CHUNK_LEN)?;
-    let mut tail = items.split_off(CHUNK_LEN / 2)?;
+    let len = items.len();
+    let mut upper = Vec::with_capacity(*items.allocator(), most.max(len))?;
+    let mut tail = items.split_off(len / 2)?;
     let _ = upper.append(&mut tail);
     Ok(upper)
 }
 
 /// Puts an item into one of the halves of a chunk, at its place in both.
 fn put_into_half<T: Drop>(lower: &mut Vec<T>, upper: &mut Vec<T>, offset: usize, item: T)
-    requires lower { vec_len lower.old ≡ 256 }
-    requires upper { vec_len upper.old ≡ 256 }
-    requires lower_room { 512 ≤ vec_capacity lower.old }
-    requires upper_room { 512 ≤ vec_capacity upper.old }
-    requires within { offset ≤ 512 }
+    requires lower { vec_len lower.old < vec_capacity lower.old }
+    requires upper { vec_len upper.old < vec_capacity upper.old }
+    requires within { offset ≤ vec_len lower.old + vec_len upper.old }
     ensures items { lower.new.items ++ upper.new.items ≡ insert (lower.old.items ++ upper.old.items) offset item }
-    ensures lower_few { vec_len lower.new ≤ 512 }
-    ensures lower_some { 256 ≤ vec_len lower.new }
-    ensures upper_some { 256 ≤ vec_len upper.new }
-    ensures total { vec_len lower.new + vec_len upper.new ≡ 513 }
+    ensures lower_some { vec_len lower.old ≤ vec_len lower.new }
+    ensures upper_some { vec_len upper.old ≤ vec_len upper.new }
 {
-    if offset < CHUNK_LEN / 2 {
+    let below = lower.len();
+    if offset < below {
         put_within(lower, offset, item);
     } else {
-        put_within(upper, offset - CHUNK_LEN / 2, item);
+        put_within(upper, offset - below, item);
     }
 }
 
@@ -70,343 +77,259 @@ fn change_items<T, C: Change<T>>(items: &mut [T], change: &C)
 
 impl<T: Drop> Chunks<T> {
     /// No chunks. They take no memory.
-    pub(crate) fn new(alloc: Global) -> Chunks<T>
-        ensures items { lists result ≡ [] }
-        ensures chunked { IsChunked result }
+    pub fn new(alloc: Global) -> Chunks<T>
+        ensures { result ≡ [] }
     {
         Chunks {
             chunks: Vec::new(alloc),
-            counts: Counts::new(alloc),
         }
     }
 
-    /// How many items there are.
-    pub(crate) fn len(&self) -> usize
-        requires { IsChunked self.now }
-        ensures { result ≡ length (items_in self.now) }
-    {
-        self.counts.total()
+    /// What the chunks take their memory from.
+    pub(crate) fn alloc(&self) -> Global {
+        *self.chunks.allocator()
     }
 
-    /// Where the item at a position stands.
-    fn find(&self, position: usize) -> Place
-        requires chunked { IsChunked self.now }
-        requires within { position < length (items_in self.now) }
-        ensures { IsPlace (lists self.now) position result }
+    /// How many chunks there are.
+    pub fn len(&self) -> usize
+        ensures { result ≡ length self.now }
     {
-        self.counts.find(position)
+        self.chunks.len()
     }
 
-    /// The items from a position to the end of the chunk in which it stands.
-    pub(crate) fn run_at(&self, position: usize) -> &[T]
-        requires chunked { IsChunked self.now }
-        requires within { position < length (items_in self.now) }
+    /// The items of a chunk.
+    pub fn chunk(&self, index: usize) -> &[T]
+        requires { index < length self.now }
+        ensures items { result.now ≡ list_at index self.now }
         ensures some { 0 < length result.now }
-        ensures run { take (length result.now) (drop position (items_in self.now)) ≡ result.now }
     {
-        let place = self.find(position);
-        &self.chunks[place.index][place.offset..]
+        &self.chunks[index]
     }
 
-    /// The first item of a chunk.
-    fn first_of(&self, index: usize) -> &T
-        requires chunked { IsChunked self.now }
-        requires within { index < length (lists self.now) }
-        ensures { slice_get (list_at index (lists self.now)) 0 ≡ Some result.now }
+    /// The first item, whose chunk is at hand.
+    pub fn first(&self) -> Option<&T>
+        ensures { option_copied result ≡ slice_get (joined self.now) 0 }
     {
-        &self.chunks[index][0]
+        let items = self.chunks.first()?;
+        items.first()
     }
 
-    /// How many items pass a test, where no item that passes it stands behind one that fails it: a binary search by the first
-    /// items of the chunks, and then one in a chunk.
-    pub(crate) fn partition_point<P: FnMut(&T) -> bool>(&self, mut pred: P) -> usize
-        requires chunked { IsChunked self.now }
-        requires callable { P.IsAlwaysCallable pred }
-        ensures within { result ≤ length (items_in self.now) }
-        ensures partitioned { (p : T → Bool) → ComputesKey P.FnMut p pred → IsPartitionedBy p (items_in self.now) → IsPartitionPoint (λ item. p item ≡ true) (λ item. p item ≡ false) (items_in self.now) result }
+    /// The last item, whose chunk is at hand.
+    pub fn last(&self) -> Option<&T>
+        ensures { option_copied result ≡ slice_get (joined self.now) (length (joined self.now) - 1) }
     {
-        let mut size = self.chunks.len();
+        let items = self.chunks.last()?;
+        items.last()
+    }
+
+    /// Where the item at a position stands. The chunks before it are looked at one by one.
+    pub fn find(&self, position: usize) -> Place
+        requires { position < length (joined self.now) }
+        ensures { IsPlace self.now position result }
+    {
+        let mut index = 0;
+        let mut offset = position;
+        while offset >= self.chunk(index).len() {
+            offset -= self.chunk(index).len();
+            index += 1;
+        }
+        Place { index, offset }
+    }
+
+    /// How many items are in the first chunks.
+    pub fn count_in(&self, chunks: usize) -> usize
+        requires within { chunks ≤ length self.now }
+        requires fits { length (joined self.now) < 2 ^ 64 }
+        ensures { result ≡ length (joined (take chunks self.now)) }
+    {
+        let mut count = 0;
+        for index in 0..chunks {
+            count += self.chunk(index).len();
+        }
+        count
+    }
+
+    /// Where the item behind a place stands, if there is one: behind the end of a chunk that is the first of the next.
+    pub fn next_item(&self, place: Place) -> Option<Place>
+        requires { place.offset ≤ length (list_at place.index self.now) }
+        ensures found { IfSome result (λ found. IsPlace self.now (position_in self.now place) found) }
+        ensures none { result ≡ None → length (joined self.now) ≤ position_in self.now place }
+    {
+        if place.index >= self.chunks.len() {
+            return None;
+        }
+        if place.offset < self.chunk(place.index).len() {
+            return Some(place);
+        }
+        let index = place.index + 1;
+        if index >= self.chunks.len() {
+            return None;
+        }
+        Some(Place { index, offset: 0 })
+    }
+
+    /// The place behind the items that pass a test, where no item that passes it stands behind one that fails it: a binary search
+    /// by the first items of the chunks, and then one in a chunk.
+    pub fn partition_point<P: FnMut(&T) -> bool>(&self, mut pred: P) -> Place
+        requires { P.IsAlwaysCallable pred }
+        ensures index { result.index ≤ length self.now }
+        ensures within { position_in self.now result ≤ length (joined self.now) }
+        ensures partitioned { (p : T → Bool) → ComputesKey P.FnMut p pred → IsPartitionedBy p (joined self.now) → IsPartitionPoint (λ item. p item ≡ true) (λ item. p item ≡ false) (joined self.now) (position_in self.now result) }
+    {
+        let mut size = self.len();
         if size == 0 {
-            return 0;
+            return Place {
+                index: 0,
+                offset: 0,
+            };
         }
         let mut base = 0;
         while size > 1 {
             let half = size / 2;
             let middle = base + half;
-            if pred(self.first_of(middle)) {
+            if pred(&self.chunk(middle)[0]) {
                 base = middle;
                 size -= half;
             } else {
                 size -= half;
             }
         }
-        self.counts.before(base) + self.chunks[base].partition_point(pred)
+        Place {
+            index: base,
+            offset: self.chunk(base).partition_point(pred),
+        }
     }
 
-    /// Puts an item in at a place of a chunk that is not full.
-    fn put(&mut self, place: Place, item: T) -> Result<(), AllocError>
-        requires chunked { IsChunked self.old }
-        requires room { length (items_in self.old) < 2 ^ 62 }
-        requires index { place.index < length (lists self.old) }
-        requires few { length (list_at place.index (lists self.old)) < 512 }
-        requires offset { place.offset ≤ length (list_at place.index (lists self.old)) }
-        ensures ok { OnOk result (lists self.new ≡ slice_set (lists self.old) place.index (insert (list_at place.index (lists self.old)) place.offset item)) }
-        ensures err { OnErr result (lists self.new ≡ lists self.old) }
-        ensures chunked { IsChunked self.new }
+    /// Puts a chunk in before the one at an index, or behind all.
+    pub(crate) fn insert_chunk(&mut self, index: usize, items: Vec<T>) -> Result<(), AllocError>
+        requires within { index ≤ length self.old }
+        requires some { 0 < length items.items }
+        ensures ok { OnOk result (self.new ≡ insert self.old index items.items) }
+        ensures err { OnErr result (self.new ≡ self.old) }
     {
-        self.chunks[place.index].insert(place.offset, item)?;
-        self.counts.add(place.index, 1);
+        self.chunks.insert(index, items)?;
         Ok(())
     }
 
-    /// Puts a chunk behind all others.
-    fn append_chunk(&mut self, items: Vec<T>) -> Result<(), AllocError>
-        requires chunked { IsChunked self.old }
-        requires chunk { IsChunk items.items }
-        requires room { length (items_in self.old) + length items.items ≤ 2 ^ 62 }
-        ensures ok { OnOk result (lists self.new ≡ lists self.old ++ items.items ∷ []) }
-        ensures err { OnErr result (lists self.new ≡ lists self.old) }
-        ensures chunked { IsChunked self.new }
+    /// Begins a chunk with an item before the one at an index, or behind all.
+    fn begin(&mut self, index: usize, item: T) -> Result<(), AllocError>
+        requires { index ≤ length self.old }
+        ensures ok { OnOk result (self.new ≡ insert self.old index (item ∷ [])) }
+        ensures err { OnErr result (self.new ≡ self.old) }
     {
-        self.chunks.reserve(1)?;
-        let count = self.chunks.len();
-        self.counts.insert(count, items.len())?;
-        put_within(&mut self.chunks, count, items);
-        Ok(())
-    }
-
-    /// Begins a chunk with an item behind all others.
-    fn push_chunk(&mut self, item: T) -> Result<(), AllocError>
-        requires chunked { IsChunked self.old }
-        requires room { length (items_in self.old) < 2 ^ 62 }
-        ensures ok { OnOk result (lists self.new ≡ lists self.old ++ (item ∷ []) ∷ []) }
-        ensures err { OnErr result (lists self.new ≡ lists self.old) }
-        ensures chunked { IsChunked self.new }
-    {
-        let mut items = Vec::new(*self.chunks.allocator());
+        let mut items = Vec::new(self.alloc());
         items.push(item)?;
-        self.append_chunk(items)
+        self.insert_chunk(index, items)
     }
 
-    /// Puts an item in behind all others: into the last chunk, or into a new one where that is full.
-    pub(crate) fn push(&mut self, item: T) -> Result<(), AllocError>
-        requires chunked { IsChunked self.old }
-        requires room { length (items_in self.old) < 2 ^ 62 }
-        ensures ok { OnOk result (items_in self.new ≡ items_in self.old ++ item ∷ []) }
-        ensures replaced { OnOk result (IsReplaced 1 2 (lists self.old) (lists self.new)) }
-        ensures err { OnErr result (lists self.new ≡ lists self.old) }
-        ensures chunked { IsChunked self.new }
+    /// Puts an item in at a place of a chunk, of which two are made. Behind its end the item begins the second.
+    fn split(&mut self, place: Place, item: T, most: usize) -> Result<(), AllocError>
+        requires index { place.index < length self.old }
+        requires two { 2 ≤ length (list_at place.index self.old) }
+        requires offset { place.offset ≤ length (list_at place.index self.old) }
+        ensures ok { OnOk result (IsSplit place.index (insert (list_at place.index self.old) place.offset item) self.old self.new) }
+        ensures err { OnErr result (self.new ≡ self.old) }
     {
-        let count = self.chunks.len();
-        if count == 0 {
-            return self.push_chunk(item);
+        if place.offset == self.chunk(place.index).len() {
+            return self.begin(place.index + 1, item);
         }
-        let index = count - 1;
-        let offset = self.chunks[index].len();
-        if offset >= CHUNK_LEN {
-            return self.push_chunk(item);
-        }
-        self.put(Place { index, offset }, item)
-    }
-
-    /// Puts an item in at a place of a full chunk, of which two are made.
-    fn split(&mut self, place: Place, item: T) -> Result<(), AllocError>
-        requires chunked { IsChunked self.old }
-        requires room { length (items_in self.old) < 2 ^ 62 }
-        requires index { place.index < length (lists self.old) }
-        requires full { length (list_at place.index (lists self.old)) ≡ 512 }
-        requires offset { place.offset ≤ 512 }
-        ensures ok { OnOk result (items_in self.new ≡ joined (slice_set (lists self.old) place.index (insert (list_at place.index (lists self.old)) place.offset item))) }
-        ensures replaced { OnOk result (IsReplaced 1 2 (lists self.old) (lists self.new)) }
-        ensures err { OnErr result (lists self.new ≡ lists self.old) }
-        ensures chunked { IsChunked self.new }
-    {
         self.chunks.reserve(1)?;
-        self.counts.insert(place.index + 1, 0)?;
         let lower = &mut self.chunks[place.index];
-        let mut upper = match upper_half(lower) {
-            Ok(upper) => upper,
-            Err(error) => {
-                self.counts.remove(place.index + 1);
-                return Err(error);
-            }
-        };
+        let mut upper = upper_half(lower, most)?;
         put_into_half(lower, &mut upper, place.offset, item);
-        let below = lower.len();
-        self.counts.add(place.index + 1, upper.len());
-        self.counts.sub(place.index, CHUNK_LEN - below);
         put_within(&mut self.chunks, place.index + 1, upper);
         Ok(())
     }
 
-    /// Puts an item in before the one at a position. After a refusal all is as before.
-    pub(crate) fn insert(&mut self, position: usize, item: T) -> Result<(), AllocError>
-        requires chunked { IsChunked self.old }
-        requires room { length (items_in self.old) < 2 ^ 62 }
-        requires within { position < length (items_in self.old) }
-        ensures ok { OnOk result (items_in self.new ≡ insert (items_in self.old) position item) }
-        ensures replaced { OnOk result (IsReplaced 1 2 (lists self.old) (lists self.new)) }
-        ensures err { OnErr result (lists self.new ≡ lists self.old) }
-        ensures chunked { IsChunked self.new }
+    /// Puts an item in at a place. A chunk that has the most items becomes two, the second of which has room for so many, or
+    /// begins with the item where this stands behind its end. After a refusal all is as before.
+    pub fn insert(&mut self, place: Place, item: T, most: usize) -> Result<(), AllocError>
+        requires index { place.index < length self.old }
+        requires offset { place.offset ≤ length (list_at place.index self.old) }
+        requires most { 2 ≤ most }
+        ensures items { OnOk result (joined self.new ≡ insert (joined self.old) (position_in self.old place) item) }
+        ensures room { OnOk result (length (list_at place.index self.old) < most → self.new ≡ slice_set self.old place.index (insert (list_at place.index self.old) place.offset item)) }
+        ensures full { OnOk result (most ≤ length (list_at place.index self.old) → IsSplit place.index (insert (list_at place.index self.old) place.offset item) self.old self.new) }
+        ensures err { OnErr result (self.new ≡ self.old) }
     {
-        let place = self.find(position);
-        if self.chunks[place.index].len() < CHUNK_LEN {
-            return self.put(place, item);
+        if self.chunk(place.index).len() >= most {
+            return self.split(place, item, most);
         }
-        self.split(place, item)
+        self.chunks[place.index].insert(place.offset, item)?;
+        Ok(())
     }
 
-    /// Takes the item at a position out, and its chunk where no other item is there.
-    pub(crate) fn remove(&mut self, position: usize) -> T
-        requires chunked { IsChunked self.old }
-        requires within { position < length (items_in self.old) }
-        ensures item { slice_get (items_in self.old) position ≡ Some result }
-        ensures items { items_in self.new ≡ remove (items_in self.old) position }
-        ensures replaced { IsReplaced 0 1 (lists self.old) (lists self.new) }
-        ensures chunked { IsChunked self.new }
+    /// Puts an item in behind all others: into the last chunk, or into a new one where that has the most items. After a refusal
+    /// all is as before.
+    pub fn push(&mut self, item: T, most: usize) -> Result<(), AllocError>
+        requires { 2 ≤ most }
+        ensures ok { OnOk result (joined self.new ≡ joined self.old ++ item ∷ []) }
+        ensures err { OnErr result (self.new ≡ self.old) }
     {
-        let place = self.find(position);
+        let count = self.len();
+        if count == 0 {
+            return self.begin(0, item);
+        }
+        let index = count - 1;
+        let offset = self.chunk(index).len();
+        self.insert(Place { index, offset }, item, most)
+    }
+
+    /// Takes the item at a place out, and its chunk where no other item is there.
+    pub fn remove(&mut self, place: Place) -> T
+        requires index { place.index < length self.old }
+        requires offset { place.offset < length (list_at place.index self.old) }
+        ensures item { slice_get (joined self.old) (position_in self.old place) ≡ Some result }
+        ensures items { joined self.new ≡ remove (joined self.old) (position_in self.old place) }
+        ensures gone { length (list_at place.index self.old) ≡ 1 → self.new ≡ remove self.old place.index }
+        ensures left { length (list_at place.index self.old) ≢ 1 → self.new ≡ slice_set self.old place.index (remove (list_at place.index self.old) place.offset) }
+    {
         let items = &mut self.chunks[place.index];
         let item = items.remove(place.offset);
         if items.is_empty() {
             self.chunks.remove(place.index);
-            self.counts.remove(place.index);
-        } else {
-            self.counts.sub(place.index, 1);
         }
         item
     }
 
-    /// How many items there is room for in the last chunk.
-    fn room_at_end(&self) -> usize
-        requires { IsChunked self.now }
-        ensures some { 0 < result → 0 < length (lists self.now) }
-        ensures room { 0 < length (lists self.now) → length (list_at (length (lists self.now) - 1) (lists self.now)) + result ≤ 512 }
+    /// Puts items in behind those of a chunk.
+    pub(crate) fn extend_chunk(&mut self, index: usize, items: &[T]) -> Result<(), AllocError>
+    where
+        T: Copy,
+        requires { index < length self.old }
+        ensures ok { OnOk result (self.new ≡ slice_set self.old index (list_at index self.old ++ items.now)) }
+        ensures err { OnErr result (self.new ≡ self.old) }
     {
-        let count = self.chunks.len();
-        if count == 0 {
-            return 0;
-        }
-        CHUNK_LEN - self.chunks[count - 1].len()
+        self.chunks[index].extend_from_slice(items)?;
+        Ok(())
     }
 
     /// Takes all chunks but the first ones off.
-    fn truncate(&mut self, count: usize)
-        requires chunked { IsChunked self.old }
-        requires within { count ≤ length (lists self.old) }
-        ensures lists { lists self.new ≡ take count (lists self.old) }
-        ensures chunked { IsChunked self.new }
+    pub(crate) fn truncate(&mut self, count: usize)
+        ensures { self.new ≡ take count self.old }
     {
-        let mut end = self.chunks.len();
-        while end > count {
-            end -= 1;
-            self.chunks.remove(end);
-            self.counts.remove(end);
-        }
-    }
-
-    /// Puts items in behind those of a chunk that has room for them.
-    fn extend_chunk(&mut self, index: usize, items: &[T]) -> Result<(), AllocError>
-    where
-        T: Copy,
-        requires chunked { IsChunked self.old }
-        requires index { index < length (lists self.old) }
-        requires few { length (list_at index (lists self.old)) + length items.now ≤ 512 }
-        requires room { length (items_in self.old) + length items.now ≤ 2 ^ 62 }
-        ensures ok { OnOk result (lists self.new ≡ slice_set (lists self.old) index (list_at index (lists self.old) ++ items.now)) }
-        ensures err { OnErr result (lists self.new ≡ lists self.old) }
-        ensures chunked { IsChunked self.new }
-    {
-        self.chunks[index].extend_from_slice(items)?;
-        self.counts.add(index, items.len());
-        Ok(())
-    }
-
-    /// Puts items into new chunks behind all others. After a refusal some of these chunks are there.
-    fn append_chunks(&mut self, items: &[T]) -> Result<(), AllocError>
-    where
-        T: Copy,
-        requires chunked { IsChunked self.old }
-        requires room { length (items_in self.old) + length items.now ≤ 2 ^ 62 }
-        ensures kept { take (length (lists self.old)) (lists self.new) ≡ lists self.old }
-        ensures ok { OnOk result (joined (drop (length (lists self.old)) (lists self.new)) ≡ items.now) }
-        ensures chunked { IsChunked self.new }
-    {
-        let alloc = *self.chunks.allocator();
-        let mut rest = items;
-        while !rest.is_empty() {
-            let (first, others) = rest.split_at(CHUNK_LEN.min(rest.len()));
-            let chunk = Vec::from_slice(alloc, first)?;
-            self.append_chunk(chunk)?;
-            rest = others;
-        }
-        Ok(())
-    }
-
-    /// Puts items in behind all others: those that are too many for the last chunk into new ones. After a refusal some of the
-    /// new chunks are there.
-    fn append(&mut self, items: &[T]) -> Result<(), AllocError>
-    where
-        T: Copy,
-        requires chunked { IsChunked self.old }
-        requires room { length (items_in self.old) + length items.now ≤ 2 ^ 62 }
-        ensures ok { OnOk result (items_in self.new ≡ items_in self.old ++ items.now) }
-        ensures err { OnErr result (take (length (lists self.old)) (lists self.new) ≡ lists self.old) }
-        ensures chunked { IsChunked self.new }
-    {
-        let count = self.chunks.len();
-        let (first, rest) = items.split_at(self.room_at_end().min(items.len()));
-        self.append_chunks(rest)?;
-        if first.is_empty() {
-            return Ok(());
-        }
-        self.extend_chunk(count - 1, first)
-    }
-
-    /// Puts items in behind all others. After a refusal all is as before.
-    pub(crate) fn extend_from_slice(&mut self, items: &[T]) -> Result<(), AllocError>
-    where
-        T: Copy,
-        requires chunked { IsChunked self.old }
-        requires room { length (items_in self.old) + length items.now ≤ 2 ^ 62 }
-        ensures ok { OnOk result (items_in self.new ≡ items_in self.old ++ items.now) }
-        ensures err { OnErr result (lists self.new ≡ lists self.old) }
-        ensures chunked { IsChunked self.new }
-    {
-        let count = self.chunks.len();
-        match self.append(items) {
-            Ok(()) => Ok(()),
-            Err(refused) => {
-                self.truncate(count);
-                Err(refused)
-            }
-        }
+        self.chunks.truncate(count);
     }
 
     /// Equal chunks.
     pub(crate) fn copy(&self) -> Result<Chunks<T>, AllocError>
     where
         T: Copy,
-        ensures lists { IfOk result (λ copy. lists copy ≡ lists self.now) }
-        ensures counts { IfOk result (λ copy. copy.counts ≡ self.now.counts) }
+        ensures { IfOk result (λ copy. copy ≡ self.now) }
     {
-        let alloc = *self.chunks.allocator();
+        let alloc = self.alloc();
         let mut chunks = Vec::with_capacity(alloc, self.chunks.len())?;
         for items in &self.chunks {
             let copied = Vec::from_slice(alloc, items)?;
             chunks.push(copied)?;
         }
-        Ok(Chunks {
-            chunks,
-            counts: self.counts.copy()?,
-        })
+        Ok(Chunks { chunks })
     }
 
     /// Changes each item in its place.
     pub(crate) fn change_all<C: Change<T>>(&mut self, change: &C)
-        requires { AllByRecursion (C.ready change.now) (items_in self.old) }
-        ensures lists { lists self.new ≡ map (map (C.changed change.now)) (lists self.old) }
-        ensures counts { self.new.counts ≡ self.old.counts }
+        requires { AllByRecursion (C.ready change.now) (joined self.old) }
+        ensures { self.new ≡ map (map (C.changed change.now)) self.old }
     {
         for items in self.chunks.iter_mut() {
             change_items(items, change);

@@ -233,4 +233,15 @@ impl Counts {
         end_block(&mut self.blocks, self.each.len());
         sum_blocks(&mut self.blocks, &self.each, index / BLOCK_LEN);
     }
+
+    /// Takes all numbers but the first ones out.
+    pub fn truncate(&mut self, count: usize)
+        ensures { self.new ≡ take count self.old }
+    {
+        let mut end = self.each.len();
+        while end > count {
+            end -= 1;
+            self.remove(end);
+        }
+    }
 }

@@ -1,4 +1,4 @@
-//! A long list in chunks: an item is found by its position without a look at every chunk, and comes or leaves without a move of all items behind it.
+//! Long lists in chunks: an item comes or leaves without a move of all items behind it, and in a list that counts the items of each chunk it is found by its position without a look at every chunk.
 #![tactic(auto)]
 
 mod change;
@@ -7,5 +7,6 @@ mod counts;
 mod list;
 
 pub use change::Change;
+pub use chunks::Chunks;
 pub use counts::{Counts, Place};
 pub use list::ChunkList;

@@ -1,36 +1,48 @@
-//! The list, as its users see it.
-ghost use Rattle.std.specs.Prelude.{◌≡◌, ◌+◌, ◌-◌, ◌<◌, ◌≤◌, ◌==◌, ◌++◌, ◌∷◌, [], length, map, take, drop, insert, remove, option_copied, slice_get, Bool, true, false, IfOk, OnErr, OnOk, Some};
+//! A list in chunks that counts the items of each.
+ghost use Rattle.std.specs.Prelude.{◌≡◌, ◌+◌, ◌-◌, ◌^◌, ◌<◌, ◌≤◌, ◌==◌, ◌++◌, ◌∷◌, [], length, map, take, drop, insert, remove, option_copied, slice_get, slice_set, Bool, true, false, IfOk, OnErr, OnOk, Some};
 ghost use Rattle.std.specs.List.{AllByRecursion};
 ghost use Rattle.std.specs.List.Sorted.{IsPartitionedBy, IsPartitionPoint};
 ghost use Rattle.std.specs.Fn.{ComputesKey};
-ghost use Rattle.chunk_list.specs.Chunked.{IsChunk, IsReplaced, joined};
+ghost use Rattle.chunk_list.specs.Chunked.{IsChunk, IsPlace, IsReplaced, joined, list_at, position_in};
 
 use crate::change::Change;
-use crate::chunks::{Chunks, MOST_ITEMS};
+use crate::chunks::Chunks;
+use crate::counts::{Counts, Place};
 use std::alloc::{AllocError, Global};
 use std::marker::Model;
+
+/// A chunk with so many items is full.
+const CHUNK_LEN: usize = 512;
+
+/// A list has at most so many items.
+const MOST_ITEMS: usize = 1 << 62;
 
 /// Items in order. An item comes or leaves in their midst at the cost of one chunk and of the list of chunks. A contract sees
 /// the chunks, lists of 1 to 512 items; a position is a place among the items of all of them, which are joined.
 pub struct ChunkList<T> {
     chunks: Chunks<T>,
+    /// How many items each chunk has.
+    counts: Counts,
 }
 
 impl<T: Drop> Drop for ChunkList<T> {
     fn drop(self) {
-        let Self { chunks: _ } = self;
+        let Self {
+            chunks: _,
+            counts: _,
+        } = self;
     }
 }
 
 impl<T> Model for ChunkList<T> {
     ghost use Rattle.std.specs.Prelude.{List};
-    ghost use Rattle.chunk_list.specs.Chunked.{IsChunked, lists};
+    ghost use Rattle.chunk_list.specs.Chunked.{AreChunks};
 
     ghost Value = { List (List T) };
 
-    ghost view = { λ list. lists list.chunks };
+    ghost view = { λ list. list.chunks };
 
-    ghost invariant = { λ list. IsChunked list.chunks };
+    ghost invariant = { λ list. AreChunks list.chunks list.counts };
 }
 
 impl<T: Drop> ChunkList<T> {
@@ -40,6 +52,7 @@ impl<T: Drop> ChunkList<T> {
     {
         ChunkList {
             chunks: Chunks::new(alloc),
+            counts: Counts::new(alloc),
         }
     }
 
@@ -48,38 +61,46 @@ impl<T: Drop> ChunkList<T> {
         ensures count { result ≡ length (joined self.now) }
         ensures sizes { AllByRecursion IsChunk self.now }
     {
-        self.chunks.len()
+        self.counts.total()
     }
 
     /// Whether there are none.
     pub fn is_empty(&self) -> bool
         ensures { result ≡ (length (joined self.now) == 0) }
     {
-        self.chunks.len() == 0
+        self.len() == 0
+    }
+
+    /// Where the item at a position stands.
+    fn find(&self, position: usize) -> Place
+        requires { position < length (joined self.now) }
+        ensures { IsPlace self.now position result }
+    {
+        self.counts.find(position)
     }
 
     /// The item at a position, or None past the end.
     pub fn get(&self, position: usize) -> Option<&T>
         ensures { option_copied result ≡ slice_get (joined self.now) position }
     {
-        if position >= self.chunks.len() {
+        if position >= self.len() {
             return None;
         }
-        self.chunks.run_at(position).first()
+        self.run_at(position).first()
     }
 
     /// The first item.
     pub fn first(&self) -> Option<&T>
         ensures { option_copied result ≡ slice_get (joined self.now) 0 }
     {
-        self.get(0)
+        self.chunks.first()
     }
 
     /// The last item.
     pub fn last(&self) -> Option<&T>
         ensures { option_copied result ≡ slice_get (joined self.now) (length (joined self.now) - 1) }
     {
-        self.get(self.len().saturating_sub(1))
+        self.chunks.last()
     }
 
     /// The items from a position to the end of the chunk in which it stands, so that a list is walked in slices.
@@ -88,7 +109,8 @@ impl<T: Drop> ChunkList<T> {
         ensures some { 0 < length result.now }
         ensures run { take (length result.now) (drop position (joined self.now)) ≡ result.now }
     {
-        self.chunks.run_at(position)
+        let place = self.find(position);
+        &self.chunks.chunk(place.index)[place.offset..]
     }
 
     /// How many items pass a test, where no item that passes it stands behind one that fails it. Where the last one passes, no
@@ -103,11 +125,56 @@ impl<T: Drop> ChunkList<T> {
                 if pred(last) {
                     self.len()
                 } else {
-                    self.chunks.partition_point(pred)
+                    let place = self.chunks.partition_point(pred);
+                    self.counts.before(place.index) + place.offset
                 }
             }
             None => 0,
         }
+    }
+
+    /// Puts an item in at a place of a chunk, which becomes two if it is full. After a refusal all is as before.
+    fn put(&mut self, place: Place, item: T) -> Result<(), AllocError>
+        requires index { place.index < length self.old }
+        requires offset { place.offset ≤ length (list_at place.index self.old) }
+        requires few { length (joined self.old) < 2 ^ 62 }
+        ensures ok { OnOk result (joined self.new ≡ insert (joined self.old) (position_in self.old place) item) }
+        ensures replaced { OnOk result (IsReplaced 1 2 self.old self.new) }
+        ensures err { OnErr result (self.new ≡ self.old) }
+        ensures sizes { AllByRecursion IsChunk self.new }
+    {
+        if self.chunks.chunk(place.index).len() < CHUNK_LEN {
+            self.chunks.insert(place, item, CHUNK_LEN)?;
+            self.counts.add(place.index, 1);
+            return Ok(());
+        }
+        let next = place.index + 1;
+        self.counts.insert(next, 0)?;
+        if let Err(refused) = self.chunks.insert(place, item, CHUNK_LEN) {
+            self.counts.remove(next);
+            return Err(refused);
+        }
+        let gone = CHUNK_LEN - self.chunks.chunk(place.index).len();
+        self.counts.add(next, gone + 1);
+        self.counts.sub(place.index, gone);
+        Ok(())
+    }
+
+    /// Puts a chunk behind all others.
+    fn append_chunk(&mut self, items: Vec<T>) -> Result<(), AllocError>
+        requires chunk { IsChunk items.items }
+        requires room { length (joined self.old) + length items.items ≤ 2 ^ 62 }
+        ensures ok { OnOk result (self.new ≡ self.old ++ items.items ∷ []) }
+        ensures err { OnErr result (self.new ≡ self.old) }
+        ensures sizes { AllByRecursion IsChunk self.new }
+    {
+        let count = self.chunks.len();
+        self.counts.insert(count, items.len())?;
+        if let Err(refused) = self.chunks.insert_chunk(count, items) {
+            self.counts.remove(count);
+            return Err(refused);
+        }
+        Ok(())
     }
 
     /// Puts an item in behind all others, without a move of these. After a refusal all is as before.
@@ -117,10 +184,72 @@ impl<T: Drop> ChunkList<T> {
         ensures err { OnErr result (self.new ≡ self.old) }
         ensures sizes { AllByRecursion IsChunk self.new }
     {
-        if self.chunks.len() >= MOST_ITEMS {
+        if self.len() >= MOST_ITEMS {
             return Err(AllocError);
         }
-        self.chunks.push(item)
+        let count = self.chunks.len();
+        if count == 0 {
+            let mut items = Vec::new(self.chunks.alloc());
+            items.push(item)?;
+            return self.append_chunk(items);
+        }
+        let index = count - 1;
+        let offset = self.chunks.chunk(index).len();
+        self.put(Place { index, offset }, item)
+    }
+
+    /// How many items there is room for in the last chunk.
+    fn room_at_end(&self) -> usize
+        ensures some { 0 < result → 0 < length self.now }
+        ensures room { 0 < length self.now → length (list_at (length self.now - 1) self.now) + result ≤ 512 }
+    {
+        let count = self.chunks.len();
+        if count == 0 {
+            return 0;
+        }
+        CHUNK_LEN - self.chunks.chunk(count - 1).len()
+    }
+
+    /// Puts items into new chunks behind all others. After a refusal some of these chunks are there.
+    fn append_chunks(&mut self, items: &[T]) -> Result<(), AllocError>
+    where
+        T: Copy,
+        requires { length (joined self.old) + length items.now ≤ 2 ^ 62 }
+        ensures kept { take (length self.old) self.new ≡ self.old }
+        ensures ok { OnOk result (joined (drop (length self.old) self.new) ≡ items.now) }
+        ensures sizes { AllByRecursion IsChunk self.new }
+    {
+        let alloc = self.chunks.alloc();
+        let mut rest = items;
+        while !rest.is_empty() {
+            let (first, others) = rest.split_at(CHUNK_LEN.min(rest.len()));
+            let chunk = Vec::from_slice(alloc, first)?;
+            self.append_chunk(chunk)?;
+            rest = others;
+        }
+        Ok(())
+    }
+
+    /// Puts items in behind all others: those that are too many for the last chunk into new ones. After a refusal some of the
+    /// new chunks are there.
+    fn append(&mut self, items: &[T]) -> Result<(), AllocError>
+    where
+        T: Copy,
+        requires { length (joined self.old) + length items.now ≤ 2 ^ 62 }
+        ensures ok { OnOk result (joined self.new ≡ joined self.old ++ items.now) }
+        ensures err { OnErr result (take (length self.old) self.new ≡ self.old) }
+        ensures sizes { AllByRecursion IsChunk self.new }
+    {
+        let count = self.chunks.len();
+        let (first, rest) = items.split_at(self.room_at_end().min(items.len()));
+        self.append_chunks(rest)?;
+        if first.is_empty() {
+            return Ok(());
+        }
+        let last = count - 1;
+        self.chunks.extend_chunk(last, first)?;
+        self.counts.add(last, first.len());
+        Ok(())
     }
 
     /// Puts items in behind all others, without a move of these. After a refusal all is as before.
@@ -131,10 +260,18 @@ impl<T: Drop> ChunkList<T> {
         ensures err { OnErr result (self.new ≡ self.old) }
         ensures sizes { AllByRecursion IsChunk self.new }
     {
-        if items.len() > MOST_ITEMS - self.chunks.len() {
+        let count = self.chunks.len();
+        if items.len() > MOST_ITEMS - self.len() {
             return Err(AllocError);
         }
-        self.chunks.extend_from_slice(items)
+        match self.append(items) {
+            Ok(()) => Ok(()),
+            Err(refused) => {
+                self.chunks.truncate(count);
+                self.counts.truncate(count);
+                Err(refused)
+            }
+        }
     }
 
     /// An equal list.
@@ -145,6 +282,7 @@ impl<T: Drop> ChunkList<T> {
     {
         Ok(ChunkList {
             chunks: self.chunks.copy()?,
+            counts: self.counts.copy()?,
         })
     }
 
@@ -156,13 +294,14 @@ impl<T: Drop> ChunkList<T> {
         ensures err { OnErr result (self.new ≡ self.old) }
         ensures sizes { AllByRecursion IsChunk self.new }
     {
-        if position == self.chunks.len() {
+        if position == self.len() {
             return self.push(item);
         }
-        if self.chunks.len() >= MOST_ITEMS {
+        if self.len() >= MOST_ITEMS {
             return Err(AllocError);
         }
-        self.chunks.insert(position, item)
+        let place = self.find(position);
+        self.put(place, item)
     }
 
     /// Takes the item at a position out.
@@ -173,7 +312,13 @@ impl<T: Drop> ChunkList<T> {
         ensures replaced { IsReplaced 0 1 self.old self.new }
         ensures sizes { AllByRecursion IsChunk self.new }
     {
-        self.chunks.remove(position)
+        let place = self.find(position);
+        if self.chunks.chunk(place.index).len() == 1 {
+            self.counts.remove(place.index);
+            return self.chunks.remove(place);
+        }
+        self.counts.sub(place.index, 1);
+        self.chunks.remove(place)
     }
 
     /// Changes each item in its place.

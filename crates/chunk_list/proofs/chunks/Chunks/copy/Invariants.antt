@@ -1,5 +1,5 @@
 use Rattle.std.proofs.Common.{◌≡◌, take}
-use Rattle.chunk_list.proofs.Joined.{contents}
+use Rattle.chunk_list.specs.Chunked.{contents}
 use Rattle.chunk_list.proofs.chunks.Chunks.copy.Given as goal
 
 abbrev pub invariant-loop-items : goal.invariant-loop-items

@@ -1,11 +1,11 @@
 use Rattle.std.proofs.Common.{Bool, ◌+◌, ◌≤◌, ◌<◌, length}
 use Rattle.std.specs.Fn.{ComputesKey}
 use denote.Param.Always.{always_mut}
-use Rattle.chunk_list.{specs.Chunked.lists, proofs.Searches.Halved}
+use Rattle.chunk_list.proofs.Searches.{Halved}
 use Rattle.chunk_list.proofs.chunks.Chunks.partition_point.Given as goal
 
 abbrev pub invariant-loop-size : goal.invariant-loop-size
-invariant-loop-size g l = (0 < l.size) × (l.base + l.size ≤ length (lists l.self)) × always_mut g.P.FnMut l.pred × ((p : g.row.T.Denot → Bool) → ComputesKey g.P.FnMut p l.initial.pred → ComputesKey g.P.FnMut p l.pred × Halved p (lists l.self) l.base l.size)
+invariant-loop-size g l = (0 < l.size) × (l.base + l.size ≤ length l.self) × always_mut g.P.FnMut l.pred × ((p : g.row.T.Denot → Bool) → ComputesKey g.P.FnMut p l.initial.pred → ComputesKey g.P.FnMut p l.pred × Halved p l.self l.base l.size)
 
 abbrev pub decreases-loop-size : goal.decreases-loop-size
 decreases-loop-size g l = l.size

@@ -1,88 +1,78 @@
-use Rattle.std.proofs.Common.{◌≡◌, ◌+◌, ◌<◌, ◌≤◌, ap, arith, get_or, length, length-drop, set, subst, suc, sum, sym, ◌∙◌}
-use Rattle.std.{specs.Prelude.insert, proofs.lemmas.List.length-take, proofs.lemmas.List.Edits.length-insert, proofs.lemmas.List.Sums.sum_by-insert}
-use Rattle.chunk_list.{specs.Chunked.{AreChunks, IsChunk, IsReplaced, joined, list_at, lists}, proofs.Edits.lists_same, proofs.Halves.{counts_back, both_halves, counts_edited, halves_kept, halves_replaced, joined_halves, lists_halved, own_chunk, still_there}, proofs.Joined.{contents, count_at, length-counts, length-joined}}
+use Rattle.std.proofs.Common.{◌≡◌, ◌+◌, ◌/◌, ◌<◌, ◌∷◌, [], ap, arith, get_or, length, length-drop, length-take, refl, set, subst, suc, sym, vec_len, ◌∙◌}
+use Rattle.std.{specs.Prelude.insert, proofs.lemmas.Result.on_ok_weaker}
+use Rattle.key_lists.proofs.Parts.{every_insert, every_set}
+use Rattle.chunk_list.{specs.Chunked.{AreFilled, IsSplit, contents, list_at}, proofs.Edits.{lists_same, on_err}, proofs.Halves.{begun_split, both_halves, lists_halved}, proofs.Joined.{length-lists, own_list}}
 use Rattle.chunk_list.proofs.chunks.Chunks.split.Goals as goal
 
-pub insert-requires-clause-fits : goal.insert-requires-clause-fits
-insert-requires-clause-fits g c = omega (arith, c.requires.room, ap sum c.requires.chunked.counted, length-joined (lists c.args.self.now))
+pub returns-then-place-chunk-clause-ok : goal.returns-then-place-chunk-clause-ok
+returns-then-place-chunk-clause-ok g c =
+    let ls = c.args.self.now in
+    let i = c.args.place.index in
+    let next : i + 1 ≡ suc i = omega arith in
+    on_ok_weaker c.begin.result
+    (λ of. subst (IsSplit i (insert (list_at i ls) c.args.place.offset c.args.item) ls) (sym (of ∙ ap (λ n. insert ls n (c.args.item ∷ [])) next)) (begun_split ls i c.args.place.offset c.args.item (omega (arith, c.requires.two)) (omega (arith, c.if-place-chunk.true, ap length c.chunk.ensures.items))))
+    c.begin.ensures.ok
 
-pub returns-in-Err-clause-err : goal.returns-in-Err-clause-err
-returns-in-Err-clause-err g c =
-    ap (λ cs. contents (set cs c.args.place.index c.upper_half.new.items)) c.reserve.ensures.items
-    ∙ lists_same c.args.self.now.chunks.items c.args.place.index c.index_mut-lower.result.now c.upper_half.new.items c.requires.index (c.index_mut-lower.ensures.value ∙ ap (λ cs. get_or cs c.args.place.index c.index_mut-lower.result.now) c.reserve.ensures.items) c.in-Err.ensures.err
+pub index_mut-lower-requires : goal.index_mut-lower-requires
+index_mut-lower-requires g c = omega (arith, c.requires.index, ap length c.self.view_is, length-lists c.self.inside.chunks.items, ap length c.reserve.ensures.items)
 
-pub returns-in-Err-clause-chunked : goal.returns-in-Err-clause-chunked
-returns-in-Err-clause-chunked g c =
-    let counts = c.args.self.now.counts in
-    let within : c.args.place.index + 1 ≤ length counts = omega (arith, c.requires.index, ap length c.requires.chunked.counted, length-counts (lists c.args.self.now)) in
-    subst (λ ks. AreChunks ks c.remove.new.self)
+pub returns-in_err-upper-clause-err : goal.returns-in_err-upper-clause-err
+returns-in_err-upper-clause-err g c =
+    let i = c.args.place.index in
+    let held = c.index_mut-lower.result.now in
+    on_err _ _
+    (ap (λ cs. contents (set cs i c.upper_half.new.items)) c.reserve.ensures.items
+    ∙ lists_same c.self.inside.chunks.items c.args.self.now i held c.upper_half.new.items c.self.view_is c.requires.index (c.index_mut-lower.ensures.value ∙ ap (λ cs. get_or cs i held) c.reserve.ensures.items) c.in_err-upper.ensures.err)
+
+pub invariant_of-self-in_err-upper : goal.invariant_of-self-in_err-upper
+invariant_of-self-in_err-upper g c =
+    let chunks = c.self.inside.chunks.items in
+    let i = c.args.place.index in
+    let held = c.index_mut-lower.result.now in
+    subst AreFilled
     (sym
-    (ap (λ cs. contents (set cs c.args.place.index c.upper_half.new.items)) c.reserve.ensures.items
-    ∙ lists_same c.args.self.now.chunks.items c.args.place.index c.index_mut-lower.result.now c.upper_half.new.items c.requires.index (c.index_mut-lower.ensures.value ∙ ap (λ cs. get_or cs c.args.place.index c.index_mut-lower.result.now) c.reserve.ensures.items) c.in-Err.ensures.err))
-    (subst (λ ns. AreChunks (lists c.args.self.now) ns) (sym (counts_back counts c.insert.new.self c.remove.new.self (c.args.place.index + 1) within c.in_ok-insert.ensures.ok c.remove.ensures)) c.requires.chunked)
+    (ap (λ cs. contents (set cs i c.upper_half.new.items)) c.reserve.ensures.items
+    ∙ lists_same chunks (contents chunks) i held c.upper_half.new.items refl (omega (arith, c.requires.index, ap length c.self.view_is)) (c.index_mut-lower.ensures.value ∙ ap (λ cs. get_or cs i held) c.reserve.ensures.items) c.in_err-upper.ensures.err)) c.self.invariant
 
 pub put_into_half-requires-clause-lower : goal.put_into_half-requires-clause-lower
 put_into_half-requires-clause-lower g c =
-    let own = own_chunk c.args.self.now.chunks.items c.reserve.new.self.items c.args.place.index c.index_mut-lower.result.now c.requires.index c.reserve.ensures.items c.index_mut-lower.ensures.value in
-    omega (arith, c.upper_half.new.items.ok.0, ap length c.in-Ok.ensures.lower, ap length own, c.requires.full, length-take 256 c.index_mut-lower.result.now.items)
+    let held = c.index_mut-lower.result.now in
+    let own = own_list c.self.inside.chunks.items c.args.self.now c.args.place.index held c.self.view_is c.requires.index (c.index_mut-lower.ensures.value ∙ ap (λ cs. get_or cs c.args.place.index held) c.reserve.ensures.items) in
+    omega (arith, c.upper_half.new.items.ok.0, held.ok.0, ap length c.in_ok-upper.ensures.lower, length-take (vec_len held / 2) held.items, c.upper_half.ensures.capacity, ap length own, c.requires.two)
 
 pub put_into_half-requires-clause-upper : goal.put_into_half-requires-clause-upper
 put_into_half-requires-clause-upper g c =
-    let own = own_chunk c.args.self.now.chunks.items c.reserve.new.self.items c.args.place.index c.index_mut-lower.result.now c.requires.index c.reserve.ensures.items c.index_mut-lower.ensures.value in
-    omega (arith, c.in-Ok.upper.ok.0, ap length c.in-Ok.ensures.upper, ap length own, c.requires.full, length-drop 256 c.index_mut-lower.result.now.items)
+    let held = c.index_mut-lower.result.now in
+    let own = own_list c.self.inside.chunks.items c.args.self.now c.args.place.index held c.self.view_is c.requires.index (c.index_mut-lower.ensures.value ∙ ap (λ cs. get_or cs c.args.place.index held) c.reserve.ensures.items) in
+    omega (arith, c.in_ok-upper.upper.ok.0, held.ok.0, ap length c.in_ok-upper.ensures.upper, length-drop (vec_len held / 2) held.items, c.in_ok-upper.ensures.room, ap length own, c.requires.two)
 
-pub add-requires-clause-fits : goal.add-requires-clause-fits
-add-requires-clause-fits g c =
-    omega (arith, c.requires.room, ap sum c.in_ok-insert.ensures.ok, sum_by-insert (λ n. n) c.args.self.now.counts (c.args.place.index + 1) 0, ap sum c.requires.chunked.counted, length-joined (lists c.args.self.now), c.len.ensures, c.put_into_half.ensures.total)
-
-pub sub-requires-clause-enough : goal.sub-requires-clause-enough
-sub-requires-clause-enough g c =
-    let i = c.args.place.index in
-    let ls = lists c.args.self.now in
-    let counts = c.args.self.now.counts in
-    let within : i < length counts = omega (arith, c.requires.index, ap length c.requires.chunked.counted, length-counts ls) in
-    let next : i + 1 ≡ suc i = omega arith in
-    omega (arith, still_there counts c.insert.new.self c.add.new.self i (i + 1) c.len.result within next c.in_ok-insert.ensures.ok c.add.ensures, ap (λ ns. get_or ns i 0) c.requires.chunked.counted, count_at ls i, c.requires.full)
+pub put_into_half-requires-clause-within : goal.put_into_half-requires-clause-within
+put_into_half-requires-clause-within g c =
+    let held = c.index_mut-lower.result.now in
+    let own = own_list c.self.inside.chunks.items c.args.self.now c.args.place.index held c.self.view_is c.requires.index (c.index_mut-lower.ensures.value ∙ ap (λ cs. get_or cs c.args.place.index held) c.reserve.ensures.items) in
+    omega (arith, c.in_ok-upper.upper.ok.0, c.upper_half.new.items.ok.0, held.ok.0, ap length c.in_ok-upper.ensures.upper, length-drop (vec_len held / 2) held.items, ap length c.in_ok-upper.ensures.lower, length-take (vec_len held / 2) held.items, ap length own, c.requires.offset)
 
 pub returns-clause-ok : goal.returns-clause-ok
 returns-clause-ok g c =
     let i = c.args.place.index in
-    let chunks = c.args.self.now.chunks.items in
+    let held = c.index_mut-lower.result.now in
     let lower = c.put_into_half.new.lower in
     let upper = c.put_into_half.new.upper in
-    let own = own_chunk chunks c.reserve.new.self.items i c.index_mut-lower.result.now c.requires.index c.reserve.ensures.items c.index_mut-lower.ensures.value in
-    let both = both_halves c.index_mut-lower.result.now.items c.upper_half.new.items.items c.in-Ok.upper.items lower.items upper.items (list_at i (lists c.args.self.now)) c.args.place.offset c.args.item own c.in-Ok.ensures.lower c.in-Ok.ensures.upper c.put_into_half.ensures.items in
-    ap joined (lists_halved chunks c.put_within.new.items.items i lower upper (c.put_within.ensures.items ∙ ap (λ cs. insert (set cs i lower) (i + 1) upper) c.reserve.ensures.items))
-    ∙ joined_halves (lists c.args.self.now) i lower.items upper.items (insert (list_at i (lists c.args.self.now)) c.args.place.offset c.args.item) c.requires.index both
+    let own = own_list c.self.inside.chunks.items c.args.self.now i held c.self.view_is c.requires.index (c.index_mut-lower.ensures.value ∙ ap (λ cs. get_or cs i held) c.reserve.ensures.items) in
+    record {
+      lower = lower.items;
+      upper = upper.items;
+      some_below = omega (arith, lower.ok.0, c.put_into_half.ensures.lower_some, c.upper_half.new.items.ok.0, held.ok.0, ap length c.in_ok-upper.ensures.lower, length-take (vec_len held / 2) held.items, ap length own, c.requires.two);
+      some_above = omega (arith, upper.ok.0, c.put_into_half.ensures.upper_some, c.in_ok-upper.upper.ok.0, held.ok.0, ap length c.in_ok-upper.ensures.upper, length-drop (vec_len held / 2) held.items, ap length own, c.requires.two);
+      both = both_halves held.items c.upper_half.new.items.items c.in_ok-upper.upper.items lower.items upper.items (list_at i c.args.self.now) (vec_len held / 2) c.args.place.offset c.args.item own c.in_ok-upper.ensures.lower c.in_ok-upper.ensures.upper c.put_into_half.ensures.items;
+      lists = lists_halved c.self.inside.chunks.items c.put_within.new.items.items c.args.self.now i lower upper c.self.view_is (c.put_within.ensures.items ∙ ap (λ cs. insert (set cs i lower) (i + 1) upper) c.reserve.ensures.items);
+    }
 
-pub returns-clause-replaced : goal.returns-clause-replaced
-returns-clause-replaced g c =
+pub invariant_of-self-2 : goal.invariant_of-self-2
+unfolding returns-clause-ok
+invariant_of-self-2 g c =
     let i = c.args.place.index in
-    let lower = c.put_into_half.new.lower in
-    let upper = c.put_into_half.new.upper in
-    subst (IsReplaced 1 2 (lists c.args.self.now))
-    (sym (lists_halved c.args.self.now.chunks.items c.put_within.new.items.items i lower upper (c.put_within.ensures.items ∙ ap (λ cs. insert (set cs i lower) (i + 1) upper) c.reserve.ensures.items)))
-    (halves_replaced (lists c.args.self.now) i lower.items upper.items c.requires.index)
-
-pub returns-clause-chunked : goal.returns-clause-chunked
-returns-clause-chunked g c =
-    let i = c.args.place.index in
-    let chunks = c.args.self.now.chunks.items in
-    let ls = lists c.args.self.now in
-    let counts = c.args.self.now.counts in
-    let lower = c.put_into_half.new.lower in
-    let upper = c.put_into_half.new.upper in
-    let own = own_chunk chunks c.reserve.new.self.items i c.index_mut-lower.result.now c.requires.index c.reserve.ensures.items c.index_mut-lower.ensures.value in
-    let both = both_halves c.index_mut-lower.result.now.items c.upper_half.new.items.items c.in-Ok.upper.items lower.items upper.items (list_at i ls) c.args.place.offset c.args.item own c.in-Ok.ensures.lower c.in-Ok.ensures.upper c.put_into_half.ensures.items in
-    let within : i < length counts = omega (arith, c.requires.index, ap length c.requires.chunked.counted, length-counts ls) in
-    let next : i + 1 ≡ suc i = omega arith in
-    let full : get_or counts i 0 ≡ 512 = omega (arith, ap (λ ns. get_or ns i 0) c.requires.chunked.counted, count_at ls i, c.requires.full) in
-    let low_len = lower.ok.0 in
-    let up_len = upper.ok.0 in
-    let most : c.len-below.result ≤ 512 = omega (arith, c.len-below.ensures, c.put_into_half.ensures.lower_few) in
-    let small : IsChunk lower.items = record { some = omega (arith, low_len, c.put_into_half.ensures.lower_some); few = omega (arith, low_len, c.put_into_half.ensures.lower_few) } in
-    let large : IsChunk upper.items = record { some = omega (arith, up_len, c.put_into_half.ensures.upper_some); few = omega (arith, up_len, c.put_into_half.ensures.total, c.put_into_half.ensures.lower_some) } in
-    let counted = counts_edited counts c.insert.new.self c.add.new.self i (i + 1) c.len.result within next c.in_ok-insert.ensures.ok c.add.ensures c.sub.new.self c.len-below.result full most c.sub.ensures in
-    subst (λ ks. AreChunks ks c.sub.new.self) (sym (lists_halved chunks c.put_within.new.items.items i lower upper (c.put_within.ensures.items ∙ ap (λ cs. insert (set cs i lower) (i + 1) upper) c.reserve.ensures.items)))
-    (subst (λ ns. AreChunks (insert (set ls i lower.items) (suc i) upper.items) ns) (sym counted)
-    (halves_kept ls counts i c.len-below.result c.len.result lower.items upper.items (insert (list_at i ls) c.args.place.offset c.args.item) c.requires.chunked c.requires.index c.requires.room both (length-insert (list_at i ls) c.args.place.offset c.args.item (omega (arith, c.requires.full, c.requires.offset))) small large (omega (arith, low_len, c.len-below.ensures)) (omega (arith, up_len, c.len.ensures))))
+    let chunks = c.self.inside.chunks.items in
+    let halves = returns-clause-ok g c in
+    subst AreFilled (sym (lists_halved chunks c.put_within.new.items.items (contents chunks) i c.put_into_half.new.lower c.put_into_half.new.upper refl (c.put_within.ensures.items ∙ ap (λ cs. insert (set cs i c.put_into_half.new.lower) (i + 1) c.put_into_half.new.upper) c.reserve.ensures.items)))
+    (every_insert (λ l. 0 < length l) (set (contents chunks) i halves.lower) (suc i) halves.upper halves.some_above (every_set (λ l. 0 < length l) (contents chunks) i halves.lower halves.some_below c.self.invariant))

@@ -1,14 +1,12 @@
-use Rattle.std.proofs.Common.{map, subst, sym}
+use Rattle.std.proofs.Common.{subst, sym}
 use Rattle.std.specs.List.{AllByRecursion}
-use Rattle.chunk_list.{specs.Chunked.{AreChunks, IsChunk, lists}, proofs.Changing.changed_kept}
+use Rattle.chunk_list.{specs.Chunked.{AreChunks, IsChunk}, proofs.Changing.changed_kept}
 use Rattle.chunk_list.proofs.list.ChunkList.change_all.Goals as goal
 
 pub invariant_of-self : goal.invariant_of-self
 invariant_of-self g c =
-    subst (λ ls. AreChunks ls c.change_all.new.self.counts) (sym c.change_all.ensures.lists)
-    (subst (λ counts. AreChunks (map (map (g.C.Change.changed c.args.change.now)) (lists c.self.inside.chunks)) counts) (sym c.change_all.ensures.counts) (changed_kept (g.C.Change.changed c.args.change.now) (lists c.self.inside.chunks) c.self.inside.chunks.counts c.self.invariant))
+    subst (λ ls. AreChunks ls c.self.inside.counts) (sym c.change_all.ensures) (changed_kept (g.C.Change.changed c.args.change.now) c.self.inside.chunks c.self.inside.counts c.self.invariant)
 
 pub returns-clause-sizes : goal.returns-clause-sizes
 returns-clause-sizes g c =
-    subst (AllByRecursion IsChunk) (sym c.change_all.ensures.lists)
-    (changed_kept (g.C.Change.changed c.args.change.now) (lists c.self.inside.chunks) c.self.inside.chunks.counts c.self.invariant).sizes
+    subst (AllByRecursion IsChunk) (sym c.change_all.ensures) (changed_kept (g.C.Change.changed c.args.change.now) c.self.inside.chunks c.self.inside.counts c.self.invariant).sizes
