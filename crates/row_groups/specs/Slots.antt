@@ -1,13 +1,12 @@
--- Lists of rows of a group, in chunks.
+-- Lists of rows of a group.
 --     key_in entries handle      the key of the row with a handle
 --     is_before entries at key slot      whether a row stands before a place
 --     slots_with entries at key slot slots      one row more, at a place
 --     slots_without entries at key slots      the rows without the one at a place
---     joined chunks      the rows of all chunks
---     position_in chunks spot      the position of a spot among all rows
-use Rattle.std.{specs.Prelude.{ℕ, ◌+◌, ◌^◌, ◌<◌, ◌≡◌, ◌&&◌, ◌||◌, Bool, true, false, nat_lt, int_lt, List, [], ◌∷◌, length, take, slice_index_or, unwrap_or, IsSome, ℤ, if◌then◌else◌}, specs.List.{AllByRecursion, flat_map}, specs.Ordering.int_eq, specs.Global.Vec}
+use Rattle.std.{specs.Prelude.{ℕ, ◌^◌, ◌<◌, ◌≡◌, ◌&&◌, ◌||◌, Bool, true, false, nat_lt, int_lt, List, [], ◌∷◌, length, unwrap_or, IsSome, ℤ, if◌then◌else◌}, specs.List.AllByRecursion, specs.Ordering.int_eq}
+use Rattle.chunk_list.specs.Chunked.{joined}
 use Rattle.row_handles.specs.Entries.{Entry, AreHandled, key_with}
-use Rattle.row_groups.{specs.declared.chunks.Spot.Spot, specs.declared.place.Slot.Slot, specs.Members.{Member, member_of}}
+use Rattle.row_groups.{specs.declared.place.Slot.Slot, specs.Members.{Member, member_of}}
 
 abbrev pub key_in : List Entry → ℕ → ℕ
 key_in entries handle = unwrap_or (key_with handle entries) 0
@@ -38,24 +37,10 @@ AreRanked entries [] = Unit {0}
 AreRanked entries (slot ∷ slots) =
     AllByRecursion (λ other. is_before entries other.at (key_in entries other.handle) slot ≡ true) slots × AreRanked entries slots
 
-abbrev pub joined : List (Vec Slot) → List Slot
-joined = flat_map (λ chunk. chunk.items)
-
-abbrev pub position_in : List (Vec Slot) → Spot → ℕ
-position_in chunks spot = length (joined (take spot.chunk chunks)) + spot.place
-
-abbrev pub AreFilled : List (Vec Slot) → Type 0
-AreFilled = AllByRecursion (λ chunk. 0 < length chunk.items)
-
--- no chunk is empty, and the rows are counted
-pub record IsChunked (len : ℕ) (chunks : List (Vec Slot)) : Type 0 where
-  pub filled : AreFilled chunks
+-- the rows are counted
+pub record IsCounted (len : ℕ) (chunks : List (List Slot)) : Type 0 where
   pub counted : len ≡ length (joined chunks)
   pub fits : len < 2 ^ 64
-
--- a fact of the chunk at an index
-abbrev pub AtChunk : List (Vec Slot) → ℕ → (List Slot → Type 0) → Type 0
-AtChunk chunks index P = (chunk : Vec Slot) → chunk ≡ slice_index_or chunks index chunk → P chunk.items
 
 -- the rows of a group, whose keys are among the entries
 pub record IsGroup (entries : List Entry) (slots : List Slot) : Type 0 where

@@ -2,7 +2,6 @@
 //! step costs the rows that it touches.
 #![tactic(auto)]
 
-mod chunks;
 mod group;
 mod groups;
 mod index;
@@ -11,6 +10,7 @@ mod lists;
 mod numbered;
 mod numbers;
 mod place;
+mod search;
 mod sequence;
 mod table;
 

@@ -3,29 +3,33 @@ ghost use Rattle.std.specs.Prelude.{◌≡◌, ◌+◌, ◌-◌, ◌<◌, ◌≤
 ghost use Rattle.std.specs.List.{AllByRecursion};
 ghost use Rattle.row_groups.specs.Slots.{AreKnown, is_before, IsParted, slots_with, slots_without};
 
-use crate::chunks::{count_rows, insert_at, push_row, remove_at, spot_before, spot_of};
 use crate::place::{Place, Slot};
+use crate::search::spot_before;
+use chunk_list::Chunks;
 use std::alloc::{AllocError, Global};
 use std::marker::Model;
+
+/// At most this many rows are in one chunk.
+const CHUNK_LEN: usize = 128;
 
 /// Rows in order. A row comes or leaves in their midst at the cost of one chunk and of the list of chunks.
 #[derive(Drop)]
 pub(crate) struct Sequence {
-    /// None of them is empty.
-    chunks: Vec<Vec<Slot>>,
+    chunks: Chunks<Slot>,
     len: usize,
 }
 
 impl Model for Sequence {
     ghost use Rattle.std.specs.Prelude.{List};
     ghost use Rattle.row_groups.specs.declared.place.Slot.{Slot};
-    ghost use Rattle.row_groups.specs.Slots.{joined, IsChunked};
+    ghost use Rattle.chunk_list.specs.Chunked.{joined};
+    ghost use Rattle.row_groups.specs.Slots.{IsCounted};
 
     ghost Value = { List Slot };
 
-    ghost view = { λ sequence. joined sequence.chunks.items };
+    ghost view = { λ sequence. joined sequence.chunks };
 
-    ghost invariant = { λ sequence. IsChunked sequence.len sequence.chunks.items };
+    ghost invariant = { λ sequence. IsCounted sequence.len sequence.chunks };
 }
 
 impl Sequence {
@@ -34,7 +38,7 @@ impl Sequence {
         ensures { result ≡ [] }
     {
         Sequence {
-            chunks: Vec::new(alloc),
+            chunks: Chunks::new(alloc),
             len: 0,
         }
     }
@@ -56,24 +60,22 @@ impl Sequence {
         requires { position < length self.now }
         ensures { slice_get self.now position ≡ Some result }
     {
-        let spot = spot_of(&self.chunks, position);
-        self.chunks[spot.chunk][spot.place]
+        let spot = self.chunks.find(position);
+        self.chunks.chunk(spot.index)[spot.offset]
     }
 
     /// The first row, whose chunk is at hand.
     pub(crate) fn first(&self) -> Option<Slot>
         ensures { result ≡ slice_get self.now 0 }
     {
-        let rows = self.chunks.first()?;
-        rows.first().copied()
+        self.chunks.first().copied()
     }
 
     /// The last row, whose chunk is at hand.
     pub(crate) fn last(&self) -> Option<Slot>
         ensures { result ≡ slice_get self.now (length self.now - 1) }
     {
-        let rows = self.chunks.last()?;
-        rows.last().copied()
+        self.chunks.last().copied()
     }
 
     /// How many rows stand before a place: two binary searches, and the rows of the chunks before it are counted.
@@ -84,11 +86,8 @@ impl Sequence {
         ensures before { AllByRecursion (λ slot. is_before place.now.handles.now place.now.at place.now.key slot ≡ true) (take result self.now) }
         ensures others { AllByRecursion (λ slot. is_before place.now.handles.now place.now.at place.now.key slot ≡ false) (drop result self.now) }
     {
-        if self.len == 0 {
-            return 0;
-        }
         let spot = spot_before(&self.chunks, place);
-        count_rows(&self.chunks[..spot.chunk]) + spot.place
+        self.chunks.count_in(spot.index) + spot.offset
     }
 
     /// How many rows stand before a place. Where that is all of them or none, a look at the last row or the first shows it.
@@ -118,7 +117,7 @@ impl Sequence {
         ensures err { OnErr result (self.new ≡ self.old) }
     {
         let len = self.len.checked_add(1).ok_or(AllocError)?;
-        push_row(&mut self.chunks, slot)?;
+        self.chunks.push(slot, CHUNK_LEN)?;
         self.len = len;
         Ok(())
     }
@@ -141,7 +140,7 @@ impl Sequence {
         }
         let len = self.len.checked_add(1).ok_or(AllocError)?;
         let spot = spot_before(&self.chunks, place);
-        insert_at(&mut self.chunks, spot, slot)?;
+        self.chunks.insert(spot, slot, CHUNK_LEN)?;
         self.len = len;
         Ok(())
     }
@@ -152,18 +151,10 @@ impl Sequence {
         requires parted { IsParted (is_before place.now.handles.now place.now.at place.now.key) self.old }
         ensures { self.new ≡ slots_without place.now.handles.now place.now.at place.now.key self.old }
     {
-        if self.len == 0 {
-            return;
+        let end = spot_before(&self.chunks, place);
+        if let Some(spot) = self.chunks.next_item(end) {
+            self.chunks.remove(spot);
+            self.len -= 1;
         }
-        let mut spot = spot_before(&self.chunks, place);
-        if spot.place >= self.chunks[spot.chunk].len() {
-            spot.chunk += 1;
-            spot.place = 0;
-        }
-        if spot.chunk >= self.chunks.len() {
-            return;
-        }
-        remove_at(&mut self.chunks, spot);
-        self.len -= 1;
     }
 }

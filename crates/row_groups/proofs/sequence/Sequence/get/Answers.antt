@@ -1,16 +1,18 @@
-use Rattle.std.proofs.Common.{◌≡◌, ◌+◌, ◌<◌, ap, sym, ◌∙◌, subst, take, get_or, length}
-use Rattle.std.specs.Prelude.{slice_get}
-use Rattle.row_groups.{specs.Slots.joined, proofs.Parts.row_got}
+use Rattle.std.proofs.Common.{ap, arith, length, sym, ◌∙◌, ◌<◌}
+use Rattle.std.{specs.Prelude.slice_get, proofs.lemmas.Option.slice_get-get_or}
+use Rattle.chunk_list.{specs.Chunked.joined, proofs.Joined.item_got}
 use Rattle.row_groups.proofs.sequence.Sequence.get.Goals as goal
+
+pub find-spot-requires : goal.find-spot-requires
+find-spot-requires c = omega (arith, c.requires, ap length c.self.view_is)
 
 pub returns : goal.returns
 returns c =
-    let chunks = c.self.inside.chunks.items in
-    let spot = c.spot_of-spot.result in
-    let chunk = c.index.result.now in
-    let e = c.deref.ensures.value in
-    let within = subst (λ cs. spot.chunk < length cs) e c.spot_of-spot.ensures.chunk in
-    let place = c.spot_of-spot.ensures.place chunk (c.index.ensures ∙ ap (λ cs. get_or cs spot.chunk chunk) (sym e)) in
-    let at = subst (λ cs. length (joined (take spot.chunk cs)) + spot.place ≡ c.args.position) e c.spot_of-spot.ensures.position in
+    let spot = c.find-spot.result in
+    let at = c.find-spot.ensures in
+    let within : spot.offset < length c.chunk.result.now = omega (arith, at.offset, ap length c.chunk.ensures.items) in
     ap (λ rows. slice_get rows c.args.position) (sym c.self.view_is)
-    ∙ row_got chunks spot.chunk chunk c.args.position spot.place c.index-2.result.now within c.index.ensures at place c.index-2.ensures
+    ∙ ap (slice_get (joined c.self.inside.chunks)) (sym at.position_is)
+    ∙ item_got c.self.inside.chunks spot at.index at.offset
+    ∙ ap (λ rows. slice_get rows spot.offset) (sym c.chunk.ensures.items)
+    ∙ slice_get-get_or c.chunk.result.now spot.offset _ within

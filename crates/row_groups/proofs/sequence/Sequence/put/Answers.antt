@@ -1,8 +1,9 @@
-use Rattle.std.proofs.Common.{◌≡◌, ◌-◌, ◌<◌, ◌≤◌, true, false, ap, sym, ◌∙◌, subst, take, drop, length, IsSome}
-use Rattle.std.{specs.List.AllByRecursion, proofs.lemmas.Result.on_ok_weaker}
+use Rattle.std.proofs.Common.{◌≡◌, ◌-◌, ap, arith, sym, ◌∙◌, length, IsSome}
+use Rattle.std.proofs.lemmas.Result.{on_ok_weaker}
 use Rattle.key_lists.proofs.Parts.{every_got}
 use Rattle.row_handles.specs.Entries.{key_with}
-use Rattle.row_groups.{specs.Slots.{AtChunk, is_before, joined, position_in, slots_with}, proofs.Listed.{placed_alone, placed_last, placed_with}, proofs.Parts.spot_within}
+use Rattle.chunk_list.{specs.Chunked.{joined, position_in}, proofs.Joined.some_lists, proofs.Searches.position_within}
+use Rattle.row_groups.{specs.Slots.slots_with, proofs.Listed.{placed_alone, placed_last, placed_with}}
 use Rattle.row_groups.proofs.sequence.Sequence.put.Goals as goal
 
 pub returns-then-self-eq0-clause-ok : goal.returns-then-self-eq0-clause-ok
@@ -20,16 +21,16 @@ returns-then-is_after-clause-ok c =
     let place = c.args.place.now in
     on_ok_weaker c.push-then-is_after.result (λ is. is ∙ placed_last place.handles.now place.at place.key c.args.slot c.in-Some.last c.args.self.now (sym c.last.ensures ∙ c.in-Some.is) c.requires.parted (sym c.is_after.ensures ∙ c.if-is_after.true)) c.push-then-is_after.ensures.ok
 
+pub insert-requires-clause-index : goal.insert-requires-clause-index
+insert-requires-clause-index c =
+    let some : c.self.inside.len ≡ 0 → ⊥ = c.if-self-eq0.false in
+    c.spot_before-spot.ensures.index (some_lists c.self.inside.chunks (omega (arith, some, c.self.invariant.counted)))
+
 pub returns-clause-ok : goal.returns-clause-ok
 returns-clause-ok c =
-    let chunks = c.self.inside.chunks.items in
+    let chunks = c.self.inside.chunks in
     let place = c.args.place.now in
-    let test = is_before place.handles.now place.at place.key in
     let spot = c.spot_before-spot.result in
-    let e = c.deref.ensures.value in
-    let at : AtChunk chunks spot.chunk (λ rows. spot.place ≤ length rows) = subst (λ cs. AtChunk cs spot.chunk (λ rows. spot.place ≤ length rows)) e c.spot_before-spot.ensures.place in
-    c.in_ok-insert_at.ensures.ok
-    ∙ placed_with place.handles.now place.at place.key c.args.slot (joined chunks) (position_in chunks spot) (spot_within chunks spot (subst (λ cs. spot.chunk < length cs) e c.spot_before-spot.ensures.chunk) at)
-    (subst (λ cs. AllByRecursion (λ slot. test slot ≡ true) (take (position_in cs spot) (joined cs))) e c.spot_before-spot.ensures.before)
-    (subst (λ cs. AllByRecursion (λ slot. test slot ≡ false) (drop (position_in cs spot) (joined cs))) e c.spot_before-spot.ensures.others)
+    c.in_ok-insert.ensures.items
+    ∙ placed_with place.handles.now place.at place.key c.args.slot (joined chunks) (position_in chunks spot) (position_within chunks spot c.spot_before-spot.ensures.offset) c.spot_before-spot.ensures.before c.spot_before-spot.ensures.others
     ∙ ap (slots_with place.handles.now place.at place.key c.args.slot) c.self.view_is

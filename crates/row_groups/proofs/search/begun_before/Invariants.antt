@@ -1,7 +1,8 @@
 use Rattle.std.proofs.Common.{◌-◌, ◌≡◌, ◌≤◌, true, false, length, take, drop}
 use Rattle.std.specs.List.{AllByRecursion}
-use Rattle.row_groups.specs.Slots.{is_before, joined}
-use Rattle.row_groups.proofs.chunks.begun_before.Given as goal
+use Rattle.chunk_list.specs.Chunked.{joined}
+use Rattle.row_groups.specs.Slots.{is_before}
+use Rattle.row_groups.proofs.search.begun_before.Given as goal
 
 abbrev pub invariant-loop-low : goal.invariant-loop-low
 invariant-loop-low l = record {

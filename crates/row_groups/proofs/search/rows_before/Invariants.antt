@@ -1,7 +1,7 @@
 use Rattle.std.proofs.Common.{◌-◌, ◌≡◌, ◌≤◌, true, false, length, take, drop}
 use Rattle.std.specs.List.{AllByRecursion}
 use Rattle.row_groups.specs.Slots.{is_before}
-use Rattle.row_groups.proofs.chunks.rows_before.Given as goal
+use Rattle.row_groups.proofs.search.rows_before.Given as goal
 
 abbrev pub invariant-loop-low : goal.invariant-loop-low
 invariant-loop-low l = record {

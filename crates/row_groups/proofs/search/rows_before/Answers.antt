@@ -1,7 +1,7 @@
 use Rattle.std.proofs.Common.{◌≡◌, ◌<◌, true, length, take, arith, ℕ, subst, sym, ◌∙◌, add-one}
 use Rattle.std.specs.List.{AllByRecursion}
 use Rattle.row_groups.{specs.Slots.is_before, proofs.Parts.{passed_to, failed_from}}
-use Rattle.row_groups.proofs.chunks.rows_before.Goals as goal
+use Rattle.row_groups.proofs.search.rows_before.Goals as goal
 
 pub loop-low-preserved-then-is_after : goal.loop-low-preserved-then-is_after
 loop-low-preserved-then-is_after c =
