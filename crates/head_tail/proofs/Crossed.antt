@@ -2,7 +2,7 @@
 use Rattle.std.proofs.Common.{◌≡◌, refl, ap, ap₂, sym, ◌∙◌, subst, Bool, true, false, not, ◌&&◌, ℕ, ◌-◌, List, take, drop, length}
 use Rattle.std.proofs.lemmas.List.{drop-map, length-map, take-map}
 use Rattle.key_lists.{specs.Keys.{is_among, without}, proofs.Among.{among-filter, each_among}, proofs.Every.{and_swap, every, every-filter, every_weaker, filter_same}, proofs.Rising.as_filter}
-use Rattle.tick_model.{specs.Changes.change_of, specs.declared.table.PlainRow.PlainRow, specs.declared.table.PlainTable.PlainTable, specs.Tables.keys, specs.Updates.{Tick, Update, between, new_keys, old_keys}}
+use Rattle.tick_model.{specs.declared.table.PlainRow.PlainRow, specs.declared.table.PlainTable.PlainTable, specs.Tables.keys, specs.Updates.{Tick, Update, between, new_keys, old_keys}}
 use Rattle.tick_table.{proofs.Between.old_keys-pairs, specs.Exact.{IsExact, tick_of}, specs.Ticking.Ticking}
 use Rattle.shown_rows.{specs.Shown.through, proofs.Restricted.kept}
 use Rattle.head_tail.{specs.declared.end.End.End, specs.declared.end.End.TheVariants.{First, Last}, specs.Ends.{at_end, cut, end_table, ended}, proofs.Positions.AreOf, proofs.Sides.{AreSides, end_shown, shown_pairs}}
@@ -81,10 +81,7 @@ module _ (t : Ticking) (e : IsExact t) where
         sym (comes_is (at_end end cut_before before) (at_end end cut_now now) ∙ end_shown _ _ (kept t e) now t.update.added before t.update.removed from_now end cut_now cut_before)
         ∙ ap₂ comes (end_keys end count t.old) (end_keys end count t.new)
 
--- the change of the rows at an end
-pub ended_is : (made end : End) (count own : ℕ) (tick : Tick) → made ≡ end → count ≡ own → change_of (through (end_table made count) tick) ≡ change_of (ended end own tick)
-ended_is made end count own tick e f = ap₂ (λ (end : End) (count : ℕ). change_of (through (end_table end count) tick)) e f ∙ same end
-  where
-    same : (end : End) → change_of (through (end_table end own) tick) ≡ change_of (ended end own tick)
-    same First = refl
-    same Last = refl
+-- the tick of the rows at an end
+pub ended_is : (end : End) (count : ℕ) (tick : Tick) → through (end_table end count) tick ≡ ended end count tick
+ended_is First count tick = refl
+ended_is Last count tick = refl

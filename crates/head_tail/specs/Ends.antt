@@ -1,5 +1,6 @@
 -- What an operator at one end of its input keeps, and the rows at that end.
---     Kept      how many rows it shows at most, the width of its input, and the keys of the rows that it shows
+--     Limit      how many rows it shows at most, and the width of its input
+--     Kept      the same, and the keys of the rows that it shows
 --     headed count tick      the tick of the first rows, from that of the input
 --     tailed count tick      that of the last ones
 --     at_end end n xs      the elements before a position, or those from it on
@@ -9,6 +10,10 @@ use Rattle.std.specs.Prelude.{ℕ, ◌-◌, List, take, drop}
 use Rattle.head_tail.{specs.declared.end.End.End, specs.declared.end.End.TheVariants.{First, Last}}
 use Rattle.tick_model.{specs.declared.plan.Op.TheVariants.{Head, Tail}, specs.declared.table.PlainTable.PlainTable, specs.HeadTail.{head_table, tail_table}, specs.Updates.Tick}
 use Rattle.tick_laws.specs.Operated.{operated}
+
+pub record Limit : Type 0 where
+  pub count : ℕ
+  pub width : ℕ
 
 pub record Kept : Type 0 where
   pub count : ℕ

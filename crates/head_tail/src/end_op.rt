@@ -1,7 +1,4 @@
 //! `head` and `tail`: the first rows of the input or the last, or all where there are fewer, under their keys.
-//!
-//! A row that is shown leaves where it is removed, or where rows that come between it and the end push it out; where rows
-//! between it and the end go, the ones beyond come in. Every other row that is shown stays, and is modified where the input's is.
 
 ghost use Rattle.std.specs.Prelude.{◌≡◌, ◌+◌, ◌*◌, ◌≤◌, [], IfOk, OnErr};
 ghost use Rattle.head_tail.specs.Ends.{end_table, ended};
@@ -9,12 +6,11 @@ ghost use Rattle.tick_model.specs.Changes.{change_of};
 ghost use Rattle.tick_model.specs.Tables.{keys};
 ghost use Rattle.tick_table.specs.Exact.{IsExact, counted, tick_of};
 
-use crate::crossing::crossing_at;
-use crate::end::{AtEnd, AtFirst, AtLast, End};
+use crate::end::{AtEnd, AtFirst, AtLast};
+use crate::end_rows::EndRows;
 use row_set::RowSet;
-use shown_rows::{Chooses, shown_change};
 use std::alloc::{AllocError, Global};
-use std::marker::{Model, PhantomData};
+use std::marker::Model;
 use std::sync::ledger::Ledger;
 use tick_table::{Change, Steps, TickTable};
 
@@ -26,22 +22,14 @@ pub type TailOp = EndOp<AtLast>;
 
 /// Shows the rows at one end of its input, or all where there are fewer. It stands for the rows that it saw last.
 pub struct EndOp<E> {
-    /// How many rows it shows at most.
-    count: u32,
-    width: u32,
+    rows: EndRows<E>,
     /// The keys of the rows that it shows.
     shown: RowSet,
-    at: PhantomData<E>,
 }
 
 impl<E> Drop for EndOp<E> {
     fn drop(self) {
-        let Self {
-            count: _,
-            width: _,
-            shown: _,
-            at: _,
-        } = self;
+        let Self { rows: _, shown: _ } = self;
     }
 }
 
@@ -50,20 +38,7 @@ impl<E> Model for EndOp<E> {
 
     ghost Value = { Kept };
 
-    ghost view = { λ op. record { count = op.count; width = op.width; shown = op.shown } };
-}
-
-/// The rows at an end.
-#[derive(Drop)]
-struct EndRows {
-    end: End,
-    count: u32,
-}
-
-impl Chooses for EndRows {
-    ghost use Rattle.head_tail.specs.Ends.{end_table};
-
-    ghost chosen = { λ rows. end_table rows.end rows.count };
+    ghost view = { λ op. record { count = op.rows.count; width = op.rows.width; shown = op.shown } };
 }
 
 impl<E: AtEnd> EndOp<E> {
@@ -74,10 +49,8 @@ impl<E: AtEnd> EndOp<E> {
         ensures shown { result.shown ≡ [] }
     {
         EndOp {
-            count: rows,
-            width,
+            rows: EndRows::new(rows, width),
             shown: RowSet::new(alloc),
-            at: PhantomData,
         }
     }
 
@@ -97,31 +70,9 @@ impl<E: AtEnd> EndOp<E> {
         ensures reads { IfOk result (λ out. reads.new ≤ reads.old + 4 * (input.now.new.width + input.now.new.width) * (counted input.now.update + counted out.1.update)) }
         ensures refused { OnErr result (reads.new ≤ reads.old + 4 * (input.now.new.width + input.now.new.width) * (counted input.now.update + counted (change_of (ended E.end self.count (tick_of input.now))).update)) }
     {
-        let EndOp {
-            count,
-            width,
-            mut shown,
-            at,
-        } = self;
-        let end = E::end();
-        let crossing = crossing_at(end, input, count as u64)?;
-        let change = shown_change(
-            alloc,
-            &EndRows { end, count },
-            input,
-            &mut shown,
-            crossing.leaving,
-            crossing.coming,
-            reads,
-        )?;
-        Ok((
-            EndOp {
-                count,
-                width,
-                shown,
-                at,
-            },
-            change,
-        ))
+        let EndOp { rows, shown } = self;
+        let change = rows.change(alloc, input, &shown, reads)?;
+        let shown = change.update.apply_to_keys(shown)?;
+        Ok((EndOp { rows, shown }, change))
     }
 }

@@ -6,7 +6,7 @@ use Rattle.tick_model.{specs.declared.plan.Op.TheVariants.Merge, specs.declared.
 use Rattle.tick_laws.specs.Operated.{operated}
 use Rattle.tick_table.{specs.Exact.{counted, tick_of}, specs.Ticking.{Ticking, no_rows}}
 use Rattle.table_operator.{specs.Inputs.{counted_in, news, tick_in}, specs.Made.{IsCause, IsMadeOf, own_fault, own_tick, room_for}, proofs.Rooms.count_is as as_many}
-use Rattle.merge_op.{specs.declared.fault.MergeFault.MergeFault, specs.declared.fault.MergeFault.TheVariants.{Memory, TooManyRows}, specs.Made.{merge_made, of_merge}, specs.Merged.{Merger, merged, rows_in}}
+use Rattle.merge_op.{specs.declared.fault.MergeFault.MergeFault, specs.declared.fault.MergeFault.TheVariants.{Memory, TooManyRows}, specs.Made.{merge_made, of_merge}, specs.Merged.{Merging, merged, rows_in}}
 
 -- the members of a list by their numbers are the list
 numbered : {X : Type 0} (none : X) (xs : List X) (count : ℕ) → length xs ≡ count → map (λ n. slice_index_or xs n none) (range_with_len 0 count) ≡ xs
@@ -29,14 +29,14 @@ merges numbers tick ticks e =
 in_order : (ticks : List Tick) (count : ℕ) → length ticks ≡ count → operated (Merge (range_with_len 0 count)) (tick_in ticks) ≡ ticks_merged ticks
 in_order ticks count long = merges (range_with_len 0 count) (tick_in ticks) ticks (numbered (record { old = no_table; new = no_table; kept = [] }) ticks count long)
 
-pub own_is : (merge : Merger) (inputs : List Ticking) → length inputs ≡ merge.count → own_tick (merge_made merge) inputs ≡ merged inputs
+pub own_is : (merge : Merging) (inputs : List Ticking) → length inputs ≡ merge.count → own_tick (merge_made merge) inputs ≡ merged inputs
 unfolding ticks_merged
 own_is merge inputs long =
     in_order (map tick_of inputs) merge.count (length-map inputs tick_of ∙ long)
     ∙ ap₂ (λ (old new : List PlainTable). let made : Tick = record { old = merge_table old; new = merge_table new; kept = merge_pairs (map tick_of inputs) } in made)
     (map_map (λ (t : Tick). t.old) tick_of inputs) (map_map (λ (t : Tick). t.new) tick_of inputs)
 
-pub merge_is : (inputs : List ℕ) (merge : Merger) → merge.count ≡ length inputs → IsMadeOf (Merge inputs) (merge_made merge)
+pub merge_is : (inputs : List ℕ) (merge : Merging) → merge.count ≡ length inputs → IsMadeOf (Merge inputs) (merge_made merge)
 merge_is inputs merge count = record {
   tick = λ tick. merges inputs tick (map tick inputs) refl ∙ sym (in_order (map tick inputs) merge.count (length-map inputs tick ∙ sym count));
   fault = λ table. ap merge_fault (sym (numbered no_table (map table inputs) merge.count (length-map inputs table ∙ sym count)));
@@ -53,16 +53,16 @@ rows_of_news (input ∷ inputs) =
     let also = sum_by-cons (λ (input : Ticking). length input.new.rows) input inputs in
     omega (arith, rest, first, also)
 
-own_over : (merge : Merger) (inputs : List Ticking) → length inputs ≡ merge.count → own_fault (merge_made merge) inputs ≡ cond (ltb 4194304 (rows_in inputs)) (Some (ManyRows (rows_in inputs))) None
+own_over : (merge : Merging) (inputs : List Ticking) → length inputs ≡ merge.count → own_fault (merge_made merge) inputs ≡ cond (ltb 4194304 (rows_in inputs)) (Some (ManyRows (rows_in inputs))) None
 own_over merge inputs long =
     ap merge_fault (numbered no_table (news inputs) merge.count (length-map inputs (λ (input : Ticking). input.new) ∙ long))
     ∙ ap (λ count. cond (ltb 4194304 count) (let over : Option NodeFault = Some (ManyRows count) in over) None) (rows_of_news inputs)
 
-pub not_over : (merge : Merger) (inputs : List Ticking) → length inputs ≡ merge.count → rows_in inputs ≤ 4194304 → own_fault (merge_made merge) inputs ≡ None
+pub not_over : (merge : Merging) (inputs : List Ticking) → length inputs ≡ merge.count → rows_in inputs ≤ 4194304 → own_fault (merge_made merge) inputs ≡ None
 not_over merge inputs long few =
     own_over merge inputs long ∙ ap (λ b. cond b (let over : Option NodeFault = Some (ManyRows (rows_in inputs)) in over) None) (le-ltb 4194304 (rows_in inputs) few)
 
-pub is_over : (merge : Merger) (inputs : List Ticking) → length inputs ≡ merge.count → 4194304 < rows_in inputs → own_fault (merge_made merge) inputs ≡ Some (ManyRows (rows_in inputs))
+pub is_over : (merge : Merging) (inputs : List Ticking) → length inputs ≡ merge.count → 4194304 < rows_in inputs → own_fault (merge_made merge) inputs ≡ Some (ManyRows (rows_in inputs))
 is_over merge inputs long many =
     own_over merge inputs long ∙ ap (λ b. cond b (let over : Option NodeFault = Some (ManyRows (rows_in inputs)) in over) None) (lt-ltb 4194304 (rows_in inputs) many)
 
@@ -78,7 +78,7 @@ err_is {T} {E} e f h = ap go h
     go (Ok x) = e
     go (Err other) = other
 
-pub cause_is : {T : Type 0} (merge : Merger) (inputs : List Ticking) (fault : MergeFault) → length inputs ≡ merge.count → (4194304 < rows_in inputs → (let err : Result T MergeFault = Err fault in err) ≡ Err (TooManyRows (rows_in inputs)))
+pub cause_is : {T : Type 0} (merge : Merging) (inputs : List Ticking) (fault : MergeFault) → length inputs ≡ merge.count → (4194304 < rows_in inputs → (let err : Result T MergeFault = Err fault in err) ≡ Err (TooManyRows (rows_in inputs)))
     → (rows_in inputs ≤ 4194304 → fault ≡ Memory) → IsCause (of_merge fault) (own_fault (merge_made merge) inputs)
 cause_is merge inputs fault long many few =
     elim (cases_lt 4194304 (rows_in inputs)) [
@@ -86,7 +86,7 @@ cause_is merge inputs fault long many few =
       | inr within ↦ subst (λ (fault : MergeFault). IsCause (of_merge fault) (own_fault (merge_made merge) inputs)) (sym (few within)) tt
     ]
 
-room_is : (merge : Merger) (inputs : List Ticking) → length inputs ≡ merge.count → 1 ≤ merge.count
+room_is : (merge : Merging) (inputs : List Ticking) → length inputs ≡ merge.count → 1 ≤ merge.count
     → 4 * (merge.count * merge.width + merge.width) * (counted_in inputs + counted (change_of (merged inputs)).update) ≡ room_for (merge_made merge) inputs
 room_is merge inputs long some =
     ap₂ (λ (wide : ℕ) (own : Tick). 4 * wide * (counted_in inputs + counted (change_of own).update))
@@ -94,14 +94,14 @@ room_is merge inputs long some =
     (sym (own_is merge inputs long))
 
 -- without inputs there is nothing to read
-pub reads_within : (merge : Merger) (inputs : List Ticking) → length inputs ≡ merge.count → (reads first : ℕ)
+pub reads_within : (merge : Merging) (inputs : List Ticking) → length inputs ≡ merge.count → (reads first : ℕ)
     → reads ≤ first + 4 * (merge.count * merge.width + merge.width) * (counted_in inputs + counted (change_of (merged inputs)).update) → reads ≤ first + room_for (merge_made merge) inputs
 reads_within merge [] long reads first h =
     let none : counted_in [] + counted (change_of (merged [])).update ≡ 0 = refl in
     omega (arith, subst (λ count. reads ≤ first + 4 * (merge.count * merge.width + merge.width) * count) none h)
 reads_within merge (input ∷ inputs) long reads first h = subst (λ room. reads ≤ first + room) (room_is merge (input ∷ inputs) long (omega (arith, long))) h
 
-pub count_is : (merge : Merger) (inputs : List Ticking) → map (λ (input : Ticking). input.new.width) inputs ≡ replicate merge.count merge.width → length inputs ≡ merge.count
+pub count_is : (merge : Merging) (inputs : List Ticking) → map (λ (input : Ticking). input.new.width) inputs ≡ replicate merge.count merge.width → length inputs ≡ merge.count
 count_is merge inputs e = as_many inputs (replicate merge.count merge.width) e ∙ length-replicate merge.count merge.width
 
 -- what is answered where too many rows are refused has few

@@ -1,11 +1,16 @@
 -- A merge of tables that tick.
 --     merged inputs      the tick of the merge, from those of its inputs
 --     rows_in inputs      how many rows they have together
---     Merger      how many inputs a merge has, of what width, and the keys of the merged rows
+--     Merging      how many inputs a merge has, and of what width
+--     Merger      the same, and the keys of the merged rows
 use Rattle.std.specs.Prelude.{ℕ, List, length, map, sum_by}
 use Rattle.tick_model.{specs.Merge.{merge_pairs, merge_table}, specs.Updates.Tick}
 use Rattle.tick_table.{specs.Exact.tick_of, specs.Ticking.Ticking}
 use Rattle.table_operator.specs.Inputs.{news, olds}
+
+pub record Merging : Type 0 where
+  pub count : ℕ
+  pub width : ℕ
 
 pub record Merger : Type 0 where
   pub count : ℕ

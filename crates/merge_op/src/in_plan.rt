@@ -1,7 +1,8 @@
 //! A merge as an operator of a plan.
 
 use crate::fault::MergeFault;
-use crate::merging::MergeOp;
+use crate::merging::Merge;
+use row_set::RowSet;
 use std::alloc::{AllocError, Global};
 use std::sync::ledger::Ledger;
 use table_operator::{StepFault, TableOperator};
@@ -23,18 +24,18 @@ impl From<MergeFault> for StepFault {
     }
 }
 
-impl TableOperator for MergeOp {
-    ghost use Rattle.merge_op.specs.Made.{CanMerge, ShowsMerged, merge_made};
+impl TableOperator for Merge {
+    ghost use Rattle.merge_op.specs.Made.{CanMerge, merge_made};
 
     ghost made = { merge_made };
 
-    ghost stands = { ShowsMerged };
+    ghost stands = { λ _ _. Unit {0} };
 
     ghost can_be = { CanMerge };
 
-    fn of(alloc: Global, op: &Op, widths: &[u32]) -> Result<MergeOp, AllocError> {
+    fn of(_alloc: Global, op: &Op, widths: &[u32]) -> Result<Merge, AllocError> {
         match op {
-            Op::Merge { inputs } => Ok(MergeOp::new(alloc, inputs.len() as u32, widths[0])?),
+            Op::Merge { inputs } => Ok(Merge::new(inputs.len() as u32, widths[0])),
             _ => unreachable!(),
         }
     }
@@ -42,9 +43,11 @@ impl TableOperator for MergeOp {
     fn advance<L: Ledger>(
         self,
         alloc: Global,
+        own: &RowSet,
         inputs: &[Shared],
         reads: &mut Steps<L>,
-    ) -> Result<(MergeOp, Change), StepFault> {
-        Ok(self.step(alloc, inputs, reads)?)
+    ) -> Result<(Merge, Change), StepFault> {
+        let change = self.change(alloc, inputs, own, reads)?;
+        Ok((self, change))
     }
 }

@@ -1,11 +1,12 @@
-//! The operator itself.
+//! The operator without the keys of its rows.
 
-ghost use Rattle.std.specs.Prelude.{◌≡◌, ◌+◌, ◌*◌, ◌^◌, ◌<◌, ◌≤◌, [], length, IfErr, IfOk, OnErr};
+ghost use Rattle.std.specs.Prelude.{◌≡◌, ◌+◌, ◌*◌, ◌^◌, ◌<◌, ◌≤◌, length, IfErr, IfOk, OnErr, OnOk};
 ghost use Rattle.std.specs.List.{AllByRecursion};
 ghost use Rattle.table_operator.specs.Inputs.{counted_in, tables};
 ghost use Rattle.merge_op.specs.Merged.{merged, rows_in};
 ghost use Rattle.tick_model.specs.Changes.{change_of};
 ghost use Rattle.tick_model.specs.Tables.{keys};
+ghost use Rattle.tick_model.specs.Updates.{IsTick};
 ghost use Rattle.tick_table.specs.Exact.{IsExact, counted};
 
 use crate::fault::MergeFault;
@@ -19,31 +20,25 @@ use std::sync::ledger::Ledger;
 use tick_model::limits::MOST_ROWS;
 use tick_table::{Change, Shared, Steps};
 
-/// Puts the rows of its inputs one after the other. It stands for the rows that it saw last.
-pub struct MergeOp {
+/// Puts the rows of its inputs one after the other. It keeps nothing of the rows that it saw.
+pub struct Merge {
     count: u32,
     width: u32,
-    /// The keys of the merged rows.
-    shown: RowSet,
 }
 
-impl Drop for MergeOp {
+impl Drop for Merge {
     fn drop(self) {
-        let Self {
-            count: _,
-            width: _,
-            shown: _,
-        } = self;
+        let Self { count: _, width: _ } = self;
     }
 }
 
-impl Model for MergeOp {
+impl Model for Merge {
     ghost use Rattle.std.specs.Prelude.{◌≤◌};
-    ghost use Rattle.merge_op.specs.Merged.{Merger};
+    ghost use Rattle.merge_op.specs.Merged.{Merging};
 
-    ghost Value = { Merger };
+    ghost Value = { Merging };
 
-    ghost view = { λ merge. record { count = merge.count; width = merge.width; shown = merge.shown } };
+    ghost view = { λ merge. record { count = merge.count; width = merge.width } };
 
     ghost invariant = { λ merge. (2 ≤ merge.count) × (merge.count ≤ 16) × (merge.width ≤ 32) };
 }
@@ -62,66 +57,49 @@ fn rows_of(inputs: &[Shared]) -> u64
     total
 }
 
-impl MergeOp {
-    /// An operator that has seen no rows, for so many inputs of this width.
-    pub fn new(alloc: Global, count: u32, width: u32) -> Result<MergeOp, AllocError>
+impl Merge {
+    /// An operator for so many inputs of this width.
+    pub fn new(count: u32, width: u32) -> Merge
         requires some { 2 ≤ count }
         requires few { count ≤ 16 }
         requires wide { width ≤ 32 }
-        ensures count { IfOk result (λ merge. merge.count ≡ count) }
-        ensures width { IfOk result (λ merge. merge.width ≡ width) }
-        ensures shown { IfOk result (λ merge. merge.shown ≡ []) }
+        ensures count { result.count ≡ count }
+        ensures width { result.width ≡ width }
     {
-        Ok(MergeOp {
-            count,
-            width,
-            shown: RowSet::new(alloc),
-        })
+        Merge { count, width }
     }
 
-    /// The operator after the step that the inputs show, and the change of its rows. It must stand for the inputs' rows before
-    /// the step; after a refusal it is given up, and no more is read than that change may take. It is refused where the inputs
-    /// together have more than 4,194,304 rows.
-    pub fn step<L: Ledger>(
-        self,
+    /// The change of its rows in the step that the inputs show, where `shown` has the keys of the merged rows before it. Where
+    /// it is refused, no more is read than that change may take. It is refused where the inputs together have more than
+    /// 4,194,304 rows.
+    pub fn change<L: Ledger>(
+        &self,
         alloc: Global,
         inputs: &[Shared],
+        shown: &RowSet,
         reads: &mut Steps<L>,
-    ) -> Result<(MergeOp, Change), MergeFault>
-        requires count { length inputs.now ≡ self.count }
+    ) -> Result<Change, MergeFault>
+        requires count { length inputs.now ≡ self.now.count }
         requires exact { AllByRecursion IsExact (tables inputs.now) }
-        requires widths { AllByRecursion (λ input. input.new.width ≡ self.width) (tables inputs.now) }
+        requires widths { AllByRecursion (λ input. input.new.width ≡ self.now.width) (tables inputs.now) }
         requires rows { AllByRecursion (λ input. length input.new.rows ≤ 4194304) (tables inputs.now) }
         requires keys { AllByRecursion (λ key. key < 2 ^ 62) (keys (merged (tables inputs.now)).new.rows) }
-        requires stands { self.shown ≡ keys (merged (tables inputs.now)).old.rows }
-        ensures stands { IfOk result (λ out. out.0 ≡ record self { shown = keys (merged (tables inputs.now)).new.rows }) }
-        ensures change { IfOk result (λ out. out.1 ≡ change_of (merged (tables inputs.now))) }
-        ensures reads { IfOk result (λ out. reads.new ≤ reads.old + 4 * (self.count * self.width + self.width) * (counted_in (tables inputs.now) + counted out.1.update)) }
-        ensures refused { OnErr result (reads.new ≤ reads.old + 4 * (self.count * self.width + self.width) * (counted_in (tables inputs.now) + counted (change_of (merged (tables inputs.now))).update)) }
+        requires shown { shown.now ≡ keys (merged (tables inputs.now)).old.rows }
+        ensures tick { OnOk result (IsTick (merged (tables inputs.now))) }
+        ensures change { IfOk result (λ change. change ≡ change_of (merged (tables inputs.now))) }
+        ensures reads { IfOk result (λ change. reads.new ≤ reads.old + 4 * (self.now.count * self.now.width + self.now.width) * (counted_in (tables inputs.now) + counted change.update)) }
+        ensures refused { OnErr result (reads.new ≤ reads.old + 4 * (self.now.count * self.now.width + self.now.width) * (counted_in (tables inputs.now) + counted (change_of (merged (tables inputs.now))).update)) }
         ensures too_many { 4194304 < rows_in (tables inputs.now) → result ≡ Err (MergeFault.TooManyRows (rows_in (tables inputs.now))) }
         ensures fault { rows_in (tables inputs.now) ≤ 4194304 → IfErr result (λ fault. fault ≡ MergeFault.Memory) }
     {
-        let MergeOp {
-            count,
-            width,
-            shown,
-        } = self;
+        let width = self.width;
         let rows = rows_of(inputs);
         if rows > u64::from(MOST_ROWS) {
             return Err(MergeFault::TooManyRows { rows });
         }
         let _count = shown.len();
-        let touched = touched_rows(alloc, inputs, &shown)?;
+        let touched = touched_rows(alloc, inputs, shown)?;
         let merged = MergedRows { inputs, width };
-        let change = change_of_touched(alloc, &merged, width, touched, reads)?;
-        let shown = change.update.apply_to_keys(shown)?;
-        Ok((
-            MergeOp {
-                count,
-                width,
-                shown,
-            },
-            change,
-        ))
+        Ok(change_of_touched(alloc, &merged, width, touched, reads)?)
     }
 }

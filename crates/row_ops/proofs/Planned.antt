@@ -4,7 +4,7 @@ use Rattle.std.specs.List.{AllByRecursion}
 use Rattle.key_lists.proofs.Every.{every, filter_same, map_same}
 use Rattle.tick_model.{specs.declared.plan.Expr.Expr, specs.declared.plan.Op.TheVariants.{Keep, View}, specs.declared.plan.Pred.Pred, specs.declared.table.PlainRow.PlainRow, specs.declared.table.PlainTable.PlainTable, specs.Formulas.{IsWithin, truth, value}, specs.Updates.{Tick, both_in}, specs.View.{view_row, view_table}, specs.Where.where_table}
 use Rattle.table_operator.specs.Made.{IsMadeOf}
-use Rattle.row_ops.{specs.Copies.{AreCopies, IsTestCopy}, specs.Filter.Filter, specs.Made.{filter_made, view_made}, specs.Viewer.Viewer}
+use Rattle.row_ops.{specs.Copies.{AreCopies, IsTestCopy}, specs.Filter.RowTest, specs.Made.{filter_made, view_made}, specs.Viewer.Viewer}
 
 -- a copy of a test lets the same rows pass
 same_where : (copy test : Pred) (table : PlainTable) → IsTestCopy copy test → where_table test table ≡ where_table copy table
@@ -12,7 +12,7 @@ same_where copy test table h =
     ap (λ (rows : List PlainRow). let passing : PlainTable = record { width = table.width; rows = rows } in passing)
     (filter_same (λ (row : PlainRow). truth test row.cells) (λ (row : PlainRow). truth copy row.cells) table.rows (every (λ (row : PlainRow). truth test row.cells ≡ truth copy row.cells) table.rows (λ row. sym (h.same row.cells))))
 
-pub filter_is : (input : ℕ) (test : Pred) (filter : Filter) → IsTestCopy filter.test test → IsMadeOf (Keep input test) (filter_made filter)
+pub filter_is : (input : ℕ) (test : Pred) (filter : RowTest) → IsTestCopy filter.test test → IsMadeOf (Keep input test) (filter_made filter)
 filter_is input test filter h = record {
   tick = λ tick.
       ap₂ (λ (old new : PlainTable). let made : Tick = record { old = old; new = new; kept = both_in old new (tick input).kept } in made)

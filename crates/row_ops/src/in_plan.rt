@@ -1,28 +1,29 @@
 //! A filter and a view as operators of a plan.
 
 use crate::copies::{copied_exprs, copied_test};
+use crate::row_filter::RowFilter;
 use crate::view_op::ViewOp;
-use crate::where_op::WhereOp;
+use row_set::RowSet;
 use std::alloc::{AllocError, Global};
 use std::sync::ledger::Ledger;
 use table_operator::{StepFault, TableOperator, one_input};
 use tick_model::plan::Op;
 use tick_table::{Change, Shared, Steps};
 
-impl TableOperator for WhereOp {
-    ghost use Rattle.row_ops.specs.Made.{CanFilter, ShowsPassing, filter_made};
+impl TableOperator for RowFilter {
+    ghost use Rattle.row_ops.specs.Made.{CanFilter, filter_made};
 
     ghost made = { filter_made };
 
-    ghost stands = { ShowsPassing };
+    ghost stands = { λ _ _. Unit {0} };
 
     ghost can_be = { CanFilter };
 
-    fn of(alloc: Global, op: &Op, widths: &[u32]) -> Result<WhereOp, AllocError> {
+    fn of(alloc: Global, op: &Op, widths: &[u32]) -> Result<RowFilter, AllocError> {
         match op {
             Op::Keep { test, .. } => {
                 let test = copied_test(alloc, test)?;
-                Ok(WhereOp::new(alloc, test, widths[0]))
+                Ok(RowFilter::new(test, widths[0]))
             }
             _ => unreachable!(),
         }
@@ -31,10 +32,12 @@ impl TableOperator for WhereOp {
     fn advance<L: Ledger>(
         self,
         alloc: Global,
+        own: &RowSet,
         inputs: &[Shared],
         reads: &mut Steps<L>,
-    ) -> Result<(WhereOp, Change), StepFault> {
-        Ok(self.step(alloc, one_input(inputs), reads)?)
+    ) -> Result<(RowFilter, Change), StepFault> {
+        let change = self.change(alloc, one_input(inputs), own, reads)?;
+        Ok((self, change))
     }
 }
 
@@ -60,6 +63,7 @@ impl TableOperator for ViewOp {
     fn advance<L: Ledger>(
         self,
         alloc: Global,
+        _own: &RowSet,
         inputs: &[Shared],
         reads: &mut Steps<L>,
     ) -> Result<(ViewOp, Change), StepFault> {

@@ -1,9 +1,6 @@
 //! `where`: the rows of the input that pass a test, under their keys.
-//!
-//! A row comes where it is added and passes, or is modified and passes now and did not before; it goes where it is removed and
-//! passed, or is modified and passes no more. Every other row that is shown stays, and is modified where the input's is.
 
-ghost use Rattle.std.specs.Prelude.{◌≡◌, ◌+◌, ◌*◌, ◌≤◌, [], IfOk, OnErr, OnOk};
+ghost use Rattle.std.specs.Prelude.{◌≡◌, ◌+◌, ◌*◌, ◌≤◌, [], IfOk, OnErr};
 ghost use Rattle.row_ops.specs.Filter.{filtered};
 ghost use Rattle.tick_model.specs.Changes.{change_of};
 ghost use Rattle.tick_model.specs.Formulas.{IsTestWithin};
@@ -11,9 +8,8 @@ ghost use Rattle.tick_model.specs.Tables.{keys};
 ghost use Rattle.tick_model.specs.Where.{where_table};
 ghost use Rattle.tick_table.specs.Exact.{IsExact, counted, tick_of};
 
-use crate::crossing::crossing_rows;
+use crate::row_filter::RowFilter;
 use row_set::RowSet;
-use shown_rows::{Chooses, shown_change};
 use std::alloc::{AllocError, Global};
 use std::marker::Model;
 use std::sync::ledger::Ledger;
@@ -21,48 +17,23 @@ use tick_model::plan::Pred;
 use tick_table::{Change, Steps, TickTable};
 
 /// Shows the rows of its input that pass a test. It stands for the rows that it saw last.
+#[derive(Drop)]
 pub struct WhereOp {
-    test: Pred,
-    width: u32,
+    filter: RowFilter,
     /// The keys of the rows that pass.
     shown: RowSet,
-}
-
-impl Drop for WhereOp {
-    fn drop(self) {
-        let Self {
-            test: _,
-            width: _,
-            shown: _,
-        } = self;
-    }
 }
 
 impl Model for WhereOp {
     ghost use Rattle.row_ops.specs.Filter.{Filter};
     ghost use Rattle.std.specs.Coded.{codes};
     ghost use Rattle.tick_model.specs.contracts.plan.Pred as pred_type;
-    ghost use Rattle.tick_model.specs.Formulas.{IsTestWithin};
 
     ghost Value = { Filter };
 
     ghost coded = { Prim.hlevel (codes, pred_type.the_row.coded) };
 
-    ghost view = { λ filter. record { test = filter.test; width = filter.width; shown = filter.shown } };
-
-    ghost invariant = { λ filter. IsTestWithin filter.width filter.test };
-}
-
-/// The rows that pass a test.
-#[derive(Drop)]
-struct Passing<'a> {
-    test: &'a Pred,
-}
-
-impl Chooses for Passing<'_> {
-    ghost use Rattle.tick_model.specs.Where.{where_table};
-
-    ghost chosen = { λ passing. where_table passing.test.now };
+    ghost view = { λ op. record { test = op.filter.test; width = op.filter.width; shown = op.shown } };
 }
 
 impl WhereOp {
@@ -74,8 +45,7 @@ impl WhereOp {
         ensures shown { result.shown ≡ [] }
     {
         WhereOp {
-            test,
-            width,
+            filter: RowFilter::new(test, width),
             shown: RowSet::new(alloc),
         }
     }
@@ -96,22 +66,9 @@ impl WhereOp {
         ensures reads { IfOk result (λ out. reads.new ≤ reads.old + 4 * (input.now.new.width + input.now.new.width) * (counted input.now.update + counted out.1.update)) }
         ensures refused { OnErr result (reads.new ≤ reads.old + 4 * (input.now.new.width + input.now.new.width) * (counted input.now.update + counted (change_of (filtered self.test (tick_of input.now))).update)) }
     {
-        let WhereOp {
-            test,
-            width,
-            mut shown,
-        } = self;
-        let crossing = crossing_rows(alloc, &test, input, &shown, reads)?;
-        let passing = Passing { test: &test };
-        let change = shown_change(
-            alloc,
-            &passing,
-            input,
-            &mut shown,
-            crossing.leaving,
-            crossing.coming,
-            reads,
-        )?;
-        Ok((WhereOp { test, width, shown }, change))
+        let WhereOp { filter, shown } = self;
+        let change = filter.change(alloc, input, &shown, reads)?;
+        let shown = change.update.apply_to_keys(shown)?;
+        Ok((WhereOp { filter, shown }, change))
     }
 }

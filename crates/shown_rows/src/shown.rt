@@ -1,6 +1,6 @@
 //! The change of an operator whose rows are some of its input's, under their keys.
 
-ghost use Rattle.std.specs.Prelude.{◌≡◌, ◌+◌, ◌*◌, ◌≤◌, length, IfOk, OnOk};
+ghost use Rattle.std.specs.Prelude.{◌≡◌, ◌+◌, ◌*◌, ◌≤◌, length, IfOk};
 ghost use Rattle.tick_model.specs.Changes.{change_of};
 ghost use Rattle.tick_model.specs.Tables.{keys};
 ghost use Rattle.tick_model.specs.Updates.{between};
@@ -12,19 +12,18 @@ use crate::rows::{Chooses, ChosenRows};
 use row_changes::{Touched, change_of_touched};
 use row_set::RowSet;
 use std::alloc::{AllocError, Global};
-use std::mem;
 use std::sync::ledger::Ledger;
 use tick_table::{Change, Steps, TickTable};
 
 /// The change from the rows that are chosen of the input before the step to those that are chosen now. `shown` has the keys
-/// of the former, and then those of the latter; `leaving` has the old keys of the rows that are shown no more, and `coming`
-/// the new keys of those that were not shown before. It reads the coming rows, and the modified rows that stay, before and
-/// now; where it is refused, no more than these.
+/// of the former, `leaving` the old keys of the rows that are shown no more, and `coming` the new keys of those that were not
+/// shown before. It reads the coming rows, and the modified rows that stay, before and now; where it is refused, no more than
+/// these.
 pub fn shown_change<L: Ledger, C: Chooses>(
     alloc: Global,
     choice: &C,
     input: &TickTable,
-    shown: &mut RowSet,
+    shown: &RowSet,
     leaving: RowSet,
     coming: RowSet,
     reads: &mut Steps<L>,
@@ -32,10 +31,9 @@ pub fn shown_change<L: Ledger, C: Chooses>(
     requires exact { IsExact input.now }
     requires old_part { IsPart (C.chosen choice.now input.now.old) input.now.old }
     requires new_part { IsPart (C.chosen choice.now input.now.new) input.now.new }
-    requires shown { shown.old ≡ keys (C.chosen choice.now input.now.old).rows }
+    requires shown { shown.now ≡ keys (C.chosen choice.now input.now.old).rows }
     requires leaving { leaving ≡ (between (through (C.chosen choice.now) (tick_of input.now))).removed }
     requires coming { coming ≡ (between (through (C.chosen choice.now) (tick_of input.now))).added }
-    ensures shown { OnOk result (shown.new ≡ keys (C.chosen choice.now input.now.new).rows) }
     ensures change { IfOk result (λ change. change ≡ change_of (through (C.chosen choice.now) (tick_of input.now))) }
     ensures reads { reads.new ≤ reads.old + input.now.new.width * (2 * length input.now.update.modified + length coming) }
 {
@@ -51,8 +49,5 @@ pub fn shown_change<L: Ledger, C: Chooses>(
         compared_now,
     };
     let rows = ChosenRows { input, choice };
-    let change = change_of_touched(alloc, &rows, input.width(), touched, reads)?;
-    let keys = mem::replace(shown, RowSet::new(alloc));
-    *shown = change.update.apply_to_keys(keys)?;
-    Ok(change)
+    change_of_touched(alloc, &rows, input.width(), touched, reads)
 }

@@ -1,6 +1,7 @@
 //! The trait that each operator has.
 
 use crate::fault::StepFault;
+use row_set::RowSet;
 use std::alloc::{AllocError, Global};
 use std::sync::ledger::Ledger;
 use tick_model::plan::Op;
@@ -35,15 +36,17 @@ pub trait TableOperator {
         ensures stands { IfOk result (λ operator. stands operator (map no_rows widths.now)) };
 
     /// The operator after the step that the inputs show, and the change of its rows. It must stand for the inputs' rows before
-    /// the step. It is refused where memory runs out, or where it has no table over the inputs now, and is then given up. No
-    /// more cells are read than the change may take, also where it is refused.
+    /// the step, and `own` must have the keys of the rows of its own table before it. It is refused where memory runs out, or
+    /// where it has no table over the inputs now, and is then given up. No more cells are read than the change may take, also
+    /// where it is refused.
     fn advance<L: Ledger>(
         self,
         alloc: Global,
+        own: &RowSet,
         inputs: &[Shared],
         reads: &mut Steps<L>,
     ) -> Result<(Self, Change), StepFault>
-        requires { IsReady (made self) (stands self) (tables inputs.now) }
+        requires { IsReady (made self) (stands self) own.now (tables inputs.now) }
         ensures made { IfOk result (λ out. made out.0 ≡ made self) }
         ensures stands { IfOk result (λ out. stands out.0 (news (tables inputs.now))) }
         ensures sound { OnOk result (own_fault (made self) (tables inputs.now) ≡ None) }

@@ -2,7 +2,7 @@ use Rattle.std.proofs.Common.{get_or, subst, sym}
 use Rattle.tick_model.{specs.declared.plan.Op.Op, specs.declared.plan.Pred.Pred}
 use Rattle.table_operator.specs.Made.{IsMadeOf}
 use Rattle.row_ops.{specs.Copies.IsTestCopy, specs.Made.{CanFilter, filter_made}, proofs.Planned.filter_is}
-use Rattle.row_ops.proofs.in_plan.WhereOpTableOperator.of.Goals as goal
+use Rattle.row_ops.proofs.in_plan.RowFilterTableOperator.of.Goals as goal
 
 pub new-requires : goal.new-requires
 new-requires c = c.in_ok-test-in-Keep.ensures.within (get_or c.args.widths.now 0 0) (subst (λ (op : Op). CanFilter op c.args.widths.now) c.in-Keep.is c.requires.can)
