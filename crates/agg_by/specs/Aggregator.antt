@@ -1,13 +1,22 @@
 -- What an aggregation keeps.
---     Aggregator      what it was made of, what is kept of the rows, and the keys of the groups' first rows
+--     Grouping      what it was made of, and what is kept of the rows
+--     Aggregator      the same, and the keys of the groups' first rows
 --     IsAggregator by aggs width      its columns are the input's, and the result has few
---     StandsFor aggregator table      it stands for the rows of this table
+--     KeepsRows grouping table      what is kept is that of the rows of this table
+--     StandsFor aggregator table      and so are the keys
 --     grouped by aggs tick      the tick of an aggregation, from that of its input
 use Rattle.std.{specs.Prelude.{◌≡◌, ℕ, ◌+◌, ◌<◌, ◌≤◌, List, length, None}, specs.List.AllByRecursion}
 use Rattle.agg_by.{specs.declared.running.Running.Running, specs.Kept.{Are, indexed}, specs.Steps.first_keys}
 use Rattle.row_groups.specs.Members.{Numbered, groups_of}
 use Rattle.tick_model.{specs.declared.plan.Agg.Agg, specs.declared.plan.Agg.TheVariants.{Count, Sum, Min, Max, First, Last}, specs.declared.plan.Op.TheVariants.Agg as Aggregated, specs.declared.table.PlainTable.PlainTable, specs.Updates.Tick}
 use Rattle.tick_laws.specs.Operated.{operated}
+
+pub record Grouping : Type 0 where
+  pub by : List ℕ
+  pub aggs : List Agg
+  pub width : ℕ
+  pub rows : Numbered
+  pub running : List Running
 
 pub record Aggregator : Type 0 where
   pub by : List ℕ
@@ -32,7 +41,10 @@ pub record IsAggregator (columns : List ℕ) (all : List Agg) (input_width : ℕ
   pub by_within : AllByRecursion (λ column. column < input_width) columns
   pub aggs_within : AllByRecursion (IsColumn input_width) all
 
--- what is kept is that of these rows
+pub record KeepsRows (grouping : Grouping) (table : PlainTable) : Type 0 where
+  pub rows : groups_of grouping.rows ≡ indexed grouping.by None table.rows
+  pub running : Are grouping.by grouping.rows.names grouping.aggs table.rows grouping.running
+
 pub record StandsFor (aggregator : Aggregator) (table : PlainTable) : Type 0 where
   pub rows : groups_of aggregator.rows ≡ indexed aggregator.by None table.rows
   pub running : Are aggregator.by aggregator.rows.names aggregator.aggs table.rows aggregator.running

@@ -1,68 +1,31 @@
-//! The operator: what it keeps, and its step.
+//! An aggregation with the keys of its rows.
 
-ghost use Rattle.std.specs.Prelude.{◌≡◌, ℕ, ◌+◌, ◌*◌, ◌<◌, ◌≤◌, None, length, IfOk, OnErr, OnOk};
-ghost use Rattle.std.specs.List.{AllByRecursion, AllZip};
-ghost use Rattle.agg_by.specs.Aggregator.{IsAggregator, IsColumn, StandsFor, grouped};
-ghost use Rattle.agg_by.specs.Answers.{IsWithin};
-ghost use Rattle.agg_by.specs.Kept.{Are, IsMade, Keeps, indexed};
-ghost use Rattle.agg_by.specs.Notes.{IsNoted};
-ghost use Rattle.agg_by.specs.Rows.{AreReady};
-ghost use Rattle.agg_by.specs.Steps.{changing_before, coming, first_keys, leaving, touched_cells, touched_firsts};
-ghost use Rattle.agg_by.specs.Touched.{is_named};
-ghost use Rattle.key_lists.specs.Keys.{is_among};
-ghost use Rattle.row_groups.specs.Members.{IsNumberUnder, groups_of};
-ghost use Rattle.tick_model.specs.Agg.{agg_table};
+ghost use Rattle.std.specs.Prelude.{◌≡◌, ◌+◌, ◌*◌, ◌≤◌, length, IfOk, OnErr};
+ghost use Rattle.agg_by.specs.Aggregator.{IsAggregator, StandsFor, grouped};
 ghost use Rattle.tick_model.specs.Changes.{change_of};
 ghost use Rattle.tick_table.specs.Exact.{IsExact, counted, tick_of};
 ghost use Rattle.tick_table.specs.Ticking.{no_rows};
 
-use crate::firsts::firsts_of;
-use crate::kept::Kept;
-use crate::moving::Moving;
-use crate::notes::Notes;
-use crate::rows::GroupRows;
-use crate::staying::staying_firsts;
-use crate::touched::TouchedGroups;
-use row_changes::{Touched, change_of_touched};
+use crate::aggregation::Aggregation;
 use row_set::RowSet;
 use std::alloc::{AllocError, Global};
 use std::marker::Model;
-use std::mem;
 use std::sync::ledger::Ledger;
 use tick_model::items::Items;
 use tick_model::plan::Agg;
 use tick_table::{Change, Steps, TickTable};
 
 /// Shows a row for each group of its input's rows with equal key cells. It stands for the rows that it saw last.
+#[derive(Drop)]
 pub struct AggOp {
-    width: u32,
-    kept: Kept,
+    aggregation: Aggregation,
     /// The keys of the first rows of the groups.
     shown: RowSet,
-    /// Room for the key cells of a row that comes.
-    key_cells: Vec<i64>,
-    /// The groups that a step touches.
-    touched: TouchedGroups,
-    /// Room for the rows that are noted in a step.
-    noted: Vec<i64>,
-}
-
-impl Drop for AggOp {
-    fn drop(self) {
-        let Self {
-            width: _,
-            kept: _,
-            shown: _,
-            key_cells: _,
-            touched: _,
-            noted: _,
-        } = self;
-    }
 }
 
 impl Model for AggOp {
     ghost use Rattle.std.specs.Coded.{codes};
-    ghost use Rattle.agg_by.specs.Aggregator.{Aggregator, IsAggregator};
+    ghost use Rattle.agg_by.specs.Aggregator.{Aggregator};
     ghost use Rattle.agg_by.specs.contracts.running.Running as running_type;
     ghost use Rattle.tick_model.specs.contracts.plan.Agg as agg_type;
 
@@ -71,15 +34,13 @@ impl Model for AggOp {
     ghost coded = { Prim.hlevel (codes, running_type.the_row.coded, agg_type.the_row.coded) };
 
     ghost view = { λ op. record {
-      by = op.kept.by;
-      aggs = op.kept.aggs;
-      width = op.width;
-      rows = op.kept.rows;
-      running = op.kept.running.items;
+      by = op.aggregation.by;
+      aggs = op.aggregation.aggs;
+      width = op.aggregation.width;
+      rows = op.aggregation.rows;
+      running = op.aggregation.running;
       shown = op.shown;
     } };
-
-    ghost invariant = { λ op. IsAggregator op.kept.by op.kept.aggs op.width };
 }
 
 impl AggOp {
@@ -92,12 +53,8 @@ impl AggOp {
         ensures stands { StandsFor result (no_rows width) }
     {
         AggOp {
-            width,
-            kept: Kept::new(alloc, by, aggs),
+            aggregation: Aggregation::new(alloc, by, aggs, width),
             shown: RowSet::new(alloc),
-            key_cells: Vec::new(alloc),
-            touched: TouchedGroups::new(alloc),
-            noted: Vec::new(alloc),
         }
     }
 
@@ -122,141 +79,9 @@ impl AggOp {
         ensures refused { OnErr result (reads.new ≤ reads.old
             + 4 * (input.now.new.width + (length self.by + length self.aggs)) * (counted input.now.update + counted (change_of (grouped self.by self.aggs (tick_of input.now))).update)) }
     {
-        let AggOp {
-            width,
-            mut kept,
-            mut shown,
-            mut key_cells,
-            mut touched,
-            noted,
-        } = self;
-        let (change, noted) = grouped_step(
-            alloc,
-            &mut kept,
-            &mut shown,
-            &mut key_cells,
-            &mut touched,
-            noted,
-            input,
-            reads,
-        )?;
-        Ok((
-            AggOp {
-                width,
-                kept,
-                shown,
-                key_cells,
-                touched,
-                noted,
-            },
-            change,
-        ))
+        let AggOp { aggregation, shown } = self;
+        let (aggregation, change) = aggregation.change(alloc, input, &shown, reads)?;
+        let shown = change.update.apply_to_keys(shown)?;
+        Ok((AggOp { aggregation, shown }, change))
     }
-}
-
-/// Brings all that is kept on by a step. Gives the change of the rows of the groups, and the room for notes.
-fn grouped_step<L: Ledger>(
-    alloc: Global,
-    kept: &mut Kept,
-    shown: &mut RowSet,
-    key_cells: &mut Vec<i64>,
-    touched: &mut TouchedGroups,
-    noted: Vec<i64>,
-    input: &TickTable,
-    reads: &mut Steps<L>,
-) -> Result<(Change, Vec<i64>), AllocError>
-    requires exact { IsExact input.now }
-    requires few { length kept.old.by + length kept.old.aggs ≤ 32 }
-    requires by { AllByRecursion (λ column. column < input.now.new.width) kept.old.by }
-    requires columns { AllByRecursion (IsColumn input.now.new.width) kept.old.aggs }
-    requires rows { groups_of kept.old.rows ≡ indexed kept.old.by None input.now.old.rows }
-    requires running { Are kept.old.by kept.old.rows.names kept.old.aggs input.now.old.rows kept.old.running.items }
-    requires shown { shown.old ≡ first_keys kept.old.by input.now.old.rows }
-    ensures made { OnOk result (IsMade kept.old kept.new) }
-    ensures keeps { OnOk result (Keeps kept.new input.now.new.rows) }
-    ensures shown { OnOk result (shown.new ≡ first_keys kept.old.by input.now.new.rows) }
-    ensures change { IfOk result (λ out. out.0 ≡ change_of (grouped kept.old.by kept.old.aggs (tick_of input.now))) }
-    ensures reads { reads.new ≤ reads.old + 3 * (input.now.new.width + length kept.old.aggs) * counted input.now.update }
-{
-    kept.begin(alloc)?;
-    let moving = Moving::of(alloc, kept, input)?;
-    let notes = noted_groups(
-        alloc, kept, input, &moving, touched, key_cells, noted, reads,
-    )?;
-    kept.bring_on(input, &moving, touched, key_cells, reads)?;
-    let firsts = firsts_of(alloc, &kept.rows, touched.numbers())?;
-    let rows = GroupRows {
-        input,
-        kept,
-        notes: &notes,
-    };
-    let change = group_change(alloc, &rows, firsts, shown, reads)?;
-    let keys = mem::replace(shown, RowSet::new(alloc));
-    *shown = change.update.apply_to_keys(keys)?;
-    Ok((change, notes.into_cells()))
-}
-
-/// Notes the groups that the step touches, and their rows before it.
-fn noted_groups<L: Ledger>(
-    alloc: Global,
-    kept: &Kept,
-    input: &TickTable,
-    moving: &Moving,
-    touched: &mut TouchedGroups,
-    key_cells: &mut Vec<i64>,
-    noted: Vec<i64>,
-    reads: &mut Steps<L>,
-) -> Result<Notes, AllocError>
-    requires exact { IsExact input.now }
-    requires few { length kept.now.by + length kept.now.aggs ≤ 32 }
-    requires keeps { Keeps kept.now input.now.old.rows }
-    requires within { AllByRecursion (IsWithin input.now.old.width) kept.now.running.items }
-    requires gone { moving.now.gone ≡ leaving kept.now.by input.now }
-    requires numbers { AllZip (IsNumberUnder kept.now.rows) moving.now.gone moving.now.numbers.items }
-    requires changing { AllZip (IsNumberUnder kept.now.rows) (changing_before kept.now.by input.now) moving.now.changing.items }
-    requires come { moving.now.come ≡ coming kept.now.by input.now }
-    ensures touched { OnOk result ((number : ℕ) → is_among number touched.new ≡ is_named (touched_cells kept.now.by input.now) kept.now.rows.names number) }
-    ensures noted { IfOk result (λ notes. IsNoted notes (agg_table kept.now.by kept.now.aggs input.now.old)) }
-    ensures keys { IfOk result (λ notes. notes.keys ≡ touched_firsts kept.now.by input.now input.now.old.rows) }
-    ensures reads { reads.new ≤ reads.old + (input.now.new.width + length kept.now.aggs) * counted input.now.update }
-{
-    touched.note_before(kept, input, moving, key_cells, reads)?;
-    let before = firsts_of(alloc, &kept.rows, touched.numbers())?;
-    Notes::take(kept, input, before, noted, reads)
-}
-
-/// The change of the rows of the groups, where `firsts` has the keys of the first rows of the touched groups now, and `shown`
-/// those of all groups before the step.
-fn group_change<L: Ledger>(
-    alloc: Global,
-    rows: &GroupRows<'_>,
-    firsts: RowSet,
-    shown: &RowSet,
-    reads: &mut Steps<L>,
-) -> Result<Change, AllocError>
-    requires ready { AreReady rows.now.input.now rows.now.kept.now rows.now.notes.now }
-    requires few { length rows.now.kept.now.by + length rows.now.kept.now.aggs ≤ 32 }
-    requires firsts { firsts ≡ touched_firsts rows.now.kept.now.by rows.now.input.now rows.now.input.now.new.rows }
-    requires shown { shown.now ≡ first_keys rows.now.kept.now.by rows.now.input.now.old.rows }
-    ensures change { IfOk result (λ change. change ≡ change_of (grouped rows.now.kept.now.by rows.now.kept.now.aggs (tick_of rows.now.input.now))) }
-    ensures reads { reads.new ≤ reads.old + 2 * length rows.now.kept.now.aggs * length firsts }
-{
-    let staying = staying_firsts(alloc, rows.kept, rows.input, rows.notes, &firsts)?;
-    let (compared_before, compared_now) = staying.into_keys();
-    let removed = rows.notes.keys.minus(&compared_before)?;
-    let added = firsts.minus(&compared_now)?;
-    let shifted = rows
-        .input
-        .update()
-        .shifted()
-        .canonical_without(shown, &removed)?;
-    let touched = Touched {
-        removed,
-        added,
-        shifted,
-        compared_before,
-        compared_now,
-    };
-    let width = (rows.kept.by.len() + rows.kept.aggs.len()) as u32;
-    change_of_touched(alloc, rows, width, touched, reads)
 }

@@ -1,27 +1,28 @@
 //! An aggregation as an operator of a plan.
 
-use crate::agg_op::AggOp;
+use crate::aggregation::Aggregation;
+use row_set::RowSet;
 use std::alloc::{AllocError, Global};
 use std::sync::ledger::Ledger;
 use table_operator::{StepFault, TableOperator, copied, one_input};
 use tick_model::plan::Op;
 use tick_table::{Change, Shared, Steps};
 
-impl TableOperator for AggOp {
-    ghost use Rattle.agg_by.specs.Made.{CanAggregate, StandsForFirst, agg_made};
+impl TableOperator for Aggregation {
+    ghost use Rattle.agg_by.specs.Made.{CanAggregate, KeepsFirst, agg_made};
 
     ghost made = { agg_made };
 
-    ghost stands = { StandsForFirst };
+    ghost stands = { KeepsFirst };
 
     ghost can_be = { CanAggregate };
 
-    fn of(alloc: Global, op: &Op, widths: &[u32]) -> Result<AggOp, AllocError> {
+    fn of(alloc: Global, op: &Op, widths: &[u32]) -> Result<Aggregation, AllocError> {
         match op {
             Op::Agg { by, aggs, .. } => {
                 let by = copied(alloc, by)?;
                 let aggs = copied(alloc, aggs)?;
-                Ok(AggOp::new(alloc, by, aggs, widths[0]))
+                Ok(Aggregation::new(alloc, by, aggs, widths[0]))
             }
             _ => unreachable!(),
         }
@@ -30,9 +31,10 @@ impl TableOperator for AggOp {
     fn advance<L: Ledger>(
         self,
         alloc: Global,
+        own: &RowSet,
         inputs: &[Shared],
         reads: &mut Steps<L>,
-    ) -> Result<(AggOp, Change), StepFault> {
-        Ok(self.step(alloc, one_input(inputs), reads)?)
+    ) -> Result<(Aggregation, Change), StepFault> {
+        Ok(self.change(alloc, one_input(inputs), own, reads)?)
     }
 }

@@ -6,10 +6,12 @@
 //! What a step touches are the groups of the rows that come, go or are modified (`moving`), by their key cells before and now.
 //! The groups that rows leave are found once, by their numbers. Each touched group is noted once, by its number (`touched`), which
 //! gives its first row before and now (`firsts`). Its row before is noted (`notes`) before the indexes are brought on (`kept`). A
-//! group that no row touches is not looked at; only its key moves with its first row.
+//! group that no row touches is not looked at; only its key moves with its first row. `AggOp` keeps the keys of its rows too;
+//! `Aggregation` is it without them, for a caller that has a table of these rows.
 #![tactic(auto)]
 
 mod agg_op;
+mod aggregation;
 mod by_number;
 mod firsts;
 mod in_plan;
@@ -25,3 +27,4 @@ mod touched;
 mod values;
 
 pub use agg_op::AggOp;
+pub use aggregation::Aggregation;

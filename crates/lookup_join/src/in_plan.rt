@@ -2,6 +2,7 @@
 
 use crate::as_of_op::AsOfOp;
 use crate::join_op::{JoinFault, JoinOp};
+use row_set::RowSet;
 use std::alloc::{AllocError, Global};
 use std::sync::ledger::Ledger;
 use table_operator::{StepFault, TableOperator, copied, two_inputs};
@@ -59,6 +60,7 @@ impl TableOperator for JoinOp {
     fn advance<L: Ledger>(
         self,
         alloc: Global,
+        _own: &RowSet,
         inputs: &[Shared],
         reads: &mut Steps<L>,
     ) -> Result<(JoinOp, Change), StepFault> {
@@ -90,6 +92,7 @@ impl TableOperator for AsOfOp {
     fn advance<L: Ledger>(
         self,
         alloc: Global,
+        _own: &RowSet,
         inputs: &[Shared],
         reads: &mut Steps<L>,
     ) -> Result<(AsOfOp, Change), StepFault> {

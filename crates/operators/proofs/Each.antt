@@ -16,11 +16,11 @@ use Rattle.tick_model.proofs.plan.Comparison.TheSendSync as comparison
 use Rattle.tick_model.proofs.plan.Expr.TheLaws.TheKnot as expr
 use Rattle.tick_model.proofs.plan.Pred.TheLaws.TheKnot as pred
 use Rattle.row_set.proofs.rows.RowSet.TheSendSync as row_set
-use Rattle.agg_by.proofs.agg_op.AggOp.TheSendSync as agg_op
-use Rattle.head_tail.proofs.end_op.EndOp.TheSendSync as end_op
+use Rattle.agg_by.proofs.aggregation.Aggregation.TheSendSync as aggregation
+use Rattle.head_tail.proofs.end_rows.EndRows.TheSendSync as end_rows
 use Rattle.lookup_join.proofs.as_of_op.AsOfOp.TheSendSync as as_of_op
 use Rattle.lookup_join.proofs.join_op.JoinOp.TheSendSync as join_op
-use Rattle.merge_op.proofs.merging.MergeOp.TheSendSync as merge_op
+use Rattle.merge_op.proofs.merging.Merge.TheSendSync as merge
 use Rattle.sort_op.proofs.operator.SortOp.TheSendSync as sort_op
 use Rattle.operators.specs.contracts.operator.Operator as operator
 
@@ -178,10 +178,10 @@ empty_result (AsOf left right on at taken) table widths e = ap (λ (t : PlainTab
 
 pub operator_send : IsSend operator.the_row
 operator_send = search (
-  agg_op.the_send,
+  aggregation.the_send,
   as_of_op.the_send,
-  end_op.the_send,
-  merge_op.the_send,
+  end_rows.the_send,
+  merge.the_send,
   join_op.the_send,
   row_set.the_send,
   sort_op.the_send,

@@ -7,11 +7,11 @@
 use Rattle.std.specs.Prelude.{ℕ, List, [], ◌∷◌, ◌++◌}
 use Rattle.tick_model.{specs.declared.plan.Op.Op, specs.declared.plan.Op.TheVariants.{Source, Keep, View as Viewing, Join as Joining, Agg as Aggregating, Merge as Merging, Sort as Sorting, Head as Heading, Tail as Tailing, AsOf as Matching}, specs.declared.table.PlainTable.PlainTable}
 use Rattle.table_operator.specs.Made.{Made}
-use Rattle.agg_by.specs.Made.{CanAggregate, StandsForFirst, agg_made}
-use Rattle.head_tail.{specs.declared.end.End.TheVariants.{First, Last}, specs.Made.{IsAt, StandsAt, made_at}}
+use Rattle.agg_by.specs.Made.{CanAggregate, KeepsFirst, agg_made}
+use Rattle.head_tail.{specs.declared.end.End.TheVariants.{First, Last}, specs.Made.{IsAt, made_at}}
 use Rattle.lookup_join.specs.Made.{CanJoin, CanMatch, MatchesBoth, StandsForBoth, as_of_made, join_made}
-use Rattle.merge_op.specs.Made.{CanMerge, ShowsMerged, merge_made}
-use Rattle.row_ops.specs.Made.{CanFilter, CanView, ShowsPassing, filter_made, view_made}
+use Rattle.merge_op.specs.Made.{CanMerge, merge_made}
+use Rattle.row_ops.specs.Made.{CanFilter, CanView, filter_made, view_made}
 use Rattle.sort_op.specs.Made.{CanSort, HasEntries, sort_made}
 use Rattle.operators.{specs.declared.running.Running.Running, specs.declared.running.Running.TheVariants.{Where, View, Join, Agg, Merge, Sort, Head, Tail, AsOf}}
 
@@ -36,15 +36,11 @@ made_of (Tail tail) = made_at Last tail
 made_of (AsOf join) = as_of_made join
 
 abbrev pub KeepsOf : Running → List PlainTable → Type 0
-KeepsOf (Where filter) = ShowsPassing filter
-KeepsOf (View view) = λ tables. Unit {0}
 KeepsOf (Join join) = StandsForBoth join
-KeepsOf (Agg agg) = StandsForFirst agg
-KeepsOf (Merge merge) = ShowsMerged merge
+KeepsOf (Agg agg) = KeepsFirst agg
 KeepsOf (Sort sort) = HasEntries sort
-KeepsOf (Head head) = StandsAt First head
-KeepsOf (Tail tail) = StandsAt Last tail
 KeepsOf (AsOf join) = MatchesBoth join
+KeepsOf running = λ tables. Unit {0}
 
 abbrev pub StandsFor : Operating → List PlainTable → Type 0
 StandsFor operator = KeepsOf operator.kept

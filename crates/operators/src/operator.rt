@@ -4,7 +4,7 @@ ghost use Rattle.std.specs.Prelude.{◌≡◌, ℕ, ◌+◌, ◌-◌, ◌*◌, �
 ghost use Rattle.std.specs.List.{AllByRecursion};
 ghost use Rattle.table_operator.specs.Inputs.{counted_in, news, olds, tables};
 ghost use Rattle.table_operator.specs.Made.{HasKeys, IsCause};
-ghost use Rattle.operators.specs.Inputs.{AreTables, AreTicks};
+ghost use Rattle.operators.specs.Inputs.{AreTables, AreTicks, IsShown};
 ghost use Rattle.operators.specs.Operating.{CanBeMade, StandsFor, idled};
 ghost use Rattle.tick_laws.specs.Operated.{operated};
 ghost use Rattle.tick_model.specs.Changes.{change_of};
@@ -17,6 +17,7 @@ ghost use Rattle.tick_table.specs.Ticking.{no_rows};
 use crate::counts::{Counted, Idle, StepCount};
 use crate::running::Running;
 use boxcar::tag::Tag;
+use row_set::RowSet;
 use std::alloc::{AllocError, Global};
 use std::marker::Model;
 use std::snapshot::Snapshot;
@@ -80,11 +81,13 @@ impl Operator {
     }
 
     /// The operator after the step that the inputs show, and the change of its rows. It must stand for the inputs' rows before
-    /// the step; after a refusal it is given up, and no more is read than that change may take. What it is over is said by the tables, or ticks, of all nodes by their numbers,
-    /// of which it reads those of its inputs.
+    /// the step, and `own` must have the keys of the rows that it makes of these; after a refusal it is given up, and no more is
+    /// read than that change may take. What it is over is said by the tables, or ticks, of all nodes by their numbers, of which
+    /// it reads those of its inputs.
     pub fn step<L: Ledger>(
         self,
         alloc: Global,
+        own: &RowSet,
         inputs: &[Shared],
         reads: &mut Steps<L>,
     ) -> Result<(Operator, Change), StepFault>
@@ -93,6 +96,7 @@ impl Operator {
         requires rows { AllByRecursion (λ input. length input.new.rows ≤ 4194304) (tables inputs.now) }
         requires keys { HasKeys self.op (news (tables inputs.now)) }
         requires stands { StandsFor self (olds (tables inputs.now)) }
+        requires shown { IsShown self.op (tables inputs.now) own.now }
         ensures op { IfOk result (λ out. out.0.op ≡ self.op) }
         ensures widths { IfOk result (λ out. out.0.widths ≡ self.widths) }
         ensures stands { IfOk result (λ out. StandsFor out.0 (news (tables inputs.now))) }
@@ -111,7 +115,7 @@ impl Operator {
             reads: before,
         } = self;
         let start = Snapshot::of(reads);
-        let (running, change) = running.advance(alloc, inputs, reads)?;
+        let (running, change) = running.advance(alloc, own, inputs, reads)?;
         let end = Snapshot::of(reads);
         let reads = Tag::of::<StepCount<L>, Counted>(&StepCount { before, start, end });
         Ok((Operator { op, running, reads }, change))

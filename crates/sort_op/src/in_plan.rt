@@ -1,6 +1,7 @@
 //! A sort as an operator of a plan.
 
 use crate::operator::SortOp;
+use row_set::RowSet;
 use std::alloc::{AllocError, Global};
 use std::sync::ledger::Ledger;
 use table_operator::{StepFault, TableOperator, copied, one_input};
@@ -29,6 +30,7 @@ impl TableOperator for SortOp {
     fn advance<L: Ledger>(
         self,
         alloc: Global,
+        _own: &RowSet,
         inputs: &[Shared],
         reads: &mut Steps<L>,
     ) -> Result<(SortOp, Change), StepFault> {

@@ -110,15 +110,19 @@ module _ (run : Run) (step : ℕ) (e : IsEntered run step) where
   abbrev IsNodeTick : ℕ → Type 0
   IsNodeTick n = IsTickFrom (table_before run step n) (table_at (state run step) n) (tick run step n)
 
+  -- what the operator makes of the tables of before is the node's table before
+  pub operated_before : (n : ℕ) → n < length run.plan.nodes → is_source (node_at run n) ≡ false → AllByRecursion IsNodeTick (inputs_of (op_at run n)) → result (op_at run n) (λ k. (tick run step k).old) ≡ table_before run step n
+  operated_before n within is inputs =
+      result_same (op_at run n) (λ k. (tick run step k).old) (table_before run step) (every_weaker IsNodeTick (λ k. (tick run step k).old ≡ table_before run step k) (inputs_of (op_at run n)) (λ k t. t.old_is) inputs)
+      ∙ result_before run step e n within is
+
   -- the operator's tick over those of its inputs is the node's
   pub operated_is : (n : ℕ) → n < length run.plan.nodes → is_source (node_at run n) ≡ false → is_defined run step n ≡ true → AllByRecursion IsNodeTick (inputs_of (op_at run n)) → operated (op_at run n) (tick run step) ≡ tick run step n
   operated_is n within is has inputs =
       let op = op_at run n in
-      let old : result op (λ k. (tick run step k).old) ≡ table_before run step n =
-      result_same op (λ k. (tick run step k).old) (table_before run step) (every_weaker IsNodeTick (λ k. (tick run step k).old ≡ table_before run step k) (inputs_of op) (λ k t. t.old_is) inputs) ∙ result_before run step e n within is in
       let new : result op (λ k. (tick run step k).new) ≡ table_at (state run step) n =
       result_same op (λ k. (tick run step k).new) (table_at (state run step)) (every_weaker IsNodeTick (λ k. (tick run step k).new ≡ table_at (state run step) k) (inputs_of op) (λ k t. t.new_is) inputs) ∙ (made run e.lawful step n within is has).table in
-      ap (λ o. tick_from o (result op (λ k. (tick run step k).new)) (kept_by op (tick run step) o (result op (λ k. (tick run step k).new)))) old
+      ap (λ o. tick_from o (result op (λ k. (tick run step k).new)) (kept_by op (tick run step) o (result op (λ k. (tick run step k).new)))) (operated_before n within is inputs)
       ∙ ap (λ m. tick_from (table_before run step n) m (kept_by op (tick run step) (table_before run step n) m)) new
       ∙ sym (tick_of_operator run e.lawful step n within is)
 

@@ -403,7 +403,7 @@ pub(crate) fn advance_inside<L: Ledger>(
                 operator,
                 mut table,
             } = ready;
-            match operator.step(context.alloc, &inputs, reads) {
+            match operator.step(context.alloc, table.rows(), &inputs, reads) {
                 Ok((operator, change)) => {
                     change_table(context.alloc, &mut table, change)?;
                     let ready = Ready { operator, table };

@@ -4,7 +4,7 @@ use Rattle.key_lists.specs.Keys.{is_among}
 use Rattle.row_groups.specs.Members.{groups_of}
 use Rattle.agg_by.{specs.declared.notes.Notes.Notes, specs.Steps.{first_keys, touched_firsts}, specs.Touched.starts_numbered, proofs.Whole.{came_few, firsts_few, found_firsts, noted_reads, touched_there}}
 use Rattle.tick_table.specs.Exact.{counted}
-use Rattle.agg_by.proofs.agg_op.noted_groups.Goals as goal
+use Rattle.agg_by.proofs.aggregation.noted_groups.Goals as goal
 
 pub note_before-requires-clause-numbers : goal.note_before-requires-clause-numbers
 note_before-requires-clause-numbers g c = c.requires.numbers

@@ -1,11 +1,10 @@
-use Rattle.std.proofs.Common.{◌≡◌, ap, ap₂, sym, ◌∙◌, subst, arith, List, ℕ}
+use Rattle.std.proofs.Common.{ap, ap₂, sym, ◌∙◌, subst, arith, List, ℕ}
 use Rattle.std.specs.List.{AllByRecursion, list_any}
 use Rattle.row_groups.specs.Members.{groups_of}
-use Rattle.tick_laws.specs.Checked.{keys_after}
-use Rattle.tick_model.{specs.Agg.agg_table, specs.Changes.{Change, change_of}, specs.declared.plan.Agg.Agg, specs.Updates.between}
+use Rattle.tick_model.{specs.Agg.agg_table, specs.Changes.change_of, specs.declared.plan.Agg.Agg}
 use Rattle.tick_table.specs.Exact.{tick_of}
-use Rattle.agg_by.{specs.Aggregator.{IsColumn, grouped}, specs.Notes.IsNoted, specs.Steps.{first_keys, starts, touched_cells, touched_firsts}, specs.Touched.starts_numbered, proofs.GroupParts.tick, proofs.Whole.{begun_keeps, brought_reads, changed_reads, found_firsts, shown_after, shown_lawful, within_all}}
-use Rattle.agg_by.proofs.agg_op.grouped_step.Goals as goal
+use Rattle.agg_by.{specs.Aggregator.{IsColumn, grouped}, specs.Notes.IsNoted, specs.Steps.{starts, touched_cells, touched_firsts}, specs.Touched.starts_numbered, proofs.Whole.{begun_keeps, brought_reads, changed_reads, found_firsts, within_all}}
+use Rattle.agg_by.proofs.aggregation.grouped_step.Goals as goal
 
 pub of-requires-clause-rows : goal.of-requires-clause-rows
 of-requires-clause-rows g c =
@@ -58,27 +57,6 @@ group_change-requires-clause-firsts g c =
     c.in_ok-firsts.ensures.firsts first ∙ ap (list_any (starts_numbered rows first)) c.numbers.ensures ∙ c.in_ok-bring_on.ensures.firsts first
     ∙ ap (λ (by : List ℕ). list_any (starts rows.members first) (touched_cells by t)) (sym c.in_ok-bring_on.ensures.made.by))
 
-pub apply_to_keys-requires : goal.apply_to_keys-requires
-apply_to_keys-requires g c =
-    let t = c.args.input.now in
-    let e = c.requires.exact in
-    let by = c.bring_on.new.self.by in
-    let aggs = c.bring_on.new.self.aggs in
-    let shown : c.replace-keys.result ≡ first_keys by t.old.rows = c.replace-keys.ensures.value ∙ c.requires.shown ∙ ap (λ (by : List ℕ). first_keys by t.old.rows) (sym (c.in_ok-bring_on.ensures.made.by ∙ c.in_ok-begin.ensures.made.by)) in
-    let update : c.change.inside.update ≡ between (tick by aggs t e) = ap (λ (change : Change). change.update) (c.change.view_is ∙ c.in_ok-change.ensures.change) in
-    rw (update, shown) (shown_lawful by aggs t e)
-
-pub returns-clause-shown : goal.returns-clause-shown
-returns-clause-shown g c =
-    let t = c.args.input.now in
-    let e = c.requires.exact in
-    let by = c.bring_on.new.self.by in
-    let aggs = c.bring_on.new.self.aggs in
-    let same : by ≡ c.args.kept.now.by = c.in_ok-bring_on.ensures.made.by ∙ c.in_ok-begin.ensures.made.by in
-    let shown : c.replace-keys.result ≡ first_keys by t.old.rows = c.replace-keys.ensures.value ∙ c.requires.shown ∙ ap (λ (by : List ℕ). first_keys by t.old.rows) (sym same) in
-    let update : c.change.inside.update ≡ between (tick by aggs t e) = ap (λ (change : Change). change.update) (c.change.view_is ∙ c.in_ok-change.ensures.change) in
-    c.in_ok-shown.ensures ∙ ap₂ keys_after shown update ∙ shown_after by aggs t e ∙ ap (λ (by : List ℕ). first_keys by t.new.rows) same
-
 pub returns-clause-change : goal.returns-clause-change
 returns-clause-change g c =
     c.in_ok-change.ensures.change
@@ -101,14 +79,6 @@ returns-in_err-firsts-clause-reads g c =
 
 pub returns-in_err-change-clause-reads : goal.returns-in_err-change-clause-reads
 returns-in_err-change-clause-reads g c =
-    changed_reads c.args.input.now c.requires.exact c.begin.new.self c.args.kept.now.aggs c.in_ok-begin.ensures.made.aggs
-    c.args.reads.now c.noted_groups.new.reads c.bring_on.new.reads c.noted_groups.ensures.reads c.bring_on.ensures.reads
-    c.bring_on.new.self c.in_ok-bring_on.ensures.made c.in_ok-firsts.firsts c.in_ok-firsts.ensures.rising
-    (λ first. c.in_ok-firsts.ensures.firsts first ∙ ap (list_any (starts_numbered c.bring_on.new.self.rows first)) c.numbers.ensures ∙ c.in_ok-bring_on.ensures.firsts first)
-    c.group_change.new.reads c.group_change.ensures.reads
-
-pub returns-in_err-shown-clause-reads : goal.returns-in_err-shown-clause-reads
-returns-in_err-shown-clause-reads g c =
     changed_reads c.args.input.now c.requires.exact c.begin.new.self c.args.kept.now.aggs c.in_ok-begin.ensures.made.aggs
     c.args.reads.now c.noted_groups.new.reads c.bring_on.new.reads c.noted_groups.ensures.reads c.bring_on.ensures.reads
     c.bring_on.new.self c.in_ok-bring_on.ensures.made c.in_ok-firsts.firsts c.in_ok-firsts.ensures.rising

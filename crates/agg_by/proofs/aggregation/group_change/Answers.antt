@@ -5,7 +5,7 @@ use Rattle.row_changes.{specs.Parts.{Parts, AreParts, tick_along}, proofs.MadeCh
 use Rattle.shift_data.specs.Moves.{IsLawful, canonical}
 use Rattle.tick_model.{specs.declared.update.KeyPair.KeyPair, specs.declared.update.ShiftRange.ShiftRange, specs.Agg.agg_table, specs.Changes.change_of, specs.Updates.{Update, between, new_keys, old_keys}}
 use Rattle.agg_by.{specs.Steps.staying, proofs.GroupParts.{parts_are, removed_is, shift_lawful, tick}, proofs.Whole.{change_reads, read_few}}
-use Rattle.agg_by.proofs.agg_op.group_change.Goals as goal
+use Rattle.agg_by.proofs.aggregation.group_change.Goals as goal
 
 pub canonical_without-requires : goal.canonical_without-requires
 canonical_without-requires g c =
