@@ -23,7 +23,7 @@ use std::sync::Arc;
 use table_update::Update;
 use tick_model::feed::Run;
 use tick_model::items::Items;
-use tick_model::table::PlainTable;
+use tick_model::row_list::OpeningTable;
 use tick_table::{Change, Shared, TickTable};
 
 /// Changes a table where it lies. Where somebody else holds it, a copy is changed in its place.
@@ -61,14 +61,14 @@ pub(crate) fn rest_table(alloc: Global, table: &mut Shared) -> Result<(), AllocE
 }
 
 /// The table of a source after the opening.
-fn opened_source(alloc: Global, table: &PlainTable) -> Result<Shared, AllocError>
+fn opened_source(alloc: Global, table: &OpeningTable) -> Result<Shared, AllocError>
     requires opened { IsOpenedTable table.now }
     requires tick { IsTick (opened table.now) }
     requires some { 1 ≤ table.now.width }
     requires few { table.now.width ≤ 32 }
     ensures { IfOk result (λ shared. arc_value {X = Ticking} shared ≡ ticking (opened table.now)) }
 {
-    let mut own = TickTable::new(alloc, table.width)?;
+    let mut own = TickTable::new(alloc, table.width())?;
     let change = opening_change(alloc, table)?;
     own.bring_on(change)?;
     Ok(Arc::new(alloc, own)?)

@@ -9,42 +9,42 @@ use Rattle.update_graph.proofs.work.advance_inside.Goals as goal
 
 pub step-requires : goal.step-requires
 step-requires g c =
-    let given = handed c.requires.entered c.requires.node c.requires.operator c.requires.ready.op c.requires.shares c.in-Some.is c.deref-2.ensures.value c.in_ok-handed.ensures in
+    let given = handed c.requires.entered c.requires.node c.requires.operator c.requires.ready.op c.requires.shares c.in-Some.is c.deref-in-Some.ensures.value c.in_ok-handed.ensures in
     record {
       widths = widths_are given ∙ sym c.requires.ready.widths;
       exact = exact_are given;
       rows = rows_are given;
       keys = keys_are given;
       stands = subst (StandsFor c.args.ready.operator) (sym (olds_are given)) c.requires.ready.stands;
-      shown = subst (IsShown c.args.ready.operator.op (tables c.deref-2.result.now)) (ap (λ (t : PlainTable). keys t.rows) (sym c.requires.ready.own) ∙ ap (λ (t : Ticking). keys t.new.rows) (sym c.deref.ensures) ∙ sym c.rows.ensures.keys) (shown_are given);
+      shown = subst (IsShown c.args.ready.operator.op (tables c.deref-in-Some.result.now)) (ap (λ (t : PlainTable). keys t.rows) (sym c.requires.ready.own) ∙ ap (λ (t : Ticking). keys t.new.rows) (sym c.deref.ensures) ∙ sym c.rows.ensures.keys) (shown_are given);
     }
 
 pub change_table-requires-clause-lawful : goal.change_table-requires-clause-lawful
 change_table-requires-clause-lawful g c =
-    let given = handed c.requires.entered c.requires.node c.requires.operator c.requires.ready.op c.requires.shares c.in-Some.is c.deref-2.ensures.value c.in_ok-handed.ensures in
+    let given = handed c.requires.entered c.requires.node c.requires.operator c.requires.ready.op c.requires.shares c.in-Some.is c.deref-in-Some.ensures.value c.in_ok-handed.ensures in
     let own = own_change given c.in-Ok.change c.in-Ok.ensures.sound c.in-Ok.ensures.change in
     change_lawful (tick c.args.context.now.run.now c.args.context.now.step c.args.node) own.from.is_tick _ (c.requires.ready.own ∙ sym own.from.old_is) c.in-Ok.change own.same
 
 pub change_table-requires-clause-whole : goal.change_table-requires-clause-whole
 change_table-requires-clause-whole g c =
-    let given = handed c.requires.entered c.requires.node c.requires.operator c.requires.ready.op c.requires.shares c.in-Some.is c.deref-2.ensures.value c.in_ok-handed.ensures in
+    let given = handed c.requires.entered c.requires.node c.requires.operator c.requires.ready.op c.requires.shares c.in-Some.is c.deref-in-Some.ensures.value c.in_ok-handed.ensures in
     let own = own_change given c.in-Ok.change c.in-Ok.ensures.sound c.in-Ok.ensures.change in
     change_fits (tick c.args.context.now.run.now c.args.context.now.step c.args.node) own.from.is_tick _ (c.requires.ready.own ∙ sym own.from.old_is) c.in-Ok.change own.same
 
 pub with_table-requires-clause-defined : goal.with_table-requires-clause-defined
 with_table-requires-clause-defined g c =
-    let given = handed c.requires.entered c.requires.node c.requires.operator c.requires.ready.op c.requires.shares c.in-Some.is c.deref-2.ensures.value c.in_ok-handed.ensures in
+    let given = handed c.requires.entered c.requires.node c.requires.operator c.requires.ready.op c.requires.shares c.in-Some.is c.deref-in-Some.ensures.value c.in_ok-handed.ensures in
     (own_change given c.in-Ok.change c.in-Ok.ensures.sound c.in-Ok.ensures.change).defined
 
 pub with_table-requires-clause-table : goal.with_table-requires-clause-table
 with_table-requires-clause-table g c =
-    let given = handed c.requires.entered c.requires.node c.requires.operator c.requires.ready.op c.requires.shares c.in-Some.is c.deref-2.ensures.value c.in_ok-handed.ensures in
+    let given = handed c.requires.entered c.requires.node c.requires.operator c.requires.ready.op c.requires.shares c.in-Some.is c.deref-in-Some.ensures.value c.in_ok-handed.ensures in
     let own = own_change given c.in-Ok.change c.in-Ok.ensures.sound c.in-Ok.ensures.change in
     c.in_ok-change_table-in-Ok.ensures (tick c.args.context.now.run.now c.args.context.now.step c.args.node) own.from.is_tick (c.requires.ready.own ∙ sym own.from.old_is) own.same
 
 pub with_table-requires-clause-ready : goal.with_table-requires-clause-ready
 with_table-requires-clause-ready g c =
-    let given = handed c.requires.entered c.requires.node c.requires.operator c.requires.ready.op c.requires.shares c.in-Some.is c.deref-2.ensures.value c.in_ok-handed.ensures in
+    let given = handed c.requires.entered c.requires.node c.requires.operator c.requires.ready.op c.requires.shares c.in-Some.is c.deref-in-Some.ensures.value c.in_ok-handed.ensures in
     let own = own_change given c.in-Ok.change c.in-Ok.ensures.sound c.in-Ok.ensures.change in
     let run = c.args.context.now.run.now in
     let step = c.args.context.now.step in
@@ -62,22 +62,22 @@ with_table-requires-clause-ready g c =
 pub without_step-requires : goal.without_step-requires
 without_step-requires g c =
     λ kind same.
-    own_fault (handed c.requires.entered c.requires.node c.requires.operator c.requires.ready.op c.requires.shares c.in-Some.is c.deref-2.ensures.value c.in_ok-handed.ensures) kind
+    own_fault (handed c.requires.entered c.requires.node c.requires.operator c.requires.ready.op c.requires.shares c.in-Some.is c.deref-in-Some.ensures.value c.in_ok-handed.ensures) kind
     (λ table there. subst (λ fault. IsCause fault (fault_of c.args.ready.operator.op table)) same (c.in-Err.ensures.cause table there))
 
 pub returns-in_err-change_table-in-Ok-clause-tried : goal.returns-in_err-change_table-in-Ok-clause-tried
 returns-in_err-change_table-in-Ok-clause-tried g c =
-    let given = handed c.requires.entered c.requires.node c.requires.operator c.requires.ready.op c.requires.shares c.in-Some.is c.deref-2.ensures.value c.in_ok-handed.ensures in
+    let given = handed c.requires.entered c.requires.node c.requires.operator c.requires.ready.op c.requires.shares c.in-Some.is c.deref-in-Some.ensures.value c.in_ok-handed.ensures in
     tried_by given c.args.reads.now c.step.new.reads c.requires.ready.widths (c.in-Ok.ensures.change (tick c.args.context.now.run.now c.args.context.now.step) (own_ticks given)) c.in-Ok.ensures.reads
 
 pub returns-in-Ok-clause-tried : goal.returns-in-Ok-clause-tried
 returns-in-Ok-clause-tried g c =
-    let given = handed c.requires.entered c.requires.node c.requires.operator c.requires.ready.op c.requires.shares c.in-Some.is c.deref-2.ensures.value c.in_ok-handed.ensures in
+    let given = handed c.requires.entered c.requires.node c.requires.operator c.requires.ready.op c.requires.shares c.in-Some.is c.deref-in-Some.ensures.value c.in_ok-handed.ensures in
     tried_by given c.args.reads.now c.step.new.reads c.requires.ready.widths (c.in-Ok.ensures.change (tick c.args.context.now.run.now c.args.context.now.step) (own_ticks given)) c.in-Ok.ensures.reads
 
 pub returns-in-Some-clause-tried : goal.returns-in-Some-clause-tried
 returns-in-Some-clause-tried g c =
-    let given = handed c.requires.entered c.requires.node c.requires.operator c.requires.ready.op c.requires.shares c.in-Some.is c.deref-2.ensures.value c.in_ok-handed.ensures in
+    let given = handed c.requires.entered c.requires.node c.requires.operator c.requires.ready.op c.requires.shares c.in-Some.is c.deref-in-Some.ensures.value c.in_ok-handed.ensures in
     tried_by given c.args.reads.now c.step.new.reads c.requires.ready.widths refl (c.in-Err.ensures.refused (tick c.args.context.now.run.now c.args.context.now.step) (own_ticks given))
 
 pub without_table-requires-clause-kept : goal.without_table-requires-clause-kept
