@@ -3,7 +3,7 @@ use Rattle.std.proofs.Common.{◌≡◌, ℕ, ◌+◌, ◌<◌, ◌≤◌, Bool,
 use Rattle.std.{specs.List.{AllByRecursion, filter_map, prefix_len}, proofs.lemmas.Bool.{ltb-true, ltb-false, lt-ltb, le-ltb, eq-eqb, ne_eqb, cases_lt}}
 use Rattle.key_lists.proofs.Every.{every_weaker}
 use Rattle.tick_model.{specs.declared.plan.Plan.Plan, specs.declared.update.KeyRange.KeyRange, specs.declared.update.ShiftRange.ShiftRange, specs.Plans.columns_at, specs.LawfulRuns.is_source_number}
-use Rattle.feed_reader.{specs.declared.entries.Entry.Entry, specs.declared.entries.Entry.TheVariants.{Block, Removed, Shift, Added, Modified, End}, specs.declared.place.Part.Part, specs.declared.place.Place.Place, specs.declared.place.Place.TheVariants.{Outside, Inside}, specs.declared.raw.RawBatch.RawBatch, specs.declared.raw.RawBlock.RawBlock, specs.declared.raw.RawRow.RawRow, specs.Feeds.{is_of_block, removed_range, shift_range, added_row, modified_row, block_with, blocks_from, batches_on, batches_after, batches_of}, specs.Places.{Opened, opened, is_past, is_outside, part_rank, passed, place_after}, proofs.FeedLemmas.own-more, proofs.Orderly.{StandsAt, IsRange, IsMove, IsRawRow, Orderly}}
+use Rattle.feed_reader.{specs.Said.{Entry, Block, Removed, Shift, Added, Modified, End}, specs.declared.place.Part.Part, specs.declared.place.Place.Place, specs.declared.place.Place.TheVariants.{Outside, Inside}, specs.declared.raw.RawBatch.RawBatch, specs.declared.raw.RawBlock.RawBlock, specs.declared.raw.RawRow.RawRow, specs.Feeds.{is_of_block, removed_range, shift_range, added_row, modified_row, block_with, blocks_from, batches_on, batches_after, batches_of}, specs.Places.{Opened, opened, is_past, is_outside, part_rank, passed, place_after}, proofs.FeedLemmas.own-more, proofs.Orderly.{StandsAt, IsRange, IsMove, IsRawRow, Orderly}}
 use Rattle.feed_reader.specs.declared.place.Part.TheVariants as Parts
 
 -- each begins past the end of the one before it

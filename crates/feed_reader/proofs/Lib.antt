@@ -1,8 +1,9 @@
 pub mod NumberLemmas
 pub mod FieldLemmas
 pub mod CellLemmas
-pub mod RowCellLemmas
 pub mod RecordLemmas
+pub mod RawLemmas
+pub mod LineRecords
 pub mod FeedLemmas
 pub mod TableLemmas
 pub mod TextLemmas
@@ -17,3 +18,7 @@ pub mod AssembledLemmas
 pub mod PlainLemmas
 pub mod BoundLemmas
 pub mod PlainFeeds
+pub mod CodingLemmas
+pub mod EntryLemmas
+pub mod GatheredLemmas
+pub mod StepLemmas

@@ -1,9 +1,9 @@
 -- The texts of a run stand each once, in byte order, and none is missing.
-use Rattle.std.proofs.Common.{◌≡◌, ℕ, List, [], ◌∷◌, Bool, true, false, refl, sym, ap, ◌∙◌, subst, cond}
-use Rattle.std.{specs.Prelude.◌||◌, specs.List.{AllByRecursion, list_any}, specs.Str.bytes_eq, specs.Ordering.{nat_cmp, is_lt, is_eq, match_ordering, ordering_reverse}, specs.declared.cmp.Ordering.Ordering, specs.declared.cmp.Ordering.TheVariants.{Less, Equal, Greater}, specs.Cmp.Lexicographic.{slice_cmp, texts_ties}, specs.BTreeSet.insert_key, proofs.lemmas.Cmp.{nat_list_cmp_total, nat_list_eq_equiv}, proofs.lemmas.Slice.Eq.bytes_eq-Decides, proofs.lemmas.Bool.{or_right, or_left}}
-use Rattle.key_lists.proofs.Every.{every_weaker}
+use Rattle.std.proofs.Common.{◌≡◌, ℕ, List, [], ◌∷◌, Bool, true, false, refl, sym, ap, ap₂, ◌∙◌, subst, cond, ⊎_elim}
+use Rattle.std.{specs.Prelude.◌||◌, specs.List.{AllByRecursion, list_any}, specs.Str.bytes_eq, specs.Ordering.{nat_cmp, is_lt, is_eq, match_ordering, ordering_reverse}, specs.declared.cmp.Ordering.Ordering, specs.declared.cmp.Ordering.TheVariants.{Less, Equal, Greater}, specs.Cmp.Lexicographic.{slice_cmp, texts_ties}, specs.BTreeSet.insert_key, proofs.lemmas.Cmp.{nat_list_cmp_total, nat_list_eq_equiv}, proofs.lemmas.Slice.Eq.bytes_eq-Decides, proofs.lemmas.Bool.{cond_both, or_cases, or_right, or_left}}
+use Rattle.key_lists.proofs.Every.{every_weaker, every_both}
 use Rattle.tick_model.{specs.Changes.is_none, specs.LawfulRuns.{AreTexts, is_before}}
-use Rattle.feed_reader.{specs.declared.raw.RawFeed.RawFeed, specs.declared.raw.RawTable.RawTable, specs.Coding.{with_text, with_texts, all_texts, texts_of}, specs.Runs.IsAmong}
+use Rattle.feed_reader.{specs.declared.raw.RawFeed.RawFeed, specs.declared.raw.RawTable.RawTable, specs.Coding.{with_text, with_texts, all_texts, texts_of}, specs.Raw.AreTold, specs.Runs.IsAmong}
 
 abbrev pub order : List ℕ → List ℕ → Ordering
 order = slice_cmp nat_cmp
@@ -49,7 +49,7 @@ with_text-kept : (b : Bool) (texts : List (List ℕ)) (text : List ℕ) → is_n
 with_text-kept true texts text e are = are
 with_text-kept false texts text e are = are_inserted texts text e are
 
-all_kept : (old more : List (List ℕ)) → AreTexts old → AreTexts (with_texts old more)
+pub all_kept : (old more : List (List ℕ)) → AreTexts old → AreTexts (with_texts old more)
 all_kept old [] are = are
 all_kept old (text ∷ more) are = all_kept (with_text old text) more (with_text-kept (is_none text) old text refl are)
 
@@ -105,54 +105,74 @@ noted_all old [] = tt
 noted_all old (text ∷ more) =
     (λ some. keeps_all text (with_text old text) more (is_noted (is_none text) old text some), noted_all (with_text old text) more)
 
--- a text that is there changes nothing
-or_rest : (a b : Bool) → a ≡ false → (a || b) ≡ true → b ≡ true
-or_rest true b e there = cc e
-or_rest false b e there = there
-
-before_at : (b : Bool) (x text y : List ℕ) (more : Bool) → bytes_eq text y ≡ b → is_before x y ≡ true → (more ≡ true → is_before x text ≡ true) → (b || more) ≡ true → is_before x text ≡ true
-before_at true x text y more same here later there = subst (λ (t : List ℕ). is_before x t ≡ true) (sym ((bytes_eq-Decides text y).0 same)) here
-before_at false x text y more same here later there = later there
-
-before_there : (x text : List ℕ) (xs : List (List ℕ)) → AllByRecursion (λ later. is_before x later ≡ true) xs → has text xs ≡ true → is_before x text ≡ true
+-- the same texts, noted in any order
+at_text : (P : List ℕ → Type 0) (text : List ℕ) (texts : List (List ℕ)) → AllByRecursion P texts → has text texts ≡ true → P text
 unfolding has
-before_there x text [] all there = cc there
-before_there x text (y ∷ ys) all there = before_at (bytes_eq text y) x text y (has text ys) refl all.0 (before_there x text ys all.1) there
+at_text P text [] all there = cc there
+at_text P text (x ∷ xs) all there =
+    ⊎_elim (λ same. subst P (sym ((bytes_eq-Decides text x).0 same)) all.0) (λ later. at_text P text xs all.1 later) (or_cases (bytes_eq text x) (has text xs) there)
 
-there_at : (o : Ordering) (text x : List ℕ) (xs : List (List ℕ)) → order text x ≡ o → AllByRecursion (λ later. is_before x later ≡ true) xs → has text (x ∷ xs) ≡ true → (has text xs ≡ true → insert_key order xs text ≡ xs) → match_ordering o (text ∷ x ∷ xs) (x ∷ xs) (x ∷ insert_key order xs text) ≡ x ∷ xs
+not_both : (a b : List ℕ) → is_before a b ≡ true → is_before b a ≡ true → ⊥
+not_both a b first second =
+    let less = less_of (order a b) first in
+    let more = less_of (order b a) second in
+    let flipped = nat_list_cmp_total.antisymm b a in
+    cc (less, more, flipped)
+
+same_first : (x y : List ℕ) (xs ys : List (List ℕ)) → AreTexts (x ∷ xs) → AreTexts (y ∷ ys) → has x (y ∷ ys) ≡ true → has y (x ∷ xs) ≡ true → x ≡ y
 unfolding has
-there_at Less text x xs e all there more =
-    let later = or_rest (bytes_eq text x) (has text xs) (texts_ties text x ∙ ap is_eq e) there in
-    let less = less_of (order x text) (before_there x text xs all later) in
-    let greater = nat_list_cmp_total.antisymm x text ∙ ap ordering_reverse e in
-    cc (less, greater)
-there_at Equal text x xs e all there more = refl
-there_at Greater text x xs e all there more = ap (λ rest. x ∷ rest) (more (or_rest (bytes_eq text x) (has text xs) (texts_ties text x ∙ ap is_eq e) there))
+same_first x y xs ys are_x are_y in_y in_x =
+    ⊎_elim (λ same. (bytes_eq-Decides x y).0 same)
+    (λ later.
+    ⊎_elim (λ same. sym ((bytes_eq-Decides y x).0 same))
+    (λ later2. absurd (not_both x y (at_text (λ t. is_before x t ≡ true) y xs are_x.1 later2) (at_text (λ t. is_before y t ≡ true) x ys are_y.1 later)))
+    (or_cases (bytes_eq y x) (has y xs) in_x))
+    (or_cases (bytes_eq x y) (has x ys) in_y)
 
-there_already : (texts : List (List ℕ)) (text : List ℕ) → AreTexts texts → list_any (bytes_eq text) texts ≡ true → insert_key order texts text ≡ texts
+behind_first : (x : List ℕ) (xs ys : List (List ℕ)) → AllByRecursion (λ t. is_before x t ≡ true) xs → AllByRecursion (λ t. has t (x ∷ ys) ≡ true) xs → AllByRecursion (λ t. has t ys ≡ true) xs
 unfolding has
-there_already [] text are there = cc there
-there_already (x ∷ xs) text are there = there_at (order text x) text x xs refl are.1 there (there_already xs text are.2)
+behind_first x xs ys before there =
+    every_both (λ t. is_before x t ≡ true) (λ t. has t (x ∷ ys) ≡ true) (λ t. has t ys ≡ true) xs
+    (λ t less is.
+    ⊎_elim (λ same. let here = subst (λ (other : List ℕ). is_before x other ≡ true) ((bytes_eq-Decides t x).0 same) less in absurd (not_both x x here here)) (λ later. later)
+    (or_cases (bytes_eq t x) (has t ys) is)) before there
 
-either : (b : Bool) (old new : List (List ℕ)) → new ≡ old → old ≡ cond b old new
-either true old new same = refl
-either false old new same = sym same
-
-pub noted_already : (texts : List (List ℕ)) (text : List ℕ) → AreTexts texts → list_any (bytes_eq text) texts ≡ true → texts ≡ with_text texts text
-noted_already texts text are there = either (is_none text) texts (insert_key order texts text) (there_already texts text are there)
-
--- one more text is seen
-seen_at : (b : Bool) (texts : List (List ℕ)) (text other : List ℕ) (before : Bool) → bytes_eq text other ≡ b → (before ≡ true → has other texts ≡ true) → cond b true before ≡ true → has other (insert_key order texts text) ≡ true
-seen_at true texts text other before same was there = subst (λ (t : List ℕ). has t (insert_key order texts text) ≡ true) ((bytes_eq-Decides text other).0 same) (comes texts text)
-seen_at false texts text other before same was there = keeps other texts text (was there)
-
-pub seen_more : (texts : List (List ℕ)) (text other : List ℕ) (before : Bool) → (before ≡ true → list_any (bytes_eq other) texts ≡ true) → cond (bytes_eq text other) true before ≡ true → list_any (bytes_eq other) (insert_key order texts text) ≡ true
+same_texts : (xs ys : List (List ℕ)) → AreTexts xs → AreTexts ys → AllByRecursion (λ t. has t ys ≡ true) xs → AllByRecursion (λ t. has t xs ≡ true) ys → xs ≡ ys
 unfolding has
-seen_more texts text other before was there = seen_at (bytes_eq text other) texts text other before refl was there
+same_texts [] [] are_x are_y in_y in_x = refl
+same_texts [] (y ∷ ys) are_x are_y in_y in_x = cc (in_x.0)
+same_texts (x ∷ xs) [] are_x are_y in_y in_x = cc (in_y.0)
+same_texts (x ∷ xs) (y ∷ ys) are_x are_y in_y in_x =
+    let same = same_first x y xs ys are_x are_y in_y.0 in_x.0 in
+    let others = same_texts xs ys are_x.2 are_y.2
+    (behind_first x xs ys are_x.1 (subst (λ (first : List ℕ). AllByRecursion (λ t. has t (first ∷ ys) ≡ true) xs) (sym same) in_y.1))
+    (behind_first x ys xs (subst (λ (first : List ℕ). AllByRecursion (λ t. is_before first t ≡ true) ys) (sym same) are_y.1) in_x.1) in
+    ap₂ (λ (first : List ℕ) (rest : List (List ℕ)). first ∷ rest) same others
 
-pub seen_before : (texts : List (List ℕ)) (text other : List ℕ) → list_any (bytes_eq other) texts ≡ true → list_any (bytes_eq other) (insert_key order texts text) ≡ true
+each_there : (texts : List (List ℕ)) → AllByRecursion (λ t. has t texts ≡ true) texts
 unfolding has
-seen_before texts text other there = keeps other texts text there
+each_there [] = tt
+each_there (x ∷ xs) = (
+  or_left (bytes_eq x x) (has x xs) (nat_list_eq_equiv.refl x),
+  every_weaker (λ t. has t xs ≡ true) (λ t. has t (x ∷ xs) ≡ true) xs (λ t there. or_right (bytes_eq t x) (has t xs) there) (each_there xs),
+)
+
+noted_from : (P : List ℕ → Type 0) (old more : List (List ℕ)) → AllByRecursion P old → AllByRecursion (λ t. is_none t ≡ false → P t) more → AllByRecursion P (with_texts old more)
+noted_from P old [] before new = before
+noted_from P old (text ∷ more) before new =
+    noted_from P (with_text old text) more
+    (cond_both (is_none text) old (insert_key order old text) (AllByRecursion P) (λ _. before) (λ some. every_inserted P old text before (new.0 some))) new.1
+
+noted_in : (old more others : List (List ℕ)) → AreTold more others → AllByRecursion (λ t. has t (with_texts old others) ≡ true) (with_texts old more)
+unfolding has
+noted_in old more others told =
+    noted_from (λ t. has t (with_texts old others) ≡ true) old more
+    (every_weaker (λ t. has t old ≡ true) (λ t. has t (with_texts old others) ≡ true) old (λ t there. keeps_all t old others there) (each_there old))
+    (every_weaker (λ t. has t others ≡ true) (IsAmong (with_texts old others)) more (λ t there. at_text (IsAmong (with_texts old others)) t others (noted_all old others) there) told)
+
+pub with_same : (old more others : List (List ℕ)) → AreTexts old → AreTold more others → AreTold others more → with_texts old more ≡ with_texts old others
+with_same old more others are told back =
+    same_texts (with_texts old more) (with_texts old others) (all_kept old more are) (all_kept old others are) (noted_in old more others told) (noted_in old others more back)
 
 pub texts_noted : (texts literals literals2 : List (List ℕ)) (tables tables2 : List RawTable) (feed : RawFeed) → literals ≡ literals2 → tables ≡ tables2 → texts ≡ texts_of literals tables feed → AllByRecursion (IsAmong texts) (all_texts literals2 tables2 feed)
 texts_noted texts literals literals2 tables tables2 feed same_literals same_tables is =

@@ -2,7 +2,7 @@
 use Rattle.std.proofs.Common.{◌≡◌, ℕ, zero, suc, ◌+◌, ◌^◌, ◌<◌, ◌≤◌, Bool, true, false, cond, eqb, ltb, leb, List, [], ◌∷◌, length, drop, Option, Some, None, Result, Ok, Err, ℤ, pos, negsuc, neg_ℤ, refl, sym, ap, subst, arith, length-drop}
 use Rattle.std.{specs.Prelude.{◌&&◌, not, FitsSigned, IfSome, IfOk, option_map, unsigned_abs}, specs.List.position_or_len, specs.Int.w64, specs.Ordering.int_eq, specs.Str.all_ascii_digits, specs.Str.Parse.digits_value, proofs.lemmas.Bool.{cond_both, and_parts, ltb-true, leb-true, eqb-true, eqb-false, false_from_ne_true}, proofs.lemmas.Bool.Decides.Decides-int_eq, proofs.lemmas.Int.{fits_signed_from_abs, ints}, proofs.lemmas.Result.IfOk-at_ok, proofs.Math.Numerals.one-add}
 use Rattle.tick_model.{specs.declared.plan.ColumnSpec.ColumnSpec, specs.declared.plan.Kind.Kind, specs.declared.plan.Kind.TheVariants.{Long as LongKind, Text as TextKind}, specs.declared.plan.Node.Node, specs.declared.plan.Plan.Plan, specs.declared.update.KeyRange.KeyRange, specs.declared.update.ShiftRange.ShiftRange, specs.Changes.is_none, specs.Evaluation.is_source, specs.Names.same_name, specs.LawfulRuns.is_source_number, specs.Plans.columns_at, specs.Printable.IsShiftRange}
-use Rattle.feed_reader.{specs.declared.entries.Entry.Entry, specs.declared.entries.Entry.TheVariants.{Block, Removed, Shift, Added, Modified, End}, specs.declared.fault.TextKind.TextKind as TextKinds, specs.declared.place.Part.Part, specs.declared.place.Place.Place, specs.declared.place.Place.TheVariants.{Outside, Inside}, specs.declared.place.Tag.Tag, specs.declared.raw.RawCell.RawCell, specs.declared.raw.RawCell.TheVariants.{Null, Long, Text}, specs.declared.raw.RawRow.RawRow, specs.Cells.{number_below, signed_below, long_of, key_of, delta_of, not_zero, some_not_zero, known_cell, cell_of, with_first, cells_of}, specs.Entries.{entry_of, tagged_entry, is_named, source_named, known_block, tag_of, part_entry, key_range, removed_past, shift_by, shift_past, row_with, row_past, row_entry, added, modified}, specs.Answers.Reading, specs.Feeds.{entries_in, steps_after}, specs.Places.{Opened, opened, is_past, is_outside, place_after}, specs.Records.{are_texts, field_of}, proofs.FeedLemmas.read_ok}
+use Rattle.feed_reader.{specs.Said.{Entry, Block, Removed, Shift, Added, Modified, End}, specs.declared.fault.TextKind.TextKind as TextKinds, specs.declared.place.Part.Part, specs.declared.place.Place.Place, specs.declared.place.Place.TheVariants.{Outside, Inside}, specs.declared.place.Tag.Tag, specs.declared.raw.RawCell.RawCell, specs.declared.raw.RawCell.TheVariants.{Null, Long, Text}, specs.declared.raw.RawRow.RawRow, specs.Cells.{number_below, signed_below, long_of, key_of, delta_of, not_zero, some_not_zero, known_cell, cell_of, with_first, cells_of}, specs.Entries.{entry_of, tagged_entry, is_named, source_named, known_block, tag_of, part_entry, key_range, removed_past, shift_by, shift_past, row_with, row_past, row_entry, added, modified}, specs.Answers.{Reading, onto, read_on}, specs.Feeds.{entries_in, steps_after}, specs.Places.{Opened, opened, is_past, is_outside, place_after}, specs.Records.{are_texts, field_of}}
 use Rattle.feed_reader.specs.declared.fault.TextKind.TheVariants as kinds
 use Rattle.feed_reader.specs.declared.place.Part.TheVariants as Parts
 use Rattle.feed_reader.specs.declared.place.Tag.TheVariants as Tags
@@ -228,6 +228,18 @@ entry_fits plan place steps fields =
     cond_both (are_texts fields) (tagged_entry plan place steps (tag_of (field_of fields 0)) fields) (Err kinds.NotUtf8) (λ r. IfOk r (EntryFits plan place steps))
     (λ _. tagged_fits plan place steps (tag_of (field_of fields 0)) fields) (λ _. tt)
 
+pub fits_at : (plan : Plan) (place : Place) (steps : ℕ) (fields : List (List ℕ)) (entry : Entry) → entry_of plan place steps fields ≡ Ok entry → EntryFits plan place steps entry
+fits_at plan place steps fields entry told = IfOk-at_ok (EntryFits plan place steps) told (entry_fits plan place steps fields)
+
+-- what is read first, and then
+onto_ok : {X : Type 0} (entry : X) (told : Reading (List X)) (entries : List X) → onto entry told ≡ Ok entries → (rest : List X) × (told ≡ Ok rest) × (entry ∷ rest ≡ entries)
+onto_ok entry (Ok rest) entries e = (rest, refl, cc)
+onto_ok entry (Err refused) entries e = cc e
+
+pub read_ok : {X : Type 0} (number : ℕ) (told : Result X TextKinds) (more : X → Reading (List X)) (entries : List X) → read_on number told more ≡ Ok entries → (entry : X) × (rest : List X) × (told ≡ Ok entry) × (more entry ≡ Ok rest) × (entry ∷ rest ≡ entries)
+read_ok number (Ok entry) more entries e = let found = onto_ok entry (more entry) entries e in (entry, found.0, refl, found.1, found.2)
+read_ok number (Err kind) more entries e = cc e
+
 -- records that are all read stand each where it may, and the last one ends a step
 abbrev pub Orderly : Plan → Place → ℕ → List Entry → Type 0
 Orderly plan place steps [] = is_outside place ≡ true
@@ -243,5 +255,5 @@ orderly plan place steps read [] entries e = orderly_end plan place steps read e
 orderly plan place steps read (fields ∷ others) entries e =
     let found = read_ok (read + 1) (entry_of plan place steps fields) (λ entry. entries_in plan (place_after place entry) (steps_after steps entry) (read + 1) others) entries e in
     let later = orderly plan (place_after place found.0) (steps_after steps found.0) (read + 1) others found.1 found.3 in
-    let fits : EntryFits plan place steps found.0 = IfOk-at_ok (EntryFits plan place steps) found.2 (entry_fits plan place steps fields) in
+    let fits = fits_at plan place steps fields found.0 found.2 in
     subst (λ all. Orderly plan place steps all × (length all ≡ length (fields ∷ others))) found.4 ((fits, later.0), ap suc later.1)

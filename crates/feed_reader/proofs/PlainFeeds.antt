@@ -4,7 +4,7 @@ use mathlib.Core.Path.{fun_ext}
 use Rattle.std.{specs.Prelude.{◌&&◌, not, position, slice_index_or}, specs.List.position_or_len, proofs.lemmas.List.length-map}
 use Rattle.tick_model.{specs.declared.plan.ColumnSpec.ColumnSpec, specs.declared.plan.Node.Node, specs.declared.plan.Op.Op, specs.declared.plan.Op.TheVariants.{Source, Keep, View}, specs.declared.plan.Plan.Plan, specs.Evaluation.is_source, specs.Names.same_name, specs.Plans.columns_at}
 use Rattle.script_reader.{specs.Plain.{plain_op, plain_node, plain_plan}, proofs.Plainly.tables_plain}
-use Rattle.feed_reader.{specs.declared.entries.Entry.Entry, specs.declared.fault.TextKind.TheVariants.{FieldCount, NotUtf8, TooLong}, specs.declared.place.Part.Part, specs.declared.place.Place.Place, specs.declared.place.Place.TheVariants.Outside, specs.declared.place.Tag.Tag, specs.Answers.read_on, specs.Entries.{is_named, known_block, block_entry, added, modified, row_entry, part_entry, tagged_entry, entry_of, tag_of}, specs.Feeds.{steps_after, entries_in, feed_with, feed_of}, specs.Places.{Opened, opened, place_after}, specs.Records.{are_texts, field_of, records_of}}
+use Rattle.feed_reader.{specs.declared.fault.TextKind.TheVariants.{FieldCount, NotUtf8, TooLong}, specs.declared.place.Part.Part, specs.declared.place.Place.Place, specs.declared.place.Place.TheVariants.Outside, specs.declared.place.Tag.Tag, specs.Answers.read_on, specs.Entries.{is_named, known_block, block_entry, added, modified, row_entry, part_entry, tagged_entry, entry_of, tag_of}, specs.Feeds.{steps_after, entries_in, feed_with, feed_of}, specs.Places.{Opened, opened, place_after}, specs.Records.{are_texts, field_of, records_of}, specs.Said.Entry}
 use Rattle.feed_reader.specs.declared.place.Part.TheVariants as Parts
 use Rattle.feed_reader.specs.declared.place.Tag.TheVariants as Tags
 

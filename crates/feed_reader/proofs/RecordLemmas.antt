@@ -4,7 +4,7 @@ use Rattle.std.{specs.Prelude.IsSome, specs.Borrow.Bor}
 use Rattle.csv.{specs.Machine.{Read, next_record, ends_at_end, is_end, step, fields_after, field_after}, specs.Reading.{records_from, records_next, default_config, NextIs, strip_bom, is_bom, ReadsNext, ReadRecord, TookRecord, took_first, pending_of, ExplainsRead}, specs.declared.error.ErrorKind.ErrorKind, specs.declared.error.Utf8Error.Utf8Error, specs.declared.record.Position.Position, specs.declared.parser.Config.Config, specs.declared.parser.State.State, specs.declared.reader.Reader.Reader}
 use Rattle.csv.specs.declared.error.ErrorKind.TheVariants as kind
 use Rattle.csv.specs.declared.parser.State.TheVariants as st
-use Rattle.feed_reader.{specs.Records.{records_left, left_of, unread, records_of, IsReading, IsNext, are_texts}, specs.declared.records.Next.Next, specs.declared.records.Next.TheVariants.Record, proofs.FieldLemmas.texts_are_not}
+use Rattle.feed_reader.{specs.Records.{records_left, quoted_left, unread, records_of, IsQuoted, IsNext, are_texts}, specs.declared.records.Next.Next, specs.declared.records.Next.TheVariants.Record, proofs.FieldLemmas.texts_are_not}
 
 -- a read from nothing ends at the start of a record, and any other takes a byte at least
 by_test : {X : Type 0} (P : X → Type 0) (b : Bool) (x : X) (o : Option X) (p : X) → cond b (Some x) o ≡ Some p → P x → (o ≡ Some p → P p) → P p
@@ -30,7 +30,7 @@ shorter s fields field c (d ∷ rest) p e =
     (λ next. let less = shorter (step default_config s c).0 (fields_after act fields field) (field_after act c field) d rest p next in omega arith)
 
 -- more turns than bytes give all records
-nothing_left : (n : ℕ) → records_from default_config n st.StartRecord [] ≡ []
+pub nothing_left : (n : ℕ) → records_from default_config n st.StartRecord [] ≡ []
 unfolding records_from next_record
 nothing_left zero = refl
 nothing_left (suc n) = refl
@@ -44,14 +44,14 @@ unfolding IsDone
 later_same n m same s [] p a b e = let done = at_end s [] [] p e in rw (done.0, done.1) (nothing_left n ∙ sym (nothing_left m))
 later_same n m same s (c ∷ rest) p a b e = let less = shorter s [] [] c rest p e in same p.1 p.2 (omega arith) (omega arith)
 
-enough : (n m : ℕ) (s : State) (xs : List ℕ) → length xs < n → length xs < m → records_from default_config n s xs ≡ records_from default_config m s xs
+pub enough : (n m : ℕ) (s : State) (xs : List ℕ) → length xs < n → length xs < m → records_from default_config n s xs ≡ records_from default_config m s xs
 unfolding records_from
 enough zero m s xs a b = absurd (omega arith)
 enough (suc n) zero s xs a b = absurd (omega arith)
 enough (suc n) (suc m) s xs a b =
     same_next (records_from default_config n) (records_from default_config m) (next_record default_config s [] [] xs) (λ p e. later_same n m (enough n m) s xs p a b e)
 
-left_more : (s : State) (xs : List ℕ) (p : Read) → next_record default_config s [] [] xs ≡ Some p → records_from default_config (suc (length xs)) s xs ≡ p.0 ∷ records_from default_config (suc (length p.2)) p.1 p.2
+pub left_more : (s : State) (xs : List ℕ) (p : Read) → next_record default_config s [] [] xs ≡ Some p → records_from default_config (suc (length xs)) s xs ≡ p.0 ∷ records_from default_config (suc (length p.2)) p.1 p.2
 unfolding records_from IsDone
 left_more s [] p e =
     let done = at_end s [] [] p e in
@@ -66,7 +66,7 @@ unfolding records_from
 left_none s xs e = ap (records_next (records_from default_config (length xs))) e
 
 -- the same in the words of a read
-as_left : (s : State) (xs : List ℕ) → records_left s (Some xs) ≡ records_from default_config (suc (length xs)) s xs
+pub as_left : (s : State) (xs : List ℕ) → records_left s (Some xs) ≡ records_from default_config (suc (length xs)) s xs
 as_left s xs = ap (λ n. records_from default_config n s xs) (add-one (length xs))
 
 next_found : (o : Option Read) (fields : List (List ℕ)) (s : State) (rest : List ℕ) → NextIs o true fields s rest → (p : Read) × (o ≡ Some p) × (fields ≡ p.0) × (s ≡ p.1) × (rest ≡ p.2)
@@ -101,13 +101,13 @@ told text = Some text.now
 unread-after : (a b : Reader (Bor (List ℕ))) (fields : List (List ℕ)) (found : Bool) → ReadRecord told a b found fields → unread b ≡ pending_of (told b.rdr) b
 unread-after a b fields found reads = rw reads.1 refl
 
-pub read_next : (a b : Reader (Bor (List ℕ))) (fields : List (List ℕ)) → IsReading a → ReadRecord told a b true fields → (left_of a ≡ fields ∷ left_of b) × IsSome (unread b)
+pub read_next : (a b : Reader (Bor (List ℕ))) (fields : List (List ℕ)) → IsQuoted a → ReadRecord told a b true fields → (quoted_left a ≡ fields ∷ quoted_left b) × IsSome (unread b)
 unfolding Found
 read_next a b fields reading reads =
     let is = found a.config a.state b.state (unread a) (pending_of (told b.rdr) b) fields reading.config reading.known reads.0 in
     rw (unread-after a b fields true reads) is
 
-pub reads_on : (a b : Reader (Bor (List ℕ))) (fields : List (List ℕ)) → IsReading a → ReadRecord told a b true fields → took_first b ≡ true → IsReading b
+pub reads_on : (a b : Reader (Bor (List ℕ))) (fields : List (List ℕ)) → IsQuoted a → ReadRecord told a b true fields → took_first b ≡ true → IsQuoted b
 reads_on a b fields reading reads first = record {
   config = reads.2 ∙ reading.config;
   trim = reads.3 ∙ reading.trim;
@@ -115,15 +115,15 @@ reads_on a b fields reading reads first = record {
   known = (read_next a b fields reading reads).1;
 }
 
-pub read_ended : (a b : Reader (Bor (List ℕ))) (fields : List (List ℕ)) → IsReading a → ReadRecord told a b false fields → left_of a ≡ []
+pub read_ended : (a b : Reader (Bor (List ℕ))) (fields : List (List ℕ)) → IsQuoted a → ReadRecord told a b false fields → quoted_left a ≡ []
 read_ended a b fields reading reads = ended a.config a.state b.state (unread a) (pending_of (told b.rdr) b) fields reading.config reads.0
 
 -- a record was taken that is no text
-took_next : (a b : Reader (Bor (List ℕ))) (fields : List (List ℕ)) → IsReading a → TookRecord told a b fields → left_of a ≡ fields ∷ records_left b.state (pending_of (told b.rdr) b)
+took_next : (a b : Reader (Bor (List ℕ))) (fields : List (List ℕ)) → IsQuoted a → TookRecord told a b fields → quoted_left a ≡ fields ∷ records_left b.state (pending_of (told b.rdr) b)
 unfolding Found
 took_next a b fields reading took = (found a.config a.state b.state (unread a) (pending_of (told b.rdr) b) fields reading.config reading.known took).0
 
-pub no_text : (a b : Reader (Bor (List ℕ))) (why : ErrorKind) (pos : Option Position) (err : Utf8Error) → IsReading a → why ≡ kind.Utf8 pos err → ExplainsRead told a b true why → (refused : List (List ℕ)) × (others : List (List (List ℕ))) × (left_of a ≡ refused ∷ others) × (are_texts refused ≡ false)
+pub no_text : (a b : Reader (Bor (List ℕ))) (why : ErrorKind) (pos : Option Position) (err : Utf8Error) → IsQuoted a → why ≡ kind.Utf8 pos err → ExplainsRead told a b true why → (refused : List (List ℕ)) × (others : List (List (List ℕ))) × (quoted_left a ≡ refused ∷ others) × (are_texts refused ≡ false)
 no_text a b why pos err reading is explains =
     let P : ErrorKind → Type 0 = λ k. ExplainsRead told a b true k in
     let is_text = subst P is explains in

@@ -1,12 +1,8 @@
 -- The loops over texts, and their ranks.
-use Rattle.std.proofs.Common.{◌≡◌, ℕ, suc, ◌+◌, ◌<◌, ◌≤◌, List, [], ◌∷◌, map, drop, get_or, Bool, true, false, Option, Some, None, refl, sym, ap, ◌∙◌, length, cond, eqb, arith}
-use Rattle.std.{specs.Prelude.{flat_map, unwrap_or, not}, specs.List.{prefix_len, position_from}, specs.Str.bytes_eq, specs.Ordering.{nat_cmp, match_ordering}, specs.declared.cmp.Ordering.Ordering, specs.declared.cmp.Ordering.TheVariants.{Less, Equal, Greater}, specs.Cmp.Lexicographic.slice_cmp, specs.BTreeSet.insert_key, specs.Borrow.Bor, proofs.lemmas.List.{at_drop_more, at_drop_all}, proofs.lemmas.List.Sums.prefix_len-le-length}
-use Rattle.tick_model.specs.Changes.{is_none}
-use Rattle.feed_reader.specs.Coding.{with_texts, rank_of}
-
--- no more members of a list whose texts are noted
-pub texts_end : {A : Type 0} (f : A → List (List ℕ)) (old : List (List ℕ)) (xs : List A) (i : ℕ) → length xs ≤ i → with_texts old (flat_map f (drop i xs)) ≡ old
-texts_end f old xs i all = at_drop_all (λ rest. with_texts old (flat_map f rest)) xs i all
+use Rattle.std.proofs.Common.{◌≡◌, ℕ, suc, ◌+◌, ◌<◌, ◌≤◌, List, [], ◌∷◌, ◌++◌, map, drop, get_or, Bool, true, false, Option, Some, None, refl, sym, ap, ◌∙◌, subst, length, cond, eqb, arith}
+use Rattle.std.{specs.Prelude.{flat_map, unwrap_or, not}, specs.List.{prefix_len, position_from}, specs.Str.bytes_eq, specs.Ordering.{nat_cmp, match_ordering}, specs.declared.cmp.Ordering.Ordering, specs.declared.cmp.Ordering.TheVariants.{Less, Equal, Greater}, specs.Cmp.Lexicographic.slice_cmp, specs.BTreeSet.insert_key, specs.Borrow.Bor, proofs.lemmas.List.at_drop_more, proofs.lemmas.List.Sums.{fold-append, prefix_len-le-length}}
+use Rattle.tick_model.{specs.Changes.is_none, specs.LawfulRuns.AreTexts}
+use Rattle.feed_reader.{specs.declared.raw.RawFeed.RawFeed, specs.declared.raw.RawTable.RawTable, specs.Coding.{with_text, with_texts, table_texts, batch_texts, texts_of, rank_of}, specs.Raw.AreTold, proofs.OrderLemmas.{all_kept, with_same}}
 
 -- a text comes to its place
 abbrev now : List (Bor (List ℕ)) → List (List ℕ)
@@ -63,3 +59,21 @@ ranked_more text texts i rank x found next within is ranked =
 pub not_none : (text : List ℕ) → eqb (length text) 0 ≡ false → is_none text ≡ false
 not_none [] e = cc e
 not_none (x ∷ xs) e = refl
+
+-- the texts of a table and of a feed, each once
+pub table_noted : (old mid : List (List ℕ)) (tables : List RawTable) (i : ℕ) (table : RawTable) → i < length tables → table ≡ get_or tables i table → mid ≡ with_texts old (table_texts table) → with_texts old (flat_map table_texts (drop i tables)) ≡ with_texts mid (flat_map table_texts (drop (i + 1) tables))
+table_noted old mid tables i table within is noted =
+    let later = flat_map table_texts (drop (i + 1) tables) in
+    at_drop_more (λ (left : List RawTable). with_texts old (flat_map table_texts left)) tables i table within
+    ∙ ap (λ (next : RawTable). with_texts old (table_texts next ++ later)) (sym is)
+    ∙ fold-append with_text old (table_texts table) later
+    ∙ ap (λ (texts : List (List ℕ)). with_texts texts later) (sym noted)
+
+pub all_noted : (literals : List (List ℕ)) (tables : List RawTable) (feed : RawFeed) (first mid last names : List (List ℕ)) → first ≡ with_texts [] literals → mid ≡ with_texts first (flat_map table_texts tables) → last ≡ with_texts mid names → AreTold names (flat_map batch_texts feed.batches) → AreTold (flat_map batch_texts feed.batches) names → last ≡ texts_of literals tables feed
+all_noted literals tables feed first mid last names of_literals of_tables of_names told all =
+    let texts = flat_map table_texts tables in
+    let of_both : mid ≡ with_texts [] (literals ++ texts) = of_tables ∙ ap (λ (old : List (List ℕ)). with_texts old texts) of_literals ∙ sym (fold-append with_text [] literals texts) in
+    of_names
+    ∙ with_same mid names (flat_map batch_texts feed.batches) (subst AreTexts (sym of_both) (all_kept [] (literals ++ texts) tt)) told all
+    ∙ ap (λ (old : List (List ℕ)). with_texts old (flat_map batch_texts feed.batches)) of_both
+    ∙ sym (fold-append with_text [] (literals ++ texts) (flat_map batch_texts feed.batches))

@@ -3,9 +3,9 @@
 --     key_of text      the key of a row
 --     delta_of text      how far a range moves
 --     cells_of columns fields      the cells of a row
-use Rattle.std.{specs.Prelude.{ℕ, ◌^◌, ◌==◌, ◌&&◌, List, [], ◌∷◌, Option, Some, None, ℤ, pos, neg_ℤ, length, map, nat_lt, nat_le, not, option_map, if◌then◌else◌}, specs.List.zip, specs.Str.all_ascii_digits, specs.Str.Parse.digits_value}
+use Rattle.std.{specs.Prelude.{◌≡◌, ℕ, ◌^◌, ◌==◌, ◌&&◌, List, [], ◌∷◌, Option, Some, None, ℤ, pos, neg_ℤ, length, map, nat_lt, nat_le, not, option_map, if◌then◌else◌}, specs.List.zip, specs.Str.all_ascii_digits, specs.Str.Parse.digits_value}
 use Rattle.tick_model.{specs.declared.plan.ColumnSpec.ColumnSpec, specs.declared.plan.Kind.Kind, specs.declared.plan.Kind.TheVariants.{Long as LongKind, Text as TextKind}, specs.Changes.is_none}
-use Rattle.feed_reader.{specs.declared.raw.RawCell.RawCell, specs.declared.raw.RawCell.TheVariants.{Null, Long, Text}}
+use Rattle.feed_reader.{specs.declared.raw.RawCell.RawCell, specs.declared.raw.RawCell.TheVariants.{Null, Long, Text}, specs.Raw.{cell_texts, raw_cell, Grows, IsNumber}}
 
 -- the number that 1 to 19 digits spell, below a limit
 abbrev pub number_below : ℕ → List ℕ → Option ℕ
@@ -60,3 +60,11 @@ all_some (first ∷ others) = with_first first (all_some others)
 -- one for each column
 abbrev pub cells_of : List ColumnSpec → List (List ℕ) → Option (List RawCell)
 cells_of columns fields = all_some (map cell_in (zip columns fields))
+
+abbrev pub kinds_in : List ColumnSpec → List Kind
+kinds_in = map (λ column. column.kind)
+
+-- a cell in which a text has its number is the one that a field spells
+abbrev pub IsCellOf : Kind → List ℕ → List (List ℕ) → List (List ℕ) → Option ℤ → Type 0
+IsCellOf kind field known texts None = cell_of kind field ≡ None
+IsCellOf kind field known texts (Some n) = (cell_of kind field ≡ Some (raw_cell texts (kind, n))) × IsNumber (length texts) (kind, n) × Grows known texts (cell_texts (raw_cell texts (kind, n)))

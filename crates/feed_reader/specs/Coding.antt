@@ -1,9 +1,10 @@
 -- The texts of a run, and the cells that they code.
 --     texts_of literals tables feed      the distinct texts of a script, of table files and of a feed, in byte order
 --     coded_table texts width table, coded_batch texts batch      the tables and batches, each text by its rank among the texts
-use Rattle.std.{specs.Prelude.{ℕ, List, [], ◌∷◌, ◌++◌, map, flat_map, fold, ℤ, pos, if◌then◌else◌}, specs.List.position_or_len, specs.Str.bytes_eq, specs.Ordering.nat_cmp, specs.Cmp.Lexicographic.slice_cmp, specs.BTreeSet.insert_key}
+use Rattle.std.{specs.Prelude.{ℕ, List, [], ◌++◌, map, flat_map, fold, ℤ, pos, if◌then◌else◌}, specs.List.position_or_len, specs.Str.bytes_eq, specs.Ordering.nat_cmp, specs.Cmp.Lexicographic.slice_cmp, specs.BTreeSet.insert_key}
 use Rattle.tick_model.{specs.declared.feed.Batch.Batch, specs.declared.feed.Block.Block, specs.declared.table.PlainRow.PlainRow, specs.declared.table.PlainTable.PlainTable, specs.Changes.is_none, specs.Tables.null}
 use Rattle.feed_reader.{specs.declared.raw.RawBatch.RawBatch, specs.declared.raw.RawBlock.RawBlock, specs.declared.raw.RawCell.RawCell, specs.declared.raw.RawCell.TheVariants.{Null, Long, Text}, specs.declared.raw.RawFeed.RawFeed, specs.declared.raw.RawRow.RawRow, specs.declared.raw.RawTable.RawTable}
+pub use Rattle.feed_reader.specs.Raw.{cell_texts, row_texts, rows_texts, block_texts, batch_texts}
 
 -- one more text, at its place in byte order, unless it is there; the empty text is none
 abbrev pub with_text : List (List ℕ) → List ℕ → List (List ℕ)
@@ -12,26 +13,8 @@ with_text texts text = if is_none text then texts else insert_key (slice_cmp nat
 abbrev pub with_texts : List (List ℕ) → List (List ℕ) → List (List ℕ)
 with_texts = fold with_text
 
--- the texts that stand in cells, rows, tables and blocks
-abbrev pub cell_texts : RawCell → List (List ℕ)
-cell_texts Null = []
-cell_texts (Long n) = []
-cell_texts (Text text) = text ∷ []
-
-abbrev pub row_texts : RawRow → List (List ℕ)
-row_texts row = flat_map cell_texts row.cells
-
-abbrev pub rows_texts : List RawRow → List (List ℕ)
-rows_texts = flat_map row_texts
-
 abbrev pub table_texts : RawTable → List (List ℕ)
 table_texts table = rows_texts table.rows
-
-abbrev pub block_texts : RawBlock → List (List ℕ)
-block_texts block = rows_texts block.added ++ rows_texts block.modified
-
-abbrev pub batch_texts : RawBatch → List (List ℕ)
-batch_texts batch = flat_map block_texts batch.blocks
 
 abbrev pub all_texts : List (List ℕ) → List RawTable → RawFeed → List (List ℕ)
 all_texts literals tables feed = literals ++ flat_map table_texts tables ++ flat_map batch_texts feed.batches
@@ -42,6 +25,9 @@ texts_of literals tables feed = with_texts [] (all_texts literals tables feed)
 -- a text is coded by its place among the texts
 abbrev pub rank_of : List (List ℕ) → List ℕ → ℕ
 rank_of texts text = position_or_len (bytes_eq text) texts
+
+abbrev pub ranks_among : List (List ℕ) → List (List ℕ) → List ℤ
+ranks_among texts = map (λ text. pos (rank_of texts text))
 
 abbrev pub coded_cell : List (List ℕ) → RawCell → ℤ
 coded_cell texts Null = null

@@ -2,7 +2,7 @@
 --     entry_of plan place steps fields      what a record says, or the first kind that refuses it, after so many ended steps
 use Rattle.std.specs.Prelude.{ℕ, ◌+◌, ◌==◌, ◌&&◌, Bool, List, Option, Some, None, Result, Ok, Err, ℤ, drop, length, position, codes, nat_lt, nat_le, if◌then◌else◌}
 use Rattle.tick_model.{specs.declared.plan.ColumnSpec.ColumnSpec, specs.declared.plan.Node.Node, specs.declared.plan.Plan.Plan, specs.declared.update.KeyRange.KeyRange, specs.declared.update.ShiftRange.ShiftRange, specs.Evaluation.is_source, specs.Names.same_name, specs.Plans.columns_at}
-use Rattle.feed_reader.{specs.declared.entries.Entry.Entry, specs.declared.entries.Entry.TheVariants.{Block, Removed, Shift, Added, Modified, End}, specs.declared.fault.TextKind.TextKind, specs.declared.fault.TextKind.TheVariants.{BadTag, FieldCount, BadNumber, UnknownTable, OutOfOrder, NotUtf8, TooLong}, specs.declared.place.Part.Part, specs.declared.place.Place.Place, specs.declared.place.Tag.Tag, specs.declared.raw.RawCell.RawCell, specs.declared.raw.RawRow.RawRow, specs.Cells.{key_of, delta_of, cells_of}, specs.Places.{Opened, opened, is_past}, specs.Records.{field_of, are_texts}}
+use Rattle.feed_reader.{specs.Said.{Entry, Block, Removed, Shift, Added, Modified, End}, specs.declared.fault.TextKind.TextKind, specs.declared.fault.TextKind.TheVariants.{BadTag, FieldCount, BadNumber, UnknownTable, OutOfOrder, NotUtf8, TooLong}, specs.declared.place.Part.Part, specs.declared.place.Place.Place, specs.declared.place.Tag.Tag, specs.declared.raw.RawCell.RawCell, specs.declared.raw.RawRow.RawRow, specs.Cells.{key_of, delta_of, cells_of}, specs.Places.{Opened, opened, is_past}, specs.Records.{field_of, are_texts}}
 use Rattle.feed_reader.specs.declared.place.Part.TheVariants as Parts
 use Rattle.feed_reader.specs.declared.place.Tag.TheVariants as Tags
 

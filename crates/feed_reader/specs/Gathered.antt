@@ -1,7 +1,46 @@
 -- The steps of a feed, gathered record by record.
 --     gathered so_far number entry      what is gathered after one more record
-use Rattle.std.{specs.Prelude.{ℕ, List, [], ◌∷◌, ◌++◌, Some, None, option_map}, specs.Option.option_to_list}
-use Rattle.feed_reader.{specs.declared.entries.Entry.Entry, specs.declared.entries.Entry.TheVariants.{Block, Removed, Shift, Added, Modified, End}, specs.declared.gathered.Gathered.Gathered, specs.declared.raw.RawBlock.RawBlock}
+--     raw_steps texts kinds read      what is gathered, as it is written
+--     AreNumberedSteps kinds texts read      the rows that are gathered have numbers of texts
+use Rattle.std.{specs.Prelude.{◌≡◌, ℕ, ℤ, List, [], ◌∷◌, ◌++◌, Option, Some, None, map, length, option_map}, specs.List.AllByRecursion, specs.Option.{option_to_list, ForSome}}
+use Rattle.feed_reader.{specs.Said.{Entry, Block, Removed, Shift, Added, Modified, End, row_of_key}, specs.declared.entries.Entry.Entry as Told, specs.declared.gathered.Gathered.Gathered as Read, specs.declared.raw.RawBatch.RawBatch, specs.declared.raw.RawBlock.RawBlock, specs.Raw.{kinds_at, raw_batch, raw_block, IsNumberedRow, IsNumberedBlock}}
+use Rattle.feed_reader.specs.declared.entries.Entry.TheVariants as told
+use Rattle.tick_model.{specs.declared.feed.Block.Block as BlockRead, specs.declared.plan.Kind.Kind}
+
+pub record Gathered : Type 0 where
+  pub batches : List RawBatch
+  pub blocks : List RawBlock
+  pub block : Option RawBlock
+
+-- what is gathered, as it is written
+abbrev pub raw_steps : List (List ℕ) → List (List Kind) → Read → Gathered
+raw_steps texts kinds read = record {
+  batches = map (raw_batch texts kinds) read.batches;
+  blocks = map (raw_block texts kinds) read.blocks;
+  block = option_map (raw_block texts kinds) read.block;
+}
+
+-- a row that is put into a block has as many cells as those before it
+abbrev pub FitsRow : Told → ℕ → BlockRead → Type 0
+FitsRow (told.Added key) width block = AllByRecursion (λ row. length row.cells ≡ width) block.added
+FitsRow (told.Modified key) width block = AllByRecursion (λ row. length row.cells ≡ width) block.modified
+FitsRow _ width block = Unit {0}
+
+-- the row of an entry, of these columns, has numbers of texts
+abbrev pub IsNumberedEntry : List Kind → ℕ → List ℤ → Told → Type 0
+IsNumberedEntry kinds texts cells (told.Added key) = IsNumberedRow kinds texts (row_of_key cells key)
+IsNumberedEntry kinds texts cells (told.Modified key) = IsNumberedRow kinds texts (row_of_key cells key)
+IsNumberedEntry kinds texts cells _ = Unit {0}
+
+pub record AreNumberedSteps (kinds : List (List Kind)) (texts : ℕ) (read : Read) : Type 0 where
+  pub batches : AllByRecursion (λ batch. AllByRecursion (IsNumberedBlock kinds texts) batch.blocks) read.batches
+  pub blocks : AllByRecursion (IsNumberedBlock kinds texts) read.blocks
+  pub block : ForSome read.block (IsNumberedBlock kinds texts)
+
+-- the kinds of the columns of the block at hand
+abbrev pub kinds_of_block : List (List Kind) → Option BlockRead → List Kind
+kinds_of_block kinds None = []
+kinds_of_block kinds (Some block) = kinds_at kinds block.table
 
 abbrev pub nothing : Gathered
 nothing = record { batches = []; blocks = []; block = None }

@@ -1,7 +1,7 @@
 -- Where the reading of a feed is.
 --     place_after place entry      where it is after a record
 use Rattle.std.specs.Prelude.{ℕ, ◌==◌, Bool, true, false, Option, Some, None, nat_lt, if◌then◌else◌}
-use Rattle.feed_reader.{specs.declared.entries.Entry.Entry, specs.declared.entries.Entry.TheVariants.{Block, Removed, Shift, Added, Modified, End}, specs.declared.place.Part.Part, specs.declared.place.Place.Place, specs.declared.place.Place.TheVariants.{Outside, Inside}}
+use Rattle.feed_reader.{specs.Said.{Entry, Block, Removed, Shift, Added, Modified, End}, specs.declared.place.Part.Part, specs.declared.place.Place.Place, specs.declared.place.Place.TheVariants.{Outside, Inside}}
 use Rattle.feed_reader.specs.declared.place.Part.TheVariants as Parts
 
 -- the parts of a block, in their order

@@ -1,15 +1,15 @@
 //! What a field spells: numbers, keys and cells.
 
-ghost use Rattle.std.specs.Prelude.{◌≡◌, ◌^◌, ◌<◌, ◌≤◌, ◌==◌, ◌+◌, IfOk, drop, length, pos, option_map};
-ghost use Rattle.csv.specs.Records.{fields_of};
-ghost use Rattle.feed_reader.specs.Cells.{number_below, signed_below, key_of, delta_of, cell_of, cells_of};
+ghost use Rattle.std.specs.Prelude.{◌≡◌, ◌^◌, ◌≤◌, ◌+◌, [], IfOk, drop, length, pos, option_map};
+ghost use Rattle.feed_reader.specs.Cells.{number_below, signed_below, key_of, delta_of, cells_of, kinds_in, IsCellOf};
+ghost use Rattle.feed_reader.specs.ReadCells.{AreRead};
+ghost use Rattle.feed_reader.specs.Records.{at_hand};
 
-use crate::cell_text::CellText;
-use crate::raw::RawCell;
-use crate::records::field;
-use crate::row_cells::RowCells;
-use csv::StringRecord;
+use crate::numbered::NumberedTexts;
+use crate::records::Records;
 use std::alloc::{AllocError, Global};
+use tick_model::formula::NULL;
+use tick_model::items::Items;
 use tick_model::limits::SOURCE_KEYS;
 use tick_model::plan::{ColumnSpec, Kind};
 
@@ -72,36 +72,68 @@ pub(crate) fn delta(text: &str) -> Option<i64>
     }
 }
 
-/// The cell of a column that a field spells.
-fn cell(alloc: Global, kind: Kind, field: &str) -> Result<Option<RawCell>, AllocError>
-    ensures { IfOk result (λ cell. cell ≡ cell_of kind field.now) }
-{
-    if field.is_empty() {
-        return Ok(Some(RawCell::Null));
+/// Cells that are read, one behind the other, and the texts whose numbers stand in them.
+#[derive(Drop)]
+pub(crate) struct ReadCells {
+    pub(crate) texts: NumberedTexts,
+    pub(crate) cells: Vec<i64>,
+}
+
+impl ReadCells {
+    /// No cells.
+    pub(crate) fn new(alloc: Global) -> ReadCells
+        ensures texts { result.texts ≡ [] }
+        ensures cells { result.cells.items ≡ [] }
+    {
+        ReadCells {
+            texts: NumberedTexts::new(alloc),
+            cells: Vec::new(alloc),
+        }
     }
-    match kind {
-        Kind::Long => Ok(signed_number(field.as_bytes(), 1 << 63).map(RawCell::Long)),
-        Kind::Text => Ok(Some(RawCell::Text(CellText::of(alloc, field)?))),
+
+    /// The cell of a column that a field spells, in which a text has its number.
+    fn cell(&mut self, alloc: Global, kind: Kind, field: &str) -> Result<Option<i64>, AllocError>
+        ensures cell { IfOk result (IsCellOf kind field.now self.old.texts self.new.texts) }
+        ensures others { self.new.cells ≡ self.old.cells }
+    {
+        if field.is_empty() {
+            return Ok(Some(NULL));
+        }
+        match kind {
+            Kind::Long => Ok(signed_number(field.as_bytes(), 1 << 63)),
+            Kind::Text => Ok(Some(self.texts.number(alloc, field)? as i64)),
+        }
+    }
+
+    /// Reads the cells that the fields from a place on spell, one for each column. Tells whether each field spells one.
+    pub(crate) fn read(
+        &mut self,
+        alloc: Global,
+        columns: &[ColumnSpec],
+        fields: &Records<'_>,
+        first: usize,
+    ) -> Result<bool, AllocError>
+        requires whole { length (at_hand fields.now) ≡ length columns.now + first }
+        requires few { first ≤ 2 }
+        ensures { IfOk result (λ all. AreRead columns.now self.old self.new all (cells_of columns.now (drop first (at_hand fields.now)))) }
+    {
+        for (place, column) in columns.iter().enumerate() {
+            match self.cell(alloc, column.kind, fields.field(first + place))? {
+                Some(cell) => self.cells.push(cell)?,
+                None => return Ok(false),
+            }
+        }
+        Ok(true)
     }
 }
 
-/// The cells that the fields from a place on spell, one for each column.
-pub(crate) fn cells(
-    alloc: Global,
-    columns: &[ColumnSpec],
-    fields: &StringRecord,
-    first: usize,
-) -> Result<Option<RowCells>, AllocError>
-    requires whole { length (fields_of fields.now) ≡ length columns.now + first }
-    requires few { first ≤ 2 }
-    ensures { IfOk result (λ cells. cells ≡ cells_of columns.now (drop first (fields_of fields.now))) }
+/// The kinds of columns.
+pub(crate) fn kinds_of(alloc: Global, columns: &[ColumnSpec]) -> Result<Items<Kind>, AllocError>
+    ensures { IfOk result (λ kinds. kinds ≡ kinds_in columns.now) }
 {
-    let mut cells = RowCells::with_capacity(alloc, columns.len())?;
-    for (place, column) in columns.iter().enumerate() {
-        match cell(alloc, column.kind, field(fields, first + place))? {
-            Some(cell) => cells.push(cell)?,
-            None => return Ok(None),
-        }
+    let mut kinds = Vec::with_capacity(alloc, columns.len())?;
+    for column in columns {
+        kinds.push(column.kind)?;
     }
-    Ok(Some(cells))
+    Ok(Items::of(kinds))
 }

@@ -18,14 +18,14 @@ use tick_model::feed::Batch;
 use tick_model::items::Items;
 use tick_model::name::Name;
 use tick_model::plan::{Node, Plan};
+use tick_model::row_list::OpeningTable;
 use tick_model::sources::is_source;
-use tick_model::table::PlainTable;
 
 /// What table files and a feed say, with each text in the place of its rank among the texts of the run.
 #[derive(Drop)]
 pub struct Coded {
     /// The table of each source, in order of their nodes' numbers.
-    pub opening: Items<PlainTable>,
+    pub opening: Items<OpeningTable>,
     pub batches: Items<Batch>,
     /// The distinct texts, in the order of their bytes.
     pub texts: Items<Name>,
@@ -37,7 +37,7 @@ fn open_node(
     ranks: &Ranks,
     node: &Node,
     tables: &mut IntoIter<RawTable>,
-    opening: &mut Items<PlainTable>,
+    opening: &mut Items<OpeningTable>,
 ) -> Result<(), AllocError>
     requires columns { length node.now.columns < 2 ^ 32 }
     requires whole { into_iter_len tables.old ≡ length (into_iter_items tables.old) }
@@ -63,7 +63,7 @@ fn opened(
     ranks: &Ranks,
     nodes: &[Node],
     tables: Items<RawTable>,
-) -> Result<Items<PlainTable>, AllocError>
+) -> Result<Items<OpeningTable>, AllocError>
     requires { All (λ node. length node.columns < 2 ^ 32) nodes.now }
     ensures { IfOk result (λ opening. opening ≡ opening_of ranks.now (sources_of nodes.now) tables) }
 {
@@ -82,7 +82,7 @@ fn coded_by(
     nodes: &[Node],
     tables: Items<RawTable>,
     feed: RawFeed,
-) -> Result<(Items<PlainTable>, Items<Batch>), AllocError>
+) -> Result<(Items<OpeningTable>, Items<Batch>), AllocError>
     requires { All (λ node. length node.columns < 2 ^ 32) nodes.now }
     ensures opening { IfOk result (λ coded. coded.0 ≡ opening_of texts.now (sources_of nodes.now) tables) }
     ensures batches { IfOk result (λ coded. coded.1 ≡ feed_with texts.now feed) }

@@ -1,19 +1,18 @@
 //! What the records of a feed say.
 
-ghost use Rattle.std.specs.Prelude.{◌≡◌, ◌<◌, ◌^◌, ◌+◌, true, IfOk, IfSome, length, drop};
-ghost use Rattle.csv.specs.Records.{fields_of};
+ghost use Rattle.std.specs.Prelude.{◌≡◌, ◌<◌, ◌^◌, ◌+◌, ℕ, ℤ, List, true, IfOk, IfSome, length, drop, option_map};
 ghost use Rattle.tick_model.specs.Plans.{columns_at as columns_of};
 ghost use Rattle.feed_reader.specs.Entries.{tag_of, is_named as is_named_by, source_named as source_of_name, block_entry as block_of, end_entry as end_of, key_range as range_of, removed_entry as removed_of, shift_entry as shift_of, row_entry as row_of, row_with, shift_by, part_entry as part_of, entry_of};
 ghost use Rattle.feed_reader.specs.Places.{opened};
-ghost use Rattle.feed_reader.specs.Cells.{key_of, delta_of, cells_of};
-ghost use Rattle.feed_reader.specs.Records.{are_texts, field_of};
+ghost use Rattle.feed_reader.specs.Cells.{key_of, delta_of, cells_of, kinds_in};
+ghost use Rattle.feed_reader.specs.Said.{kinds_within, raw_row_at, told_row, told_entry, IsReadRow, IsReadEntry};
+ghost use Rattle.tick_model.specs.declared.plan.Kind.{Kind};
+ghost use Rattle.feed_reader.specs.Records.{are_texts, at_hand, field_of};
 
-use crate::cells::{cells, delta, key};
+use crate::cells::{ReadCells, delta, key};
 use crate::fault::TextKind;
 use crate::place::{Part, Place, Tag, is_past};
-use crate::raw::RawRow;
-use crate::records::field;
-use csv::StringRecord;
+use crate::records::Records;
 use std::alloc::{AllocError, Global};
 use tick_model::columns::columns_at;
 use tick_model::plan::{ColumnSpec, Node, Plan};
@@ -30,8 +29,9 @@ pub(crate) enum Entry {
     Block(u32),
     Removed(KeyRange),
     Shift(ShiftRange),
-    Added(RawRow),
-    Modified(RawRow),
+    /// A row of this key, whose cells are at hand.
+    Added(u64),
+    Modified(u64),
     /// The step ends.
     End,
 }
@@ -77,21 +77,21 @@ fn source_named(nodes: &[Node], name: &str) -> Option<u32>
     }
 }
 
-fn block_entry(plan: &Plan, fields: &StringRecord) -> Result<Entry, TextKind>
+fn block_entry(plan: &Plan, fields: &Records<'_>) -> Result<Entry, TextKind>
     requires { length plan.now.nodes < 2 ^ 32 }
-    ensures { result ≡ block_of plan.now (fields_of fields.now) }
+    ensures { (texts : List (List ℕ)) (kinds : List Kind) (cells : List ℤ) → told_entry texts kinds cells result ≡ block_of plan.now (at_hand fields.now) }
 {
     if fields.len() != 2 {
         return Err(TextKind::FieldCount);
     }
-    match source_named(plan.nodes.as_slice(), field(fields, 1)) {
+    match source_named(plan.nodes.as_slice(), fields.field(1)) {
         Some(table) => Ok(Entry::Block(table)),
         None => Err(TextKind::UnknownTable),
     }
 }
 
-fn end_entry(steps: usize, fields: &StringRecord) -> Result<Entry, TextKind>
-    ensures { result ≡ end_of steps (fields_of fields.now) }
+fn end_entry(steps: usize, fields: &Records<'_>) -> Result<Entry, TextKind>
+    ensures { (texts : List (List ℕ)) (kinds : List Kind) (cells : List ℤ) → told_entry texts kinds cells result ≡ end_of steps (at_hand fields.now) }
 {
     if fields.len() != 1 {
         return Err(TextKind::FieldCount);
@@ -104,11 +104,11 @@ fn end_entry(steps: usize, fields: &StringRecord) -> Result<Entry, TextKind>
 }
 
 /// The range that the fields after the tag spell.
-fn key_range(fields: &StringRecord) -> Option<KeyRange>
-    ensures { result ≡ range_of (key_of (field_of (fields_of fields.now) 1)) (key_of (field_of (fields_of fields.now) 2)) }
+fn key_range(fields: &Records<'_>) -> Option<KeyRange>
+    ensures { result ≡ range_of (key_of (field_of (at_hand fields.now) 1)) (key_of (field_of (at_hand fields.now) 2)) }
 {
-    let first = key(field(fields, 1))?;
-    let last = key(field(fields, 2))?;
+    let first = key(fields.field(1))?;
+    let last = key(fields.field(2))?;
     if first <= last {
         Some(KeyRange { first, last })
     } else {
@@ -116,8 +116,8 @@ fn key_range(fields: &StringRecord) -> Option<KeyRange>
     }
 }
 
-fn removed_entry(last: Option<u64>, fields: &StringRecord) -> Result<Entry, TextKind>
-    ensures { result ≡ removed_of last (fields_of fields.now) }
+fn removed_entry(last: Option<u64>, fields: &Records<'_>) -> Result<Entry, TextKind>
+    ensures { (texts : List (List ℕ)) (kinds : List Kind) (cells : List ℤ) → told_entry texts kinds cells result ≡ removed_of last (at_hand fields.now) }
 {
     if fields.len() != 3 {
         return Err(TextKind::FieldCount);
@@ -129,11 +129,11 @@ fn removed_entry(last: Option<u64>, fields: &StringRecord) -> Result<Entry, Text
     }
 }
 
-fn shift_range(fields: &StringRecord) -> Option<ShiftRange>
-    ensures { result ≡ shift_by (range_of (key_of (field_of (fields_of fields.now) 1)) (key_of (field_of (fields_of fields.now) 2))) (delta_of (field_of (fields_of fields.now) 3)) }
+fn shift_range(fields: &Records<'_>) -> Option<ShiftRange>
+    ensures { result ≡ shift_by (range_of (key_of (field_of (at_hand fields.now) 1)) (key_of (field_of (at_hand fields.now) 2))) (delta_of (field_of (at_hand fields.now) 3)) }
 {
     let range = key_range(fields)?;
-    let delta = delta(field(fields, 3))?;
+    let delta = delta(fields.field(3))?;
     Some(ShiftRange {
         begin: range.first,
         end: range.last,
@@ -141,8 +141,8 @@ fn shift_range(fields: &StringRecord) -> Option<ShiftRange>
     })
 }
 
-fn shift_entry(last: Option<u64>, fields: &StringRecord) -> Result<Entry, TextKind>
-    ensures { result ≡ shift_of last (fields_of fields.now) }
+fn shift_entry(last: Option<u64>, fields: &Records<'_>) -> Result<Entry, TextKind>
+    ensures { (texts : List (List ℕ)) (kinds : List Kind) (cells : List ℤ) → told_entry texts kinds cells result ≡ shift_of last (at_hand fields.now) }
 {
     if fields.len() != 4 {
         return Err(TextKind::FieldCount);
@@ -154,21 +154,26 @@ fn shift_entry(last: Option<u64>, fields: &StringRecord) -> Result<Entry, TextKi
     }
 }
 
-/// The row that the fields after the tag spell.
+/// Reads the row that the fields after the tag spell. Gives its key.
 fn row(
     alloc: Global,
     columns: &[ColumnSpec],
-    fields: &StringRecord,
-) -> Result<Option<RawRow>, AllocError>
-    requires { length (fields_of fields.now) ≡ length columns.now + 2 }
-    ensures { IfOk result (λ row. row ≡ row_with (key_of (field_of (fields_of fields.now) 1)) (cells_of columns.now (drop 2 (fields_of fields.now)))) }
+    fields: &Records<'_>,
+    read: &mut ReadCells,
+) -> Result<Option<u64>, AllocError>
+    requires { length (at_hand fields.now) ≡ length columns.now + 2 }
+    ensures read { IfOk result (λ key. IfSome key (IsReadRow read.old.texts (kinds_in columns.now) read.new)) }
+    ensures row { IfOk result (λ key. option_map (raw_row_at read.new.texts (kinds_in columns.now) read.new.cells.items) key
+        ≡ row_with (key_of (field_of (at_hand fields.now) 1)) (cells_of columns.now (drop 2 (at_hand fields.now)))) }
 {
-    let Some(key) = key(field(fields, 1)) else {
+    let Some(key) = key(fields.field(1)) else {
         return Ok(None);
     };
-    match cells(alloc, columns, fields, 2)? {
-        Some(cells) => Ok(Some(RawRow { key, cells })),
-        None => Ok(None),
+    read.cells.clear();
+    if read.read(alloc, columns, fields, 2)? {
+        Ok(Some(key))
+    } else {
+        Ok(None)
     }
 }
 
@@ -176,15 +181,17 @@ fn row_entry(
     alloc: Global,
     columns: &[ColumnSpec],
     last: Option<u64>,
-    fields: &StringRecord,
-) -> Result<Result<RawRow, TextKind>, AllocError>
-    ensures { IfOk result (λ told. told ≡ row_of columns.now last (fields_of fields.now)) }
+    fields: &Records<'_>,
+    read: &mut ReadCells,
+) -> Result<Result<u64, TextKind>, AllocError>
+    ensures read { IfOk result (λ told. IfOk told (IsReadRow read.old.texts (kinds_in columns.now) read.new)) }
+    ensures told { IfOk result (λ told. told_row read.new.texts (kinds_in columns.now) read.new.cells.items told ≡ row_of columns.now last (at_hand fields.now)) }
 {
     if fields.len() != columns.len() + 2 {
         return Ok(Err(TextKind::FieldCount));
     }
-    match row(alloc, columns, fields)? {
-        Some(row) if is_past(last, row.key) => Ok(Ok(row)),
+    match row(alloc, columns, fields, read)? {
+        Some(key) if is_past(last, key) => Ok(Ok(key)),
         Some(_) => Ok(Err(TextKind::OutOfOrder)),
         None => Ok(Err(TextKind::BadNumber)),
     }
@@ -195,9 +202,11 @@ fn part_entry(
     plan: &Plan,
     place: Place,
     part: Part,
-    fields: &StringRecord,
+    fields: &Records<'_>,
+    read: &mut ReadCells,
 ) -> Result<Result<Entry, TextKind>, AllocError>
-    ensures { IfOk result (λ told. told ≡ part_of plan.now (opened place part) part (fields_of fields.now)) }
+    ensures read { IfOk result (λ told. IfOk told (IsReadEntry read.old.texts (kinds_within plan.now place) read.new)) }
+    ensures told { IfOk result (λ told. told_entry read.new.texts (kinds_within plan.now place) read.new.cells.items told ≡ part_of plan.now (opened place part) part (at_hand fields.now)) }
 {
     let Some((table, last)) = place.opened(part) else {
         return Ok(Err(TextKind::OutOfOrder));
@@ -206,26 +215,30 @@ fn part_entry(
     match part {
         Part::Removed => Ok(removed_entry(last, fields)),
         Part::Shifts => Ok(shift_entry(last, fields)),
-        Part::Added => Ok(row_entry(alloc, columns, last, fields)?.map(Entry::Added)),
-        Part::Modified => Ok(row_entry(alloc, columns, last, fields)?.map(Entry::Modified)),
+        Part::Added => { Ok(row_entry(alloc, columns, last, fields, read)?.map(Entry::Added)) }
+        Part::Modified => {
+            Ok(row_entry(alloc, columns, last, fields, read)?.map(Entry::Modified))
+        }
     }
 }
 
-/// What a record of text says, after so many ended steps, or the first kind that refuses it.
+/// What a record of text says, after so many ended steps, or the first kind that refuses it. The cells of a row are those that are read then.
 pub(crate) fn read_entry(
     alloc: Global,
     plan: &Plan,
     place: Place,
     steps: usize,
-    fields: &StringRecord,
+    fields: &Records<'_>,
+    read: &mut ReadCells,
 ) -> Result<Result<Entry, TextKind>, AllocError>
-    requires text { are_texts (fields_of fields.now) ≡ true }
+    requires text { are_texts (at_hand fields.now) ≡ true }
     requires nodes { length plan.now.nodes < 2 ^ 32 }
-    ensures { IfOk result (λ told. told ≡ entry_of plan.now place steps (fields_of fields.now)) }
+    ensures read { IfOk result (λ told. IfOk told (IsReadEntry read.old.texts (kinds_within plan.now place) read.new)) }
+    ensures told { IfOk result (λ told. told_entry read.new.texts (kinds_within plan.now place) read.new.cells.items told ≡ entry_of plan.now place steps (at_hand fields.now)) }
 {
-    match tag(field(fields, 0)) {
+    match tag(fields.field(0)) {
         Some(Tag::Block) => Ok(block_entry(plan, fields)),
-        Some(Tag::Of(part)) => part_entry(alloc, plan, place, part, fields),
+        Some(Tag::Of(part)) => part_entry(alloc, plan, place, part, fields, read),
         Some(Tag::End) => Ok(end_entry(steps, fields)),
         None => Ok(Err(TextKind::BadTag)),
     }

@@ -1,54 +1,61 @@
 //! The steps of a feed, as they are gathered from its records.
 
-ghost use Rattle.std.specs.Prelude.{◌≡◌, None, OnOk, option_map};
-ghost use Rattle.feed_reader.specs.Gathered.{nothing, ended_blocks, with_entry, begun, gathered};
+ghost use Rattle.std.specs.Prelude.{◌≡◌, ◌++◌, ◌∷◌, [], ℕ, List, None, OnOk, length, option_to_list};
+ghost use Rattle.std.specs.Option.{ForSome};
+ghost use Rattle.feed_reader.specs.Gathered.{with_entry, gathered, kinds_of_block, raw_steps, AreNumberedSteps, FitsRow, IsNumberedEntry};
+ghost use Rattle.feed_reader.specs.Raw.{kinds_at, raw_block, IsNumberedBlock};
+ghost use Rattle.feed_reader.specs.Said.{said};
+ghost use Rattle.tick_model.specs.declared.plan.Kind.{Kind};
 
 use crate::entries::Entry;
-use crate::raw::{RawBatch, RawBlock};
 use std::alloc::{AllocError, Global};
 use std::mem;
+use tick_model::feed::{Batch, Block};
 use tick_model::items::Items;
+use tick_model::row_list::RowList;
 
 /// The ended steps, the ended blocks of the step at hand, and its last block, which may go on.
 #[derive(Drop)]
 pub(crate) struct Gathered {
-    pub(crate) batches: Items<RawBatch>,
-    blocks: Items<RawBlock>,
-    block: Option<RawBlock>,
+    pub(crate) batches: Items<Batch>,
+    blocks: Items<Block>,
+    block: Option<Block>,
 }
 
-impl RawBlock {
-    /// A block of a source, begun by the record of a number.
-    fn begin(alloc: Global, table: u32, number: u64) -> RawBlock
-        ensures { result ≡ begun table number }
-    {
-        RawBlock {
-            table,
-            number,
-            removed: Items::new(alloc),
-            shifts: Items::new(alloc),
-            added: Items::new(alloc),
-            modified: Items::new(alloc),
-        }
+/// A block of a source, begun by the record of a number.
+fn begin_block(alloc: Global, table: u32, number: u64) -> Block
+    ensures { result ≡ record { table = table; number = number; removed = []; shifts = []; added = []; modified = [] } }
+{
+    Block {
+        table,
+        number,
+        removed: Items::new(alloc),
+        shifts: Items::new(alloc),
+        added: RowList::new(alloc),
+        modified: RowList::new(alloc),
     }
+}
 
-    /// Takes a record of one of its parts.
-    fn put(&mut self, entry: Entry) -> Result<(), AllocError>
-        ensures { OnOk result (self.new ≡ with_entry entry self.old) }
-    {
-        match entry {
-            Entry::Removed(range) => self.removed.push(range),
-            Entry::Shift(range) => self.shifts.push(range),
-            Entry::Added(row) => self.added.push(row),
-            Entry::Modified(row) => self.modified.push(row),
-            Entry::Block(_) | Entry::End => Ok(()),
-        }
+/// Puts a record of one of its parts into a block. The cells are those of a row.
+fn put_part(block: &mut Block, entry: Entry, cells: &[i64]) -> Result<(), AllocError>
+    requires { FitsRow entry (length cells.now) block.old }
+    ensures numbered { (kinds : List (List Kind)) (texts : ℕ) → IsNumberedBlock kinds texts block.old → IsNumberedEntry (kinds_at kinds block.old.table) texts cells.now entry
+        → OnOk result (IsNumberedBlock kinds texts block.new) }
+    ensures put { (texts : List (List ℕ)) (kinds : List (List Kind))
+        → OnOk result (raw_block texts kinds block.new ≡ with_entry (said texts (kinds_at kinds block.old.table) cells.now entry) (raw_block texts kinds block.old)) }
+{
+    match entry {
+        Entry::Removed(range) => block.removed.push(range),
+        Entry::Shift(range) => block.shifts.push(range),
+        Entry::Added(key) => block.added.push(key, cells),
+        Entry::Modified(key) => block.modified.push(key, cells),
+        Entry::Block(_) | Entry::End => Ok(()),
     }
 }
 
 impl Gathered {
     pub(crate) fn new(alloc: Global) -> Gathered
-        ensures { result ≡ nothing }
+        ensures { result ≡ record { batches = []; blocks = []; block = None } }
     {
         Gathered {
             batches: Items::new(alloc),
@@ -59,7 +66,7 @@ impl Gathered {
 
     /// Ends the block at hand, if there is one.
     fn end_block(&mut self) -> Result<(), AllocError>
-        ensures { OnOk result (self.new ≡ record self.old { blocks = ended_blocks self.old; block = None }) }
+        ensures { OnOk result (self.new ≡ record self.old { blocks = self.old.blocks ++ option_to_list self.old.block; block = None }) }
     {
         match self.block.take() {
             Some(block) => self.blocks.push(block),
@@ -69,34 +76,42 @@ impl Gathered {
 
     /// Ends the step at hand.
     fn end_step(&mut self, alloc: Global) -> Result<(), AllocError>
-        ensures { OnOk result (self.new ≡ gathered self.old 0 Entry.End) }
+        ensures { OnOk result (self.new ≡ record {
+          batches = self.old.batches ++ (record { blocks = self.old.blocks ++ option_to_list self.old.block }) ∷ [];
+          blocks = [];
+          block = None;
+        }) }
     {
         self.end_block()?;
         let blocks = mem::replace(&mut self.blocks, Items::new(alloc));
-        self.batches.push(RawBatch { blocks })
+        self.batches.push(Batch { blocks })
     }
 
-    fn put_part(&mut self, entry: Entry) -> Result<(), AllocError>
-        ensures { OnOk result (self.new ≡ record self.old { block = option_map (with_entry entry) self.old.block }) }
-    {
-        match &mut self.block {
-            Some(block) => block.put(entry),
-            None => Ok(()),
-        }
-    }
-
-    /// Takes the record of a number.
-    pub(crate) fn put(&mut self, alloc: Global, number: u64, entry: Entry) -> Result<(), AllocError>
-        ensures { OnOk result (self.new ≡ gathered self.old number entry) }
+    /// Takes the record of a number. The cells are those of a row.
+    pub(crate) fn put(
+        &mut self,
+        alloc: Global,
+        number: u64,
+        entry: Entry,
+        cells: &[i64],
+    ) -> Result<(), AllocError>
+        requires { ForSome self.old.block (FitsRow entry (length cells.now)) }
+        ensures numbered { (kinds : List (List Kind)) (texts : ℕ) → AreNumberedSteps kinds texts self.old → IsNumberedEntry (kinds_of_block kinds self.old.block) texts cells.now entry
+            → OnOk result (AreNumberedSteps kinds texts self.new) }
+        ensures put { (texts : List (List ℕ)) (kinds : List (List Kind))
+            → OnOk result (raw_steps texts kinds self.new ≡ gathered (raw_steps texts kinds self.old) number (said texts (kinds_of_block kinds self.old.block) cells.now entry)) }
     {
         match entry {
             Entry::Block(table) => {
                 self.end_block()?;
-                self.block = Some(RawBlock::begin(alloc, table, number));
+                self.block = Some(begin_block(alloc, table, number));
                 Ok(())
             }
             Entry::End => self.end_step(alloc),
-            part => self.put_part(part),
+            part => match &mut self.block {
+                Some(block) => put_part(block, part, cells),
+                None => Ok(()),
+            },
         }
     }
 }

@@ -7,7 +7,6 @@
 #![tactic(auto)]
 
 mod assembled;
-mod cell_text;
 mod cells;
 mod coded;
 mod coding;
@@ -17,16 +16,15 @@ mod feeds;
 mod gathered;
 mod laws;
 mod noted;
+mod numbered;
 mod place;
 mod ranks;
 mod raw;
 mod records;
-mod row_cells;
 mod tables;
 mod texts;
 
 pub use assembled::assemble;
-pub use cell_text::CellText;
 pub use coded::{Coded, code};
 pub use fault::{TextFault, TextKind};
 pub use feeds::read_feed;
@@ -34,6 +32,5 @@ pub use laws::{
     assembled_runs_are_lawful, read_feeds_are_lawful, read_runs_are_lawful,
     read_tables_are_openings,
 };
-pub use raw::{RawBatch, RawBlock, RawCell, RawFeed, RawRow, RawTable};
-pub use row_cells::RowCells;
+pub use raw::{RawBatch, RawBatches, RawBlock, RawCell, RawFeed, RawRow, RawRows, RawTable};
 pub use tables::{MOST_BYTES, read_table};

@@ -4,7 +4,7 @@ ghost use Rattle.std.specs.Prelude.{◌≡◌, [], OnOk, IfOk};
 ghost use Rattle.feed_reader.specs.Coding.{with_text};
 
 use std::alloc::{AllocError, Global};
-use std::collections::{BTreeSet, HashSet};
+use std::collections::BTreeSet;
 use std::marker::Model;
 use tick_model::items::Items;
 use tick_model::name::Name;
@@ -13,20 +13,18 @@ use tick_model::name::Name;
 #[derive(Drop)]
 pub(crate) struct Noted<'a> {
     ordered: BTreeSet<&'a str>,
-    /// The same texts: most texts come again, and are found here by one look.
-    seen: HashSet<&'a str>,
 }
 
 impl<'a> Model for Noted<'a> {
     ghost use Rattle.std.specs.Prelude.{List, ℕ};
     ghost use Rattle.tick_model.specs.LawfulRuns.{AreTexts};
-    ghost use Rattle.feed_reader.specs.Noted.{noted, AreAmong};
+    ghost use Rattle.feed_reader.specs.Noted.{noted};
 
     ghost Value = { List (List ℕ) };
 
     ghost view = { λ a. noted a.ordered };
 
-    ghost invariant = { λ a. AreTexts (noted a.ordered) × AreAmong a.seen (noted a.ordered) };
+    ghost invariant = { λ a. AreTexts (noted a.ordered) };
 }
 
 impl<'a> Noted<'a> {
@@ -36,7 +34,6 @@ impl<'a> Noted<'a> {
     {
         Noted {
             ordered: BTreeSet::new(alloc),
-            seen: HashSet::new(alloc),
         }
     }
 
@@ -47,11 +44,7 @@ impl<'a> Noted<'a> {
         if text.is_empty() {
             return Ok(());
         }
-        if self.seen.contains(text) {
-            return Ok(());
-        }
         self.ordered.insert(text)?;
-        self.seen.insert(text)?;
         Ok(())
     }
 

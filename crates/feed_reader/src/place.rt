@@ -1,6 +1,8 @@
 //! Where the reading of a feed is.
 
-ghost use Rattle.std.specs.Prelude.{◌≡◌};
+ghost use Rattle.std.specs.Prelude.{◌≡◌, ℕ, ℤ, List};
+ghost use Rattle.tick_model.specs.declared.plan.Kind.{Kind};
+ghost use Rattle.feed_reader.specs.Said.{said};
 ghost use Rattle.feed_reader.specs.Places.{part_rank, opened as opened_at, passed as passed_at, place_after, is_outside as is_outside_of, is_past as is_past_of};
 
 use crate::entries::Entry;
@@ -81,7 +83,7 @@ impl Place {
 
     /// Where the reading is after a record.
     pub(crate) fn after(self, entry: &Entry) -> Place
-        ensures { result ≡ place_after self entry.now }
+        ensures { (texts : List (List ℕ)) (kinds : List Kind) (cells : List ℤ) → result ≡ place_after self (said texts kinds cells entry.now) }
     {
         match entry {
             Entry::Block(table) => Place::Inside {
@@ -91,8 +93,8 @@ impl Place {
             },
             Entry::Removed(range) => self.passed(Part::Removed, range.last),
             Entry::Shift(range) => self.passed(Part::Shifts, range.end),
-            Entry::Added(row) => self.passed(Part::Added, row.key),
-            Entry::Modified(row) => self.passed(Part::Modified, row.key),
+            Entry::Added(key) => self.passed(Part::Added, *key),
+            Entry::Modified(key) => self.passed(Part::Modified, *key),
             Entry::End => Place::Outside,
         }
     }

@@ -11,7 +11,7 @@ ghost use Rattle.feed_run.specs.Stops.{Asks, OnFound, Reads};
 
 use crate::readings::load_table;
 use crate::refusal::Stop;
-use feed_reader::RawTable;
+use feed_reader::{RawRows, RawTable};
 use script_reader::script::SourceFile;
 use std::alloc::{AllocError, Global};
 use tick_io::Inputs;
@@ -23,7 +23,7 @@ fn no_rows(alloc: Global) -> RawTable
     ensures { result ≡ no_rows_at_all }
 {
     RawTable {
-        rows: Items::new(alloc),
+        rows: RawRows::new(alloc),
     }
 }
 

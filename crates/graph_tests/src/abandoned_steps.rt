@@ -1,6 +1,6 @@
 //! A step that is begun and abandoned, and one that is published: what callers take before it, within it and after it.
 
-ghost use Rattle.std.specs.Prelude.{◌≡◌, ◌*◌, ◌++◌, ◌^◌, ◌<◌, [], ◌∷◌, All, IfOk, IfSome, OnOk, None, length, pos};
+ghost use Rattle.std.specs.Prelude.{◌≡◌, ◌*◌, ◌^◌, ◌<◌, [], ◌∷◌, All, IfOk, IfSome, None, length, pos};
 ghost use Rattle.tick_model.specs.Changes.{changed, told_keys};
 ghost use Rattle.tick_model.specs.Rules.{update_fault};
 ghost use Rattle.tick_model.specs.Tables.{keys};
@@ -19,7 +19,7 @@ use tick_model::feed::{Batch, Block, Run};
 use tick_model::items::Items;
 use tick_model::name::Name;
 use tick_model::plan::{ColumnSpec, Comparison, Expr, Kind, Node, Op, Plan, Pred, Published};
-use tick_model::table::{PlainRow, PlainTable};
+use tick_model::row_list::{OpeningTable, RowList};
 use tick_table::{Change, TickTable};
 
 /// The list of one member.
@@ -68,46 +68,31 @@ fn plan(alloc: Global) -> Result<Plan, AllocError>
     })
 }
 
-/// A row more.
-fn push_row(
-    alloc: Global,
-    rows: &mut Items<PlainRow>,
-    key: u64,
-    cell: i64,
-) -> Result<(), AllocError>
-    ensures { OnOk result (rows.new ≡ rows.old ++ example_row key cell ∷ []) }
-{
-    let cells = one(alloc, cell)?;
-    rows.push(PlainRow { key, cells })
-}
-
 /// The rows with which the source begins.
-fn opening(alloc: Global) -> Result<PlainTable, AllocError>
+fn opening(alloc: Global) -> Result<OpeningTable, AllocError>
     ensures { IfOk result (λ table. table ≡ example_table (example_row 0 (pos 0) ∷ example_row 1 (pos 0) ∷ example_row 2 (pos 0) ∷ example_row 3 (pos 7) ∷ [])) }
 {
-    let mut rows = Items::new(alloc);
-    push_row(alloc, &mut rows, 0, 0)?;
-    push_row(alloc, &mut rows, 1, 0)?;
-    push_row(alloc, &mut rows, 2, 0)?;
-    push_row(alloc, &mut rows, 3, 7)?;
-    Ok(PlainTable { width: 1, rows })
+    let mut rows = RowList::new(alloc);
+    rows.push(0, &[0])?;
+    rows.push(1, &[0])?;
+    rows.push(2, &[0])?;
+    rows.push(3, &[7])?;
+    Ok(OpeningTable::of(1, rows))
 }
 
 /// A step that adds a row.
 fn batch(alloc: Global, number: u64, key: u64, cell: i64) -> Result<Batch, AllocError>
     ensures { IfOk result (λ batch. batch ≡ example_batch number (example_row key cell)) }
 {
-    let row = PlainRow {
-        key,
-        cells: one(alloc, cell)?,
-    };
+    let mut added = RowList::new(alloc);
+    added.push(key, &[cell])?;
     let block = Block {
         table: 0,
         number,
         removed: Items::new(alloc),
         shifts: Items::new(alloc),
-        added: one(alloc, row)?,
-        modified: Items::new(alloc),
+        added,
+        modified: RowList::new(alloc),
     };
     Ok(Batch {
         blocks: one(alloc, block)?,

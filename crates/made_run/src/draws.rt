@@ -1,11 +1,11 @@
 //! The numbers of a made run, and rows that are made of them.
 
-ghost use Rattle.std.specs.Prelude.{◌≡◌, ◌<◌, ◌≤◌, ◌+◌, ◌*◌, ◌^◌, IfOk, pos};
+ghost use Rattle.std.specs.Prelude.{◌≡◌, ◌<◌, ◌≤◌, ◌+◌, ◌*◌, ◌^◌, ◌++◌, ◌∷◌, [], length, IfOk, OnOk, pos};
+ghost use Rattle.std.specs.List.{AllByRecursion};
 ghost use Rattle.made_run.specs.Draws.{after, draw, drawn_row as row_of, drawn_rows as rows_of, next};
 
 use std::alloc::{AllocError, Global};
-use tick_model::items::Items;
-use tick_model::table::PlainRow;
+use tick_model::row_list::RowList;
 
 const FACTOR: u64 = 6_364_136_223_846_793_005;
 
@@ -50,20 +50,18 @@ impl Draws {
     }
 }
 
-/// A row of `trades` under a key.
+/// Puts a row of `trades` under a key behind others.
 #[tactic(auto, unfolding(crate::specs::Draws::after))]
-pub fn drawn_row(alloc: Global, key: u64, draws: &mut Draws) -> Result<PlainRow, AllocError>
-    ensures row { IfOk result (λ row. row ≡ row_of key draws.old.state) }
+pub fn put_drawn_row(rows: &mut RowList, key: u64, draws: &mut Draws) -> Result<(), AllocError>
+    requires { AllByRecursion (λ row. length row.cells ≡ 4) rows.old }
+    ensures row { OnOk result (rows.new ≡ rows.old ++ row_of key draws.old.state ∷ []) }
     ensures state { draws.new.state ≡ after 4 draws.old.state }
 {
     let symbol = draws.cell(0, 8);
     let side = draws.cell(0, 2);
     let quantity = draws.cell(1, 100);
     let price = draws.cell(1, 1000);
-    Ok(PlainRow {
-        key,
-        cells: Items::of(vec![in alloc; symbol, side, quantity, price]?),
-    })
+    rows.push(key, &[symbol, side, quantity, price])
 }
 
 /// Rows of `trades` under the keys from the first on.
@@ -72,14 +70,14 @@ pub fn drawn_rows(
     first: u64,
     count: usize,
     draws: &mut Draws,
-) -> Result<Items<PlainRow>, AllocError>
+) -> Result<RowList, AllocError>
     requires { first + count < 2 ^ 64 }
     ensures rows { IfOk result (λ rows. rows ≡ rows_of first count draws.old.state) }
     ensures state { IfOk result (λ rows. draws.new.state ≡ after (4 * count) draws.old.state) }
 {
-    let mut rows = Vec::with_capacity(alloc, count)?;
+    let mut rows = RowList::new(alloc);
     for i in 0..count {
-        rows.push(drawn_row(alloc, first + i as u64, draws)?)?;
+        put_drawn_row(&mut rows, first + i as u64, draws)?;
     }
-    Ok(Items::of(rows))
+    Ok(rows)
 }

@@ -1,52 +1,52 @@
 //! What a made run begins with: its tables and its texts.
 
-ghost use Rattle.std.specs.Prelude.{◌≡◌, ◌<◌, map, IfOk};
+ghost use Rattle.std.specs.Prelude.{◌≡◌, ◌<◌, ◌++◌, ◌∷◌, [], map, length, IfOk, OnOk};
+ghost use Rattle.std.specs.List.{AllByRecursion};
 ghost use Rattle.made_run.specs.Tables.{opening as opening_tables, ref_row as row_of, ref_table as table_of_ref, texts as texts_of, trades_table};
 
 use crate::plan::named;
 use std::alloc::{AllocError, Global};
 use tick_model::items::Items;
 use tick_model::name::Name;
-use tick_model::table::{PlainRow, PlainTable};
+use tick_model::row_list::{OpeningTable, RowList};
 
 /// So many symbols there are; the two sectors come behind them.
 const SYMBOLS: u32 = 8;
 
 const LOT: i64 = 100;
 
-fn ref_row(alloc: Global, symbol: u32) -> Result<PlainRow, AllocError>
-    ensures { IfOk result (λ row. row ≡ row_of symbol) }
+/// Puts the row of a symbol behind others.
+fn put_ref_row(rows: &mut RowList, symbol: u32) -> Result<(), AllocError>
+    requires { AllByRecursion (λ row. length row.cells ≡ 3) rows.old }
+    ensures { OnOk result (rows.new ≡ rows.old ++ row_of symbol ∷ []) }
 {
     let sector = if symbol % 2 == 0 {
         SYMBOLS
     } else {
         SYMBOLS + 1
     };
-    Ok(PlainRow {
-        key: u64::from(symbol),
-        cells: Items::of(vec![in alloc; i64::from(symbol), i64::from(sector), LOT]?),
-    })
+    rows.push(
+        u64::from(symbol),
+        &[i64::from(symbol), i64::from(sector), LOT],
+    )
 }
 
-fn ref_table(alloc: Global) -> Result<PlainTable, AllocError>
+fn ref_table(alloc: Global) -> Result<OpeningTable, AllocError>
     ensures { IfOk result (λ table. table ≡ table_of_ref) }
 {
-    let mut rows = Items::new(alloc);
+    let mut rows = RowList::new(alloc);
     for symbol in 0..SYMBOLS {
-        rows.push(ref_row(alloc, symbol)?)?;
+        put_ref_row(&mut rows, symbol)?;
     }
-    Ok(PlainTable { width: 3, rows })
+    Ok(OpeningTable::of(3, rows))
 }
 
 /// The tables of `trades`, which is empty, and of `ref`.
-pub fn opening(alloc: Global) -> Result<Items<PlainTable>, AllocError>
+pub fn opening(alloc: Global) -> Result<Items<OpeningTable>, AllocError>
     ensures { IfOk result (λ tables. tables ≡ opening_tables) }
 {
     let mut tables = Items::new(alloc);
-    tables.push(PlainTable {
-        width: 4,
-        rows: Items::new(alloc),
-    })?;
+    tables.push(OpeningTable::of(4, RowList::new(alloc)))?;
     tables.push(ref_table(alloc)?)?;
     Ok(tables)
 }

@@ -5,11 +5,11 @@ ghost use Rattle.std.specs.List.{range_with_len};
 ghost use Rattle.made_run.specs.Draws.{after};
 ghost use Rattle.made_run.specs.Steps.{batch_after, block_of, draws_in, modified_in, removed_in, removes as removes_rows, shifts_in, survivors as survivors_of};
 
-use crate::draws::{Draws, drawn_row, drawn_rows};
+use crate::draws::{Draws, drawn_rows, put_drawn_row};
 use std::alloc::{AllocError, Global};
 use tick_model::feed::{Batch, Block};
 use tick_model::items::Items;
-use tick_model::table::PlainRow;
+use tick_model::row_list::RowList;
 use tick_model::update::{KeyRange, ShiftRange};
 
 /// Each step adds so many rows.
@@ -56,20 +56,15 @@ fn shifts(alloc: Global, step: u32, rows: u64) -> Result<Items<ShiftRange>, Allo
 }
 
 #[tactic(auto, unfolding(crate::specs::Draws::after))]
-fn modified(
-    alloc: Global,
-    step: u32,
-    rows: u64,
-    draws: &mut Draws,
-) -> Result<Items<PlainRow>, AllocError>
+fn modified(alloc: Global, step: u32, rows: u64, draws: &mut Draws) -> Result<RowList, AllocError>
     requires { step % 2 ≡ 0 → 0 < rows }
     ensures rows { IfOk result (λ modified. modified ≡ modified_in step rows draws.old.state) }
     ensures state { IfOk result (λ modified. draws.new.state ≡ after (if step % 2 == 0 then 5 else 0) draws.old.state) }
 {
-    let mut modified = Items::new(alloc);
+    let mut modified = RowList::new(alloc);
     if step % 2 == 0 {
         let key = draws.below(rows);
-        modified.push(drawn_row(alloc, key, draws)?)?;
+        put_drawn_row(&mut modified, key, draws)?;
     }
     Ok(modified)
 }

@@ -11,7 +11,7 @@ run_len-cons passes first others pass = ap (λ b. cond (not (not b)) (1 + run_le
 run_passes : (passes : ℕ → Bool) (text : List ℕ) (k : ℕ) → k < run_len passes text → passes (get_or text k 0) ≡ true
 run_passes passes text k before = not-false (passes (get_or text k 0)) (fails_before_first (λ byte. not (passes byte)) text k 0 before)
 
-run_within : (passes : ℕ → Bool) (text : List ℕ) → run_len passes text ≤ length text
+pub run_within : (passes : ℕ → Bool) (text : List ℕ) → run_len passes text ≤ length text
 run_within passes text = prefix_len-le-length (λ byte. not (not (passes byte))) text
 
 -- a text may be cut behind ASCII bytes at its front
@@ -23,7 +23,7 @@ pub IsCharBoundary-front : (text : List ℕ) (n : ℕ) → IsUtf8 text → n ≤
 IsCharBoundary-front text n utf8 within ascii =
     IsCharBoundary-ascii text n utf8 within (λ k before. rw get_or-take at (ascii k 0 (omega (arith, length-take-le n text within))))
 
-run_boundary : (passes : ℕ → Bool) (text : List ℕ) (n : ℕ) → ((byte : ℕ) → passes byte ≡ true → byte < 128) → IsUtf8 text → n ≡ run_len passes text → IsCharBoundary text n
+pub run_boundary : (passes : ℕ → Bool) (text : List ℕ) (n : ℕ) → ((byte : ℕ) → passes byte ≡ true → byte < 128) → IsUtf8 text → n ≡ run_len passes text → IsCharBoundary text n
 run_boundary passes text n ascii utf8 is =
     IsCharBoundary-ascii text n utf8 (omega (arith, run_within passes text)) (λ k before. ascii (get_or text k 0) (run_passes passes text k (omega arith)))
 

@@ -1,9 +1,9 @@
 -- The keys of ranges and of rows, gathered one after the other.
 use Rattle.std.proofs.Common.{◌≡◌, ap, sym, ◌∙◌, ℕ, zero, suc, ◌+◌, ◌-◌, ◌<◌, ◌≤◌, ◌^◌, arith, List, [], ◌∷◌, ◌++◌, length, get_or, take, add-one}
-use Rattle.std.{specs.Prelude.flat_map, specs.List.{AllByRecursion, range_with_len}, proofs.Math.Seq.take-suc, proofs.lemmas.Grind.flat_map-append, proofs.lemmas.List.{append-nil, map-append}}
-use Rattle.key_lists.{specs.Keys.{is_among, IsRising}, proofs.Among.among-append, proofs.Every.{every, every_weaker, every_unmapped, every-append}, proofs.Rising.{rising-append, rising_same}, proofs.Booleans.or_turned, proofs.Parts.{every-take, every_at}, proofs.Ranges.each_from}
+use Rattle.std.{specs.Prelude.flat_map, specs.List.{AllByRecursion, range_with_len}, proofs.Math.Seq.take-suc, proofs.lemmas.Grind.flat_map-append, proofs.lemmas.List.append-nil}
+use Rattle.key_lists.{specs.Keys.{is_among, IsRising}, proofs.Among.among-append, proofs.Every.{every, every_weaker, every-append}, proofs.Rising.{rising-append, rising_same}, proofs.Booleans.or_turned, proofs.Parts.{every-take, every_at}, proofs.Ranges.each_from}
 use Rattle.row_set.{specs.Sets.united, proofs.Held.range_rises, proofs.United.{among-united, united_rises}}
-use Rattle.tick_model.{specs.declared.table.PlainRow.PlainRow, specs.declared.update.KeyRange.KeyRange, specs.LawfulRuns.AreRanges, specs.Sources.keys_within, specs.Tables.keys}
+use Rattle.tick_model.{specs.declared.update.KeyRange.KeyRange, specs.LawfulRuns.AreRanges, specs.Sources.keys_within}
 
 pub range_at : (ranges : List KeyRange) (i : ℕ) (d : KeyRange) → AreRanges ranges → i < length ranges → ((get_or ranges i d).first ≤ (get_or ranges i d).last) × ((get_or ranges i d).last < 2 ^ 40)
 range_at [] i d h less = absurd (omega (arith, less))
@@ -56,16 +56,10 @@ ranges_more ranges i d h less =
     ∙ sym (ap (flat_map keys_within) (ap (λ n. take n ranges) (add-one i) ∙ take-suc ranges i d less)
     ∙ flat_map-append keys_within (take i ranges) (range ∷ []) ∙ ap (λ keys. flat_map keys_within (take i ranges) ++ keys) (append-nil (keys_within range)))
 
-pub keys_below : (rows : List PlainRow) (i : ℕ) (d : PlainRow) → IsRising (keys rows) → i < length rows → AllByRecursion (λ other. other < (get_or rows i d).key) (keys (take i rows))
+pub keys_below : (ks : List ℕ) (i d : ℕ) → IsRising ks → i < length ks → AllByRecursion (λ other. other < get_or ks i d) (take i ks)
 keys_below [] i d r less = absurd (omega (arith, less))
-keys_below (row ∷ rows) zero d r less = tt
-keys_below (row ∷ rows) (suc i) d r less = (
-  every_at (λ (other : PlainRow). row.key < other.key) rows i d (omega (arith, less)) (every_unmapped (λ key. row.key < key) (λ (other : PlainRow). other.key) rows r.0),
-  keys_below rows i d r.1 (omega (arith, less)),
-)
-
-pub keys_more : (rows : List PlainRow) (i : ℕ) (d : PlainRow) → i < length rows → keys (take i rows) ++ (get_or rows i d).key ∷ [] ≡ keys (take (i + 1) rows)
-keys_more rows i d less = sym (ap keys (ap (λ n. take n rows) (add-one i) ∙ take-suc rows i d less) ∙ map-append (λ (row : PlainRow). row.key) (take i rows) (get_or rows i d ∷ []))
+keys_below (key ∷ ks) zero d r less = tt
+keys_below (key ∷ ks) (suc i) d r less = (every_at (λ other. key < other) ks i d (omega (arith, less)) r.0, keys_below ks i d r.1 (omega (arith, less)))
 
 -- keys that are put where there are none
 united_none : (keys : List ℕ) → IsRising keys → united keys [] ≡ keys

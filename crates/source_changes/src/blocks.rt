@@ -7,7 +7,6 @@ ghost use Rattle.source_changes.specs.Blocks.{IsReadable};
 ghost use Rattle.tick_model.specs.LawfulRuns.{AreRanges};
 ghost use Rattle.tick_model.specs.Printable.{IsShift, IsShiftRange};
 ghost use Rattle.tick_model.specs.Sources.{keys_within, update_of as update_said};
-ghost use Rattle.tick_model.specs.Tables.{keys};
 
 use row_set::RowSet;
 use shift_data::ShiftData;
@@ -15,7 +14,6 @@ use shown_rows::put_last;
 use std::alloc::{AllocError, Global};
 use table_update::{ColumnSet, Update};
 use tick_model::feed::Block;
-use tick_model::table::PlainRow;
 use tick_model::update::{KeyRange, ShiftRange};
 
 /// The keys of ranges that ascend.
@@ -30,14 +28,14 @@ fn keys_in(alloc: Global, ranges: &[KeyRange]) -> Result<RowSet, AllocError>
     Ok(keys)
 }
 
-/// The keys of rows that rise by key.
-fn keys_of(alloc: Global, rows: &[PlainRow]) -> Result<RowSet, AllocError>
-    requires { IsKeySet (keys rows.now) }
-    ensures { IfOk result (λ set. set ≡ keys rows.now) }
+/// The set of keys that rise.
+fn set_of(alloc: Global, keys: &[u64]) -> Result<RowSet, AllocError>
+    requires { IsKeySet keys.now }
+    ensures { IfOk result (λ set. set ≡ keys.now) }
 {
     let mut set = RowSet::new(alloc);
-    for row in rows {
-        put_last(&mut set, row.key)?;
+    for key in keys {
+        put_last(&mut set, *key)?;
     }
     Ok(set)
 }
@@ -64,8 +62,8 @@ pub(crate) fn update_of(alloc: Global, block: &Block) -> Result<Update, AllocErr
 {
     Ok(Update {
         removed: keys_in(alloc, block.removed.as_slice())?,
-        added: keys_of(alloc, block.added.as_slice())?,
-        modified: keys_of(alloc, block.modified.as_slice())?,
+        added: set_of(alloc, block.added.keys())?,
+        modified: set_of(alloc, block.modified.keys())?,
         shifted: shift_by(alloc, block.shifts.as_slice())?,
         columns: ColumnSet::none(),
     })

@@ -25,8 +25,8 @@ use std::sync::ledger::Ledger;
 use tick_model::feed::{Batch, Block};
 use tick_model::items::Items;
 use tick_model::plan::{Node, Plan};
+use tick_model::row_list::OpeningTable;
 use tick_model::sources::is_source;
-use tick_model::table::PlainTable;
 use tick_table::{Change, Steps, TickTable};
 
 /// The keys of every source, in order of the sources. A contract sees a list of lists of keys.
@@ -132,13 +132,13 @@ fn take_blocks<'t, 'b>(
 
 impl SourceKeys {
     /// The keys with which the sources open.
-    pub fn new(alloc: Global, opening: &Items<PlainTable>) -> Result<SourceKeys, AllocError>
+    pub fn new(alloc: Global, opening: &Items<OpeningTable>) -> Result<SourceKeys, AllocError>
         requires { AllByRecursion IsOpenedTable opening.now }
         ensures { IfOk result (λ sources. sources ≡ map (λ table. keys table.rows) opening.now) }
     {
         let mut sets = Vec::with_capacity(alloc, opening.len())?;
         for table in opening.as_slice() {
-            sets.push(first_keys(alloc, table.rows.len())?)?;
+            sets.push(first_keys(alloc, table.rows().len())?)?;
         }
         Ok(SourceKeys { sets })
     }

@@ -1,6 +1,6 @@
 //! The change that opens a source.
 
-ghost use Rattle.std.specs.Prelude.{◌≡◌, ◌≤◌, IfOk, flat_map};
+ghost use Rattle.std.specs.Prelude.{◌≡◌, ◌≤◌, IfOk};
 ghost use Rattle.std.specs.List.{range_with_len};
 ghost use Rattle.source_changes.specs.Openings.{IsOpenedTable};
 ghost use Rattle.tick_model.specs.Changes.{change_of};
@@ -10,7 +10,7 @@ use row_set::RowSet;
 use std::alloc::{AllocError, Global};
 use table_update::Update;
 use tick_model::items::Items;
-use tick_model::table::{PlainRow, PlainTable};
+use tick_model::row_list::OpeningTable;
 use tick_table::Change;
 
 /// The keys from 0 on, `count` of them.
@@ -26,29 +26,14 @@ pub(crate) fn first_keys(alloc: Global, count: usize) -> Result<RowSet, AllocErr
     Ok(keys)
 }
 
-/// The cells of the rows, one row after the other.
-fn all_cells(alloc: Global, rows: &[PlainRow]) -> Result<Vec<i64>, AllocError>
-    ensures { IfOk result (λ cells. cells.items ≡ flat_map (λ row. row.cells) rows.now) }
-{
-    let width = match rows.first() {
-        Some(row) => row.cells.len(),
-        None => 0,
-    };
-    let mut cells = Vec::with_capacity(alloc, rows.len().saturating_mul(width))?;
-    for row in rows {
-        cells.extend_from_slice(row.cells.as_slice())?;
-    }
-    Ok(cells)
-}
-
 /// The change that opens a source: all its rows come.
-pub fn opening_change(alloc: Global, table: &PlainTable) -> Result<Change, AllocError>
+pub fn opening_change(alloc: Global, table: &OpeningTable) -> Result<Change, AllocError>
     requires { IsOpenedTable table.now }
     ensures { IfOk result (λ change. change ≡ change_of (opened table.now)) }
 {
-    let rows = table.rows.as_slice();
+    let rows = table.rows();
     let added = first_keys(alloc, rows.len())?;
-    let cells = all_cells(alloc, rows)?;
+    let cells = Vec::from_slice(alloc, rows.cells())?;
     let Update {
         removed,
         added: _,

@@ -6,7 +6,7 @@ ghost use Rattle.tick_model.specs.Shifts.{holds};
 ghost use Rattle.tick_model.specs.Sources.{added_record, is_within, modified_record, record_of as record_said, removed_record, shift_record};
 
 use tick_model::feed::Block;
-use tick_model::table::PlainRow;
+use tick_model::row_list::RowList;
 use tick_model::update::{FeedRule, KeyRange, ShiftRange, UpdateFault};
 
 /// The place of the first range with a key, or how many there are.
@@ -30,11 +30,12 @@ fn shift_place(ranges: &[ShiftRange], key: u64) -> usize
 }
 
 /// The place of the first row under a key, or how many there are.
-fn row_place(rows: &[PlainRow], key: u64) -> usize
+fn row_place(rows: &RowList, key: u64) -> usize
     ensures { result ≡ position_or_len (λ row. row.key == key) rows.now }
 {
-    rows.iter()
-        .position(|row| row.key == key)
+    rows.keys()
+        .iter()
+        .position(|own| *own == key)
         .unwrap_or(rows.len())
 }
 
@@ -75,7 +76,7 @@ fn added_record_of(block: &Block, key: u64) -> u64
     ensures { result ≡ added_record block.now key }
 {
     let before = block.number + 1 + block.removed.len() as u64 + block.shifts.len() as u64;
-    before + row_place(block.added.as_slice(), key) as u64
+    before + row_place(&block.added, key) as u64
 }
 
 /// The record of the modified row under a key.
@@ -84,7 +85,7 @@ fn modified_record_of(block: &Block, key: u64) -> u64
     ensures { result ≡ modified_record block.now key }
 {
     let before = block.number + 1 + block.removed.len() as u64 + block.shifts.len() as u64;
-    before + block.added.len() as u64 + row_place(block.modified.as_slice(), key) as u64
+    before + block.added.len() as u64 + row_place(&block.modified, key) as u64
 }
 
 /// The record at which a block breaks a rule.

@@ -22,7 +22,7 @@ use std::marker::Model;
 use std::mem;
 use table_update::Update;
 use tick_model::feed::Block;
-use tick_model::table::PlainRow;
+use tick_model::row_list::RowList;
 
 /// Rows of blocks, of which the cells are not copied. A contract sees the list of the rows, which rise by key.
 #[derive(Drop)]
@@ -80,7 +80,7 @@ impl<'a> ToldRows<'a> {
     }
 
     /// Puts rows among those that are told. After a refusal they are to be given up.
-    fn put(&mut self, rows: &'a [PlainRow]) -> Result<(), AllocError>
+    fn put(&mut self, rows: &'a RowList) -> Result<(), AllocError>
         ensures { OnOk result (self.new ≡ put_rows rows.now self.old) }
     {
         put_all(&mut self.rows, rows)
@@ -99,8 +99,8 @@ impl<'a> ToldRows<'a> {
     {
         self.remove(update.removed());
         self.shift(alloc, update.shifted())?;
-        self.put(block.added.as_slice())?;
-        self.put(block.modified.as_slice())
+        self.put(&block.added)?;
+        self.put(&block.modified)
     }
 }
 
@@ -155,11 +155,11 @@ fn moved_rows<'a>(
 }
 
 /// Puts rows among others.
-fn put_all<'a>(told: &mut BTreeMap<u64, &'a [i64]>, rows: &'a [PlainRow]) -> Result<(), AllocError>
+fn put_all<'a>(told: &mut BTreeMap<u64, &'a [i64]>, rows: &'a RowList) -> Result<(), AllocError>
     ensures { OnOk result (map told_row told.new.entries ≡ put_rows rows.now (map told_row told.old.entries)) }
 {
-    for row in rows {
-        told.insert(row.key, row.cells.as_slice())?;
+    for (place, key) in rows.keys().iter().enumerate() {
+        told.insert(*key, rows.row(place))?;
     }
     Ok(())
 }

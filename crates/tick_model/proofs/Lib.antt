@@ -10,3 +10,4 @@ pub mod TableRows
 pub mod Results
 pub mod SourceTables
 pub mod LawfulNodes
+pub mod RowLists

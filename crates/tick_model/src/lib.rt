@@ -15,6 +15,7 @@ pub mod names;
 pub mod operators;
 pub mod plan;
 pub mod published;
+pub mod row_list;
 pub mod sources;
 pub mod table;
 pub mod update;

@@ -1,12 +1,24 @@
-use Rattle.std.proofs.Common.{ap, ap₂, ◌∙◌, map, List, ℤ}
+use Rattle.std.proofs.Common.{◌≡◌, ◌<◌, [], ap, ap₂, ◌∙◌, ℕ, map, length, get_or, List, ℤ, arith}
+use Rattle.std.{proofs.lemmas.List.{get_or-map, get_or_default, length-map}, proofs.lemmas.Option.slice_get-get_or}
 use Rattle.tick_model.specs.declared.table.PlainRow.{PlainRow}
 use Rattle.source_changes.{specs.Stepping.put_row, specs.Told.told_row, proofs.Mapped.{put_more, told_put}}
 use Rattle.source_changes.proofs.told.put_all.Goals as goal
 
-pub loop-row-preserved : goal.loop-row-preserved
-loop-row-preserved c =
-    let row = c.row-item.result in
+-- in place of a row past the last
+blank : PlainRow
+blank = record { key = 0; cells = [] }
+
+pub row-requires : goal.row-requires
+row-requires c = omega (arith, c.loop-place-test.true, ap length c.keys-key-items.ensures, length-map c.args.rows.now (λ (row : PlainRow). row.key))
+
+pub loop-place-preserved : goal.loop-place-preserved
+loop-place-preserved c =
+    let rows = c.args.rows.now in
+    let place = c.loop-place.place in
+    let less : place < length rows = omega (arith, c.loop-place-test.true, ap length c.keys-key-items.ensures, length-map c.args.rows.now (λ (row : PlainRow). row.key)) in
+    let row = get_or rows place blank in
+    let key : get_or c.keys-key-items.result.now place 0 ≡ row.key = ap (λ keys. get_or keys place 0) c.keys-key-items.ensures ∙ get_or-map (λ (row : PlainRow). row.key) rows place blank 0 less in
     ap (map told_row) c.in_ok-insert.ensures.entries
-    ∙ told_put row.key c.as_slice.result c.loop-row.told.entries
-    ∙ ap₂ put_row (ap (λ (cells : List ℤ). let made : PlainRow = record { key = row.key; cells = cells } in made) c.as_slice.ensures) c.loop-row.invariant
-    ∙ put_more c.args.rows.now c.loop-row.row-index row (map told_row c.args.told.now.entries) c.row-item.is c.loop-row-test.true
+    ∙ told_put (get_or c.keys-key-items.result.now place 0) c.row.result c.loop-place.told.entries
+    ∙ ap₂ put_row (ap₂ (λ (key : ℕ) (cells : List ℤ). let made : PlainRow = record { key = key; cells = cells } in made) key (c.row.ensures row (slice_get-get_or rows place blank less))) c.loop-place.invariant
+    ∙ put_more rows place row (map told_row c.args.told.now.entries) (get_or_default rows place blank row less) less

@@ -2,5 +2,5 @@ use Rattle.std.proofs.Common.{◌≡◌, map, take}
 use Rattle.source_changes.{specs.Stepping.put_rows, specs.Told.told_row}
 use Rattle.source_changes.proofs.told.put_all.Given as goal
 
-abbrev pub invariant-loop-row : goal.invariant-loop-row
-invariant-loop-row l = map told_row l.told.entries ≡ put_rows (take l.row-index l.rows) (map told_row l.fn.told.entries)
+abbrev pub invariant-loop-place : goal.invariant-loop-place
+invariant-loop-place l = map told_row l.told.entries ≡ put_rows (take l.place l.rows) (map told_row l.fn.told.entries)
