@@ -1,10 +1,8 @@
-//! Tests with ample memory: of the public calls of `row_set`, `shift_data`, `column_source` and `logical_clock`, of the inputs and sinks of `tick_io`, and of
+//! Tests with ample memory: of the public calls of `row_set`, `shift_data` and `column_source`, of the inputs and sinks of `tick_io`, and of
 //! `SortOrder` of `sort_op`.
 
 #![tactic(auto)]
 
-#[cfg(test)]
-mod clock_values;
 #[cfg(test)]
 mod columns;
 #[cfg(test)]

