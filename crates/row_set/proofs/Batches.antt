@@ -1,7 +1,7 @@
 -- The keys of several ranges, added and removed one range after another.
 use Rattle.std.proofs.Common.{◌≡◌, refl, ap, sym, ◌∙◌, Bool, true, false, not, ◌&&◌, ◌||◌, ◌==◌, ℕ, ◌+◌, ◌<◌, arith, List, [], ◌∷◌, ◌++◌, length, take, drop, get_or, take-append-drop, append-nil, eqb-true}
 use Rattle.std.proofs.lemmas.List.{take_more}
-use Rattle.key_lists.{specs.Keys.{is_among, IsRising, without}, proofs.Every.{filter_filter, filter_same, every, filter_all}, proofs.Among.among-append, proofs.Rising.rising_same, proofs.Booleans.neither}
+use Rattle.key_lists.{specs.Keys.{is_among, IsRising, without}, proofs.Every.{filter_filter, filter_same, every, filter_all}, proofs.Among.among-append, proofs.Rising.rising_same, proofs.Booleans.{neither, or_false}}
 use Rattle.row_set.{specs.declared.ranges.Range.Range, specs.Ranges.{keys_from, keys_in, keys_of}, specs.Sets.united, proofs.Held.keys_of-append, proofs.Counts.blank, proofs.United.{among-united, united_rises}}
 
 or_turned : (b a o : Bool) → (b || (a || o)) ≡ ((a || b) || o)
@@ -57,3 +57,7 @@ empty_united (other ∷ others) keys e = absurd (omega (arith, eqb-true (length 
 pub empty_without : (others keys : List ℕ) → (length others == 0) ≡ true → keys ≡ without others keys
 empty_without [] keys e = without_none keys
 empty_without (other ∷ others) keys e = absurd (omega (arith, eqb-true (length (other ∷ others)) 0 e))
+
+pub united_empty : (keys others : List ℕ) → IsRising keys → (length others == 0) ≡ true → keys ≡ united keys others
+united_empty keys [] rises e = rising_same keys (united keys []) rises (united_rises keys [] tt) (λ key. sym (among-united key keys [] ∙ or_false (is_among key keys)))
+united_empty keys (other ∷ others) rises e = absurd (omega (arith, eqb-true (length (other ∷ others)) 0 e))

@@ -1,7 +1,7 @@
 -- Ranges behind places that are free, as they are edited.
-use Rattle.std.proofs.Common.{◌≡◌, ap, ap₂, sym, ◌∙◌, ℕ, suc, ◌+◌, ◌-◌, ◌*◌, ◌^◌, ◌<◌, ◌≤◌, arith, List, [], ◌∷◌, ◌++◌, length, length-drop, length-take-le, take, take_at, drop, append_assoc, slice_range, get_or, get_or-drop, set}
-use Rattle.std.{proofs.Math.Seq.paste, proofs.lemmas.List.Edits.{drop-paste, take-paste}, proofs.lemmas.List.{drop_at, drop-append-le, drop-drop, drop-take, get_or_default, length-set, set_split}}
-use Rattle.row_set.{specs.declared.ranges.Range.Range, specs.declared.runs.Runs.Runs, specs.Ranges.{AreApart, keys_before, keys_from, keys_of}, specs.Runs.{AreCounted, AreStarts, IsRoom, start_of}, specs.Sets.united, proofs.Behind.stretched_last, proofs.Counts.{blank, keys_after, keys_before_kept}, proofs.Middles.span}
+use Rattle.std.proofs.Common.{◌≡◌, ap, ap₂, sym, ◌∙◌, subst, ℕ, suc, ◌+◌, ◌-◌, ◌*◌, ◌^◌, ◌<◌, ◌≤◌, arith, List, [], ◌∷◌, ◌++◌, length, length-append, length-drop, length-take-le, take, take_all, take_at, drop, append_assoc, slice_range, get_or, get_or-drop, set}
+use Rattle.std.{specs.List.AllByRecursion, proofs.Math.Seq.paste, proofs.lemmas.List.Edits.{drop-paste, take-paste}, proofs.lemmas.List.{drop_at, drop-append-le, drop-drop, drop-take, get_or_default, length-set, set_split}}
+use Rattle.row_set.{specs.declared.ranges.Range.Range, specs.declared.runs.Runs.Runs, specs.Ranges.{AreApart, keys_before, keys_from, keys_of}, specs.Runs.{AreCounted, AreStarts, IsRoom, start_of}, specs.Sets.united, proofs.Behind.{pushed, stretched_last}, proofs.Counts.{blank, keys_after, keys_before_kept}, proofs.Middles.span}
 
 pub length-lying : (front : ℕ) (all : List Range) → front ≤ length all → front + length (drop front all) ≡ length all
 length-lying front all le = omega (arith, length-drop front all, le)
@@ -108,4 +108,24 @@ stretched_at first last front count all starts read written h counted count_is s
       apart = whole.0;
       counted = record { free = omega (arith, long, counted.free); counts = starts_kept front i all new starts counted.counts (omega (arith, size)) kept (omega (arith, long)); full = omega (arith, long, counted.full) };
       keys = whole.1;
+    }
+
+-- a range of its own behind the last, where the last block has room for it
+pub appended_at : (first last front : ℕ) (all : List Range) (starts : List ℕ) → AreApart 0 (drop front all) → AreCounted front all starts → AllByRecursion (λ range. range.last < first - 1) (drop front all) → first ≤ last → last < 2 ^ 62 → length all < 16 * length starts + 16 → IsStretched first last front all (all ++ span first last ∷ []) starts
+appended_at first last front all starts h counted behind le small room =
+    let ranges = drop front all in
+    let new = all ++ span first last ∷ [] in
+    let lies : drop front new ≡ ranges ++ span first last ∷ [] = drop-append-le front all (span first last ∷ []) counted.free in
+    let whole = pushed first last ranges h behind le small in
+    let long : length new ≡ length all + 1 = length-append all (span first last ∷ []) in
+    let kept : take (length ranges) (drop front new) ≡ take (length ranges) ranges =
+    ap (take (length ranges)) lies ∙ take_at ranges (span first last ∷ []) (length ranges) (omega arith) ∙ sym (take_all (length ranges) ranges (omega arith)) in
+    record {
+      apart = subst (λ those. AreApart 0 those) (sym lies) whole.0;
+      counted = record {
+        free = omega (arith, long, counted.free);
+        counts = starts_kept front (length ranges) all new starts counted.counts (omega (arith, length-lying front all counted.free)) kept (omega (arith, long));
+        full = omega (arith, long, room);
+      };
+      keys = ap keys_of lies ∙ whole.1;
     }

@@ -195,7 +195,7 @@ impl RowSet {
         ensures ok { OnOk result (self.new ≡ united (keys_from first last) self.old) }
         ensures err { OnErr result (self.new ≡ self.old) }
     {
-        if self.runs.stretch(first, last) {
+        if self.runs.stretch(first, last) || self.runs.append(first, last) {
             return Ok(());
         }
         self.runs.reserve(1)?;
@@ -262,6 +262,10 @@ impl RowSet {
     pub fn union(&self, other: &RowSet) -> Result<RowSet, AllocError>
         ensures { IfOk result (λ keys. keys ≡ united self.now other.now) }
     {
+        let _ = self.ranges();
+        if other.is_empty() {
+            return self.copy();
+        }
         self.combined(other, Choice::Either)
     }
 
@@ -269,6 +273,9 @@ impl RowSet {
     pub fn minus(&self, other: &RowSet) -> Result<RowSet, AllocError>
         ensures { IfOk result (λ keys. keys ≡ without other.now self.now) }
     {
+        if other.is_empty() {
+            return self.copy();
+        }
         self.combined(other, Choice::FirstAlone)
     }
 

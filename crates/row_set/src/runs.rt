@@ -10,7 +10,7 @@ ghost use Rattle.row_set.specs.Sets.{found, united};
 use crate::blocks::{count_rest, keys_before_block, recount, recount_between};
 use crate::edits::{cut, put_at, slide, splice};
 use crate::ranges::{BLOCK, Range};
-use crate::search::{count_in, ended_before, key_in, started_by};
+use crate::search::{all_end_before, count_in, few_ended_before, key_in, started_by};
 use std::alloc::{AllocError, Global};
 
 /// Ranges, rising, behind places that are free. A contract sees their list as `lying runs`: those of `all` from `front` on.
@@ -51,6 +51,9 @@ impl Runs {
         requires within { index ≤ length (lying self.now) }
         ensures { result ≡ keys_before index (lying self.now) }
     {
+        if index == 0 {
+            return 0;
+        }
         let block = ((self.front + index) / BLOCK).min(self.starts.len());
         let begin = (block * BLOCK).saturating_sub(self.front);
         keys_before_block(&self.starts, block) + count_in(&self.as_slice()[begin..index])
@@ -70,7 +73,7 @@ impl Runs {
         ensures { result ≡ found key (keys_of (lying self.now)) }
     {
         let ranges = self.as_slice();
-        let index = ended_before(ranges, key);
+        let index = few_ended_before(ranges, key);
         let before = self.keys_before(index);
         if index < ranges.len() && ranges[index].first <= key {
             Ok(before + (key - ranges[index].first))
@@ -197,6 +200,24 @@ impl Runs {
             return false;
         }
         self.all[count - 1].last = last;
+        true
+    }
+
+    /// Puts every key from `first` to `last` behind all others, as a range of its own, where a key is left out before them and
+    /// there is room in the last block. Says whether it does.
+    pub(crate) fn append(&mut self, first: u64, last: u64) -> bool
+        requires stored { IsStored self.old }
+        requires order { first ≤ last }
+        requires small { last < 2 ^ 62 }
+        ensures stored { IsStored self.new }
+        ensures added { OnTrue result (keys_of (lying self.new) ≡ united (keys_from first last) (keys_of (lying self.old))) }
+        ensures same { OnFalse result (lying self.new ≡ lying self.old) }
+    {
+        let room = self.all.capacity().min((self.starts.len() + 1) * BLOCK);
+        if self.all.len() >= room || !all_end_before(self.as_slice(), first.saturating_sub(1)) {
+            return false;
+        }
+        let _ = self.all.push(Range { first, last });
         true
     }
 }

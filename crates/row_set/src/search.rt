@@ -15,9 +15,8 @@ pub(crate) fn ended_before(ranges: &[Range], key: u64) -> usize
     ensures ended { AllByRecursion (λ range. range.last < key) (take result ranges.now) }
     ensures others { AllByRecursion (λ range. key ≤ range.last) (drop result ranges.now) }
 {
-    let count = ranges.len();
-    if count > 0 && ranges[count - 1].last < key {
-        return count;
+    if all_end_before(ranges, key) {
+        return ranges.len();
     }
     ranges.partition_point(|range| range.last < key)
 }
@@ -99,7 +98,7 @@ pub(crate) fn range_at(ranges: &[Range], key: u64) -> Option<Range>
     requires { AreApart 0 ranges.now }
     ensures { result ≡ find (holds key) ranges.now }
 {
-    let index = ended_before(ranges, key);
+    let index = few_ended_before(ranges, key);
     if index < ranges.len() && ranges[index].first <= key {
         Some(ranges[index])
     } else {
@@ -112,7 +111,7 @@ pub(crate) fn next_key(ranges: &[Range], key: u64) -> Option<u64>
     requires { AreApart 0 ranges.now }
     ensures { result ≡ find (nat_le key) (keys_of ranges.now) }
 {
-    let index = ended_before(ranges, key);
+    let index = few_ended_before(ranges, key);
     if index < ranges.len() {
         Some(ranges[index].first.max(key))
     } else {
