@@ -1,8 +1,8 @@
 -- The least key that is none of others, range by range.
-use Rattle.std.proofs.Common.{◌≡◌, refl, ap, sym, ◌∙◌, Bool, true, false, cond, not, is_some, ◌||◌, ℕ, zero, suc, ◌+◌, ◌-◌, ◌<◌, ◌≤◌, arith, List, [], ◌∷◌, ◌++◌, Option, Some, None, get_or, drop, length, add-one, inl, inr}
-use Rattle.std.{specs.Prelude.find, specs.List.{AllByRecursion, range_with_len, list_any}, proofs.lemmas.Bool.{cases_Bool, cases_eq, or_left, or_right, or_from, and_parts, leb-true}, proofs.lemmas.Option.{none-some, same_Some}, proofs.Math.Seq.drop-cons}
+use Rattle.std.proofs.Common.{◌≡◌, ap, sym, ◌∙◌, Bool, true, false, cond, not, is_some, ℕ, zero, suc, ◌+◌, ◌-◌, ◌<◌, ◌≤◌, arith, List, [], ◌∷◌, ◌++◌, Option, Some, None, get_or, drop, length, add-one, inl, inr}
+use Rattle.std.{specs.Prelude.find, specs.List.{range_with_len, list_any}, proofs.lemmas.Bool.{cases_Bool, cases_eq, or_left, or_right, or_from, and_parts, leb-true}, proofs.lemmas.Option.{none-some, same_Some}, proofs.Math.Seq.drop-cons}
 use Rattle.key_lists.{specs.Keys.is_among, proofs.Every.every_weaker}
-use Rattle.row_set.{specs.declared.ranges.Range.Range, specs.Ranges.{AreApart, holds, keys_from, keys_in, keys_of, ranges_of}, specs.Sets.IsKeySet, proofs.Apart.each_above, proofs.Held.{among-keys, holds_after, holds-true, none_after, each_between}, proofs.Longest.{keys_of-ranges_of, ranges_of_apart}, proofs.Places.range_at, proofs.Counts.blank, proofs.Lookups.{find-append_none, among_found}}
+use Rattle.row_set.{specs.declared.ranges.Range.Range, specs.Ranges.{AreApart, holds, keys_in, keys_of, ranges_of}, specs.Sets.IsKeySet, proofs.Apart.each_above, proofs.Held.{among-keys, holds_after, holds-true, none_after, each_between}, proofs.Longest.{keys_of-ranges_of, ranges_of_apart}, proofs.Places.range_at, proofs.Counts.blank, proofs.Lookups.{find-append_none, among_found}}
 
 -- a range that holds a key, among ranges that are apart: all its keys are held, and the one past its end is not
 record IsRun (low key : ℕ) (ranges : List Range) (run : Range) : Type 0 where

@@ -1,6 +1,6 @@
 -- The columns of a set, by the bits of its number.
-use Rattle.std.proofs.Common.{◌≡◌, refl, ap, ap₂, sym, ◌∙◌, subst, true, false, ◌&&◌, ◌||◌, ◌==◌, ℕ, zero, suc, ◌<◌, ◌≤◌, ◌^◌, ◌*◌, ◌%◌, arith, List, [], ◌∷◌, filter, max, inl, inr, w32}
-use Rattle.std.{specs.Int.bit_at, specs.Prelude.bit_or, proofs.lemmas.Bool.{cases_eq, cases_lt, eq-eqb, ne_eqb, or_left, or_from, and_right, and_left, or_right, false_from_ne_true, true≢false, eqb-true, eqb-false, cases_Bool}, proofs.lemmas.Nat.Bits.{bit_at_set_same, bit_at_set_other, bit_at_or, bit_at-lt, bit_at-zero, same_from_bits_below}}
+use Rattle.std.proofs.Common.{◌≡◌, refl, ap, ap₂, sym, ◌∙◌, true, false, ◌&&◌, ◌||◌, ◌==◌, ℕ, zero, suc, ◌<◌, ◌≤◌, ◌^◌, ◌*◌, ◌%◌, arith, List, [], ◌∷◌, max, inl, inr, w32}
+use Rattle.std.{specs.Int.bit_at, specs.Prelude.bit_or, proofs.lemmas.Bool.{cases_eq, cases_lt, eq-eqb, ne_eqb, or_left, or_from, and_right, false_from_ne_true, true≢false, eqb-false}, proofs.lemmas.Nat.Bits.{bit_at_set_same, bit_at_set_other, bit_at_or, bit_at-lt, bit_at-zero, same_from_bits_below}}
 use Rattle.key_lists.{specs.Keys.{is_among, IsRising}, proofs.Among.among-filter, proofs.Rising.{rising_some, rising_same}, proofs.Booleans.and_true}
 use Rattle.row_set.{specs.declared.ranges.Range.Range, specs.Ranges.keys_from, specs.Sets.{with_key, united}, proofs.Held.{range_rises, among-in, holds-true, holds_after}, proofs.United.{among-with_key, with_key_rises, among-united, united_rises}}
 use Rattle.tick_model.specs.Changes.{is_none}

@@ -1,6 +1,6 @@
 -- The keys that an update leaves, by the edits of a set.
-use Rattle.std.proofs.Common.{◌≡◌, refl, ap, ◌∙◌, false, cond, not, ◌||◌, ◌++◌, ◌==◌, ℕ, ◌^◌, ltb, List, [], ◌∷◌, Option, None}
-use Rattle.std.{specs.Prelude.{find, option_map, length}, specs.List.AllByRecursion, specs.Option.option_or, proofs.lemmas.Bool.{or_parts, or_from}}
+use Rattle.std.proofs.Common.{◌≡◌, refl, ap, ◌∙◌, false, cond, not, ◌++◌, ◌==◌, ℕ, ◌^◌, ltb, List, [], ◌∷◌, None}
+use Rattle.std.{specs.Prelude.{find, option_map}, specs.List.AllByRecursion, proofs.lemmas.Bool.{or_parts, or_from}}
 use Rattle.key_lists.{specs.Keys.{is_among, IsRising, without}, proofs.Among.among_below, proofs.Every.none_pass, proofs.Booleans.eqb_swap}
 use Rattle.row_set.{specs.Sets.{with_key, united}, proofs.United.among-united}
 use Rattle.tick_model.{specs.declared.update.UpdateFault.TheVariants.{RemovedAbsent, AddedTaken, ModifiedAbsent, ModifiedAdded}, specs.Rules.{landed, shift_fault, update_fault}, specs.Updates.Update}

@@ -1,8 +1,8 @@
 -- Shifts that are lawful on some of the keys.
-use Rattle.std.proofs.Common.{◌≡◌, refl, ap, ap₂, sym, ◌∙◌, subst, Bool, true, false, cond, ◌||◌, ℕ, ◌+◌, ◌^◌, ◌<◌, ◌≤◌, arith, List, [], ◌∷◌, map, filter, leb, ltb, Some, None, Option, pos, negsuc, ℤ, inl, inr}
+use Rattle.std.proofs.Common.{◌≡◌, refl, ap, ap₂, sym, ◌∙◌, Bool, false, cond, ℕ, ◌^◌, ◌<◌, ◌≤◌, arith, List, [], ◌∷◌, filter, leb, Some, None, Option, pos, negsuc, ℤ, inl, inr}
 use Rattle.std.{specs.Prelude.{IfSome, int_le, int_lt}, specs.List.AllByRecursion, proofs.lemmas.Bool.{cases_Bool, or_parts, or_from, leb-false, lt-leb, true≢false}, proofs.lemmas.Option.none-some}
 use Rattle.key_lists.{specs.Keys.IsRising, proofs.Every.{every_weaker, every-filter}, proofs.Rising.rising-filter}
-use Rattle.tick_model.{specs.declared.update.ShiftRange.ShiftRange, specs.declared.update.UpdateFault.UpdateFault, specs.declared.update.UpdateFault.TheVariants.ShiftBreaks, specs.Shifts.{moved, as_key}, specs.Rules.{is_past, shift_fault_after, shift_fault, landed}}
+use Rattle.tick_model.{specs.declared.update.ShiftRange.ShiftRange, specs.declared.update.UpdateFault.TheVariants.ShiftBreaks, specs.Shifts.{moved, as_key}, specs.Rules.{is_past, shift_fault_after, shift_fault, landed}}
 use Rattle.shift_data.{specs.Moves.IsLawful, proofs.Lawful.not_past}
 use Rattle.tick_laws.proofs.CheckedUpdates.{shift_lawful}
 

@@ -1,9 +1,9 @@
 -- What an update that moves no rows modifies, and what two such, one after the other, remove, add, modify and move, by edits of
 -- the sets of the first.
-use Rattle.std.proofs.Common.{◌≡◌, refl, ap, ap₂, sym, ◌∙◌, Bool, true, false, not, ◌&&◌, ◌||◌, ℕ, ◌^◌, arith, List, [], filter, pos, ◌+ℤ◌, None, true≢false}
-use Rattle.std.{specs.List.AllByRecursion, proofs.lemmas.Bool.not-false, proofs.lemmas.Int.ints}
-use Rattle.key_lists.{specs.Keys.{is_among, IsRising, without}, proofs.Among.{among-filter, of_among}, proofs.Every.{every, filter_all, filter_same, map_own, map_same, none_pass}, proofs.Rising.{rising_some, rising_same}, proofs.Booleans.or_turned}
-use Rattle.row_set.{specs.Sets.united, proofs.United.{among-united, united_rises}}
+use Rattle.std.proofs.Common.{◌≡◌, refl, ap, ap₂, sym, ◌∙◌, Bool, true, false, not, ◌&&◌, ◌||◌, ℕ, ◌^◌, ◌==◌, arith, List, [], ◌++◌, length, filter, pos, ◌+ℤ◌, None, true≢false}
+use Rattle.std.{specs.Prelude.find, specs.List.AllByRecursion, proofs.lemmas.Bool.not-false, proofs.lemmas.Int.ints}
+use Rattle.key_lists.{specs.Keys.{is_among, IsRising, without}, proofs.Among.{among-append, among-filter, of_among}, proofs.Every.{every, every_weaker, filter_all, filter_same, find_none, map_own, map_same, none_pass}, proofs.Rising.{rising_some, rising_same}, proofs.Booleans.or_turned}
+use Rattle.row_set.{specs.Sets.united, proofs.Batches.empty_without, proofs.United.{among-united, united_rises}}
 use Rattle.tick_model.{specs.declared.update.KeyPair.KeyPair, specs.declared.update.ShiftRange.ShiftRange, specs.Rules.{landed, update_fault}, specs.Shifts.{moved, as_key, shifted}, specs.Sources.same_key, specs.Updates.Update}
 use Rattle.tick_laws.{specs.Checked.keys_after, proofs.WholeUpdates.nothing_moves}
 use Rattle.shift_data.specs.Moves.{IsLawful, pair_through, unapplied}
@@ -26,6 +26,16 @@ unapplied_still shifts survivors asked still lawful rise stay =
     ∙ landed-unapplied shifts survivors asked lawful rise
     ∙ filter_same (λ key. is_among key (landed shifts survivors)) (λ _. true) asked stay
     ∙ filter_all asked
+
+-- where no row goes or moves, those that stay have their keys
+pub none_absent : (shifts : List ShiftRange) (removed old added modified : List ℕ) → shifts ≡ [] → (length removed == 0) ≡ true → find (λ key. not (is_among key old)) modified ≡ None → find (λ key. not (is_among key (landed shifts (without removed old) ++ added))) modified ≡ None
+none_absent shifts removed old added modified still stay present =
+    let places = landed shifts (without removed old) in
+    let same : places ≡ old = still_places shifts (without removed old) still ∙ sym (empty_without removed old stay) in
+    find_none (λ key. not (is_among key (places ++ added))) modified
+    (every_weaker (λ key. not (is_among key old) ≡ false) (λ key. not (is_among key (places ++ added)) ≡ false) modified
+    (λ key here. ap not (among-append key places added ∙ ap (λ keys. is_among key keys || is_among key added) same ∙ ap (λ b. b || is_among key added) (not-false (is_among key old) here)))
+    (none_pass (λ key. not (is_among key old)) modified present))
 
 same_pair : (first next : List ShiftRange) (key : ℕ) → first ≡ [] → next ≡ [] → pair_through first next key ≡ same_key key
 same_pair first next key still next_still =

@@ -236,6 +236,9 @@ impl Update {
             ≡ find (λ key. not (is_among key (landed self.now.shifted (without self.now.removed old.now) ++ self.now.added))) self.now.modified) }
     {
         let modified = self.modified();
+        if self.is_still() && self.removed().is_empty() && least_absent(modified, old).is_none() {
+            return Ok(None);
+        }
         let present = self.occupied(old, modified)?.union(self.added())?;
         Ok(least_absent(modified, &present))
     }

@@ -1,9 +1,9 @@
-use Rattle.std.proofs.Common.{◌≡◌, refl, sym, ap, ap₂, ◌∙◌, subst, IfOk, List, [], ◌∷◌, ℕ, length, true, ◌==◌, arith}
+use Rattle.std.proofs.Common.{◌≡◌, refl, sym, ap₂, ◌∙◌, subst, IfOk, List, [], ◌∷◌, ℕ, length, true, ◌==◌, arith}
 use Rattle.std.proofs.lemmas.Bool.{eqb-true}
 use Rattle.key_lists.specs.Keys.{is_among, without}
 use Rattle.row_set.specs.Sets.{common}
 use Rattle.tick_model.{specs.Rules.landed, specs.Shifts.{moved, as_key}}
-use Rattle.shift_data.specs.Moves.{IsLawful, unapplied}
+use Rattle.shift_data.specs.Moves.{unapplied}
 use Rattle.table_update.{proofs.LawfulParts.lawful_some, proofs.Occupied.landed-unapplied}
 use Rattle.table_update.proofs.update.Update.occupied.Goals as goal
 
