@@ -1,12 +1,12 @@
 -- An update that moves no row, checked on the keys that it names alone.
-use Rattle.std.proofs.Common.{◌≡◌, refl, ap, ap₂, sym, ◌∙◌, Bool, true, false, cond, not, ◌&&◌, ◌||◌, ℕ, ◌^◌, ◌<◌, arith, List, [], ◌∷◌, ◌++◌, ltb, leb, Option, Some, None, pos}
-use Rattle.std.{specs.Prelude.{find, int_le, option_map}, specs.List.AllByRecursion, specs.Option.option_or, proofs.lemmas.Bool.{or_from, or_left, or_right, le-ltb, lt-leb}, proofs.lemmas.Int.ints}
-use Rattle.key_lists.{specs.Keys.{is_among, IsRising, without}, proofs.Among.{among-append, among-filter, each_among, of_among}, proofs.Every.{every_weaker, every-filter, filter_passes, find_same}, proofs.Rising.{rising_same, rising_some}}
+use Rattle.std.proofs.Common.{◌≡◌, refl, ap, ap₂, sym, ◌∙◌, subst, Bool, true, false, cond, not, ◌&&◌, ◌||◌, ℕ, ◌^◌, ◌<◌, arith, List, [], ◌∷◌, ◌++◌, ltb, leb, Option, Some, None, pos}
+use Rattle.std.{specs.Prelude.{find, int_le, option_map}, specs.List.AllByRecursion, specs.Option.option_or, proofs.lemmas.Bool.{and_parts, or_from, or_left, or_right, le-ltb, lt-leb}, proofs.lemmas.Int.ints, proofs.lemmas.List.append-nil}
+use Rattle.key_lists.{specs.Keys.{is_among, IsRising, without}, proofs.Among.{among-append, among-filter, each_among, of_among}, proofs.Every.{every, every_weaker, every-filter, filter_all, filter_passes, find_none, find_same}, proofs.Rising.{rising_same, rising_some}}
 use Rattle.row_set.{specs.Sets.{common, united}, proofs.United.{among-united, united_rises}}
 use Rattle.source_changes.specs.Waiting.{MayWait}
 use Rattle.table_update.proofs.StillKeys.{still_places}
-use Rattle.tick_laws.{specs.Checked.keys_after, proofs.CheckedUpdates.{among-put_keys, keys_after-rise}}
-use Rattle.tick_model.{specs.declared.update.ShiftRange.ShiftRange, specs.declared.update.UpdateFault.UpdateFault, specs.declared.update.UpdateFault.TheVariants.{RemovedAbsent, AddedTaken, ModifiedAbsent, ModifiedAdded, ShiftBreaks}, specs.Rules.{is_past, landed, shift_fault, shift_fault_after, update_fault}, specs.Shifts.moved, specs.Updates.Update}
+use Rattle.tick_laws.{specs.Checked.keys_after, proofs.CheckedUpdates.{among-put_keys, keys_after-rise}, proofs.EmptyUpdates.none_is}
+use Rattle.tick_model.{specs.Changes.is_none, specs.declared.update.ShiftRange.ShiftRange, specs.declared.update.UpdateFault.UpdateFault, specs.declared.update.UpdateFault.TheVariants.{RemovedAbsent, AddedTaken, ModifiedAbsent, ModifiedAdded, ShiftBreaks}, specs.Rules.{is_past, landed, shift_fault, shift_fault_after, update_fault}, specs.Shifts.moved, specs.Updates.Update}
 
 -- the keys that an update names
 abbrev pub named : Update → List ℕ
@@ -107,13 +107,17 @@ module _ (limit : ℕ) (here keys : List ℕ) (update : Update) (still : update.
           ap₂ (λ (taken absent : Option ℕ). option_or (option_map AddedTaken taken) (option_or (option_map ModifiedAbsent absent) (option_map ModifiedAdded (find (λ key. is_among key update.added) update.modified))))
           added_same modified_same
 
+common_below : (limit : ℕ) (some keys : List ℕ) → AllByRecursion (λ key. key < limit) keys → AllByRecursion (λ key. key < limit) (common some keys)
+common_below limit some keys below =
+    every_weaker (λ key. is_among key keys ≡ true) (λ key. key < limit) (common some keys) (λ key e. of_among (λ other. other < limit) key keys below e) (filter_passes (λ key. is_among key keys) some)
+
 -- so it may be checked on those of the keys that it names
 pub named_fault : (limit : ℕ) (keys : List ℕ) (update : Update) → update.shifted ≡ [] → IsRising keys → AllByRecursion (λ key. key < limit) keys → IsRising update.modified → update_fault limit (common (named update) keys) update ≡ update_fault limit keys update
 named_fault limit keys update still rising below modified_rise =
     same_fault limit (common (named update) keys) keys update still
     (λ key e. among-filter (λ other. is_among other keys) key (named update) ∙ both (is_among key keys) (is_among key (named update)) e)
     (rising_some (λ key. is_among key keys) (named update) (named_rise update modified_rise)) rising
-    (every_weaker (λ key. is_among key keys ≡ true) (λ key. key < limit) (common (named update) keys) (λ key e. of_among (λ other. other < limit) key keys below e) (filter_passes (λ key. is_among key keys) (named update))) below
+    (common_below limit (named update) keys below) below
   where
     both : (a b : Bool) → b ≡ true → (a && b) ≡ a
     both true b e = e
@@ -147,10 +151,33 @@ common_after keys some waiting still rising =
         among-put_keys key waiting.added (landed waiting.shifted (without waiting.removed keys))
         ∙ ap (λ b. is_among key waiting.added || b) (ap (is_among key) (still_places waiting.shifted (without waiting.removed keys) still) ∙ among-filter (λ other. not (is_among other waiting.removed)) key keys)
 
+-- an update that only modifies rows breaks no rule but that they are there
+pub absent_alone : (limit : ℕ) (keys : List ℕ) (update : Update) → (is_none update.removed && is_none update.added && is_none update.shifted) ≡ true → IsRising keys → AllByRecursion (λ key. key < limit) keys
+    → update_fault limit keys update ≡ option_map ModifiedAbsent (find (λ key. not (is_among key keys)) update.modified)
+absent_alone limit keys update alone rising below =
+    let both = and_parts (is_none update.removed && is_none update.added) (is_none update.shifted) alone in
+    let come = and_parts (is_none update.removed) (is_none update.added) both.0 in
+    ap₂ (λ (removed : List ℕ) (shifts : List ShiftRange). update_fault limit keys (record update { removed = removed; shifted = shifts })) (none_is update.removed come.0) (none_is update.shifted both.1)
+    ∙ ap (λ (added : List ℕ). update_fault limit keys (record update { removed = []; added = added; shifted = [] })) (none_is update.added come.1)
+    ∙ ap (λ (stay : List ℕ). option_or (shift_fault limit [] stay) (option_or (option_map ModifiedAbsent (find (λ key. not (is_among key (landed [] stay ++ []))) update.modified)) new)) (filter_all keys)
+    ∙ ap₂ (λ (order : Option UpdateFault) (places : List ℕ). option_or order (option_or (option_map ModifiedAbsent (find (λ key. not (is_among key places)) update.modified)) new))
+    (still_keeps limit [] keys refl rising below) (append-nil (landed [] keys) ∙ still_places [] keys refl)
+    ∙ ap (λ (o : Option ℕ). option_or absent (option_map ModifiedAdded o)) (find_none (λ key. is_among key []) update.modified (every (λ key. is_among key [] ≡ false) update.modified (λ key. refl)))
+    ∙ elim absent as (λ o. option_or o None ≡ o) [ None ↦ refl | Some fault ↦ refl ]
+  where
+    new : Option UpdateFault
+    new = option_map ModifiedAdded (find (λ key. is_among key []) update.modified)
+
+    absent : Option UpdateFault
+    absent = option_map ModifiedAbsent (find (λ key. not (is_among key keys)) update.modified)
+
 -- an update behind one that waits, checked on those of the keys that it names
 module _ (keys : List ℕ) (waiting : Update) (waits : MayWait keys waiting) (added_rise : IsRising waiting.added) where
   pub after_rise : IsRising (keys_after keys waiting)
   after_rise = keys_after-rise (2 ^ 62) keys waiting (record { breaks_none = waits.applies; added_rise = added_rise })
+
+  pub here_below : (update : Update) (here : List ℕ) → here ≡ common (named update) (keys_after keys waiting) → AllByRecursion (λ key. key < 2 ^ 40) (keys_after keys waiting) → AllByRecursion (λ key. key < 2 ^ 40) here
+  here_below update here is below = subst (AllByRecursion (λ key. key < 2 ^ 40)) (sym is) (common_below (2 ^ 40) (named update) (keys_after keys waiting) below)
 
   pub here_same : (update : Update) → update.shifted ≡ [] → AllByRecursion (λ key. key < 2 ^ 40) (keys_after keys waiting) → IsRising update.modified → (here : List ℕ) → here ≡ common (named update) (keys_after keys waiting) → update_fault (2 ^ 40) here update ≡ update_fault (2 ^ 40) (keys_after keys waiting) update
   here_same update still below modified_rise here is = ap (λ some. update_fault (2 ^ 40) some update) is ∙ named_fault (2 ^ 40) (keys_after keys waiting) update still after_rise below modified_rise

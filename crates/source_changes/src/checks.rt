@@ -1,11 +1,12 @@
 //! Whether an update may be applied to the keys of a source.
 
-ghost use Rattle.std.specs.Prelude.{◌≡◌, ◌+◌, ◌-◌, ◌^◌, ◌<◌, ◌≤◌, [], None, length, option_map, IfErr, IfOk, OnOk};
+ghost use Rattle.std.specs.Prelude.{◌≡◌, ◌+◌, ◌-◌, ◌^◌, ◌<◌, ◌≤◌, ◌⊎◌, ◌&&◌, [], None, Some, length, option_map, IfErr, IfOk, OnOk};
 ghost use Rattle.std.specs.List.{AllByRecursion};
 ghost use Rattle.row_set.specs.Sets.{common, united};
 ghost use Rattle.source_changes.specs.Faults.{IsRuleOf, keys_fault};
 ghost use Rattle.source_changes.specs.Waiting.{AreSets, MayWait};
 ghost use Rattle.tick_laws.specs.Checked.{keys_after};
+ghost use Rattle.tick_model.specs.Changes.{is_none};
 ghost use Rattle.tick_model.specs.Rules.{update_fault};
 ghost use Rattle.tick_model.specs.Sources.{too_many};
 
@@ -18,6 +19,7 @@ use tick_model::update::{FeedRule, UpdateFault};
 
 /// Checks an update on the keys of a source.
 pub(crate) fn check_on(keys: &RowSet, update: &Update) -> Result<(), KeyFault>
+    requires { AllByRecursion (λ key. key < 2 ^ 40) keys.now }
     ensures lawful { OnOk result (keys_fault keys.now update.now ≡ None) }
     ensures cause { IfErr result (IsRuleOf (keys_fault keys.now update.now)) }
 {
@@ -52,12 +54,44 @@ pub(crate) fn see_keys(update: &Update)
     let _ = update.modified();
 }
 
+/// Whether an update moves no row.
+pub(crate) fn moves_none(update: &Update) -> bool
+    ensures { result ≡ is_none update.now.shifted }
+{
+    update.shifted().ranges().is_empty()
+}
+
+/// Whether an update neither removes nor adds nor moves a row.
+fn only_modifies(update: &Update) -> bool
+    ensures { result ≡ (is_none update.now.removed && is_none update.now.added && is_none update.now.shifted) }
+{
+    update.removed().is_empty() && update.added().is_empty() && moves_none(update)
+}
+
+/// Checks an update on the keys of a source. Where it only modifies rows, as most do, their keys are looked for one by one, and
+/// no set is made.
+fn check_update(keys: &RowSet, update: &Update) -> Result<(), UpdateFault>
+    requires { AllByRecursion (λ key. key < 2 ^ 40) keys.now }
+    ensures ok { OnOk result (update_fault (2 ^ 40) keys.now update.now ≡ None) }
+    ensures fault { IfErr result (λ fault. (fault ≡ UpdateFault.Memory) ⊎ (update_fault (2 ^ 40) keys.now update.now ≡ Some fault)) }
+{
+    if !only_modifies(update) {
+        return update.check(keys, SOURCE_KEYS);
+    }
+    let _ = keys.ranges();
+    match update.modified().iter().find(|key| !keys.contains(*key)) {
+        None => Ok(()),
+        Some(key) => Err(UpdateFault::ModifiedAbsent { key }),
+    }
+}
+
 /// Checks the rules of an update on the keys of a source.
 fn check_rules(keys: &RowSet, update: &Update) -> Result<(), KeyFault>
+    requires { AllByRecursion (λ key. key < 2 ^ 40) keys.now }
     ensures lawful { OnOk result (update_fault (2 ^ 40) keys.now update.now ≡ None) }
     ensures cause { IfErr result (IsRuleOf (option_map FeedRule.Update (update_fault (2 ^ 40) keys.now update.now))) }
 {
-    match update.check(keys, SOURCE_KEYS) {
+    match check_update(keys, update) {
         Ok(()) => Ok(()),
         Err(UpdateFault::Memory) => Err(KeyFault::Memory),
         Err(fault) => Err(KeyFault::Broken(FeedRule::Update(fault))),

@@ -13,10 +13,9 @@ ghost use Rattle.source_changes.specs.Waiting.{IsGathered, MayFollow, Waits, joi
 ghost use Rattle.table_update.specs.Coalesced.{Follow};
 ghost use Rattle.tick_laws.specs.Checked.{keys_after};
 ghost use Rattle.tick_laws.specs.Replaced.{no_update};
-ghost use Rattle.tick_model.specs.Changes.{is_none};
 ghost use Rattle.tick_model.specs.Rules.{update_fault};
 
-use crate::checks::{check_behind, check_on, see_keys};
+use crate::checks::{check_behind, check_on, moves_none, see_keys};
 use crate::faults::KeyFault;
 use row_set::RowSet;
 use std::alloc::{AllocError, Global};
@@ -164,13 +163,6 @@ impl Gathered {
             }
         }
     }
-}
-
-/// Whether an update moves no row.
-fn moves_none(update: &Update) -> bool
-    ensures { result ≡ is_none update.now.shifted }
-{
-    update.shifted().ranges().is_empty()
 }
 
 /// The number of ranges of an update's keys.

@@ -1,6 +1,6 @@
 use Rattle.std.proofs.Common.{sym, ◌∙◌, subst, ◌+◌, ◌-◌, ◌^◌, length, arith, rules, Option}
 use Rattle.std.{specs.Prelude.option_map, proofs.lemmas.Result.{IfErr-weaker, on_ok_weaker}}
-use Rattle.source_changes.{specs.Faults.{IsRuleOf, keys_fault}, proofs.Behind.{after_rise, here_same}, proofs.RowCounts.{counted_lawful, counted_rule, few_rising, length-keys_after, removed_few, rule_first}}
+use Rattle.source_changes.{specs.Faults.{IsRuleOf, keys_fault}, proofs.Behind.{after_rise, here_below, here_same}, proofs.RowCounts.{counted_lawful, counted_rule, few_rising, length-keys_after, removed_few, rule_first}}
 use Rattle.tick_laws.specs.Checked.{keys_after}
 use Rattle.tick_model.{specs.declared.update.FeedRule.TheVariants.Update as ByUpdate, specs.declared.update.UpdateFault.UpdateFault, specs.Rules.update_fault, specs.Sources.too_many}
 use Rattle.source_changes.proofs.checks.check_behind.Goals as goal
@@ -12,6 +12,9 @@ pub rows_after-rows-requires-clause-there : goal.rows_after-rows-requires-clause
 rows_after-rows-requires-clause-there c =
     let few = removed_few (2 ^ 62) c.args.keys.now c.args.waiting.now c.requires.waits.applies c.len.ensures.keys.rising c.see_keys.ensures.removed.rising in
     omega (arith, few, c.len.ensures.count)
+
+pub check_rules-requires : goal.check_rules-requires
+check_rules-requires c = here_below c.args.keys.now c.args.waiting.now c.requires.waits c.see_keys.ensures.added.rising c.args.update.now c.in_ok-here.here c.in_ok-here.ensures c.requires.below
 
 pub returns-in_err-check_rules-clause-cause : goal.returns-in_err-check_rules-clause-cause
 returns-in_err-check_rules-clause-cause c =
