@@ -1,42 +1,19 @@
-//! Each call once, and a sink that fails within a piece.
-ghost use Rattle.std.specs.Prelude.{◌≡◌, length, map, true, IfOk, Some};
+//! Each call once.
+ghost use Rattle.std.specs.Prelude.{◌≡◌, length, map, true, IfOk};
 ghost use Rattle.tick_model.specs.LawfulRuns.{AreTexts};
 ghost use Rattle.tick_model.specs.Names.{are_distinct};
 
 use std::alloc::{AllocError, Global};
 use std::test::Fail;
-use tick_io::{MemorySink, Sink, SinkFault};
+use tick_io::MemorySink;
 use tick_model::items::Items;
 use tick_model::name::Name;
 use tick_model::plan::{ColumnSpec, Kind};
 use tick_model::update::ShiftRange;
 use update_text::{
-    PrintedFault, Shown, WriteFault, read_first_fields, read_number, read_record, read_snapshot,
-    read_update, write_fields,
+    PrintedFault, Shown, read_first_fields, read_number, read_record, read_snapshot, read_update,
+    write_fields,
 };
-
-/// A sink that takes one byte at a time, and fails where it is full.
-#[derive(Drop)]
-struct NarrowSink {
-    bytes: Vec<u8>,
-    room: usize,
-    failures: u64,
-}
-
-impl Sink for NarrowSink {
-    ghost bytes = { λ sink. Some sink.bytes.items };
-
-    ghost failures = { λ sink. sink.failures };
-
-    fn write(&mut self, piece: &[u8]) -> Result<usize, SinkFault> {
-        if self.bytes.len() >= self.room {
-            self.failures = self.failures.saturating_add(1);
-            return Err(SinkFault::Failed);
-        }
-        self.bytes.push(piece[0])?;
-        Ok(1)
-    }
-}
 
 fn name(alloc: Global, text: &str) -> Result<Name, AllocError>
     ensures { IfOk result (λ name. name ≡ text.now) }
@@ -74,25 +51,6 @@ fn a_record_quotes_its_fields(rt: HostRuntime) -> Result<(), Fail> {
     write_fields(rt.alloc(), &mut sink, fields.as_slice())?;
     let want = b"done,,\"a\"\"b\",\"c,d\",\"e\rf\",\"g\nh\"\n";
     assert_eq!(rt; sink.bytes(), want.as_slice());
-    Ok(())
-}
-
-#[test]
-fn a_prefix_is_written_before_a_failure(rt: HostRuntime) -> Result<(), Fail> {
-    let mut fields = Vec::new(rt.alloc());
-    fields.push(String::from_str(rt.alloc(), "done")?)?;
-    fields.push(String::from_str(rt.alloc(), "17")?)?;
-    let mut sink = NarrowSink {
-        bytes: Vec::new(rt.alloc()),
-        room: 6,
-        failures: 0,
-    };
-    assert_eq!(rt;
-        write_fields(rt.alloc(), &mut sink, fields.as_slice()),
-        Err(WriteFault::Failed)
-    );
-    assert_eq!(rt; sink.bytes.as_slice(), b"done,1".as_slice());
-    assert_eq!(rt; sink.failures, 1);
     Ok(())
 }
 
