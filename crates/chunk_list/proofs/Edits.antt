@@ -28,7 +28,7 @@ item_taken ls place lt less =
     ∙ ap (λ xs. remove xs (position_in ls place)) (sym (joined_around ls place.index lt))
 
 -- an empty list goes
-joined_left : {X : Type 0} (ls : List (List X)) (i : ℕ) → i < length ls → joined (set ls i []) ≡ joined (remove ls i)
+pub joined_left : {X : Type 0} (ls : List (List X)) (i : ℕ) → i < length ls → joined (set ls i []) ≡ joined (remove ls i)
 joined_left [] i lt = absurd (omega arith)
 joined_left (l ∷ ls) zero lt = refl
 joined_left (l ∷ ls) (suc i) lt = ap (λ xs. l ++ xs) (joined_left ls i (omega arith))
@@ -81,13 +81,13 @@ pub on_err : {A E : Type 0} (r : Result A E) (P : Type 0) → P → OnErr r P
 on_err (Ok a) P p = tt
 on_err (Err e) P p = p
 
--- when one has an item less, or goes as it was empty
-pub taken_kept : {X : Type 0} (ls : List (List X)) (counts : List ℕ) (i : ℕ) (l : List X) → AreChunks ls counts → i < length ls → length l + 1 ≡ length (list_at i ls) → 0 < length l → AreChunks (set ls i l) (set counts i (get_or counts i 0 - 1))
-taken_kept ls counts i l are lt one some =
-    let less : length (list_at i ls) - 1 ≡ length l = omega arith in
+-- when one has some items less, or goes as it was empty
+pub taken_kept : {X : Type 0} (ls : List (List X)) (counts : List ℕ) (i n : ℕ) (l : List X) → AreChunks ls counts → i < length ls → length l + n ≡ length (list_at i ls) → 0 < length l → AreChunks (set ls i l) (set counts i (get_or counts i 0 - n))
+taken_kept ls counts i n l are lt fewer some =
+    let less : length (list_at i ls) - n ≡ length l = omega arith in
     record {
       sizes = every_set IsChunk ls i l (record { some = some; few = omega (arith, (every_at IsChunk ls i [] lt are.sizes).few) }) are.sizes;
-      counted = ap (λ ns. set ns i (get_or ns i 0 - 1)) are.counted ∙ ap (λ n. set (map length ls) i (n - 1)) (count_at ls i) ∙ ap (set (map length ls) i) less ∙ sym (map_set length ls i l);
+      counted = ap (λ ns. set ns i (get_or ns i 0 - n)) are.counted ∙ ap (λ m. set (map length ls) i (m - n)) (count_at ls i) ∙ ap (set (map length ls) i) less ∙ sym (map_set length ls i l);
       few = omega (arith, are.few, length_instead ls i l lt);
     }
 

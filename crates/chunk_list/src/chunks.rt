@@ -1,7 +1,7 @@
 //! Items in chunks, none of which is empty: an item comes or leaves in their midst at the cost of one chunk and of the list of chunks.
-ghost use Rattle.std.specs.Prelude.{◌≡◌, ◌≢◌, ◌+◌, ◌-◌, ◌/◌, ◌^◌, ◌<◌, ◌≤◌, ◌++◌, ◌∷◌, [], ℕ, Bool, true, false, length, map, take, drop, insert, remove, option_copied, slice_get, slice_set, slice_index_or, vec_capacity, vec_len, IfOk, IfSome, OnOk, OnErr, None, Some};
+ghost use Rattle.std.specs.Prelude.{◌≡◌, ◌≢◌, ◌+◌, ◌-◌, ◌/◌, ◌^◌, ◌<◌, ◌≤◌, ◌++◌, ◌∷◌, [], ℕ, Bool, true, false, length, map, take, drop, insert, remove, option_copied, slice_get, slice_range, slice_set, slice_index_or, vec_capacity, vec_len, IfOk, IfSome, OnOk, OnErr, None, Some};
 ghost use Rattle.std.specs.Fn.{ComputesKey};
-ghost use Rattle.std.specs.List.{AllByRecursion};
+ghost use Rattle.std.specs.List.{AllByRecursion, remove_range};
 ghost use Rattle.std.specs.List.Sorted.{IsPartitionedBy, IsPartitionPoint};
 ghost use Rattle.chunk_list.specs.Chunked.{IsPlace, IsSplit, joined, list_at, position_in};
 
@@ -290,6 +290,33 @@ impl<T: Drop> Chunks<T> {
             self.chunks.remove(place.index);
         }
         item
+    }
+
+    /// Takes items of a chunk out, so many from a place on, and puts them behind others. A chunk of which none is left goes.
+    pub(crate) fn remove_run(&mut self, place: Place, count: usize, out: &mut Vec<T>)
+    where
+        T: Copy,
+        requires index { place.index < length self.old }
+        requires within { place.offset + count ≤ length (list_at place.index self.old) }
+        requires room { vec_len out.old + length (list_at place.index self.old) ≤ vec_capacity out.old }
+        ensures gone { count ≡ length (list_at place.index self.old) → self.new ≡ remove self.old place.index }
+        ensures left { count ≢ length (list_at place.index self.old) → self.new ≡ slice_set self.old place.index (remove_range (list_at place.index self.old) place.offset (place.offset + count)) }
+        ensures out { out.new.items ≡ out.old.items ++ slice_range (list_at place.index self.old) place.offset (place.offset + count) }
+        ensures capacity { vec_capacity out.old ≤ vec_capacity out.new }
+    {
+        if count == 1 {
+            let _ = out.push(self.remove(place));
+            return;
+        }
+        let items = &mut self.chunks[place.index];
+        let end = out.len() + count;
+        let _ = out.extend_from_slice(&items[place.offset..]);
+        items.truncate(place.offset);
+        let _ = items.extend_from_slice(&out[end..]);
+        out.truncate(end);
+        if items.is_empty() {
+            self.chunks.remove(place.index);
+        }
     }
 
     /// Puts items in behind those of a chunk.

@@ -1,6 +1,6 @@
 //! A list in chunks that counts the items of each.
-ghost use Rattle.std.specs.Prelude.{◌≡◌, ◌+◌, ◌-◌, ◌^◌, ◌<◌, ◌≤◌, ◌==◌, ◌++◌, ◌∷◌, [], length, map, take, drop, insert, remove, option_copied, slice_get, slice_set, Bool, true, false, IfOk, OnErr, OnOk, Some};
-ghost use Rattle.std.specs.List.{AllByRecursion};
+ghost use Rattle.std.specs.Prelude.{◌≡◌, ◌+◌, ◌-◌, ◌^◌, ◌<◌, ◌≤◌, ◌==◌, ◌++◌, ◌∷◌, [], length, map, take, drop, insert, remove, option_copied, slice_get, slice_range, slice_set, Bool, true, false, IfOk, OnErr, OnOk, Some};
+ghost use Rattle.std.specs.List.{AllByRecursion, remove_range};
 ghost use Rattle.std.specs.List.Sorted.{IsPartitionedBy, IsPartitionPoint};
 ghost use Rattle.std.specs.Fn.{ComputesKey};
 ghost use Rattle.chunk_list.specs.Chunked.{IsChunk, IsPlace, IsReplaced, joined, list_at, position_in};
@@ -319,6 +319,40 @@ impl<T: Drop> ChunkList<T> {
         }
         self.counts.sub(place.index, 1);
         self.chunks.remove(place)
+    }
+
+    /// Takes items out, so many from a position on, and puts them behind others: those of a chunk together. After a refusal all
+    /// is as before.
+    pub fn remove_run(
+        &mut self,
+        position: usize,
+        count: usize,
+        out: &mut Vec<T>,
+    ) -> Result<(), AllocError>
+    where
+        T: Copy,
+        requires { position + count ≤ length (joined self.old) }
+        ensures others { OnOk result (joined self.new ≡ remove_range (joined self.old) position (position + count)) }
+        ensures out { OnOk result (out.new.items ≡ out.old.items ++ slice_range (joined self.old) position (position + count)) }
+        ensures err { OnErr result (self.new ≡ self.old) }
+        ensures err_out { OnErr result (out.new.items ≡ out.old.items) }
+    {
+        let _ = &self.counts;
+        out.reserve(count + CHUNK_LEN)?;
+        let mut rest = count;
+        while rest > 0 {
+            let place = self.find(position);
+            let len = self.chunks.chunk(place.index).len();
+            let some = rest.min(len - place.offset);
+            rest -= some;
+            self.chunks.remove_run(place, some, out);
+            if some == len {
+                self.counts.remove(place.index);
+            } else {
+                self.counts.sub(place.index, some);
+            }
+        }
+        Ok(())
     }
 
     /// Changes each item in its place.

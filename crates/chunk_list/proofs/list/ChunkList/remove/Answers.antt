@@ -43,7 +43,7 @@ invariant_of-self-2 g c =
     let one = length-remove own c.find-place.result.offset less in
     subst (λ ks. AreChunks ks c.sub.new.self) (sym (c.remove-2.ensures.left more))
     (subst (AreChunks (set ls i (remove own c.find-place.result.offset))) (sym c.sub.ensures)
-    (taken_kept ls c.self.inside.counts i (remove own c.find-place.result.offset) c.self.invariant (omega (arith, c.find-place.ensures.index, ap length c.self.view_is)) one (omega (arith, one, more, less))))
+    (taken_kept ls c.self.inside.counts i 1 (remove own c.find-place.result.offset) c.self.invariant (omega (arith, c.find-place.ensures.index, ap length c.self.view_is)) one (omega (arith, one, more, less))))
 
 pub returns-clause-replaced : goal.returns-clause-replaced
 returns-clause-replaced g c =
