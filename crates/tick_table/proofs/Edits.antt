@@ -1,8 +1,9 @@
 -- One row more that is taken out, put in or replaced, as a walk along rising keys comes to its key.
-use Rattle.std.proofs.Common.{map, ◌≡◌, ap, ap₂, sym, ◌∙◌, subst, true, false, not, ℕ, ◌+◌, ◌<◌, ◌≤◌, arith, List, [], ◌∷◌, ◌++◌, length, get_or, set, ℤ, unwrap_or}
-use Rattle.std.{specs.Prelude.{flat_map, option_map}, specs.List.{AllByRecursion, insert, remove}, proofs.lemmas.List.length-set, proofs.lemmas.List.Edits.{length-insert, length-remove}}
-use Rattle.key_lists.{specs.Keys.{is_among, IsRising, without}, proofs.Among.{among_above, among_below}, proofs.Every.every_weaker, proofs.Parts.{every_back, every_front}, proofs.Rising.rising_some}
-use Rattle.row_set.{specs.Sets.count_below, proofs.Windows.{rising_back, rising_before, rising_front}}
+use Rattle.std.proofs.Common.{map, ◌≡◌, ap, ap₂, sym, ◌∙◌, subst, true, false, not, ℕ, suc, ◌+◌, ◌^◌, ◌<◌, ◌≤◌, arith, List, [], ◌∷◌, ◌++◌, append_assoc, length, length-append, take, drop, get_or, set, slice_range, ℤ, unwrap_or}
+use Rattle.std.{specs.Prelude.{flat_map, option_map}, specs.List.{AllByRecursion, insert, remove, remove_range}, proofs.lemmas.List.{length-set, map-append}, proofs.lemmas.List.Edits.length-insert}
+use Rattle.chunk_list.proofs.Runs.{length-left, length-run, more_is, more_out, one_is}
+use Rattle.key_lists.{specs.Keys.{is_among, IsRising, without}, proofs.Among.{among_above, among_below}, proofs.Every.{every, every_weaker}, proofs.Parts.{every_back, every_front}, proofs.Rising.{rising_count, rising_some}}
+use Rattle.row_set.{specs.Sets.{IsKeySet, count_below}, proofs.Windows.{rising_back, rising_before, rising_front}}
 use Rattle.tick_model.{specs.declared.table.PlainRow.PlainRow, specs.Tables.cells_at, specs.Updates.removing, proofs.Among.row_at-filter}
 use Rattle.tick_table.{specs.declared.stepping.RowPlace.RowPlace, specs.Placed.{IsRowPlace, paired, put_row}, proofs.Applied.among-without, proofs.Paired.{at_place, count_left, count_without, paired-insert, paired-remove, paired-set, place_below, removing-last, row_of, without-first, without-last, without_shorter}, proofs.TableColumns.length-mapped, proofs.Told.{at_put_row, flat_map-same}}
 
@@ -14,6 +15,12 @@ pub record IsComeTo (rows behind : List ℕ) (key : ℕ) (others : List ℕ) : T
   pub below : AllByRecursion (λ other. other < key) behind
   pub own : is_among key rows ≡ true
   pub above : AllByRecursion (λ other. key < other) others
+
+-- the rows of the keys behind were taken out
+pub record IsTaken (rows behind : List ℕ) (was now left : List (List ℤ)) : Type 0 where
+  pub count : length now ≡ length (without behind rows)
+  pub stay : paired (without behind rows) now ≡ removing behind (paired rows was)
+  pub gone : left ≡ map (λ key. cells_at key (paired rows was)) behind
 
 pub come_to : (rows walked behind : List ℕ) (key : ℕ) (others : List ℕ) → IsRising rows → IsRising walked → AllByRecursion (λ other. is_among other rows ≡ true) walked → walked ≡ behind ++ key ∷ others → IsComeTo rows behind key others
 come_to rows walked behind key others rises walked_rise there e =
@@ -32,6 +39,13 @@ come_to rows walked behind key others rises walked_rise there e =
 pub place_is : (rows : List ℕ) (place : RowPlace) (key : ℕ) → place.key ≡ key → IsRowPlace rows place → place.position ≡ count_below key rows
 place_is rows place key same h = h.position ∙ ap (λ k. count_below k rows) same
 
+-- there are few positions
+pub place_few : (rows : List ℕ) (place : RowPlace) → IsKeySet rows → IsRowPlace rows place → place.position < 2 ^ 62
+place_few rows place keys here =
+    let below = place_below place.key rows keys.rising here.row in
+    let few = rising_count 0 (2 ^ 62) rows (omega arith) (every (λ (other : ℕ). 0 ≤ other) rows (λ other. omega arith)) keys.small keys.rising in
+    omega (arith, below, few, here.position)
+
 module _ (rows behind : List ℕ) (key : ℕ) (others : List ℕ) (h : IsComeTo rows behind key others) where
   -- the rows behind it were taken out
   absent : is_among key behind ≡ false
@@ -46,38 +60,61 @@ module _ (rows behind : List ℕ) (key : ℕ) (others : List ℕ) (h : IsComeTo 
   taken_place : count_below key rows ≡ length behind + count_below key (without behind rows)
   taken_place = count_left key behind rows h.rows_rise h.behind_rise h.behind_own h.below
 
-  pub taken_position : (place : RowPlace) (count : ℕ) (left : List (List ℤ)) (cells : ℕ → List ℤ) → place.key ≡ key → IsRowPlace rows place → count ≡ length left → left ≡ map cells behind → place.position ≡ count + count_below key (without behind rows)
-  taken_position place count left cells same here counted is =
+  pub held_position : (place : RowPlace) (now left : List (List ℤ)) (cells : ℕ → List ℤ) (start count : ℕ) → place.key ≡ key → IsRowPlace rows place → start + count ≤ length now → left ++ slice_range now start (start + count) ≡ map cells behind
+      → place.position ≡ length left + count + count_below key (without behind rows)
+  held_position place now left cells start count same here most is =
       let parts = taken_place in
       let at = place_is rows place key same here in
-      let many = counted ∙ ap length is ∙ length-mapped cells behind in
-      omega (arith, parts, at, many)
+      let many = ap length is ∙ length-mapped cells behind in
+      omega (arith, parts, at, many, length-append left (slice_range now start (start + count)), length-run now start count most)
 
   pub taken_within : count_below key (without behind rows) < length (without behind rows)
   taken_within = place_below key (without behind rows) left_rise stays
 
-  module _ (was now : List (List ℤ)) (n : ℕ) (count : length now ≡ length (without behind rows)) (is : n ≡ count_below key (without behind rows)) where
-    pub taken_count : length (remove now n) ≡ length (without (behind ++ key ∷ []) rows)
-    taken_count =
-        let within = taken_within in
-        let fewer = length-remove now n (omega (arith, within, is, count)) in
-        let left = without_shorter key (without behind rows) left_rise stays in
-        let same = ap length (without-last key behind rows) in
-        omega (arith, fewer, left, same, count)
+  -- the row goes too
+  module _ (was now left : List (List ℤ)) (n : ℕ) (taken : IsTaken rows behind was now left) (is : n ≡ count_below key (without behind rows)) where
+    within : n < length now
+    within = let below = taken_within in omega (arith, below, is, taken.count)
 
-    pub taken_now : paired (without behind rows) now ≡ removing behind (paired rows was) → paired (without (behind ++ key ∷ []) rows) (remove now n) ≡ removing (behind ++ key ∷ []) (paired rows was)
-    taken_now so_far =
-        ap₂ (λ (left : List ℕ) (place : ℕ). paired left (remove now place)) (sym (without-last key behind rows)) is
-        ∙ paired-remove key (without behind rows) now count left_rise stays
-        ∙ ap (removing (key ∷ [])) so_far
-        ∙ removing-last key behind (paired rows was)
+    one : n + 1 ≡ suc n
+    one = omega arith
 
-    pub taken_cells : paired (without behind rows) now ≡ removing behind (paired rows was) → get_or now n [] ≡ cells_at key (paired rows was)
-    taken_cells so_far =
-        ap (λ place. get_or now place []) is
-        ∙ at_place key (without behind rows) now count left_rise stays
-        ∙ ap (cells_at key) so_far
-        ∙ ap (λ o. unwrap_or (option_map (λ (row : PlainRow). row.cells) o) []) (row_at-filter (λ other. not (is_among other behind)) key (paired rows was) (ap not absent))
+    row_is : slice_range now n (n + 1) ≡ cells_at key (paired rows was) ∷ []
+    row_is =
+        one_is now n [] within
+        ∙ ap (λ cells. cells ∷ [])
+        (ap (λ place. get_or now place []) is
+        ∙ at_place key (without behind rows) now taken.count left_rise stays
+        ∙ ap (cells_at key) taken.stay
+        ∙ ap (λ o. unwrap_or (option_map (λ (row : PlainRow). row.cells) o) []) (row_at-filter (λ other. not (is_among other behind)) key (paired rows was) (ap not absent)))
+
+    pub taken_next : IsTaken rows (behind ++ key ∷ []) was (remove_range now n (n + 1)) (left ++ slice_range now n (n + 1))
+    taken_next = record {
+      count =
+          let fewer = length-left now n 1 (omega (arith, within)) in
+          let left = without_shorter key (without behind rows) left_rise stays in
+          let same = ap length (without-last key behind rows) in
+          omega (arith, fewer, left, same, taken.count);
+      stay =
+          ap₂ (λ (left : List ℕ) (place : ℕ). paired left (take n now ++ drop place now)) (sym (without-last key behind rows)) one
+          ∙ ap (λ place. paired (without (key ∷ []) (without behind rows)) (remove now place)) is
+          ∙ paired-remove key (without behind rows) now taken.count left_rise stays
+          ∙ ap (removing (key ∷ [])) taken.stay
+          ∙ removing-last key behind (paired rows was);
+      gone = ap₂ (λ (those these : List (List ℤ)). those ++ these) taken.gone row_is ∙ sym (map-append (λ other. cells_at other (paired rows was)) behind (key ∷ []));
+    }
+
+  -- rows that go together are still there, and the row lies behind them
+  module _ (was now left : List (List ℤ)) (n k : ℕ) (most : n + k ≤ length now) (taken : IsTaken rows behind was (remove_range now n (n + k)) (left ++ slice_range now n (n + k))) (is : n ≡ count_below key (without behind rows)) where
+    pub held_within : n + (k + 1) ≤ length now
+    held_within = let below = taken_within in let fewer = length-left now n k most in omega (arith, below, is, taken.count, fewer)
+
+    pub held_next : IsTaken rows (behind ++ key ∷ []) was (remove_range now n (n + (k + 1))) (left ++ slice_range now n (n + (k + 1)))
+    held_next =
+        subst (λ (some : List (List ℤ)). IsTaken rows (behind ++ key ∷ []) was some (left ++ slice_range now n (n + (k + 1)))) (more_out now n k 1 most)
+        (subst (IsTaken rows (behind ++ key ∷ []) was (remove_range (remove_range now n (n + k)) n (n + 1)))
+        (append_assoc left (slice_range now n (n + k)) (slice_range (remove_range now n (n + k)) n (n + 1)) ∙ ap (λ (those : List (List ℤ)). left ++ those) (more_is now n k 1 most))
+        (taken_next was (remove_range now n (n + k)) (left ++ slice_range now n (n + k)) n taken is))
 
   -- the rows of the keys from it on are still to be put in
   abbrev there : List ℕ

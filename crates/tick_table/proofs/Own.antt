@@ -1,7 +1,7 @@
 -- Slots of which no two rows have one: as rows are taken out, put in and replaced.
-use Rattle.std.proofs.Common.{◌≡◌, refl, ap, ap₂, sym, ◌∙◌, subst, cond, ℕ, zero, suc, ◌+◌, ◌<◌, ◌≤◌, arith, List, [], ◌∷◌, ◌++◌, append_assoc, length, length-append, map, take, drop, get_or, set, reverse, ℤ, ◌==◌, inl, inr}
-use Rattle.std.{specs.List.{AllByRecursion, insert, range_with_len, remove}, proofs.Math.Seq.get_or-append_seam, proofs.lemmas.Bool.{cases_eq, cases_lt, eq-eqb, ne_eqb}, proofs.lemmas.List.{drop-map, get_or-map, get_or-set_other, get_or-set_same, get_or_append_left, length_push, length-map, length-set, map-append, reverse-append, take-map}, proofs.lemmas.List.Sorted.{IsPermutation-reverse, sum_by-IsPermutation}, proofs.lemmas.List.Sums.{sum_by-append, sum_by-cons, sum_by-insert, sum_by-remove}}
-use Rattle.key_lists.{proofs.Every.{every_both, every_weaker, every-append, map_same}, proofs.Parts.{every_at, every_front, every_insert, every_remove}, proofs.Ranges.range_below}
+use Rattle.std.proofs.Common.{◌≡◌, refl, ap, ap₂, sym, ◌∙◌, subst, cond, ℕ, zero, suc, ◌+◌, ◌-◌, ◌<◌, ◌≤◌, arith, List, [], ◌∷◌, ◌++◌, append_assoc, length, length-append, map, take, drop, get_or, set, reverse, slice_range, ℤ, ◌==◌, inl, inr}
+use Rattle.std.{specs.List.{AllByRecursion, insert, range_with_len, remove, remove_range}, proofs.Math.Seq.get_or-append_seam, proofs.lemmas.Bool.{cases_eq, cases_lt, eq-eqb, ne_eqb}, proofs.lemmas.List.{drop-drop, drop-map, get_or-map, get_or-set_other, get_or-set_same, get_or_append_left, length_push, length-map, length-set, map-append, reverse-append, take-map}, proofs.lemmas.List.Sorted.{IsPermutation-reverse, sum_by-IsPermutation}, proofs.lemmas.List.Sums.{sum_by-append, sum_by-cons, sum_by-insert, sum_by-remove, sum_by-take-drop}}
+use Rattle.key_lists.{proofs.Every.{every_both, every_weaker, every-append, map_same}, proofs.Parts.{every-drop, every-take, every_at, every_front, every_insert}, proofs.Ranges.range_below}
 use Rattle.tick_table.{specs.Placed.{AreOwn, cells_of, uses}, specs.Slots.{AreSlots, IsFilled, SlotCells}}
 
 abbrev is_used : ℕ → ℕ → ℕ
@@ -27,6 +27,15 @@ uses-reverse slot xs = sum_by-IsPermutation (is_used slot) xs (reverse xs) (IsPe
 
 uses-remove : (slot : ℕ) (xs : List ℕ) (n : ℕ) → n < length xs → uses slot (remove xs n) + is_used slot (get_or xs n 0) ≡ uses slot xs
 uses-remove slot xs n within = sum_by-remove (is_used slot) xs n 0 within
+
+-- those of a run, and those before and behind it
+uses-out : (slot : ℕ) (xs : List ℕ) (n k : ℕ) → uses slot (take n xs) + (uses slot (slice_range xs n (n + k)) + uses slot (drop (n + k) xs)) ≡ uses slot xs
+uses-out slot xs n k =
+    let far : n + (n + k - n) ≡ n + k = omega arith in
+    let front : uses slot (take n xs) + uses slot (drop n xs) ≡ uses slot xs = sum_by-take-drop (is_used slot) xs n in
+    let back : uses slot (slice_range xs n (n + k)) + uses slot (drop (n + k - n) (drop n xs)) ≡ uses slot (drop n xs) = sum_by-take-drop (is_used slot) (drop n xs) (n + k - n) in
+    let same = ap (uses slot) (drop-drop (n + k - n) n xs ∙ ap (λ i. drop i xs) far) in
+    omega (arith, front, back, same)
 
 uses-insert : (slot : ℕ) (xs : List ℕ) (n other : ℕ) → uses slot (insert xs n other) ≡ uses slot xs + is_used slot other
 uses-insert slot xs n other = sum_by-insert (is_used slot) xs n other
@@ -56,14 +65,14 @@ length-cells rows xs = length-map xs (λ slot. get_or rows slot [])
 pub at-cells : (rows : List (List ℤ)) (xs : List ℕ) (n : ℕ) → n < length xs → get_or (cells_of rows xs) n [] ≡ get_or rows (get_or xs n 0) []
 at-cells rows xs n within = get_or-map (λ slot. get_or rows slot []) xs n 0 [] within
 
-pub cells-push : (rows : List (List ℤ)) (xs : List ℕ) (slot : ℕ) → cells_of rows (xs ++ slot ∷ []) ≡ cells_of rows xs ++ get_or rows slot [] ∷ []
-cells-push rows xs slot = map-append (λ slot. get_or rows slot []) xs (slot ∷ [])
-
 pub own_as : (slots : SlotCells) (places left places_is left_is : List ℕ) → places_is ≡ places → left_is ≡ left → AreOwn slots places left → AreOwn slots places_is left_is
 own_as slots places left places_is left_is p l h = subst (λ (xs : List ℕ). AreOwn slots xs left_is) (sym p) (subst (AreOwn slots places) (sym l) h)
 
-pub map-remove : {X Y : Type 0} (f : X → Y) (xs : List X) (n : ℕ) → map f (remove xs n) ≡ remove (map f xs) n
-map-remove f xs n = map-append f (take n xs) (drop (suc n) xs) ∙ sym (ap₂ (λ ys zs. ys ++ zs) (take-map f n xs) (drop-map f (suc n) xs))
+pub map-left : {X Y : Type 0} (f : X → Y) (xs : List X) (n m : ℕ) → map f (remove_range xs n m) ≡ remove_range (map f xs) n m
+map-left f xs n m = map-append f (take n xs) (drop m xs) ∙ sym (ap₂ (λ ys zs. ys ++ zs) (take-map f n xs) (drop-map f m xs))
+
+pub map-run : {X Y : Type 0} (f : X → Y) (xs : List X) (n m : ℕ) → map f (slice_range xs n m) ≡ slice_range (map f xs) n m
+map-run f xs n m = sym (ap (take (m - n)) (drop-map f n xs) ∙ take-map f (m - n) (drop n xs))
 
 pub map-insert : {X Y : Type 0} (f : X → Y) (xs : List X) (n : ℕ) (x : X) → map f (insert xs n x) ≡ insert (map f xs) n (f x)
 map-insert f xs n x = map-append f (take n xs) (x ∷ drop n xs) ∙ sym (ap₂ (λ ys zs. ys ++ f x ∷ zs) (take-map f n xs) (drop-map f n xs))
@@ -112,24 +121,15 @@ module _ (slots : SlotCells) (places left : List ℕ) (h : AreOwn slots places l
             omega (arith, h.once slot, used, none, uses-reverse slot left);
       }
 
-  pub own_out : (n : ℕ) → n < length places → AreOwn slots (remove places n) left
-  own_out n within = record {
-    place_slots = every_remove (λ slot. slot < length slots.rows) places n h.place_slots;
-    left_slots = h.left_slots;
-    free_slots = h.free_slots;
-    once = λ slot. let fewer = uses-remove slot places n within in omega (arith, h.once slot, fewer);
-  }
-
-  pub own_left : (n : ℕ) → n < length places → AreOwn slots (remove places n) (left ++ get_or places n 0 ∷ [])
-  own_left n within = record {
-    place_slots = every_remove (λ slot. slot < length slots.rows) places n h.place_slots;
-    left_slots = every-append (λ slot. slot < length slots.rows) left (get_or places n 0 ∷ []) h.left_slots (every_at (λ slot. slot < length slots.rows) places n 0 within h.place_slots, tt);
+  pub own_out : (n k : ℕ) → AreOwn slots (remove_range places n (n + k)) (left ++ slice_range places n (n + k))
+  own_out n k = record {
+    place_slots = every-append (λ slot. slot < length slots.rows) (take n places) (drop (n + k) places) (every-take (λ slot. slot < length slots.rows) n places h.place_slots) (every-drop (λ slot. slot < length slots.rows) (n + k) places h.place_slots);
+    left_slots = every-append (λ slot. slot < length slots.rows) left (slice_range places n (n + k)) h.left_slots (every-take (λ slot. slot < length slots.rows) (n + k - n) (drop n places) (every-drop (λ slot. slot < length slots.rows) n places h.place_slots));
     free_slots = h.free_slots;
     once = λ slot.
-        let fewer = uses-remove slot places n within in
-        let more = uses-append slot left (get_or places n 0 ∷ []) in
-        let one = uses-one slot (get_or places n 0) in
-        omega (arith, h.once slot, fewer, more, one);
+        let rest = uses-append slot (take n places) (drop (n + k) places) in
+        let more = uses-append slot left (slice_range places n (n + k)) in
+        omega (arith, h.once slot, rest, more, uses-out slot places n k);
   }
 
   -- a row was put into a slot that no row had

@@ -1,6 +1,7 @@
 //! The rows of a table by position, each in a slot.
 
-ghost use Rattle.std.specs.Prelude.{◌≡◌, ◌+◌, ◌*◌, ◌<◌, ◌≤◌, [], ◌∷◌, ◌++◌, length, take, drop, insert, remove, set, slice_index, slice_index_or, IfOk, OnOk};
+ghost use Rattle.std.specs.Prelude.{◌≡◌, ◌+◌, ◌*◌, ◌<◌, ◌≤◌, [], ◌∷◌, ◌++◌, length, take, drop, insert, set, slice_index, slice_index_or, slice_range, IfOk, OnOk};
+ghost use Rattle.std.specs.List.{remove_range};
 ghost use Rattle.chunk_list.specs.Chunked.{joined};
 ghost use Rattle.tick_table.specs.Slots.{slot_list};
 
@@ -117,16 +118,15 @@ impl PlacedRows {
         Ok(())
     }
 
-    /// Takes the row at a position out. After a refusal the rows are to be given up.
-    pub(crate) fn take_out(&mut self, position: usize) -> Result<(), AllocError>
-        requires { position < length self.old.rows }
+    /// Takes rows out, so many from a position on. After a refusal the rows are to be given up.
+    pub(crate) fn take_out(&mut self, position: usize, count: usize) -> Result<(), AllocError>
+        requires { position + count ≤ length self.old.rows }
         ensures width { self.new.width ≡ self.old.width }
-        ensures rows { OnOk result (self.new.rows ≡ remove self.old.rows position) }
-        ensures left { OnOk result (self.new.left ≡ self.old.left ++ slice_index_or self.old.rows position [] ∷ []) }
+        ensures rows { OnOk result (self.new.rows ≡ remove_range self.old.rows position (position + count)) }
+        ensures left { OnOk result (self.new.left ≡ self.old.left ++ slice_range self.old.rows position (position + count)) }
         ensures saved { OnOk result (self.new.saved ≡ self.old.saved) }
     {
-        let slot = self.places.remove(position);
-        self.left.push(slot)?;
+        self.places.remove_run(position, count, &mut self.left)?;
         Ok(())
     }
 

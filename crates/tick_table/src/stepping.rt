@@ -58,7 +58,7 @@ pub(crate) fn bring_on(
     Ok(rows)
 }
 
-/// Takes the rows under some of the keys out.
+/// Takes the rows under some of the keys out: those that lie side by side together.
 fn remove_rows(placed: &mut PlacedRows, rows: &RowSet, removed: &RowSet) -> Result<(), AllocError>
     requires own { AllByRecursion (λ key. IsTrue (is_among key rows.now)) removed.now }
     requires count { length placed.old.rows ≡ length rows.now }
@@ -71,12 +71,21 @@ fn remove_rows(placed: &mut PlacedRows, rows: &RowSet, removed: &RowSet) -> Resu
 {
     let _ = rows.ranges();
     let mut last = None;
+    let mut start = 0;
+    let mut count = 0;
     for key in removed {
         let place = place_after(rows, last, key);
-        let position = place.position - placed.count_left();
-        placed.take_out(position)?;
+        let position = place.position - (placed.count_left() + count);
         last = Some(place);
+        if position == start {
+            count += 1;
+        } else {
+            placed.take_out(start, count)?;
+            start = position;
+            count = 1;
+        }
     }
+    placed.take_out(start, count)?;
     Ok(())
 }
 
