@@ -1,13 +1,16 @@
-use Rattle.tick_table.{proofs.ExactAgain.exact_lawful, specs.Exact.tick_of}
-use Rattle.row_ops.proofs.Viewed.{view_compared, view_mapped}
+use Rattle.std.proofs.Common.{ap, ◌∙◌, ◌++◌, List, ℤ}
+use Rattle.row_changes.specs.Parts.{cells_under}
+use Rattle.tick_model.{specs.Updates.Update, specs.View.view_table}
+use Rattle.row_ops.proofs.Viewed.{change_viewed}
 use Rattle.row_ops.proofs.view_op.view_change.Goals as goal
 
-pub modified_before-requires : goal.modified_before-requires
-modified_before-requires g c = rw (c.prev_rows.ensures.keys, c.update-update.ensures) (exact_lawful c.args.input.now c.requires.exact)
-
-pub mapped-requires-clause-tables : goal.mapped-requires-clause-tables
-mapped-requires-clause-tables g c = view_mapped c.args.exprs.now (tick_of c.args.input.now) c.requires.exact.tick
-
-pub mapped-requires-clause-compared : goal.mapped-requires-clause-compared
-mapped-requires-clause-compared g c =
-    rw (c.in_ok-before.ensures, c.in_ok-now.ensures, c.modified.ensures.keys, c.prev_rows.ensures.keys, c.update-update.ensures) (view_compared c.args.exprs.now c.args.input.now c.requires.exact)
+pub returns-clause-change : goal.returns-clause-change
+returns-clause-change g c =
+    let t = c.args.input.now in
+    let exprs = c.args.exprs.now in
+    let view = view_table exprs t.new in
+    let inside = c.update-2.inside in
+    let update : Update = record { removed = inside.removed; added = inside.added; modified = inside.modified; shifted = inside.shifted; columns = inside.columns } in
+    let told = c.in_ok-update-inside.ensures in
+    change_viewed exprs t c.requires.exact update c.in_ok-update-inside.field-0 c.of-cells.result (c.update-2.view_is ∙ c.in_ok-update.ensures ∙ c.update.ensures) told.rising told.columns
+    (c.of-cells.ensures ∙ told.cells ∙ ap (λ (cells : List ℤ). cells ++ cells_under view t.update.modified) (c.in_ok-put_added.ensures.cells ∙ ap (λ (cells : List ℤ). cells ++ cells_under view t.update.added) c.in_ok-cells.ensures.items))
