@@ -1,4 +1,3 @@
-pub mod Moments
 pub mod ByNumber
 pub mod Sums
 pub mod Values

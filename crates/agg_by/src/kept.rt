@@ -11,11 +11,10 @@ ghost use Rattle.tick_model.specs.Updates.{removing, shifting};
 ghost use Rattle.tick_model.specs.declared.table.PlainRow.{PlainRow};
 ghost use Rattle.tick_table.specs.Exact.{IsExact, counted};
 ghost use Rattle.agg_by.specs.Answers.{IsWithin};
-ghost use Rattle.agg_by.specs.Moments.{table_at};
+ghost use Rattle.tick_table.specs.Versions.{table_in};
 ghost use Rattle.agg_by.specs.Steps.{changing, changing_before, coming, first_keys, key_at, leaving, starts, touched_cells};
 ghost use Rattle.agg_by.specs.Touched.{AreNoted, is_named, starts_numbered};
 
-use crate::moment::Moment;
 use crate::moving::Moving;
 use crate::running::{Running, begun, put_all, put_values, take_all};
 use crate::touched::TouchedGroups;
@@ -26,7 +25,7 @@ use std::sync::ledger::Ledger;
 use tick_model::cells::cell;
 use tick_model::items::Items;
 use tick_model::plan::Agg;
-use tick_table::{RowsBefore, RowsNow, Steps, TickTable};
+use tick_table::{RowReader, Steps, TickTable, Version};
 
 /// The rows of an input by their key cells, and what answers each aggregate.
 pub struct Kept {
@@ -127,7 +126,7 @@ impl Kept {
         ensures running { OnOk result (AnswerAll self.old.by self.old.rows.names self.old.aggs (removing gone.now input.now.old.rows) self.new.running.items) }
         ensures reads { reads.new ≤ reads.old + input.now.old.width * length gone.now }
     {
-        let mut rows = RowsBefore::of(input);
+        let mut rows = RowReader::of(input, Version::Before);
         let mut position = 0;
         for key in gone {
             let row = rows.row(key, reads);
@@ -204,7 +203,7 @@ impl Kept {
         ensures noted { OnOk result (AreNoted touched.old (map (key_at self.old.by input.now.new.rows) come.now) self.new.rows.names touched.new) }
         ensures reads { reads.new ≤ reads.old + input.now.new.width * length come.now }
     {
-        let mut rows = RowsNow::of(input);
+        let mut rows = RowReader::of(input, Version::Now);
         let mut place: usize = 0;
         for key in come {
             let row = rows.row(key, reads);
@@ -232,22 +231,22 @@ impl Kept {
     /// Puts the row of a group, whose first row has this key, behind other cells.
     pub(crate) fn put_group<L: Ledger>(
         &self,
-        moment: Moment,
+        version: Version,
         input: &TickTable,
         first: u64,
         cells: &mut Vec<i64>,
         reads: &mut Steps<L>,
     ) -> Result<(), AllocError>
-        requires table { IsTable (table_at moment input.now) }
-        requires keeps { Keeps self.now (table_at moment input.now).rows }
-        requires within { AllByRecursion (IsWithin (table_at moment input.now).width) self.now.running.items }
-        requires here { IsTrue (is_among first (first_keys self.now.by (table_at moment input.now).rows)) }
-        ensures cells { OnOk result (cells.new.items ≡ cells.old.items ++ cells_at first (agg_table self.now.by self.now.aggs (table_at moment input.now)).rows) }
+        requires table { IsTable (table_in version input.now) }
+        requires keeps { Keeps self.now (table_in version input.now).rows }
+        requires within { AllByRecursion (IsWithin (table_in version input.now).width) self.now.running.items }
+        requires here { IsTrue (is_among first (first_keys self.now.by (table_in version input.now).rows)) }
+        ensures cells { OnOk result (cells.new.items ≡ cells.old.items ++ cells_at first (agg_table self.now.by self.now.aggs (table_in version input.now)).rows) }
         ensures reads { reads.new ≤ reads.old + length self.now.aggs }
     {
         let number = self.rows.number_of(first);
         let group = self.rows.group_at(number).unwrap();
         cells.extend_from_slice(group.cells())?;
-        put_values(&self.running, number, &group, moment, input, cells, reads)
+        put_values(&self.running, number, &group, version, input, cells, reads)
     }
 }

@@ -16,7 +16,6 @@ mod by_number;
 mod firsts;
 mod in_plan;
 mod kept;
-mod moment;
 mod moving;
 mod notes;
 mod rows;

@@ -13,11 +13,10 @@ ghost use Rattle.tick_model.specs.Tables.{cells_at};
 ghost use Rattle.tick_table.specs.Exact.{IsExact};
 
 use crate::kept::Kept;
-use crate::moment::Moment;
 use row_set::RowSet;
 use std::alloc::AllocError;
 use std::sync::ledger::Ledger;
-use tick_table::{Steps, TickTable};
+use tick_table::{Steps, TickTable, Version};
 
 /// The rows that some groups had, by the keys of their first rows.
 #[derive(Drop)]
@@ -101,7 +100,7 @@ fn put_groups<L: Ledger>(
     ensures reads { reads.new ≤ reads.old + length kept.now.aggs * length keys.now }
 {
     for first in keys {
-        kept.put_group(Moment::Before, input, first, cells, reads)?;
+        kept.put_group(Version::Before, input, first, cells, reads)?;
     }
     Ok(())
 }

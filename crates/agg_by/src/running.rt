@@ -5,13 +5,12 @@ ghost use Rattle.std.specs.List.{AllByRecursion};
 ghost use Rattle.std.specs.Option.{ForSome};
 ghost use Rattle.agg_by.specs.Answers.{HasRow, IsWithin, answer, cell_of, with_row, without_row};
 ghost use Rattle.agg_by.specs.Kept.{AnswerAll, Answers, agg_of};
-ghost use Rattle.agg_by.specs.Moments.{table_at};
+ghost use Rattle.tick_table.specs.Versions.{table_in};
 ghost use Rattle.key_lists.specs.Keys.{is_among};
 ghost use Rattle.row_groups.specs.Members.{Names, keys_of};
 ghost use Rattle.tick_model.specs.Tables.{keys};
 
 use crate::by_number::ByNumber;
-use crate::moment::Moment;
 use crate::sums::Total;
 use crate::values::{Opposites, Values};
 use row_groups::Group;
@@ -20,7 +19,7 @@ use std::sync::ledger::Ledger;
 use tick_model::cells::cell;
 use tick_model::formula::NULL;
 use tick_model::plan::Agg;
-use tick_table::{Steps, TickTable};
+use tick_table::{Steps, TickTable, Version};
 
 /// An aggregate with what is kept for it besides the rows by their groups.
 #[derive(Drop)]
@@ -82,14 +81,14 @@ impl Running {
         &self,
         number: usize,
         group: &Group<'_>,
-        moment: Moment,
+        version: Version,
         input: &TickTable,
         reads: &mut Steps<L>,
     ) -> i64
         requires few { length group.now ≤ 2 ^ 62 }
-        requires within { IsWithin (table_at moment input.now).width self.now }
-        requires here { AllByRecursion (λ key. IsTrue (is_among key (keys (table_at moment input.now).rows))) (keys_of group.now) }
-        ensures answer { result ≡ answer self.now number group.now (table_at moment input.now).rows }
+        requires within { IsWithin (table_in version input.now).width self.now }
+        requires here { AllByRecursion (λ key. IsTrue (is_among key (keys (table_in version input.now).rows))) (keys_of group.now) }
+        ensures answer { result ≡ answer self.now number group.now (table_in version input.now).rows }
         ensures reads { reads.new ≤ reads.old + 1 }
     {
         match self {
@@ -100,11 +99,11 @@ impl Running {
             Running::First(column) => cell_or_null(
                 group.first_key(),
                 *column,
-                moment,
+                version,
                 input,
                 reads,
             ),
-            Running::Last(column) => cell_or_null(group.last_key(), *column, moment, input, reads),
+            Running::Last(column) => cell_or_null(group.last_key(), *column, version, input, reads),
         }
     }
 }
@@ -113,17 +112,20 @@ impl Running {
 fn cell_or_null<L: Ledger>(
     key: Option<u64>,
     column: u32,
-    moment: Moment,
+    version: Version,
     input: &TickTable,
     reads: &mut Steps<L>,
 ) -> i64
-    requires column { column < (table_at moment input.now).width }
-    requires here { ForSome key (λ key. IsTrue (is_among key (keys (table_at moment input.now).rows))) }
-    ensures cell { result ≡ cell_of (table_at moment input.now).rows column key }
+    requires column { column < (table_in version input.now).width }
+    requires here { ForSome key (λ key. IsTrue (is_among key (keys (table_in version input.now).rows))) }
+    ensures cell { result ≡ cell_of (table_in version input.now).rows column key }
     ensures reads { reads.new ≤ reads.old + 1 }
 {
     match key {
-        Some(key) => moment.cell(input, column, key, reads),
+        Some(key) => match version {
+            Version::Before => input.prev_cell(column, key, reads),
+            Version::Now => input.cell(column, key, reads),
+        },
         None => NULL,
     }
 }
@@ -144,20 +146,20 @@ pub(crate) fn put_values<L: Ledger>(
     all: &[Running],
     number: usize,
     group: &Group<'_>,
-    moment: Moment,
+    version: Version,
     input: &TickTable,
     cells: &mut Vec<i64>,
     reads: &mut Steps<L>,
 ) -> Result<(), AllocError>
     requires few { length group.now ≤ 2 ^ 62 }
-    requires within { AllByRecursion (IsWithin (table_at moment input.now).width) all.now }
-    requires here { AllByRecursion (λ key. IsTrue (is_among key (keys (table_at moment input.now).rows))) (keys_of group.now) }
+    requires within { AllByRecursion (IsWithin (table_in version input.now).width) all.now }
+    requires here { AllByRecursion (λ key. IsTrue (is_among key (keys (table_in version input.now).rows))) (keys_of group.now) }
     ensures cells { OnOk result (cells.new.items ≡ cells.old.items
-        ++ map (λ running. answer running number group.now (table_at moment input.now).rows) all.now) }
+        ++ map (λ running. answer running number group.now (table_in version input.now).rows) all.now) }
     ensures reads { reads.new ≤ reads.old + length all.now }
 {
     for running in all {
-        cells.push(running.value(number, group, moment, input, reads))?;
+        cells.push(running.value(number, group, version, input, reads))?;
     }
     Ok(())
 }

@@ -16,7 +16,7 @@ use row_set::RowSet;
 use std::alloc::{AllocError, Global};
 use std::marker::Model;
 use std::sync::ledger::Ledger;
-use tick_table::{RowsNow, Steps, TickTable};
+use tick_table::{RowReader, Steps, TickTable, Version};
 
 /// The numbers of groups, each once. A contract sees the list of them.
 #[derive(Drop)]
@@ -143,7 +143,7 @@ impl TouchedGroups {
         if kept.rows.is_empty() {
             return Ok(());
         }
-        let mut rows = RowsNow::of(input);
+        let mut rows = RowReader::of(input, Version::Now);
         for key in keys {
             kept.read_key_cells(rows.row(key, reads), key_cells)?;
             let found = kept.rows.find(key_cells.as_slice());

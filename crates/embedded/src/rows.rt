@@ -11,7 +11,7 @@ use std::alloc::{AllocError, Global};
 use std::io::Print;
 use std::marker::Brand;
 use std::sync::ledger::{Blank, Ledger};
-use tick_table::{Steps, TickTable};
+use tick_table::{Steps, TickTable, Version};
 
 /// The cells of the row of a key. Each cell that is read is counted, from a blank on.
 fn read_counted<L: Ledger>(
@@ -27,7 +27,7 @@ fn read_counted<L: Ledger>(
 {
     let mut reads = Steps::<L>::new(blank, new_count());
     let mut cells = Vec::new(alloc);
-    table.row(key, &mut cells, &mut reads)?;
+    table.row(Version::Now, key, &mut cells, &mut reads)?;
     Ok(cells)
 }
 

@@ -11,6 +11,14 @@ use Rattle.tick_laws.proofs.ResultTables.{result_table}
 use Rattle.tick_model.{specs.declared.plan.OnPair.OnPair, specs.declared.plan.Choice.TheVariants.{First as FirstMatch, Last as LastMatch}, specs.declared.plan.Op.TheVariants.{AsOf, Join}, specs.declared.table.PlainRow.PlainRow, specs.declared.table.PlainTable.PlainTable, specs.declared.update.KeyPair.KeyPair, specs.Tables.{IsRow, IsTable, cells_at, keys, same_cells}, specs.Updates.{Update, differs, new_keys, old_keys, pairs}}
 use Rattle.tick_table.{specs.Exact.{IsExact, tick_of}, specs.Ticking.Ticking}
 
+-- the rows of a join, under the keys of the left rows
+module _ (on : List OnPair) (pick : Pick) (take : List ℕ) (left right : PlainTable) where
+  pub matched_keys : keys (matched_table on pick take left right).rows ≡ keys left.rows
+  matched_keys = ap keys (matched_rows on pick take left right) ∙ keys-made (matched_cells on pick take right.rows) left.rows
+
+  pub matched_at : (key : ℕ) → is_among key (keys left.rows) ≡ true → cells_at key (matched_table on pick take left right).rows ≡ matched_cells on pick take right.rows (cells_at key left.rows)
+  matched_at key there = ap (cells_at key) (matched_rows on pick take left right) ∙ cells-made (matched_cells on pick take right.rows) key left.rows there
+
 module _ (on : List OnPair) (pick : Pick) (take : List ℕ) (l : Ticking) (left_exact : IsExact l) (r : Ticking) (right_exact : IsExact r) where
   abbrev old : PlainTable
   old = matched_table on pick take l.old r.old
@@ -37,12 +45,6 @@ module _ (on : List OnPair) (pick : Pick) (take : List ℕ) (l : Ticking) (left_
   abbrev taken_new : List ℤ → List ℤ
   taken_new row = now on pick take l left_exact r right_exact (key_cells Left on row) (time_of Left pick row)
 
-  pub cells_old : (key : ℕ) → is_among key (keys l.old.rows) ≡ true → cells_at key old.rows ≡ matched_cells on pick take r.old.rows (cells_at key l.old.rows)
-  cells_old key there = ap (cells_at key) (matched_rows on pick take l.old r.old) ∙ cells-made (matched_cells on pick take r.old.rows) key l.old.rows there
-
-  pub cells_new : (key : ℕ) → is_among key (keys l.new.rows) ≡ true → cells_at key new.rows ≡ matched_cells on pick take r.new.rows (cells_at key l.new.rows)
-  cells_new key there = ap (cells_at key) (matched_rows on pick take l.new r.new) ∙ cells-made (matched_cells on pick take r.new.rows) key l.new.rows there
-
   -- what is known of a pair of left rows that stay
   abbrev IsPair : KeyPair → Type 0
   IsPair pair = (is_among pair.old (keys l.old.rows) ≡ true) × (is_among pair.new (keys l.new.rows) ≡ true) × (is_modified l left_exact pair ≡ differs l.old l.new pair)
@@ -61,10 +63,10 @@ module _ (on : List OnPair) (pick : Pick) (take : List ℕ) (l : Ticking) (left_
   untouched : (pair : KeyPair) → IsPair pair → is_modified l left_exact pair ≡ false → is_among pair.new turned ≡ false → differs old new pair ≡ false
   untouched pair p not_modified untold =
       ap not ((signed_items (cells_at pair.old old.rows) (cells_at pair.new new.rows)).1
-      (cells_old pair.old p.0
+      (matched_at on pick take l.old r.old pair.old p.0
       ∙ ap (matched_cells on pick take r.old.rows) (unmodified pair p not_modified)
       ∙ ap (λ taken. cells_at pair.new l.new.rows ++ taken) (same_taken on pick take l left_exact r right_exact pair.new p.1 (untold_each tells pair.new notes untold))
-      ∙ sym (cells_new pair.new p.1)))
+      ∙ sym (matched_at on pick take l.new r.new pair.new p.1)))
 
   behind : (xs ys zs : List ℤ) → xs ++ ys ≡ xs ++ zs → ys ≡ zs
   behind xs ys zs e = sym (drop-append_seam xs ys) ∙ ap (drop (length xs)) e ∙ drop-append_seam xs zs
@@ -79,7 +81,7 @@ module _ (on : List OnPair) (pick : Pick) (take : List ℕ) (l : Ticking) (left_
           let one = told_by_one Held tells pair.new notes (notes_own on pick r right_exact) among in
           absurd (other_taken on pick take l left_exact r right_exact pair.new p.1 one.0 one.1.0 one.1.1
           (behind (cells_at pair.new l.new.rows) (taken_old (cells_at pair.new l.new.rows)) (taken_new (cells_at pair.new l.new.rows))
-          (ap (matched_cells on pick take r.old.rows) (sym (unmodified pair p not_modified)) ∙ sym (cells_old pair.old p.0) ∙ same_is (cells_at pair.old old.rows) (cells_at pair.new new.rows) e ∙ cells_new pair.new p.1)))
+          (ap (matched_cells on pick take r.old.rows) (sym (unmodified pair p not_modified)) ∙ sym (matched_at on pick take l.old r.old pair.old p.0) ∙ same_is (cells_at pair.old old.rows) (cells_at pair.new new.rows) e ∙ matched_at on pick take l.new r.new pair.new p.1)))
 
   -- a row that is told is there
   turned_there : (key : ℕ) → is_among key turned ≡ true → is_among key (keys l.new.rows) ≡ true
@@ -110,9 +112,6 @@ module _ (on : List OnPair) (pick : Pick) (take : List ℕ) (l : Ticking) (left_
       by false is = is
       by true is = absurd (true≢false (sym (added_is key ∙ ap₂ (λ ks b. not (is_among key ks) && b) none_stay (turned_there key is)) ∙ absent))
 
-  pub matched_keys : (left right : PlainTable) → keys (matched_table on pick take left right).rows ≡ keys left.rows
-  matched_keys left right = ap keys (matched_rows on pick take left right) ∙ keys-made (matched_cells on pick take right.rows) left.rows
-
   matched_is_table : (left right : PlainTable) → IsTable left → IsTable right → IsTable (matched_table on pick take left right)
   matched_is_table left right a b = by_pick pick
     where
@@ -123,8 +122,8 @@ module _ (on : List OnPair) (pick : Pick) (take : List ℕ) (l : Ticking) (left_
 
   pub are_mapped : IsMapped (tick_of l) old new
   are_mapped = record {
-    before = matched_keys l.old r.old;
-    now = matched_keys l.new r.new;
+    before = matched_keys on pick take l.old r.old;
+    now = matched_keys on pick take l.new r.new;
     old_table = matched_is_table l.old r.old left_exact.tick.old_table right_exact.tick.old_table;
     new_table = matched_is_table l.new r.new left_exact.tick.new_table right_exact.tick.new_table;
     one_width = ap (λ w. w + length take) left_exact.tick.one_width;

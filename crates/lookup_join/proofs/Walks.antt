@@ -5,8 +5,7 @@ use Rattle.key_lists.{specs.Keys.is_among, proofs.Among.among-append, proofs.Eve
 use Rattle.lookup_join.{specs.declared.keyed.Side.Side, specs.declared.keyed.Side.TheVariants.Right, specs.declared.pick.Pick.Pick, specs.Duplicates.cells_under, specs.Keyed.{column_of, indexed, key_cells, keyed, member_at, time_of}, specs.Notes.{Note, NoteList, Spot, fresh_note, noting, spot_under, with_note}, specs.Taken.spot_at}
 use Rattle.row_groups.specs.Members.{Grouped, Member, keys_of, member_of, member_under}
 use Rattle.shown_rows.proofs.Walks.{take_next}
-use Rattle.tick_model.{specs.declared.plan.OnPair.OnPair, specs.declared.table.PlainRow.PlainRow, specs.Tables.{cell, cells_at, keys}}
-use Rattle.tick_table.specs.Ticking.{Ticking}
+use Rattle.tick_model.{specs.declared.table.PlainTable.PlainTable, specs.declared.plan.OnPair.OnPair, specs.declared.table.PlainRow.PlainRow, specs.Tables.{cell, cells_at, keys}}
 
 -- a note is what is told of it
 pub note_at : (notes : List Note) (n : ℕ) (cells : List ℤ) (at : ℤ) (before : Option ℕ) → slice_get (map (λ (note : Note). note.cells) notes) n ≡ Some cells → slice_get (map (λ (note : Note). note.at) notes) n ≡ Some at → slice_get (map (λ (note : Note). note.before) notes) n ≡ Some before
@@ -52,14 +51,14 @@ noted_next pick members first before after place some x own b o a =
     (sym (ap (noting pick members first.notes) (map-append place some (x ∷ [])) ∙ fold-append (λ (notes : List Note) spot. with_note (fresh_note pick members spot) notes) first.notes (map place some) (place x ∷ [])))
 
 -- what a reader of a table gives is of the table
-pub reader_has : (table reader : Ticking) (key : ℕ) → reader ≡ table → is_among key (keys table.new.rows) ≡ true → is_among key (keys reader.new.rows) ≡ true
-reader_has table reader key same there = subst (λ (t : Ticking). is_among key (keys t.new.rows) ≡ true) (sym same) there
+pub reader_has : (table reader : PlainTable) (key : ℕ) → reader ≡ table → is_among key (keys table.rows) ≡ true → is_among key (keys reader.rows) ≡ true
+reader_has table reader key same there = subst (λ (t : PlainTable). is_among key (keys t.rows) ≡ true) (sym same) there
 
-pub row_given : (table reader : Ticking) (key : ℕ) {row : List ℤ} → reader ≡ table → row ≡ cells_at key reader.new.rows → row ≡ cells_at key table.new.rows
-row_given table reader key same is = is ∙ ap (λ (t : Ticking). cells_at key t.new.rows) same
+pub row_given : (table reader : PlainTable) (key : ℕ) {row : List ℤ} → reader ≡ table → row ≡ cells_at key reader.rows → row ≡ cells_at key table.rows
+row_given table reader key same is = is ∙ ap (λ (t : PlainTable). cells_at key t.rows) same
 
-pub row_read : {table reader : Ticking} (so_far : ℕ) {more : ℕ} → reader ≡ table → more ≡ so_far + reader.new.width → more ≤ so_far + table.new.width
-row_read so_far same e = omega (arith, e, ap (λ (t : Ticking). t.new.width) same)
+pub row_read : {table reader : PlainTable} (so_far : ℕ) {more : ℕ} → reader ≡ table → more ≡ so_far + reader.width → more ≤ so_far + table.width
+row_read so_far same e = omega (arith, e, ap (λ (t : PlainTable). t.width) same)
 
 -- the row under a key, as the index has it
 pub member_known : (side : Side) (on : List OnPair) (pick : Pick) (rows : List PlainRow) (key : ℕ) → is_among key (keys rows) ≡ true → member_under key (keyed side on pick rows) ≡ Some (member_at side on pick rows key)

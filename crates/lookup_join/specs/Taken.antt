@@ -6,6 +6,7 @@
 --     end_of right notes cells at      until when a note of this place speaks
 --     speaks now noted      whether a note of this time tells what was taken
 --     match_as_before pick members notes cells at      the right row that was taken before the step
+--     match_in version pick members notes cells at      the right row that was taken before the step, or is taken now
 --     turned_note pick take left right notes old new note      the left rows for which a note speaks, where they take other cells now
 --     turned_keys on pick take left right      the left rows for which the notes of a step speak so
 use Rattle.std.{specs.Prelude.{◌≡◌, ℕ, ◌<◌, Bool, true, ◌&&◌, List, [], ◌∷◌, ◌++◌, Option, Some, None, filter, flat_map, int_le, map, option_map, ℤ, if◌then◌else◌, IsTrue}, specs.List.AllByRecursion}
@@ -13,7 +14,8 @@ use Rattle.key_lists.specs.Keys.{is_among}
 use Rattle.lookup_join.{specs.declared.keyed.Side.Side, specs.declared.keyed.Side.TheVariants.{Left, Right}, specs.declared.matches.Match.Match, specs.declared.matches.Match.TheVariants.{Before, Now, Nothing}, specs.declared.pick.Pick.Pick, specs.Keyed.{indexed, key_at, key_cells, keyed, rekeys, time_at, time_of}, specs.Latest.{during, earlier, latest_by, match_of, next_time}, specs.Notes.{Note, Spot, next_after, note_of, noting, taken_key}}
 use Rattle.row_groups.specs.Members.{Grouped, Member, group_of, keys_of}
 use Rattle.tick_model.{specs.declared.plan.OnPair.OnPair, specs.declared.table.PlainRow.PlainRow, specs.declared.table.PlainTable.PlainTable, specs.declared.update.KeyPair.KeyPair, specs.Join.taken, specs.Tables.{cell, cells_at, keys, null, same_cells}, specs.Updates.{Update, pairs}}
-use Rattle.tick_table.{specs.Exact.IsExact, specs.Ticking.Ticking}
+use Rattle.tick_table.specs.declared.version.Version.TheVariants as versions
+use Rattle.tick_table.{specs.declared.version.Version.Version, specs.Exact.IsExact, specs.Ticking.Ticking}
 
 abbrev pub match_before : Option ℕ → Match
 match_before None = Nothing
@@ -79,6 +81,10 @@ before_by now (Some note) = if speaks now note.at then match_before note.before 
 
 abbrev pub match_as_before : Pick → List Member → List Note → List ℤ → ℤ → Match
 match_as_before pick members notes cells at = before_by (match_of pick cells at members) (note_of cells at notes)
+
+abbrev pub match_in : Version → Pick → List Member → List Note → List ℤ → ℤ → Match
+match_in versions.Before pick members notes cells at = match_as_before pick members notes cells at
+match_in versions.Now pick members notes cells at = match_now (taken_key pick members cells at)
 
 -- the rows of an as-of join may be read: the index has the right rows of now, and what is noted or not says what was taken before
 pub record AreMatched (on : List OnPair) (pick : Pick) (take : List ℕ) (left right : Ticking) (index : Grouped) (notes : List Note) : Type 0 where

@@ -21,7 +21,7 @@ use std::alloc::{AllocError, Global};
 use std::sync::ledger::Ledger;
 use tick_model::cells::cell;
 use tick_model::plan::OnPair;
-use tick_table::{RowsNow, Steps, TickTable};
+use tick_table::{RowReader, Steps, TickTable, Version};
 
 /// An input of a join.
 #[derive(Clone, Copy, Debug, PartialEq, Eq)]
@@ -116,7 +116,7 @@ pub(crate) fn rekeyed<L: Ledger>(
     ensures reads { reads.new ≤ reads.old + input.now.new.width * length pairs.now }
 {
     let mut changed = KeyPairs::new(alloc);
-    let mut rows = RowsNow::of(input);
+    let mut rows = RowReader::of(input, Version::Now);
     for place in 0..pairs.len() {
         let pair = pairs.at(place);
         let row = rows.row(pair.new, reads);
@@ -150,7 +150,7 @@ fn add_rows<L: Ledger>(
     ensures keys { OnOk result ((key : ℕ) → is_among key (keys_of index.new.members) ≡ (is_among key keys.now || is_among key (keys_of index.old.members))) }
     ensures reads { reads.new ≤ reads.old + input.now.new.width * length keys.now }
 {
-    let mut rows = RowsNow::of(input);
+    let mut rows = RowReader::of(input, Version::Now);
     for key in keys {
         let row = rows.row(key, reads);
         let time = read_key(side, on, pick, row, buffer)?;

@@ -21,7 +21,7 @@ use std::alloc::{AllocError, Global};
 use std::marker::Model;
 use std::sync::ledger::Ledger;
 use tick_model::plan::OnPair;
-use tick_table::{RowsNow, Steps, TickTable};
+use tick_table::{RowReader, Steps, TickTable, Version};
 
 /// What is noted of a place, and its time.
 #[derive(Clone, Copy, PartialEq, Eq)]
@@ -198,7 +198,7 @@ fn note_modified<L: Ledger>(
     }) }
     ensures reads { reads.new ≤ reads.old + right.now.new.width * length modified.now }
 {
-    let mut rows = RowsNow::of(right);
+    let mut rows = RowReader::of(right, Version::Now);
     for place in 0..modified.len() {
         let pair = modified.at(place);
         notes.note_old(pick, index, pair.old)?;
@@ -225,7 +225,7 @@ fn note_added<L: Ledger>(
     ensures notes { OnOk result (notes.new ≡ record notes.old { notes = noting pick index.now.members notes.old.notes (map (spot_at on.now pick right.now.new.rows) right.now.update.added) }) }
     ensures reads { reads.new ≤ reads.old + right.now.new.width * length right.now.update.added }
 {
-    let mut rows = RowsNow::of(right);
+    let mut rows = RowReader::of(right, Version::Now);
     for key in right.update().added() {
         let row = rows.row(key, reads);
         let time = read_key(Side::Right, on, pick, row, buffer)?;

@@ -4,7 +4,8 @@ ghost use Rattle.std.specs.Prelude.{◌≡◌, ◌+◌, ◌≤◌, ◌++◌, dro
 ghost use Rattle.lookup_join.specs.Keyed.{key_cells, time_of};
 ghost use Rattle.lookup_join.specs.Latest.{AreTimed, match_of};
 ghost use Rattle.lookup_join.specs.Notes.{taken_key};
-ghost use Rattle.lookup_join.specs.Taken.{AreMatched, match_as_before, match_now, speaks, taken_cells};
+ghost use Rattle.tick_table.specs.Versions.{table_in};
+ghost use Rattle.lookup_join.specs.Taken.{AreMatched, match_in, match_now, speaks, taken_cells};
 
 use crate::keyed::{Side, put_key_cells, time_from};
 use crate::latest::{latest, latest_key};
@@ -17,7 +18,7 @@ use row_set::RowSet;
 use std::alloc::AllocError;
 use std::sync::ledger::Ledger;
 use tick_model::plan::OnPair;
-use tick_table::{RowsNow, Steps, TickTable};
+use tick_table::{RowReader, Steps, TickTable, Version};
 
 /// The rows of a join, of both inputs: what was taken before the step is noted, or else it is what is taken now.
 #[derive(Drop)]
@@ -52,20 +53,26 @@ impl MatchedRows<'_> {
         }
     }
 
-    /// The right row that they took before the step. A note says it, but where a right row of now came after the note.
-    fn match_before(&self, cells: &[i64], time: i64) -> Match
+    /// The right row that they took before the step, or take now. What they took a note says, but where a right row of now came
+    /// after it.
+    fn match_in(&self, version: Version, cells: &[i64], time: i64) -> Match
         requires { AreTimed self.now.pick self.now.index.now.members }
-        ensures { result ≡ match_as_before self.now.pick self.now.index.now.members self.now.notes.now.notes cells.now time }
+        ensures { result ≡ match_in version self.now.pick self.now.index.now.members self.now.notes.now.notes cells.now time }
     {
-        match self.notes.of(cells, time) {
-            Some(note) if self.speaks(cells, time, note.at) => Match::before(note.before),
-            _ => self.match_now(cells, time),
+        match version {
+            Version::Before => match self.notes.of(cells, time) {
+                Some(note) if self.speaks(cells, time, note.at) => Match::before(note.before),
+                _ => self.match_now(cells, time),
+            },
+            Version::Now => self.match_now(cells, time),
         }
     }
 
-    /// Puts the cells that a left row takes now behind it. It is the last row of the cells, and begins at `start`.
-    fn put_taken_now<L: Ledger>(
+    /// Puts the cells that a left row took before the step, or takes now, behind it. It is the last row of the cells, and begins at
+    /// `start`.
+    fn put_taken<L: Ledger>(
         &self,
+        version: Version,
         start: usize,
         cells: &mut Vec<i64>,
         reads: &mut Steps<L>,
@@ -73,14 +80,14 @@ impl MatchedRows<'_> {
         requires start { start ≤ vec_len cells.old }
         requires matched { AreMatched self.now.on.now self.now.pick self.now.take.now self.now.left.now self.now.right.now self.now.index.now self.now.notes.now.notes }
         ensures cells { OnOk result (cells.new.items ≡ cells.old.items
-            ++ taken_cells self.now.on.now self.now.pick self.now.take.now self.now.right.now.new.rows
+            ++ taken_cells self.now.on.now self.now.pick self.now.take.now (table_in version self.now.right.now).rows
             (key_cells Side.Left self.now.on.now (drop start cells.old.items)) (time_of Side.Left self.now.pick (drop start cells.old.items))) }
         ensures reads { reads.new ≤ reads.old + length self.now.take.now }
     {
         let end = cells.len();
         let time = time_from(Side::Left, self.pick, start, cells);
         put_key_cells(Side::Left, self.on, start, cells)?;
-        let taken = self.match_now(&cells[end..], time);
+        let taken = self.match_in(version, &cells[end..], time);
         cells.truncate(end);
         taken.put_cells(self.right, self.take, cells, reads)
     }
@@ -90,35 +97,24 @@ impl<L: Ledger> Rows<L> for MatchedRows<'_> {
     ghost use Rattle.std.specs.Prelude.{◌≡◌, ◌+◌, ◌≤◌, ◌++◌, length, OnOk};
     ghost use Rattle.lookup_join.specs.Matched.{matched_table};
     ghost use Rattle.lookup_join.specs.Taken.{AreMatched};
+    ghost use Rattle.tick_table.specs.Versions.{table_in};
 
-    ghost table_before = { λ rows. matched_table rows.on.now rows.pick rows.take.now rows.left.now.old rows.right.now.old };
-
-    ghost table_now = { λ rows. matched_table rows.on.now rows.pick rows.take.now rows.left.now.new rows.right.now.new };
+    ghost table = { λ rows version. matched_table rows.on.now rows.pick rows.take.now (table_in version rows.left.now) (table_in version rows.right.now) };
 
     ghost row_reads = { λ rows. rows.left.now.new.width + length rows.take.now };
 
     ghost ready = { λ rows. AreMatched rows.on.now rows.pick rows.take.now rows.left.now rows.right.now rows.index.now rows.notes.now.notes };
 
-    fn before(
+    fn row(
         &self,
+        version: Version,
         key: u64,
         cells: &mut Vec<i64>,
         reads: &mut Steps<L>,
     ) -> Result<(), AllocError> {
         let start = cells.len();
-        self.left.prev_row(key, cells, reads)?;
-        let end = cells.len();
-        let time = time_from(Side::Left, self.pick, start, cells);
-        put_key_cells(Side::Left, self.on, start, cells)?;
-        let taken = self.match_before(&cells[end..], time);
-        cells.truncate(end);
-        taken.put_cells(self.right, self.take, cells, reads)
-    }
-
-    fn now(&self, key: u64, cells: &mut Vec<i64>, reads: &mut Steps<L>) -> Result<(), AllocError> {
-        let start = cells.len();
-        self.left.row(key, cells, reads)?;
-        self.put_taken_now(start, cells, reads)
+        self.left.row(version, key, cells, reads)?;
+        self.put_taken(version, start, cells, reads)
     }
 
     fn all_now(
@@ -127,11 +123,11 @@ impl<L: Ledger> Rows<L> for MatchedRows<'_> {
         cells: &mut Vec<i64>,
         reads: &mut Steps<L>,
     ) -> Result<(), AllocError> {
-        let mut left = RowsNow::of(self.left);
+        let mut left = RowReader::of(self.left, Version::Now);
         for key in rows {
             let start = cells.len();
             cells.extend_from_slice(left.row(key, reads))?;
-            self.put_taken_now(start, cells, reads)?;
+            self.put_taken(Version::Now, start, cells, reads)?;
         }
         Ok(())
     }

@@ -24,7 +24,7 @@ abbrev pub kept_now : Ticking → List ℕ
 kept_now t = new_keys (kept_of t)
 
 -- the keys of merged rows
-rows_keys : (side : Ticking → PlainTable) (from : ℕ) (ts : List Ticking) → keys (merged_rows from (map side ts)) ≡ in_regions (λ t. keys (side t).rows) (λ t. region (side t)) from ts
+pub rows_keys : (side : Ticking → PlainTable) (from : ℕ) (ts : List Ticking) → keys (merged_rows from (map side ts)) ≡ in_regions (λ t. keys (side t).rows) (λ t. region (side t)) from ts
 rows_keys side from [] = refl
 rows_keys side from (t ∷ ts) =
     map-append (λ (row : PlainRow). row.key) (map (row_from from) (side t).rows) (merged_rows (from + region (side t)) (map side ts))

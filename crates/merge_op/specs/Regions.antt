@@ -1,4 +1,5 @@
 -- The regions of the inputs of a merge.
+--     room_in version input      how much room the region of an input has
 --     IsStart start      no region begins further behind the keys than all that are empty may be
 --     starts_of before now inputs      where the regions begin, of which the first begins there
 --     in_regions part room from inputs      a part of each input's keys in the input's region, where a region has so much room
@@ -6,7 +7,10 @@
 use Rattle.std.specs.Prelude.{ℕ, ◌+◌, ◌-◌, ◌^◌, ◌≤◌, List, [], ◌∷◌, ◌++◌, ℤ, pos, ◌+ℤ◌, ◌-ℤ◌, map, nat_lt, if◌then◌else◌}
 use Rattle.merge_op.specs.declared.starts.Start.{Start}
 use Rattle.tick_model.{specs.Merge.region, specs.Shifts.delta_at}
-use Rattle.tick_table.specs.Ticking.{Ticking}
+use Rattle.tick_table.{specs.declared.version.Version.Version, specs.Ticking.Ticking, specs.Versions.table_in}
+
+abbrev pub room_in : Version → Ticking → ℕ
+room_in version input = region (table_in version input)
 
 abbrev pub room_before : Ticking → ℕ
 room_before input = region input.old

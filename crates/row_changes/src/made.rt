@@ -13,7 +13,7 @@ use std::alloc::{AllocError, Global};
 use std::sync::ledger::Ledger;
 use table_update::Update;
 use tick_model::items::Items;
-use tick_table::{Change, Steps};
+use tick_table::{Change, Steps, Version};
 
 /// The change from the table before the step to the table now, made of the rows that the step touches: where they are the
 /// parts of the change along some pairs of rows that stay, it is the change along these pairs. It reads the added rows, and
@@ -26,13 +26,13 @@ pub fn change_of_touched<L: Ledger, R: Rows<L>>(
     reads: &mut Steps<L>,
 ) -> Result<Change, AllocError>
     requires ready { R.ready rows.now }
-    requires width { width ≡ (R.table_now rows.now).width }
+    requires width { width ≡ (R.table rows.now Version.Now).width }
     requires few { width ≤ 32 }
     requires even { length touched.compared_before ≡ length touched.compared_now }
-    requires added { AreThere (R.table_now rows.now) touched.added }
-    requires before { AreThere (R.table_before rows.now) touched.compared_before }
-    requires now { AreThere (R.table_now rows.now) touched.compared_now }
-    ensures change { IfOk result (λ change. (kept : List KeyPair) → AreParts (R.table_before rows.now) (R.table_now rows.now) touched kept → change ≡ change_of (tick_along (R.table_before rows.now) (R.table_now rows.now) kept)) }
+    requires added { AreThere (R.table rows.now Version.Now) touched.added }
+    requires before { AreThere (R.table rows.now Version.Before) touched.compared_before }
+    requires now { AreThere (R.table rows.now Version.Now) touched.compared_now }
+    ensures change { IfOk result (λ change. (kept : List KeyPair) → AreParts (R.table rows.now Version.Before) (R.table rows.now Version.Now) touched kept → change ≡ change_of (tick_along (R.table rows.now Version.Before) (R.table rows.now Version.Now) kept)) }
     ensures reads { reads.new ≤ reads.old + R.row_reads rows.now * (2 * length touched.compared_now + length touched.added) }
 {
     let Touched {

@@ -13,7 +13,7 @@ use crate::touched::Touched;
 use row_set::RowSet;
 use std::alloc::{AllocError, Global};
 use std::sync::ledger::Ledger;
-use tick_table::{Change, Steps, TickTable};
+use tick_table::{Change, Steps, TickTable, Version};
 
 /// The change of an operator that has a row for each row of its input, under its key, where `before` and `now` have the
 /// keys of the rows that stay and may differ, place by place. The rows that go, come and move are those of the input. Where
@@ -28,12 +28,12 @@ pub fn mapped<L: Ledger, R: Rows<L>>(
     reads: &mut Steps<L>,
 ) -> Result<Change, AllocError>
     requires ready { R.ready rows.now }
-    requires width { width ≡ (R.table_now rows.now).width }
+    requires width { width ≡ (R.table rows.now Version.Now).width }
     requires few { width ≤ 32 }
     requires exact { IsExact input.now }
-    requires tables { IsMapped (tick_of input.now) (R.table_before rows.now) (R.table_now rows.now) }
-    requires compared { AreCompared (R.table_before rows.now) (R.table_now rows.now) (pairs input.now.old input.now.update) before now }
-    ensures change { IfOk result (λ change. change ≡ change_of (mapped_tick (R.table_before rows.now) (R.table_now rows.now) (tick_of input.now))) }
+    requires tables { IsMapped (tick_of input.now) (R.table rows.now Version.Before) (R.table rows.now Version.Now) }
+    requires compared { AreCompared (R.table rows.now Version.Before) (R.table rows.now Version.Now) (pairs input.now.old input.now.update) before now }
+    ensures change { IfOk result (λ change. change ≡ change_of (mapped_tick (R.table rows.now Version.Before) (R.table rows.now Version.Now) (tick_of input.now))) }
     ensures reads { reads.new ≤ reads.old + R.row_reads rows.now * (2 * length now + length input.now.update.added) }
 {
     let update = input.update();

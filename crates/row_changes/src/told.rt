@@ -16,7 +16,7 @@ use std::sync::ledger::Ledger;
 use table_update::ColumnSet;
 use tick_model::cells::cell;
 use tick_model::update::KeyPair;
-use tick_table::Steps;
+use tick_table::{Steps, Version};
 
 /// The rows that a change tells.
 #[derive(Drop)]
@@ -42,12 +42,12 @@ pub(crate) fn compare_rows<L: Ledger, R: Rows<L>>(
     requires ready { R.ready rows.now }
     requires few { width ≤ 32 }
     requires even { length before.now ≡ length now.now }
-    requires before { AreThere (R.table_before rows.now) before.now }
-    requires now { AreThere (R.table_now rows.now) now.now }
-    ensures modified { IfOk result (λ told. told.modified ≡ new_keys (filter (differs (R.table_before rows.now) (R.table_now rows.now)) (pairs_of before.now now.now))) }
-    ensures columns { IfOk result (λ told. (column : ℕ) → is_among column told.columns ≡ (nat_lt column width && list_any (differs_in (R.table_before rows.now) (R.table_now rows.now) column) (pairs_of before.now now.now))) }
+    requires before { AreThere (R.table rows.now Version.Before) before.now }
+    requires now { AreThere (R.table rows.now Version.Now) now.now }
+    ensures modified { IfOk result (λ told. told.modified ≡ new_keys (filter (differs (R.table rows.now Version.Before) (R.table rows.now Version.Now)) (pairs_of before.now now.now))) }
+    ensures columns { IfOk result (λ told. (column : ℕ) → is_among column told.columns ≡ (nat_lt column width && list_any (differs_in (R.table rows.now Version.Before) (R.table rows.now Version.Now) column) (pairs_of before.now now.now))) }
     ensures rising { IfOk result (λ told. IsRising told.columns) }
-    ensures cells { IfOk result (λ told. told.cells.items ≡ cells.items ++ cells_under (R.table_now rows.now) told.modified) }
+    ensures cells { IfOk result (λ told. told.cells.items ≡ cells.items ++ cells_under (R.table rows.now Version.Now) told.modified) }
     ensures reads { reads.new ≤ reads.old + R.row_reads rows.now * (2 * length now.now) }
 {
     let mut told = Told {
@@ -74,21 +74,21 @@ fn compare_row<L: Ledger, R: Rows<L>>(
 ) -> Result<(), AllocError>
     requires ready { R.ready rows.now }
     requires few { width ≤ 32 }
-    requires before { IsTrue (is_among pair.old (keys (R.table_before rows.now).rows)) }
-    requires now { IsTrue (is_among pair.new (keys (R.table_now rows.now).rows)) }
+    requires before { IsTrue (is_among pair.old (keys (R.table rows.now Version.Before).rows)) }
+    requires now { IsTrue (is_among pair.new (keys (R.table rows.now Version.Now).rows)) }
     requires small { pair.new < 2 ^ 62 }
     requires above { AllByRecursion (λ key. key < pair.new) told.old.modified }
     requires rising { IsRising told.old.columns }
-    ensures modified { OnOk result (told.new.modified ≡ told.old.modified ++ new_keys (filter (differs (R.table_before rows.now) (R.table_now rows.now)) (pair ∷ []))) }
-    ensures columns { OnOk result ((column : ℕ) → is_among column told.new.columns ≡ (is_among column told.old.columns || (nat_lt column width && differs_in (R.table_before rows.now) (R.table_now rows.now) column pair))) }
+    ensures modified { OnOk result (told.new.modified ≡ told.old.modified ++ new_keys (filter (differs (R.table rows.now Version.Before) (R.table rows.now Version.Now)) (pair ∷ []))) }
+    ensures columns { OnOk result ((column : ℕ) → is_among column told.new.columns ≡ (is_among column told.old.columns || (nat_lt column width && differs_in (R.table rows.now Version.Before) (R.table rows.now Version.Now) column pair))) }
     ensures rising { OnOk result (IsRising told.new.columns) }
-    ensures cells { OnOk result (told.new.cells.items ≡ told.old.cells.items ++ cells_under (R.table_now rows.now) (new_keys (filter (differs (R.table_before rows.now) (R.table_now rows.now)) (pair ∷ [])))) }
+    ensures cells { OnOk result (told.new.cells.items ≡ told.old.cells.items ++ cells_under (R.table rows.now Version.Now) (new_keys (filter (differs (R.table rows.now Version.Before) (R.table rows.now Version.Now)) (pair ∷ [])))) }
     ensures reads { reads.new ≤ reads.old + R.row_reads rows.now * 2 }
 {
     row.clear();
-    rows.before(pair.old, row, reads)?;
+    rows.row(Version::Before, pair.old, row, reads)?;
     let start = told.cells.len();
-    rows.now(pair.new, &mut told.cells, reads)?;
+    rows.row(Version::Now, pair.new, &mut told.cells, reads)?;
     let (_, now) = told.cells.split_at(start);
     if same(row, now) {
         told.cells.truncate(start);

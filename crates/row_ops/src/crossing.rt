@@ -17,7 +17,7 @@ use shown_rows::{KeyPairs, keys_among, put_last_if};
 use std::alloc::{AllocError, Global};
 use std::sync::ledger::Ledger;
 use tick_model::plan::Pred;
-use tick_table::{RowsNow, Steps, TickTable};
+use tick_table::{RowReader, Steps, TickTable, Version};
 
 /// The rows that pass no more, by their old keys, and those that pass and did not before, by their new ones.
 #[derive(Drop)]
@@ -71,7 +71,7 @@ fn changed_rows<L: Ledger>(
 {
     let mut leaving = RowSet::new(alloc);
     let mut coming = RowSet::new(alloc);
-    let mut rows = RowsNow::of(input);
+    let mut rows = RowReader::of(input, Version::Now);
     for place in 0..pairs.len() {
         let pair = pairs.at(place);
         let before = shown.contains(pair.old);

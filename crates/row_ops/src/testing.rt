@@ -11,7 +11,7 @@ use shown_rows::put_last_if;
 use std::alloc::{AllocError, Global};
 use std::sync::ledger::Ledger;
 use tick_model::plan::Pred;
-use tick_table::{RowsNow, Steps, TickTable};
+use tick_table::{RowReader, Steps, TickTable, Version};
 
 /// Those of the keys whose rows pass now.
 pub(crate) fn passing_keys<L: Ledger>(
@@ -27,7 +27,7 @@ pub(crate) fn passing_keys<L: Ledger>(
     ensures reads { reads.new ≤ reads.old + input.now.new.width * length keys.now }
 {
     let mut found = RowSet::new(alloc);
-    let mut rows = RowsNow::of(input);
+    let mut rows = RowReader::of(input, Version::Now);
     for key in keys {
         let passing = passes(test, rows.row(key, reads));
         put_last_if(passing, &mut found, key)?;

@@ -4,7 +4,7 @@ use row_changes::Rows;
 use row_set::RowSet;
 use std::alloc::AllocError;
 use std::sync::ledger::Ledger;
-use tick_table::{Steps, TickTable};
+use tick_table::{Steps, TickTable, Version};
 
 /// Says which rows of a table are shown, under their keys.
 pub trait Chooses {
@@ -24,27 +24,24 @@ pub(crate) struct ChosenRows<'a, C> {
 impl<L: Ledger, C: Chooses> Rows<L> for ChosenRows<'_, C> {
     ghost use Rattle.std.specs.Prelude.{◌≡◌, ◌+◌, ◌≤◌, ◌++◌, OnOk};
     ghost use Rattle.tick_table.specs.Exact.{IsExact};
+    ghost use Rattle.tick_table.specs.declared.version.Version.{Version};
+    ghost use Rattle.tick_table.specs.Versions.{table_in};
     ghost use Rattle.shown_rows.specs.Shown.{IsPart};
 
-    ghost table_before = { λ rows. C.chosen rows.choice.now rows.input.now.old };
-
-    ghost table_now = { λ rows. C.chosen rows.choice.now rows.input.now.new };
+    ghost table = { λ rows version. C.chosen rows.choice.now (table_in version rows.input.now) };
 
     ghost row_reads = { λ rows. rows.input.now.new.width };
 
-    ghost ready = { λ rows. IsExact rows.input.now × IsPart (C.chosen rows.choice.now rows.input.now.old) rows.input.now.old × IsPart (C.chosen rows.choice.now rows.input.now.new) rows.input.now.new };
+    ghost ready = { λ rows. IsExact rows.input.now × ((version : Version) → IsPart (C.chosen rows.choice.now (table_in version rows.input.now)) (table_in version rows.input.now)) };
 
-    fn before(
+    fn row(
         &self,
+        version: Version,
         key: u64,
         cells: &mut Vec<i64>,
         reads: &mut Steps<L>,
     ) -> Result<(), AllocError> {
-        self.input.prev_row(key, cells, reads)
-    }
-
-    fn now(&self, key: u64, cells: &mut Vec<i64>, reads: &mut Steps<L>) -> Result<(), AllocError> {
-        self.input.row(key, cells, reads)
+        self.input.row(version, key, cells, reads)
     }
 
     fn all_now(

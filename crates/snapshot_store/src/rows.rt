@@ -7,7 +7,7 @@ ghost use Rattle.tick_model.specs.Words.{words as words_of_table};
 use new_counts::new_count;
 use std::marker::Brand;
 use std::sync::ledger::{Blank, Ledger};
-use tick_table::{RowsNow, Steps, TickTable};
+use tick_table::{RowReader, Steps, TickTable, Version};
 
 // Copies the key and the cells of a row behind the words.
 fn copy_row(key: u64, cells: &[i64], words: &mut Vec<u64>)
@@ -33,7 +33,7 @@ fn copy_counting<L: Ledger>(table: &TickTable, words: &mut Vec<u64>, blank: Blan
 {
     let mut reads = Steps::<L>::new(blank, new_count());
     let keys = table.rows();
-    let mut rows = RowsNow::of(table);
+    let mut rows = RowReader::of(table, Version::Now);
     words.clear();
     words.push_reserved(keys.len());
     for key in keys {

@@ -18,5 +18,4 @@ pub record IsReady (by : List SortBy) (order : List Entry) (input : Ticking) (to
   pub keys_before : keys_touched ≡ keys_at (entries_of by input.old.rows) touched
   pub rising_before : IsRising (keys input.old.rows)
   pub rising_now : IsRising (keys input.new.rows)
-  pub one_width : input.old.width ≡ input.new.width
   pub others : (position : ℕ) → IsTrue (is_among position (keys (sort_table by input.old).rows)) → is_among position touched ≡ false → Stays (sort_table by input.old) (sort_table by input.new) shifted position

@@ -20,7 +20,7 @@ use std::alloc::{AllocError, Global};
 use std::cmp::Ordering;
 use std::sync::ledger::Ledger;
 use tick_model::plan::SortBy;
-use tick_table::{RowsNow, Steps, TickTable};
+use tick_table::{RowReader, Steps, TickTable, Version};
 
 /// The handle of the row under a key, which gets one where it has none.
 fn handle_for(handles: &mut Handles, key: u64) -> Result<Handle, AllocError>
@@ -124,7 +124,7 @@ impl RowOrder {
         ensures reads { reads.new ≤ reads.old + input.now.new.width * length keys.now }
     {
         let mut entered = Vec::new(alloc);
-        let mut rows = RowsNow::of(input);
+        let mut rows = RowReader::of(input, Version::Now);
         for key in keys {
             entered.push(self.enter(key, rows.row(key, reads))?)?;
         }

@@ -9,7 +9,7 @@ use crate::row_order::RowOrder;
 use shown_rows::KeyPairs;
 use std::alloc::{AllocError, Global};
 use std::sync::ledger::Ledger;
-use tick_table::{RowsNow, Steps, TickTable};
+use tick_table::{RowReader, Steps, TickTable, Version};
 
 /// The modified rows.
 #[derive(Drop)]
@@ -36,7 +36,7 @@ pub(crate) fn modified_rows<L: Ledger>(
     let pairs = KeyPairs::modified(input)?;
     let mut moving = KeyPairs::new(alloc);
     let mut staying = KeyPairs::new(alloc);
-    let mut rows = RowsNow::of(input);
+    let mut rows = RowReader::of(input, Version::Now);
     for place in 0..pairs.len() {
         let pair = pairs.at(place);
         if order.has_cells(pair.old, rows.row(pair.new, reads)) {

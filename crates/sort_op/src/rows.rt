@@ -13,7 +13,7 @@ use row_set::RowSet;
 use shift_data::ShiftData;
 use std::alloc::AllocError;
 use std::sync::ledger::Ledger;
-use tick_table::{RowsNow, Steps, TickTable};
+use tick_table::{RowReader, Steps, TickTable, Version};
 
 /// The rows of a sort. The order is the one now; of the one before the step there are the keys at the positions that the step
 /// touches. A row that it does not touch is the same now, at the position to which it moves.
@@ -31,7 +31,7 @@ pub(crate) struct SortedRows<'a> {
 
 impl SortedRows<'_> {
     /// Puts the cells of the row at a position now behind others.
-    fn row<L: Ledger>(
+    fn row_now<L: Ledger>(
         &self,
         position: u64,
         cells: &mut Vec<i64>,
@@ -44,39 +44,38 @@ impl SortedRows<'_> {
         ensures reads { reads.new ≤ reads.old + self.now.input.now.new.width }
     {
         let key = self.order.key_at(position);
-        self.input.row(key, cells, reads)
+        self.input.row(Version::Now, key, cells, reads)
     }
 }
 
 impl<L: Ledger> Rows<L> for SortedRows<'_> {
     ghost use Rattle.std.specs.Prelude.{◌≡◌, ◌+◌, ◌≤◌, ◌++◌, OnOk};
     ghost use Rattle.sort_op.specs.Steps.{IsReady};
+    ghost use Rattle.tick_table.specs.Versions.{table_in};
 
-    ghost table_before = { λ rows. sort_table rows.order.now.by rows.input.now.old };
-
-    ghost table_now = { λ rows. sort_table rows.order.now.by rows.input.now.new };
+    ghost table = { λ rows version. sort_table rows.order.now.by (table_in version rows.input.now) };
 
     ghost row_reads = { λ rows. rows.input.now.new.width };
 
     ghost ready = { λ rows. IsReady rows.order.now.by (listed rows.order.now) rows.input.now rows.touched rows.touched_keys.items rows.shifted };
 
-    fn before(
+    fn row(
         &self,
+        version: Version,
         key: u64,
         cells: &mut Vec<i64>,
         reads: &mut Steps<L>,
     ) -> Result<(), AllocError> {
-        match self.touched.find(key) {
-            Ok(place) => {
-                let old_key = self.touched_keys[place as usize];
-                self.input.prev_row(old_key, cells, reads)
-            }
-            Err(_) => self.row(self.shifted.landing(key), cells, reads),
+        match version {
+            Version::Before => match self.touched.find(key) {
+                Ok(place) => {
+                    let old_key = self.touched_keys[place as usize];
+                    self.input.row(Version::Before, old_key, cells, reads)
+                }
+                Err(_) => self.row_now(self.shifted.landing(key), cells, reads),
+            },
+            Version::Now => self.row_now(key, cells, reads),
         }
-    }
-
-    fn now(&self, key: u64, cells: &mut Vec<i64>, reads: &mut Steps<L>) -> Result<(), AllocError> {
-        self.row(key, cells, reads)
     }
 
     fn all_now(
@@ -85,7 +84,7 @@ impl<L: Ledger> Rows<L> for SortedRows<'_> {
         cells: &mut Vec<i64>,
         reads: &mut Steps<L>,
     ) -> Result<(), AllocError> {
-        let mut input = RowsNow::of(self.input);
+        let mut input = RowReader::of(self.input, Version::Now);
         let mut keys = OrderKeys::of(self.order);
         for position in rows {
             let key = keys.key_at(position);

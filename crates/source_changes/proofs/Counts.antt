@@ -1,8 +1,8 @@
 -- How many keys two lists have together, and how many two updates.
 use Rattle.std.proofs.Common.{◌≡◌, ap, ℕ, ◌+◌, ◌≤◌, ◌^◌, arith, List, length, not, None}
-use Rattle.std.{proofs.lemmas.List.length-map}
+use Rattle.std.proofs.lemmas.List.{length-map}
 use Rattle.key_lists.specs.Keys.{is_among, IsRising, without}
-use Rattle.row_set.{proofs.United.length-united}
+use Rattle.row_set.proofs.United.{length-united}
 use Rattle.tick_laws.{specs.Checked.keys_after, proofs.ResultCells.length-filter_most}
 use Rattle.tick_model.{specs.Rules.{landed, update_fault}, specs.Shifts.{as_key, moved}, specs.Updates.Update}
 use Rattle.table_update.{specs.Coalesced.{added_by_both, modified_by_both}, proofs.CoalescedKeys.{united_added, united_modified}}

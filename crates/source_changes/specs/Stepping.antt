@@ -2,6 +2,7 @@
 --     put_rows rows others      the others, with these rows put among them, one after the other
 --     Stepping      the table before the step, the update so far, and rows that blocks have told, under their keys now
 --     now_of step      the table as the blocks so far have left it
+--     step_in version step      the table before the step, or that one
 --     ticked step      the tick from the table before the step to that one
 --     Stands tick step      the step is that of a tick
 --     told_after told block      the told rows after a block
@@ -13,6 +14,7 @@ use Rattle.row_changes.specs.Parts.{Parts}
 use Rattle.shift_data.specs.Moves.{canonical}
 use Rattle.table_update.{specs.Coalesced.coalesced, specs.Kept.old_modified}
 use Rattle.tick_laws.specs.Checked.{keys_after}
+use Rattle.tick_table.{specs.declared.version.Version.Version, specs.declared.version.Version.TheVariants.{Before, Now}}
 use Rattle.tick_model.{specs.declared.feed.Block.Block, specs.declared.table.PlainRow.PlainRow, specs.declared.table.PlainTable.PlainTable, specs.Changes.{is_empty, told_keys}, specs.Shifts.{as_key, moved}, specs.Sources.{keys_within, update_of}, specs.Tables.{cells_at, keys, row_at}, specs.Updates.{IsTick, Tick, Update, between, new_keys, pairs, removing, shifting}}
 
 -- the row among others by key, in place of one under its key
@@ -45,6 +47,10 @@ row_now step key = record { key = key; cells = cells_now step key }
 
 abbrev pub now_of : Stepping → PlainTable
 now_of step = record step.old { rows = map (row_now step) (keys_after (keys step.old.rows) step.update) }
+
+abbrev pub step_in : Version → Stepping → PlainTable
+step_in Before step = step.old
+step_in Now step = now_of step
 
 abbrev pub ticked : Stepping → Tick
 ticked step = record { old = step.old; new = now_of step; kept = pairs step.old step.update }

@@ -138,22 +138,29 @@ module _ (rows before : List ℕ) (placed : Placed) (update : Update) (told : Li
   pub not_removed : (key n : ℕ) (ks : List ℕ) → ks ≡ update.removed → found key ks ≡ Err n → is_among key table.update.removed ≡ false
   not_removed key n ks same e = ap (λ (update : Update). is_among key update.removed) (sym update_is) ∙ found_err key update.removed n (ap (found key) (sym same) ∙ e)
 
+  -- the place among the modified rows of one that stays
+  pub saved_within : (now n : ℕ) → IsRising update.modified → found now table.update.modified ≡ Ok n → n * placed.width + placed.width ≤ length placed.saved
+  saved_within now n rises e =
+      let there = found_place now n update.modified update.modified refl rises (ap (λ (update : Update). found now update.modified) update_is ∙ e) in
+      let fits = slot_fits n (length update.modified) placed.width there.0 in
+      omega (arith, fits, k.saved)
+
   -- a row that stays, by its key and by that to which it moves
-  module _ (key : ℕ) (shifts : List ShiftRange) (same : shifts ≡ update.shifted) (here : is_among key (keys table.old.rows) ≡ true) (stays : is_among key table.update.removed ≡ false) where
+  module _ (key : ℕ) (here : is_among key (keys table.old.rows) ≡ true) (stays : is_among key table.update.removed ≡ false) where
     own : is_among key before ≡ true
     own = ap (is_among key) before_keys ∙ here
 
     left : is_among key update.removed ≡ false
     left = ap (λ (update : Update). is_among key update.removed) update_is ∙ stays
 
-    pub place_inside : is_past (2 ^ 62) (moved shifts key) ≡ false
-    place_inside =
+    pub place_inside : (shifts : List ShiftRange) → shifts ≡ update.shifted → is_past (2 ^ 62) (moved shifts key) ≡ false
+    place_inside shifts same =
         ap (λ (shifts : List ShiftRange). is_past (2 ^ 62) (moved shifts key)) same
         ∙ lands_inside update.shifted (without update.removed before) key (delta_at update.shifted key) (rules_kept (2 ^ 62) before update k.checked).shifted (stay_own key own left) refl
 
-    module _ (now : ℕ) (is : now ≡ as_key (moved shifts key)) where
+    module _ (now : ℕ) (is : now ≡ as_key (moved table.update.shifted key)) where
       now_place : now ≡ place key
-      now_place = is ∙ ap (λ (shifts : List ShiftRange). as_key (moved shifts key)) same
+      now_place = is ∙ ap (λ (update : Update). as_key (moved update.shifted key)) (sym update_is)
 
       pub now_own : is_among now (keys table.new.rows) ≡ true
       now_own =
@@ -161,25 +168,18 @@ module _ (rows before : List ℕ) (placed : Placed) (update : Update) (told : Li
           ∙ among-put_keys (place key) update.added (landed update.shifted (without update.removed before))
           ∙ or_right (is_among (place key) update.added) (is_among (place key) (landed update.shifted (without update.removed before))) (among-map place key (without update.removed before) (stay_own key own left))
 
-      module _ (ks : List ℕ) (modified_is : ks ≡ update.modified) (rises : IsRising update.modified) (n : ℕ) where
-        pub saved_within : found now ks ≡ Ok n → n * placed.width + placed.width ≤ length placed.saved
-        saved_within e =
-            let there = found_place now n update.modified update.modified refl rises (ap (found now) (sym modified_is) ∙ e) in
-            let fits = slot_fits n (length update.modified) placed.width there.0 in
-            omega (arith, fits, k.saved)
+      pub saved_cells : (n : ℕ) → IsRising update.modified → found now table.update.modified ≡ Ok n → take placed.width (drop (n * placed.width) placed.saved) ≡ cells_at key table.old.rows
+      saved_cells n rises e =
+          let here = ap (λ (update : Update). found now update.modified) update_is ∙ e in
+          let there = found_place now n update.modified update.modified refl rises here in
+          sym (at_under placed.width update.modified placed.saved n rises there.0)
+          ∙ ap (λ key. cells_at key (rows_under placed.width update.modified placed.saved)) (there.1 ∙ now_place)
+          ∙ replaced_cells key own left (ap (λ key. is_among key update.modified) (sym now_place) ∙ (found_ok now update.modified n here).0)
 
-        pub saved_cells : found now ks ≡ Ok n → take placed.width (drop (n * placed.width) placed.saved) ≡ cells_at key table.old.rows
-        saved_cells e =
-            let here = ap (found now) (sym modified_is) ∙ e in
-            let there = found_place now n update.modified update.modified refl rises here in
-            sym (at_under placed.width update.modified placed.saved n rises there.0)
-            ∙ ap (λ key. cells_at key (rows_under placed.width update.modified placed.saved)) (there.1 ∙ now_place)
-            ∙ replaced_cells key own left (ap (λ key. is_among key update.modified) (sym now_place) ∙ (found_ok now update.modified n here).0)
-
-        pub same_cells : found now ks ≡ Err n → cells_at now table.new.rows ≡ cells_at key table.old.rows
-        same_cells e =
-            ap₂ cells_at now_place (sym new_is)
-            ∙ unchanged_cells key own left (ap (λ key. is_among key update.modified) (sym now_place) ∙ found_err now update.modified n (ap (found now) (sym modified_is) ∙ e))
+      pub same_cells : (n : ℕ) → found now table.update.modified ≡ Err n → cells_at now table.new.rows ≡ cells_at key table.old.rows
+      same_cells n e =
+          ap₂ cells_at now_place (sym new_is)
+          ∙ unchanged_cells key own left (ap (λ key. is_among key update.modified) (sym now_place) ∙ found_err now update.modified n (ap (λ (update : Update). found now update.modified) update_is ∙ e))
 
   -- a modified row, by its place
   module _ (rises : IsRising update.modified) where

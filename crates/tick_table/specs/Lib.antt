@@ -4,3 +4,4 @@ pub mod Placed
 pub mod Places
 pub mod Slots
 pub mod Ticking
+pub mod Versions

@@ -14,8 +14,10 @@ mod slots;
 mod stepping;
 mod steps;
 mod table;
+mod version;
 
 pub use change::Change;
-pub use reading::{RowsBefore, RowsNow};
+pub use reading::RowReader;
 pub use steps::Steps;
 pub use table::{Shared, TickTable};
+pub use version::Version;

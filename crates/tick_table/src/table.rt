@@ -1,20 +1,24 @@
 //! The table itself: what it is made of, what it answers and how a change is applied.
 
-ghost use Rattle.std.specs.Prelude.{◌++◌, ◌≡◌, ◌+◌, ◌*◌, ◌^◌, ◌<◌, ◌≤◌, ◌⊎◌, IsTrue, None, false, flat_map, length, map, slice_index, IfOk, OnErr, OnOk};
+ghost use Rattle.std.specs.Prelude.{◌++◌, ◌≡◌, ◌+◌, ◌*◌, ◌^◌, ◌<◌, ◌≤◌, ◌⊎◌, ℕ, IsTrue, None, false, flat_map, length, map, slice_index, IfOk, OnErr, OnOk};
 ghost use Rattle.key_lists.specs.Keys.{is_among};
+ghost use Rattle.row_set.specs.Sets.{found};
 ghost use Rattle.table_update.specs.Kept.{old_modified};
 ghost use Rattle.tick_model.specs.Changes.{change_of, changed, told_keys};
 ghost use Rattle.tick_model.specs.Rules.{update_fault};
+ghost use Rattle.tick_model.specs.Shifts.{as_key, moved};
 ghost use Rattle.tick_model.specs.Tables.{IsTable, cell as cell_of, cells_at, keys};
 ghost use Rattle.tick_model.specs.Updates.{IsTick, Tick};
 ghost use Rattle.tick_table.specs.Exact.{ticking};
 ghost use Rattle.tick_table.specs.Ticking.{fresh};
+ghost use Rattle.tick_table.specs.Versions.{table_in};
 
 use crate::change::Change;
 use crate::placed::PlacedRows;
 use crate::slots::row_at;
 use crate::stepping::bring_on;
 use crate::steps::Steps;
+use crate::version::Version;
 use new_counts::NewCopy;
 use row_set::RowSet;
 use std::alloc::{AllocError, Global};
@@ -141,42 +145,23 @@ impl TickTable {
         self.row_before(key)[column as usize]
     }
 
-    /// Puts the cells of a row now behind others. Each is one read. After a refusal none was read, and the others are as before.
+    /// Puts the cells of a row, before the step or now, behind others. Each is one read. After a refusal none was read, and the others
+    /// are as before.
     pub fn row<L: Ledger>(
         &self,
+        version: Version,
         key: u64,
         cells: &mut Vec<i64>,
         reads: &mut Steps<L>,
     ) -> Result<(), AllocError>
-        requires here { IsTrue (is_among key (keys self.now.new.rows)) }
-        ensures cells { OnOk result (cells.new.items ≡ cells.old.items ++ cells_at key self.now.new.rows) }
-        ensures whole { length (cells_at key self.now.new.rows) ≡ self.now.new.width }
+        requires here { IsTrue (is_among key (keys (table_in version self.now).rows)) }
+        ensures cells { OnOk result (cells.new.items ≡ cells.old.items ++ cells_at key (table_in version self.now).rows) }
+        ensures whole { length (cells_at key (table_in version self.now).rows) ≡ self.now.new.width }
         ensures reads { OnOk result (reads.new ≡ reads.old + self.now.new.width) }
         ensures refused { OnErr result (cells.new.items ≡ cells.old.items) }
         ensures unread { OnErr result (reads.new ≡ reads.old) }
     {
-        let row = self.row_now(key);
-        cells.extend_from_slice(row)?;
-        read_all(row, reads);
-        Ok(())
-    }
-
-    /// Puts the cells that a row had before the step behind others. Each is one read. After a refusal none was read, and the others
-    /// are as before.
-    pub fn prev_row<L: Ledger>(
-        &self,
-        key: u64,
-        cells: &mut Vec<i64>,
-        reads: &mut Steps<L>,
-    ) -> Result<(), AllocError>
-        requires here { IsTrue (is_among key (keys self.now.old.rows)) }
-        ensures cells { OnOk result (cells.new.items ≡ cells.old.items ++ cells_at key self.now.old.rows) }
-        ensures whole { length (cells_at key self.now.old.rows) ≡ self.now.old.width }
-        ensures reads { OnOk result (reads.new ≡ reads.old + self.now.old.width) }
-        ensures refused { OnErr result (cells.new.items ≡ cells.old.items) }
-        ensures unread { OnErr result (reads.new ≡ reads.old) }
-    {
-        let row = self.row_before(key);
+        let row = self.cells_of(version, key);
         cells.extend_from_slice(row)?;
         read_all(row, reads);
         Ok(())
@@ -314,6 +299,19 @@ impl TickTable {
         Ok(())
     }
 
+    /// The cells of a row, before the step or now.
+    fn cells_of(&self, version: Version, key: u64) -> &[i64]
+        requires { IsTrue (is_among key (keys (table_in version self.now).rows)) }
+        ensures cells { result.now ≡ cells_at key (table_in version self.now).rows }
+        ensures whole { length result.now ≡ self.now.new.width }
+    {
+        let _width = self.width();
+        match version {
+            Version::Before => self.row_before(key),
+            Version::Now => self.row_now(key),
+        }
+    }
+
     /// The cells of a row now.
     pub(crate) fn row_now(&self, key: u64) -> &[i64]
         requires { IsTrue (is_among key (keys self.now.new.rows)) }
@@ -331,20 +329,34 @@ impl TickTable {
     {
         match self.update.removed().find(key) {
             Ok(place) => self.placed.left_row(place as usize),
-            Err(_) => self.row_stayed(key),
+            Err(_) => {
+                let now = self.key_now(key);
+                self.row_stayed(now, self.update.modified().find(now))
+            }
         }
     }
 
-    /// The cells that a row had before the step, where the step did not remove it.
-    pub(crate) fn row_stayed(&self, key: u64) -> &[i64]
+    /// The key now of a row that stays.
+    pub(crate) fn key_now(&self, key: u64) -> u64
         requires here { IsTrue (is_among key (keys self.now.old.rows)) }
         requires stays { is_among key self.now.update.removed ≡ false }
-        ensures cells { result.now ≡ cells_at key self.now.old.rows }
-        ensures whole { length result.now ≡ self.now.old.width }
+        ensures key { result ≡ as_key (moved self.now.update.shifted key) }
+        ensures there { IsTrue (is_among result (keys self.now.new.rows)) }
     {
         let _ = self.prev_rows.ranges();
-        let now = self.update.shifted().landing(key);
-        match self.update.modified().find(now) {
+        self.update.shifted().landing(key)
+    }
+
+    /// The cells that a row which stays had before the step, by its key now and by where that is found among the modified ones.
+    pub(crate) fn row_stayed(&self, now: u64, place: Result<u64, u64>) -> &[i64]
+        requires there { IsTrue (is_among now (keys self.now.new.rows)) }
+        requires place { place ≡ found now self.now.update.modified }
+        ensures cells { (key : ℕ) → IsTrue (is_among key (keys self.now.old.rows)) → is_among key self.now.update.removed ≡ false
+            → now ≡ as_key (moved self.now.update.shifted key) → result.now ≡ cells_at key self.now.old.rows }
+        ensures whole { length result.now ≡ self.now.old.width }
+    {
+        let _ = self.update.modified();
+        match place {
             Ok(place) => self.placed.saved_row(place as usize),
             Err(_) => self.row_now(now),
         }

@@ -9,7 +9,7 @@ use crate::slice::Slice;
 use row_changes::Rows;
 use std::alloc::AllocError;
 use std::sync::ledger::Ledger;
-use tick_table::{Steps, TickTable};
+use tick_table::{Steps, TickTable, Version};
 
 /// The rows that the last message left, and those of the slice of a table.
 #[derive(Drop)]
@@ -21,28 +21,28 @@ pub(crate) struct SliceRows<'a> {
 
 impl<L: Ledger> Rows<L> for SliceRows<'_> {
     ghost use Rattle.std.specs.Prelude.{◌≡◌, length};
-    ghost use Rattle.viewport.specs.Slices.{AreColumns, cut};
+    ghost use Rattle.viewport.specs.Slices.{AreColumns, slice_in};
 
-    ghost table_before = { λ rows. rows.last.now.new };
-
-    ghost table_now = { λ rows. cut rows.slice.now rows.table.now.new };
+    ghost table = { λ rows version. slice_in version rows.last.now.new rows.slice.now rows.table.now.new };
 
     ghost row_reads = { λ rows. length rows.slice.now.columns };
 
     ghost ready = { λ rows. AreColumns rows.table.now.new.width rows.slice.now.columns × (rows.last.now.new.width ≡ length rows.slice.now.columns) };
 
-    fn before(
+    fn row(
         &self,
+        version: Version,
         key: u64,
         cells: &mut Vec<i64>,
         reads: &mut Steps<L>,
     ) -> Result<(), AllocError> {
-        self.last.row(key, cells, reads)
-    }
-
-    fn now(&self, key: u64, cells: &mut Vec<i64>, reads: &mut Steps<L>) -> Result<(), AllocError> {
-        let _rows = self.table.rows();
-        put_cells(self.table, self.slice.columns.as_slice(), key, cells, reads)
+        match version {
+            Version::Before => self.last.row(Version::Now, key, cells, reads),
+            Version::Now => {
+                let _rows = self.table.rows();
+                put_cells(self.table, self.slice.columns.as_slice(), key, cells, reads)
+            }
+        }
     }
 }
 

@@ -10,7 +10,7 @@ use Rattle.lookup_join.proofs.keyed.add_rows.Goals as goal
 
 pub row-row-requires : goal.row-row-requires
 row-row-requires g c = record {
-  here = reader_has c.args.input.now c.loop-key.rows c.in-Some.key c.loop-key.invariant.rows (next_has c.loop-key.yielded c.into_iter-key-iterator.ensures.into_iter_gives c.loop-key.yielded_by c.in-Some.ensures.steps (λ key. is_among key (keys c.args.input.now.new.rows) ≡ true) c.requires.there);
+  here = reader_has c.args.input.now.new c.loop-key.rows c.in-Some.key c.loop-key.invariant.rows (next_has c.loop-key.yielded c.into_iter-key-iterator.ensures.into_iter_gives c.loop-key.yielded_by c.in-Some.ensures.steps (λ key. is_among key (keys c.args.input.now.new.rows) ≡ true) c.requires.there);
 }
 
 pub add-requires-clause-small : goal.add-requires-clause-small
@@ -32,7 +32,7 @@ loop-key-preserved g c =
     let all = c.into_iter-key-iterator.ensures.into_iter_gives in
     let fits : SFits w64 c.in_ok-time.time = search rules in
     let before = c.loop-key.index.members in
-    let row = row_given c.args.input.now c.loop-key.rows key c.loop-key.invariant.rows c.row-row.ensures.cells in
+    let row = row_given c.args.input.now.new c.loop-key.rows key c.loop-key.invariant.rows c.row-row.ensures.cells in
     let member : Member = member_of key c.deref.result.now (time_at c.args.side c.args.pick c.args.input.now.new.rows key) in
     let after : c.add.new.self.members ≡ with_member member before =
     ap (λ (index : Grouped). index.members) c.in_ok-add.ensures.members

@@ -7,7 +7,7 @@ use Rattle.lookup_join.proofs.keyed.add_rows.Given as goal
 
 abbrev pub invariant-loop-key : goal.invariant-loop-key
 invariant-loop-key g l = record {
-  rows : l.rows ≡ l.input;
+  rows : l.rows ≡ l.input.new;
   width : l.index.width ≡ length l.on;
   members : AllByRecursion (IsRowOf l.side l.on l.pick l.input.new.rows) l.index.members;
   rising : IsRising (keys_of l.index.members);

@@ -10,7 +10,7 @@ use Rattle.lookup_join.proofs.keyed.rekeyed.Goals as goal
 
 pub row-row-requires : goal.row-row-requires
 row-row-requires g c = record {
-  here = reader_has c.args.input.now c.loop-place.rows c.at-pair.result.new c.loop-place.invariant.rows (of_place (λ (pair : KeyPair). is_among pair.new (keys c.args.input.now.new.rows) ≡ true) c.loop-place.place c.args.pairs.now c.at-pair.result c.requires.now c.at-pair.ensures.pair);
+  here = reader_has c.args.input.now.new c.loop-place.rows c.at-pair.result.new c.loop-place.invariant.rows (of_place (λ (pair : KeyPair). is_among pair.new (keys c.args.input.now.new.rows) ≡ true) c.loop-place.place c.args.pairs.now c.at-pair.result c.requires.now c.at-pair.ensures.pair);
 }
 
 pub with_last-requires-clause-old : goal.with_last-requires-clause-old
@@ -26,7 +26,7 @@ loop-place-preserved g c =
     let pair = c.at-pair.result in
     let test = rekeys c.args.side c.args.on.now c.args.pick c.args.input.now.old c.args.input.now.new in
     let there : is_among pair.old (keys c.args.input.now.old.rows) ≡ true = of_place (λ (pair : KeyPair). is_among pair.old (keys c.args.input.now.old.rows) ≡ true) c.loop-place.place c.args.pairs.now pair c.requires.before c.at-pair.ensures.pair in
-    let row = row_given c.args.input.now c.loop-place.rows pair.new c.loop-place.invariant.rows c.row-row.ensures.cells in
+    let row = row_given c.args.input.now.new c.loop-place.rows pair.new c.loop-place.invariant.rows c.row-row.ensures.cells in
     let fits : SFits w64 c.in_ok-time.time = search rules in
     let own : c.stands_at.result ≡ same_spot (member_at c.args.side c.args.on.now c.args.pick c.args.input.now.old.rows pair.old) (member_at c.args.side c.args.on.now c.args.pick c.args.input.now.new.rows pair.new) =
     c.stands_at.ensures

@@ -10,7 +10,7 @@ use Rattle.lookup_join.proofs.notes.note_added.Goals as goal
 pub row-row-requires : goal.row-row-requires
 row-row-requires g c = record {
   here =
-      reader_has c.args.right.now c.loop-key.rows c.in-Some.key c.loop-key.invariant.rows
+      reader_has c.args.right.now.new c.loop-key.rows c.in-Some.key c.loop-key.invariant.rows
       (next_has c.loop-key.yielded c.into_iter-key-iterator.ensures.into_iter_gives c.loop-key.yielded_by c.in-Some.ensures.steps (λ key. is_among key (keys c.args.right.now.new.rows) ≡ true)
       (subst (AllByRecursion (λ key. is_among key (keys c.args.right.now.new.rows) ≡ true)) (sym (c.added-key-items.ensures.keys ∙ ap (λ (update : Update). update.added) c.update.ensures)) (added_there c.args.right.now c.requires.exact)));
 }
@@ -25,7 +25,7 @@ loop-key-preserved g c =
     let right = c.args.right.now in
     let key = c.in-Some.key in
     let fits : SFits w64 c.in_ok-time.time = search rules in
-    let row = row_given right c.loop-key.rows key c.loop-key.invariant.rows c.row-row.ensures.cells in record {
+    let row = row_given right.new c.loop-key.rows key c.loop-key.invariant.rows c.row-row.ensures.cells in record {
       rows = c.row-row.ensures.same ∙ c.loop-key.invariant.rows;
       notes =
           noted_next c.args.pick c.args.index.now.members c.args.notes.now c.loop-key.notes c.note.new.self (spot_at on c.args.pick right.new.rows) c.loop-key.yielded key _ c.loop-key.invariant.notes

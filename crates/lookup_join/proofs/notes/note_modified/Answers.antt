@@ -18,7 +18,7 @@ note_old-requires-clause-width g c = ap (λ (noted : NoteList). noted.width) c.l
 
 pub row-row-requires : goal.row-row-requires
 row-row-requires g c = record {
-  here = reader_has c.args.right.now c.loop-place.rows c.at-pair.result.new c.loop-place.invariant.rows (of_place (λ (pair : KeyPair). is_among pair.new (keys c.args.right.now.new.rows) ≡ true) c.loop-place.place c.args.modified.now c.at-pair.result c.requires.now c.at-pair.ensures.pair);
+  here = reader_has c.args.right.now.new c.loop-place.rows c.at-pair.result.new c.loop-place.invariant.rows (of_place (λ (pair : KeyPair). is_among pair.new (keys c.args.right.now.new.rows) ≡ true) c.loop-place.place c.args.modified.now c.at-pair.result c.requires.now c.at-pair.ensures.pair);
 }
 
 pub note_old-requires-clause-timed : goal.note_old-requires-clause-timed
@@ -39,7 +39,7 @@ loop-place-preserved g c =
     let members = c.args.index.now.members in
     let pair = c.at-pair.result in
     let fits : SFits w64 c.in_ok-time.time = search rules in
-    let row = row_given right c.loop-place.rows pair.new c.loop-place.invariant.rows c.row-row.ensures.cells in
+    let row = row_given right.new c.loop-place.rows pair.new c.loop-place.invariant.rows c.row-row.ensures.cells in
     let there = of_place (λ (pair : KeyPair). is_among pair.old (keys right.old.rows) ≡ true) c.loop-place.place c.args.modified.now pair c.requires.before c.at-pair.ensures.pair in
     let first = note_put c.args.pick members c.args.notes.now c.loop-place.notes c.note_old.new.self _ (spot_under pair.old members) (spot_at on c.args.pick right.old.rows pair.old) c.loop-place.invariant.notes (spot_known on c.args.pick right.old.rows c.args.index.now pair.old c.requires.index there) c.in_ok-note_old.ensures in
     let second = note_put c.args.pick members c.args.notes.now c.note_old.new.self c.note.new.self _ _ (spot_at on c.args.pick right.new.rows pair.new) first

@@ -6,7 +6,7 @@ use Rattle.lookup_join.proofs.notes.note_modified.Given as goal
 
 abbrev pub invariant-loop-place : goal.invariant-loop-place
 invariant-loop-place g l = record {
-  rows : l.rows ≡ l.right;
+  rows : l.rows ≡ l.right.new;
   notes : l.notes ≡ record l.fn.notes {
     notes = noting l.pick l.index.members l.fn.notes.notes
         (flat_map (λ (pair : KeyPair). spot_at l.on l.pick l.right.old.rows pair.old ∷ spot_at l.on l.pick l.right.new.rows pair.new ∷ []) (take l.place l.modified));

@@ -2,13 +2,14 @@ use Rattle.std.proofs.Common.{ap, sym, ◌∙◌, subst, ℕ, ◌&&◌, ◌++◌
 use Rattle.std.{specs.List.list_any, specs.Prelude.nat_lt}
 use Rattle.shift_data.specs.Moves.{pairs_of}
 use Rattle.tick_model.specs.Updates.{differs_in}
+use Rattle.tick_table.specs.declared.version.Version.TheVariants.{Before, Now}
 use Rattle.row_changes.{specs.Parts.{Parts, AreParts, cells_under}, proofs.MadeChange.change_is}
 use Rattle.row_changes.proofs.made.change_of_touched.Goals as goal
 
 pub returns-clause-change : goal.returns-clause-change
 returns-clause-change g c kept h =
-    let old = g.R.Rows.table_before c.args.rows.now in
-    let new = g.R.Rows.table_now c.args.rows.now in
+    let old = g.R.Rows.table c.args.rows.now Before in
+    let new = g.R.Rows.table c.args.rows.now Now in
     let touched = c.touched.inside in
     let parts : Parts = record { removed = touched.removed; added = touched.added; shifted = touched.shifted; compared_before = touched.compared_before; compared_now = touched.compared_now } in
     let told = c.in_ok-told.told in

@@ -2,13 +2,14 @@ use Rattle.std.proofs.Common.{◌≡◌, ap, sym, ◌∙◌, subst, List}
 use Rattle.std.proofs.lemmas.Result.{IfOk-weaker}
 use Rattle.tick_model.{specs.declared.update.KeyPair.KeyPair, specs.Changes.change_of, specs.Updates.{Update, pairs}}
 use Rattle.tick_table.specs.Exact.{tick_of}
+use Rattle.tick_table.specs.declared.version.Version.TheVariants.{Before, Now}
 use Rattle.row_changes.{specs.Mapped.mapped_tick, specs.Parts.{Parts, AreParts, AreThere, tick_along}, proofs.MadeChange.parts_there, proofs.MappedParts.mapped_parts}
 use Rattle.row_changes.proofs.mapping.mapped.Goals as goal
 
 pub change_of_touched-requires-clause-added : goal.change_of_touched-requires-clause-added
 change_of_touched-requires-clause-added g c =
-    let old = g.R.Rows.table_before c.args.rows.now in
-    let new = g.R.Rows.table_now c.args.rows.now in
+    let old = g.R.Rows.table c.args.rows.now Before in
+    let new = g.R.Rows.table c.args.rows.now Now in
     let input = c.args.input.now in
     let parts : Parts = record { removed = input.update.removed; added = input.update.added; shifted = input.update.shifted; compared_before = c.args.before; compared_now = c.args.now } in
     subst (AreThere new) (sym (c.in_ok-added.ensures ∙ c.added.ensures.keys ∙ ap (λ (update : Update). update.added) c.update-update.ensures))
@@ -16,24 +17,24 @@ change_of_touched-requires-clause-added g c =
 
 pub change_of_touched-requires-clause-before : goal.change_of_touched-requires-clause-before
 change_of_touched-requires-clause-before g c =
-    let old = g.R.Rows.table_before c.args.rows.now in
-    let new = g.R.Rows.table_now c.args.rows.now in
+    let old = g.R.Rows.table c.args.rows.now Before in
+    let new = g.R.Rows.table c.args.rows.now Now in
     let input = c.args.input.now in
     let parts : Parts = record { removed = input.update.removed; added = input.update.added; shifted = input.update.shifted; compared_before = c.args.before; compared_now = c.args.now } in
     (parts_there old new parts (pairs input.old input.update) (mapped_parts input c.requires.exact old new c.requires.tables c.args.before c.args.now c.requires.compared)).1
 
 pub change_of_touched-requires-clause-now : goal.change_of_touched-requires-clause-now
 change_of_touched-requires-clause-now g c =
-    let old = g.R.Rows.table_before c.args.rows.now in
-    let new = g.R.Rows.table_now c.args.rows.now in
+    let old = g.R.Rows.table c.args.rows.now Before in
+    let new = g.R.Rows.table c.args.rows.now Now in
     let input = c.args.input.now in
     let parts : Parts = record { removed = input.update.removed; added = input.update.added; shifted = input.update.shifted; compared_before = c.args.before; compared_now = c.args.now } in
     (parts_there old new parts (pairs input.old input.update) (mapped_parts input c.requires.exact old new c.requires.tables c.args.before c.args.now c.requires.compared)).2
 
 pub returns-clause-change : goal.returns-clause-change
 returns-clause-change g c =
-    let old = g.R.Rows.table_before c.args.rows.now in
-    let new = g.R.Rows.table_now c.args.rows.now in
+    let old = g.R.Rows.table c.args.rows.now Before in
+    let new = g.R.Rows.table c.args.rows.now Now in
     let input = c.args.input.now in
     let kept = pairs input.old input.update in
     let parts : Parts = record { removed = c.in_ok-removed.removed; added = c.in_ok-added.added; shifted = c.in_ok-shifted.shifted; compared_before = c.args.before; compared_now = c.args.now } in

@@ -4,13 +4,14 @@ use Rattle.key_lists.specs.Keys.{is_among, IsRising}
 use Rattle.row_set.proofs.Windows.{rising_before}
 use Rattle.shift_data.specs.Moves.{pairs_of}
 use Rattle.tick_model.{specs.declared.update.KeyPair.KeyPair, specs.Updates.{differs, differs_in, new_keys}}
+use Rattle.tick_table.specs.declared.version.Version.TheVariants.{Before, Now}
 use Rattle.row_changes.{specs.Parts.{AreThere, cells_under}, proofs.Comparing.{cells_more, column_end, column_next, pair_reads, pairs_end, rises_next, told_next}}
 use Rattle.row_changes.proofs.told.compare_rows.Goals as goal
 
 pub loop-old-init : goal.loop-old-init
 loop-old-init g c =
-    let old = g.R.Rows.table_before c.args.rows.now in
-    let new = g.R.Rows.table_now c.args.rows.now in
+    let old = g.R.Rows.table c.args.rows.now Before in
+    let new = g.R.Rows.table c.args.rows.now Now in
     let each = g.R.Rows.row_reads c.args.rows.now in
     let total = c.args.reads.now + each * (2 * length c.args.now.now) in
     let set = c.zip-old-items.ensures.second.1 in
@@ -32,10 +33,10 @@ loop-old-init g c =
     }
 
 pub compare_row-requires-clause-before : goal.compare_row-requires-clause-before
-compare_row-requires-clause-before g c = (subst (AreThere (g.R.Rows.table_before c.args.rows.now)) c.in-Some.ensures.steps.0 c.loop-old.invariant.before).0
+compare_row-requires-clause-before g c = (subst (AreThere (g.R.Rows.table c.args.rows.now Before)) c.in-Some.ensures.steps.0 c.loop-old.invariant.before).0
 
 pub compare_row-requires-clause-now : goal.compare_row-requires-clause-now
-compare_row-requires-clause-now g c = (subst (AreThere (g.R.Rows.table_now c.args.rows.now)) c.in-Some.ensures.steps.1 c.loop-old.invariant.now).0
+compare_row-requires-clause-now g c = (subst (AreThere (g.R.Rows.table c.args.rows.now Now)) c.in-Some.ensures.steps.1 c.loop-old.invariant.now).0
 
 pub compare_row-requires-clause-small : goal.compare_row-requires-clause-small
 compare_row-requires-clause-small g c = (subst (AllByRecursion (λ key. key < 2 ^ 62)) c.in-Some.ensures.steps.1 c.loop-old.invariant.small).0
@@ -47,8 +48,8 @@ compare_row-requires-clause-above g c =
 
 pub loop-old-preserved : goal.loop-old-preserved
 loop-old-preserved g c =
-    let old = g.R.Rows.table_before c.args.rows.now in
-    let new = g.R.Rows.table_now c.args.rows.now in
+    let old = g.R.Rows.table c.args.rows.now Before in
+    let new = g.R.Rows.table c.args.rows.now Now in
     let each = g.R.Rows.row_reads c.args.rows.now in
     let total = c.args.reads.now + each * (2 * length c.args.now.now) in
     let before = zip_first c.next.new.self in
@@ -85,8 +86,8 @@ loop-old-preserved g c =
 
 pub returns-clause-modified : goal.returns-clause-modified
 returns-clause-modified g c =
-    let old = g.R.Rows.table_before c.args.rows.now in
-    let new = g.R.Rows.table_now c.args.rows.now in
+    let old = g.R.Rows.table c.args.rows.now Before in
+    let new = g.R.Rows.table c.args.rows.now Now in
     let told = c.loop-old.told.modified in
     sym (append-nil told)
     ∙ ap (λ (pairs : List KeyPair). told ++ new_keys (filter (differs old new) pairs)) (sym (pairs_end (zip_first c.loop-old.old-iterator) (zip_second c.loop-old.old-iterator) c.in-None.ensures.steps))
@@ -94,8 +95,8 @@ returns-clause-modified g c =
 
 pub returns-clause-columns : goal.returns-clause-columns
 returns-clause-columns g c column =
-    let old = g.R.Rows.table_before c.args.rows.now in
-    let new = g.R.Rows.table_now c.args.rows.now in
+    let old = g.R.Rows.table c.args.rows.now Before in
+    let new = g.R.Rows.table c.args.rows.now Now in
     let here = is_among column c.loop-old.told.columns in
     let less = nat_lt column c.args.width in
     column_end here less

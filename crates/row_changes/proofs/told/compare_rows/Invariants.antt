@@ -3,14 +3,15 @@ use Rattle.std.{specs.Prelude.nat_lt, specs.Iterator.Adapters.{zip_first, zip_se
 use Rattle.key_lists.specs.Keys.{is_among, IsRising}
 use Rattle.shift_data.specs.Moves.{pairs_of}
 use Rattle.tick_model.specs.Updates.{differs, differs_in, new_keys}
+use Rattle.tick_table.specs.declared.version.Version.TheVariants.{Before, Now}
 use Rattle.row_changes.specs.Parts.{AreThere, cells_under}
 use Rattle.row_changes.proofs.told.compare_rows.Given as goal
 
 -- the pairs that are still to come tell their keys and columns behind those that are told
 abbrev pub invariant-loop-old : goal.invariant-loop-old
 invariant-loop-old g l =
-    let old = g.R.Rows.table_before l.rows in
-    let new = g.R.Rows.table_now l.rows in
+    let old = g.R.Rows.table l.rows Before in
+    let new = g.R.Rows.table l.rows Now in
     let first = zip_first l.old-iterator in
     let second = zip_second l.old-iterator in record {
       before : AreThere old first;

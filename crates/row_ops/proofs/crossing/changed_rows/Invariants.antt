@@ -5,7 +5,7 @@ use Rattle.row_ops.proofs.crossing.changed_rows.Given as goal
 
 abbrev pub invariant-loop-place : goal.invariant-loop-place
 invariant-loop-place g l = record {
-  rows : l.rows ≡ l.input;
+  rows : l.rows ≡ l.input.new;
   leaving : l.leaving ≡ old_keys (filter (λ pair. is_among pair.old l.shown && not (truth l.test (cells_at pair.new l.input.new.rows))) (take l.place l.pairs));
   coming : l.coming ≡ new_keys (filter (λ pair. not (is_among pair.old l.shown) && truth l.test (cells_at pair.new l.input.new.rows)) (take l.place l.pairs));
   reads : l.reads ≤ l.fn.reads + l.input.new.width * l.place;

@@ -4,7 +4,7 @@ use Rattle.row_ops.proofs.testing.passing_keys.Given as goal
 
 abbrev pub invariant-loop-key : goal.invariant-loop-key
 invariant-loop-key g l = record {
-  rows : l.rows ≡ l.input;
+  rows : l.rows ≡ l.input.new;
   found : l.found ≡ filter (λ key. truth l.test (cells_at key l.input.new.rows)) l.yielded;
   reads : l.reads ≤ l.fn.reads + l.input.new.width * length l.yielded;
 }

@@ -4,14 +4,25 @@ use Rattle.tick_model.{specs.declared.update.KeyPair.KeyPair, specs.Changes.chan
 use Rattle.key_lists.specs.Keys.{without}
 use Rattle.shift_data.specs.Moves.{canonical}
 use Rattle.row_changes.specs.Parts.{AreParts, Parts, tick_along}
-use Rattle.tick_table.specs.Exact.{tick_of}
-use Rattle.shown_rows.{specs.Shown.through, proofs.Restricted.{added_new, parts_shown, reads_few, shift_lawful_shown, touched, touched_new, touched_old}}
+use Rattle.tick_table.{specs.declared.version.Version.TheVariants.{Before, Now}, specs.Exact.tick_of, specs.Versions.table_in}
+use Rattle.shown_rows.{specs.Shown.{IsPart, through}, proofs.Restricted.{added_new, parts_shown, reads_few, shift_lawful_shown, touched, touched_new, touched_old}}
 use Rattle.shown_rows.proofs.shown.shown_change.Goals as goal
 
 pub canonical_without-requires : goal.canonical_without-requires
 canonical_without-requires g c =
     rw (c.shifted.ensures, c.update.ensures, c.requires.shown, c.requires.leaving)
     (shift_lawful_shown c.args.input.now c.requires.exact (g.C.Chooses.chosen c.args.choice.now) c.requires.old_part c.requires.new_part)
+
+pub change_of_touched-requires-clause-ready : goal.change_of_touched-requires-clause-ready
+change_of_touched-requires-clause-ready g c =
+    let t = c.args.input.now in
+    let choice = g.C.Chooses.chosen c.args.choice.now in (
+      c.requires.exact,
+      λ version. elim version as (λ version. IsPart (choice (table_in version t)) (table_in version t)) [
+        | Before ↦ c.requires.old_part
+        | Now ↦ c.requires.new_part
+      ],
+    )
 
 pub change_of_touched-requires-clause-added : goal.change_of_touched-requires-clause-added
 change_of_touched-requires-clause-added g c =

@@ -2,8 +2,8 @@ use Rattle.std.proofs.Common.{◌≡◌, ◌∷◌, ◌++◌, ◌+◌, ◌*◌, 
 use Rattle.std.{specs.Int.{w64, cast_unsigned}, specs.Prelude.{flat_map, map}, specs.List.AllByRecursion, proofs.Math.Nat.suc-mul, proofs.lemmas.Grind.flat_map-append}
 use Rattle.key_lists.{specs.Keys.is_among, proofs.Among.each_among}
 use Rattle.row_set.proofs.Yielded.{next_has, yielded_all}
+use Rattle.tick_model.specs.declared.table.PlainTable.{PlainTable}
 use Rattle.tick_model.specs.Tables.{cells_at, keys}
-use Rattle.tick_table.specs.Ticking.{Ticking}
 use Rattle.snapshot_store.proofs.RowWords.{keys_long, table_words, words_at}
 use Rattle.snapshot_store.proofs.rows.copy_counting.Goals as goal
 
@@ -25,7 +25,7 @@ row-requires g c =
     let all = keys c.args.table.now.new.rows in
     let IsHere = λ (key : ℕ). is_among key all ≡ true in record {
       here =
-          subst (λ (table : Ticking). is_among c.in-Some.key (keys table.new.rows) ≡ true) (sym c.loop-key.invariant.rows)
+          subst (λ (table : PlainTable). is_among c.in-Some.key (keys table.rows) ≡ true) (sym c.loop-key.invariant.rows)
           (next_has c.loop-key.yielded c.into_iter-key-iterator.ensures.into_iter_gives c.loop-key.yielded_by c.in-Some.ensures.steps IsHere (subst (AllByRecursion IsHere) (sym c.rows-keys.ensures.keys) (each_among all)));
     }
 
@@ -34,7 +34,7 @@ copy_row-requires g c =
     let wide = 1 + c.args.table.now.new.width in
     let words = c.loop-key.words in
     let fits : vec_len words + suc (length c.next.new.self) * wide ≤ vec_capacity words = subst (λ (ks : List ℕ). vec_len words + length ks * wide ≤ vec_capacity words) c.in-Some.ensures.steps c.loop-key.invariant.fits in
-    let whole : length c.row.result.now ≡ c.args.table.now.new.width = c.row.ensures.whole ∙ ap (λ (table : Ticking). table.new.width) c.loop-key.invariant.rows in record {
+    let whole : length c.row.result.now ≡ c.args.table.now.new.width = c.row.ensures.whole ∙ ap (λ (table : PlainTable). table.width) c.loop-key.invariant.rows in record {
       room = omega (arith, suc-mul (length c.next.new.self) wide);
     }
 
@@ -46,8 +46,8 @@ loop-key-preserved g c =
     let yielded = c.loop-key.yielded in
     let words = c.loop-key.words in
     let fits : vec_len words + suc (length c.next.new.self) * wide ≤ vec_capacity words = subst (λ (ks : List ℕ). vec_len words + length ks * wide ≤ vec_capacity words) c.in-Some.ensures.steps c.loop-key.invariant.fits in
-    let whole : length c.row.result.now ≡ c.args.table.now.new.width = c.row.ensures.whole ∙ ap (λ (table : Ticking). table.new.width) c.loop-key.invariant.rows in
-    let row : c.row.result.now ≡ cells_at key rows = c.row.ensures.cells ∙ ap (λ (table : Ticking). cells_at key table.new.rows) c.loop-key.invariant.rows in
+    let whole : length c.row.result.now ≡ c.args.table.now.new.width = c.row.ensures.whole ∙ ap (λ (table : PlainTable). table.width) c.loop-key.invariant.rows in
+    let row : c.row.result.now ≡ cells_at key rows = c.row.ensures.cells ∙ ap (λ (table : PlainTable). cells_at key table.rows) c.loop-key.invariant.rows in
     let long = c.copy_row.ensures.long in
     let same = c.copy_row.ensures.room in
     record {

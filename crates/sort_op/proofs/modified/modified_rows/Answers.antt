@@ -3,8 +3,8 @@ use Rattle.std.specs.Prelude.{slice_get}
 use Rattle.row_changes.proofs.Placed.{reads_placed}
 use Rattle.key_lists.specs.Keys.{IsRising, is_among}
 use Rattle.shown_rows.proofs.Walks.{below_some, none_more, of_place, one_more}
-use Rattle.tick_model.{specs.declared.update.KeyPair.KeyPair, specs.Sort.same_place, specs.Tables.{cells_at, keys}, specs.Updates.{new_keys, old_keys}}
-use Rattle.tick_table.{specs.Exact.tick_of, specs.Ticking.Ticking}
+use Rattle.tick_model.{specs.declared.table.PlainTable.PlainTable, specs.declared.update.KeyPair.KeyPair, specs.Sort.same_place, specs.Tables.{cells_at, keys}, specs.Updates.{new_keys, old_keys}}
+use Rattle.tick_table.specs.Exact.{tick_of}
 use Rattle.sort_op.{specs.Ranks.listed, specs.Reading.modified_pairs, proofs.ModifiedRows.{modified_count, new_there, old_there, stays_by}, proofs.StepParts.here_at, proofs.modified.modified_rows.Goals.{then-has_cells+in_ok-staying, else-has_cells+in_ok-moving}}
 use Rattle.sort_op.proofs.modified.modified_rows.Goals as goal
 
@@ -18,7 +18,7 @@ row-requires g c =
     let place = c.loop-place.place in
     let pair = c.at-pair.result in
     let here : slice_get (modified_pairs t) place ≡ Some pair = ap (λ (pairs : List KeyPair). slice_get pairs place) (sym c.in_ok-pairs.ensures) ∙ c.at-pair.ensures.pair in
-    record { here = ap (λ (table : Ticking). is_among pair.new (keys table.new.rows)) c.loop-place.invariant.table ∙ of_place (λ (pair : KeyPair). is_among pair.new (keys t.new.rows) ≡ true) place (modified_pairs t) pair (new_there t c.requires.exact) here }
+    record { here = ap (λ (table : PlainTable). is_among pair.new (keys table.rows)) c.loop-place.invariant.table ∙ of_place (λ (pair : KeyPair). is_among pair.new (keys t.new.rows) ≡ true) place (modified_pairs t) pair (new_there t c.requires.exact) here }
 
 pub has_cells-requires : goal.has_cells-requires
 has_cells-requires g c =
@@ -76,8 +76,8 @@ loop-place-preserved g c =
     let own : c.has_cells.result ≡ stays pair =
     stays_by t c.requires.exact by (listed c.args.order.now) pair c.row.result.now c.has_cells.result c.requires.stands
     (of_place (λ (pair : KeyPair). is_among pair.old (keys t.old.rows) ≡ true) place (modified_pairs t) pair (old_there t c.requires.exact) here)
-    (c.row.ensures.cells ∙ ap (λ (table : Ticking). cells_at pair.new table.new.rows) c.loop-place.invariant.table) c.has_cells.ensures in
-    let read = c.row.ensures.reads ∙ ap (λ (table : Ticking). c.loop-place.reads + table.new.width) c.loop-place.invariant.table in
+    (c.row.ensures.cells ∙ ap (λ (table : PlainTable). cells_at pair.new table.rows) c.loop-place.invariant.table) c.has_cells.ensures in
+    let read = c.row.ensures.reads ∙ ap (λ (table : PlainTable). c.loop-place.reads + table.width) c.loop-place.invariant.table in
     record {
       moving =
           elim c.if-has_cells.branch [
@@ -108,14 +108,14 @@ returns-clause-staying g c =
 pub returns-in_err-staying-clause-reads : goal.returns-in_err-staying-clause-reads
 returns-in_err-staying-clause-reads g c =
     let t = c.args.input.now in
-    let read = c.row.ensures.reads ∙ ap (λ (table : Ticking). c.loop-place.reads + table.new.width) c.loop-place.invariant.table in
+    let read = c.row.ensures.reads ∙ ap (λ (table : PlainTable). c.loop-place.reads + table.width) c.loop-place.invariant.table in
     let count : c.len-place-end.result ≡ length t.update.modified = c.len-place-end.ensures.count ∙ ap length c.in_ok-pairs.ensures ∙ modified_count t c.requires.exact in
     reads_placed t.new.width c.args.reads.now c.loop-place.reads c.row.new.reads c.loop-place.place (length t.update.modified) (omega (arith, c.loop-place.invariant.reads)) (omega (arith, read)) (omega (arith, count))
 
 pub returns-in_err-moving-clause-reads : goal.returns-in_err-moving-clause-reads
 returns-in_err-moving-clause-reads g c =
     let t = c.args.input.now in
-    let read = c.row.ensures.reads ∙ ap (λ (table : Ticking). c.loop-place.reads + table.new.width) c.loop-place.invariant.table in
+    let read = c.row.ensures.reads ∙ ap (λ (table : PlainTable). c.loop-place.reads + table.width) c.loop-place.invariant.table in
     let count : c.len-place-end.result ≡ length t.update.modified = c.len-place-end.ensures.count ∙ ap length c.in_ok-pairs.ensures ∙ modified_count t c.requires.exact in
     reads_placed t.new.width c.args.reads.now c.loop-place.reads c.row.new.reads c.loop-place.place (length t.update.modified) (omega (arith, c.loop-place.invariant.reads)) (omega (arith, read)) (omega (arith, count))
 

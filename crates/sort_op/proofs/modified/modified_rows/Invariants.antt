@@ -8,6 +8,6 @@ abbrev pub invariant-loop-place : goal.invariant-loop-place
 invariant-loop-place g l = record {
   moving : l.moving ≡ filter (λ pair. not (same_place l.order.by (tick_of l.input) pair)) (take l.place (modified_pairs l.input));
   staying : l.staying ≡ filter (same_place l.order.by (tick_of l.input)) (take l.place (modified_pairs l.input));
-  table : l.rows ≡ l.input;
+  table : l.rows ≡ l.input.new;
   reads : l.reads ≡ l.fn.reads + l.input.new.width * l.place;
 }

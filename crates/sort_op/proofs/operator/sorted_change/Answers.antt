@@ -17,7 +17,6 @@ change_of_touched-requires-clause-ready g c =
       keys_before = c.requires.touched_keys;
       rising_before = c.requires.exact.tick.old_table.rising;
       rising_now = c.requires.exact.tick.new_table.rising;
-      one_width = sym c.requires.exact.tick.one_width;
       others = stays by t c.requires.exact c.args.before.places.crossing c.args.before.places.compared c.args.now.compared c.args.before.touched c.in_ok-moves.moves c.requires.removed (c.in_ok-moves.ensures ∙ are.shifted) c.requires.compared c.requires.touched;
     }
 

@@ -4,8 +4,7 @@ use Rattle.key_lists.{specs.Keys.{is_among, IsRising}, proofs.Among.among_below,
 use Rattle.row_changes.proofs.Comparing.{reads_next, reads_within}
 use Rattle.row_groups.specs.Members.{Grouped, IsNumberOf, groups_of, member_of, with_member}
 use Rattle.row_set.{proofs.Windows.rising_back, proofs.Yielded.{next_has, next_small, yielded_all, yielded_next}}
-use Rattle.tick_model.{specs.Agg.key_cells, specs.Tables.{cell, cells_at, keys}, specs.Updates.removing}
-use Rattle.tick_table.specs.Ticking.{Ticking}
+use Rattle.tick_model.{specs.declared.table.PlainTable.PlainTable, specs.Agg.key_cells, specs.Tables.{cell, cells_at, keys}, specs.Updates.removing}
 use Rattle.agg_by.{specs.declared.running.Running.Running, specs.Answers.with_row, specs.Kept.{AnswerAll, Answers, Keeps}, specs.Steps.key_at, specs.Touched.{AreNoted, with_number}, proofs.KeptSteps.{all_changed, gains, indexed_gains, indexed_room, same_answers, with_agg}, proofs.Made.same_named, proofs.Noted.{noted_more, noted_none, part_again}}
 use Rattle.agg_by.proofs.kept.Kept.put_rows.Goals as goal
 
@@ -25,7 +24,7 @@ loop-key-init g c = record {
 
 pub row-row-requires : goal.row-row-requires
 row-row-requires g c = record {
-  here = subst (λ (table : Ticking). IsTrue (is_among c.in-Some.key (keys table.new.rows))) (sym c.loop-key.invariant.table)
+  here = subst (λ (table : PlainTable). IsTrue (is_among c.in-Some.key (keys table.rows))) (sym c.loop-key.invariant.table)
       (next_has c.loop-key.yielded c.into_iter-key-iterator.ensures.into_iter_gives c.loop-key.yielded_by c.in-Some.ensures.steps (λ key. IsTrue (is_among key (keys c.args.input.now.new.rows))) c.requires.come);
 }
 
@@ -60,7 +59,7 @@ loop-key-preserved g c =
     let key = c.in-Some.key in
     let rising = c.requires.new_table.rising in
     let own : is_among key (keys rows) ≡ true = next_has yielded gives c.loop-key.yielded_by c.in-Some.ensures.steps (λ key. is_among key (keys rows) ≡ true) c.requires.come in
-    let row : c.row-row.result.now ≡ cells_at key rows = c.row-row.ensures.cells ∙ ap (λ (table : Ticking). cells_at key table.new.rows) c.loop-key.invariant.table in
+    let row : c.row-row.result.now ≡ cells_at key rows = c.row-row.ensures.cells ∙ ap (λ (table : PlainTable). cells_at key table.rows) c.loop-key.invariant.table in
     let cells : c.as_slice.result.now ≡ key_at by rows key = c.as_slice.ensures.value ∙ c.in_ok-read_key_cells.ensures ∙ ap (key_cells by) row in
     let is : IsNumberOf number (key_at by rows key) more.names = subst (λ (cells : List ℤ). IsNumberOf number cells more.names) cells c.in_ok-number.ensures.number in
     let items = c.loop-key.self.running.items in
@@ -70,7 +69,7 @@ loop-key-preserved g c =
     let gained : new ≡ map f items = c.in_ok-put_all.ensures ∙ ap₂ (λ (row : List ℤ) (old : List Running). map (with_row number row) old) row all in
     let long : length new ≡ c.loop-key.self.running.len = c.put_all.auto.all ∙ ap length all ∙ sym c.loop-key.self.running.ok.0 in
     let noted = key_at c.args.self.now.by rows in
-    let width = ap (λ (table : Ticking). table.new.width) c.loop-key.invariant.table in record {
+    let width = ap (λ (table : PlainTable). table.width) c.loop-key.invariant.table in record {
       table = c.row-row.ensures.same ∙ c.loop-key.invariant.table;
       by = c.loop-key.invariant.by;
       aggs = c.loop-key.invariant.aggs;
@@ -101,25 +100,25 @@ pub returns-in_err-read_key_cells-clause-reads : goal.returns-in_err-read_key_ce
 returns-in_err-read_key_cells-clause-reads g c =
     reads_within c.args.input.now.new.width c.args.reads.now c.loop-key.reads c.row-row.new.reads c.loop-key.yielded c.in-Some.key _ _
     (yielded_next c.loop-key.yielded c.into_iter-key-iterator.ensures.into_iter_gives c.loop-key.yielded_by c.in-Some.ensures.steps) c.loop-key.invariant.reads
-    (omega (arith, c.row-row.ensures.reads, ap (λ (table : Ticking). table.new.width) c.loop-key.invariant.table))
+    (omega (arith, c.row-row.ensures.reads, ap (λ (table : PlainTable). table.width) c.loop-key.invariant.table))
 
 pub returns-in_err-number-clause-reads : goal.returns-in_err-number-clause-reads
 returns-in_err-number-clause-reads g c =
     reads_within c.args.input.now.new.width c.args.reads.now c.loop-key.reads c.row-row.new.reads c.loop-key.yielded c.in-Some.key _ _
     (yielded_next c.loop-key.yielded c.into_iter-key-iterator.ensures.into_iter_gives c.loop-key.yielded_by c.in-Some.ensures.steps) c.loop-key.invariant.reads
-    (omega (arith, c.row-row.ensures.reads, ap (λ (table : Ticking). table.new.width) c.loop-key.invariant.table))
+    (omega (arith, c.row-row.ensures.reads, ap (λ (table : PlainTable). table.width) c.loop-key.invariant.table))
 
 pub returns-in_err-note-clause-reads : goal.returns-in_err-note-clause-reads
 returns-in_err-note-clause-reads g c =
     reads_within c.args.input.now.new.width c.args.reads.now c.loop-key.reads c.row-row.new.reads c.loop-key.yielded c.in-Some.key _ _
     (yielded_next c.loop-key.yielded c.into_iter-key-iterator.ensures.into_iter_gives c.loop-key.yielded_by c.in-Some.ensures.steps) c.loop-key.invariant.reads
-    (omega (arith, c.row-row.ensures.reads, ap (λ (table : Ticking). table.new.width) c.loop-key.invariant.table))
+    (omega (arith, c.row-row.ensures.reads, ap (λ (table : PlainTable). table.width) c.loop-key.invariant.table))
 
 pub returns-in_err-put_all-clause-reads : goal.returns-in_err-put_all-clause-reads
 returns-in_err-put_all-clause-reads g c =
     reads_within c.args.input.now.new.width c.args.reads.now c.loop-key.reads c.row-row.new.reads c.loop-key.yielded c.in-Some.key _ _
     (yielded_next c.loop-key.yielded c.into_iter-key-iterator.ensures.into_iter_gives c.loop-key.yielded_by c.in-Some.ensures.steps) c.loop-key.invariant.reads
-    (omega (arith, c.row-row.ensures.reads, ap (λ (table : Ticking). table.new.width) c.loop-key.invariant.table))
+    (omega (arith, c.row-row.ensures.reads, ap (λ (table : PlainTable). table.width) c.loop-key.invariant.table))
 
 pub returns : goal.returns
 returns g c =

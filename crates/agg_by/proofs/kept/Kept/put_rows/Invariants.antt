@@ -6,7 +6,7 @@ use Rattle.agg_by.proofs.kept.Kept.put_rows.Given as goal
 
 abbrev pub invariant-loop-key : goal.invariant-loop-key
 invariant-loop-key g l = record {
-  table : l.rows ≡ l.input;
+  table : l.rows ≡ l.input.new;
   by : l.self.by ≡ l.fn.self.by;
   aggs : l.self.aggs ≡ l.fn.self.aggs;
   keeps : (left : List ℕ) → l.come ≡ l.yielded ++ left → Keeps l.self (removing left l.input.new.rows);

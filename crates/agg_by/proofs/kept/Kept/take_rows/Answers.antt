@@ -4,8 +4,7 @@ use Rattle.key_lists.{specs.Keys.is_among, proofs.Every.{every_weaker, filter_al
 use Rattle.row_changes.proofs.Comparing.{reads_next, reads_within}
 use Rattle.row_groups.{specs.Members.{IsNumberOf, IsNumberUnder, groups_of}, proofs.Departing.{zipped_next, zipped_within}}
 use Rattle.row_set.proofs.Yielded.{next_has, next_new, yielded_all, yielded_next}
-use Rattle.tick_model.{specs.declared.table.PlainRow.PlainRow, specs.Tables.{cells_at, keys}, specs.Updates.removing}
-use Rattle.tick_table.specs.Ticking.{Ticking}
+use Rattle.tick_model.{specs.declared.table.PlainTable.PlainTable, specs.declared.table.PlainRow.PlainRow, specs.Tables.{cells_at, keys}, specs.Updates.removing}
 use Rattle.agg_by.{specs.declared.running.Running.Running, specs.Answers.{HasRow, without_row}, specs.Kept.{AnswerAll, Answers}, specs.Steps.key_at, proofs.Answering.known_at, proofs.KeptSteps.{all_changed, has_row, loses, removing-last, without_agg}}
 use Rattle.agg_by.proofs.kept.Kept.take_rows.Goals as goal
 
@@ -22,7 +21,7 @@ loop-key-init g c = record {
 
 pub row-row-requires : goal.row-row-requires
 row-row-requires g c = record {
-  here = subst (λ (table : Ticking). IsTrue (is_among c.in-Some.key (keys table.old.rows))) (sym c.loop-key.invariant.table)
+  here = subst (λ (table : PlainTable). IsTrue (is_among c.in-Some.key (keys table.rows))) (sym c.loop-key.invariant.table)
       (next_has c.loop-key.yielded c.into_iter-key-iterator.ensures.into_iter_gives c.loop-key.yielded_by c.in-Some.ensures.steps (λ key. IsTrue (is_among key (keys c.args.input.now.old.rows))) c.requires.gone);
 }
 
@@ -60,7 +59,7 @@ take_all-requires g c =
     zipped_next (IsNumberUnder c.args.self.now.rows) c.args.gone.now yielded c.next.new.self c.args.numbers.now key c.loop-key.position (yielded_next yielded gives c.loop-key.yielded_by c.in-Some.ensures.steps) c.loop-key.invariant.position c.requires.numbers in
     let is : IsNumberOf number (key_at by rows key) names = under (key_at by rows key) (known_at by c.args.input.now.old c.requires.old_table (groups_of c.args.self.now.rows) c.requires.keeps.rows key own) in
     let all : c.deref_mut.result.now ≡ items = search rules in
-    let row : c.row-row.result.now ≡ cells_at key rows = c.row-row.ensures.cells ∙ ap (λ (table : Ticking). cells_at key table.old.rows) c.loop-key.invariant.table in
+    let row : c.row-row.result.now ≡ cells_at key rows = c.row-row.ensures.cells ∙ ap (λ (table : PlainTable). cells_at key table.rows) c.loop-key.invariant.table in
     let has : AllByRecursion (HasRow number (cells_at key rows)) items =
     every_weaker (Answers by names (removing yielded rows)) (HasRow number (cells_at key rows)) items
     (has_row by rows c.requires.old_table.rising key yielded own (next_new yielded gives c.loop-key.yielded_by c.in-Some.ensures.steps) names number is) c.loop-key.invariant.running.1 in
@@ -84,10 +83,10 @@ loop-key-preserved g c =
     let is : IsNumberOf number (key_at by rows key) names = under (key_at by rows key) (known_at by c.args.input.now.old c.requires.old_table (groups_of c.args.self.now.rows) c.requires.keeps.rows key own) in
     let all : c.deref_mut.result.now ≡ items = search rules in
     let f = without_row number (cells_at key rows) in
-    let row : c.row-row.result.now ≡ cells_at key rows = c.row-row.ensures.cells ∙ ap (λ (table : Ticking). cells_at key table.old.rows) c.loop-key.invariant.table in
+    let row : c.row-row.result.now ≡ cells_at key rows = c.row-row.ensures.cells ∙ ap (λ (table : PlainTable). cells_at key table.rows) c.loop-key.invariant.table in
     let lost : new ≡ map f items = c.in_ok-take_all.ensures ∙ ap₂ (λ (row : List ℤ) (old : List Running). map (without_row number row) old) row all in
     let long : length new ≡ c.loop-key.self.running.len = c.take_all.auto.all ∙ ap length all ∙ sym c.loop-key.self.running.ok.0 in
-    let width = ap (λ (table : Ticking). table.old.width) c.loop-key.invariant.table in record {
+    let width = ap (λ (table : PlainTable). table.width) c.loop-key.invariant.table in record {
       table = c.row-row.ensures.same ∙ c.loop-key.invariant.table;
       by = c.loop-key.invariant.by;
       aggs = c.loop-key.invariant.aggs;
@@ -105,7 +104,7 @@ pub returns-in_err-take_all-clause-reads : goal.returns-in_err-take_all-clause-r
 returns-in_err-take_all-clause-reads g c =
     reads_within c.args.input.now.old.width c.args.reads.now c.loop-key.reads c.row-row.new.reads c.loop-key.yielded c.in-Some.key _ _
     (yielded_next c.loop-key.yielded c.into_iter-key-iterator.ensures.into_iter_gives c.loop-key.yielded_by c.in-Some.ensures.steps) c.loop-key.invariant.reads
-    (omega (arith, c.row-row.ensures.reads, ap (λ (table : Ticking). table.old.width) c.loop-key.invariant.table))
+    (omega (arith, c.row-row.ensures.reads, ap (λ (table : PlainTable). table.width) c.loop-key.invariant.table))
 
 pub returns-clause-running : goal.returns-clause-running
 returns-clause-running g c =

@@ -5,7 +5,7 @@ use Rattle.agg_by.proofs.kept.Kept.take_rows.Given as goal
 
 abbrev pub invariant-loop-key : goal.invariant-loop-key
 invariant-loop-key g l = record {
-  table : l.rows ≡ l.input;
+  table : l.rows ≡ l.input.old;
   by : l.self.by ≡ l.fn.self.by;
   aggs : l.self.aggs ≡ l.fn.self.aggs;
   rows : l.self.rows ≡ l.fn.self.rows;

@@ -4,8 +4,7 @@ use Rattle.key_lists.specs.Keys.{is_among}
 use Rattle.row_changes.proofs.Comparing.{reads_within}
 use Rattle.row_handles.specs.Entries.{keys_of}
 use Rattle.row_set.proofs.Yielded.{next_has, next_new, next_small, yielded_all, yielded_next}
-use Rattle.tick_model.{specs.declared.plan.SortBy.SortBy, specs.Tables.{cells_at, keys}}
-use Rattle.tick_table.specs.Ticking.{Ticking}
+use Rattle.tick_model.{specs.declared.plan.SortBy.SortBy, specs.declared.table.PlainTable.PlainTable, specs.Tables.{cells_at, keys}}
 use Rattle.sort_op.{specs.declared.entry.Entry.Entry, specs.declared.row_order.Row.Row, specs.Entries.keys_in, specs.Ranks.{AreArrived, HasArrived, listed}, specs.Reading.{entries_under, entry_under, entry_with}, proofs.Entering.{arrived_more, keys_apart, key_more, none_arrived, reads_one_more}}
 use Rattle.sort_op.proofs.row_order.RowOrder.enter_rows.Goals as goal
 
@@ -22,7 +21,7 @@ loop-key-init g c = record {
 pub row-requires : goal.row-requires
 row-requires g c = record {
   here =
-      ap (λ (table : Ticking). is_among c.in-Some.key (keys table.new.rows)) c.loop-key.invariant.table
+      ap (λ (table : PlainTable). is_among c.in-Some.key (keys table.rows)) c.loop-key.invariant.table
       ∙ next_has c.loop-key.yielded c.into_iter-key-iterator.ensures.into_iter_gives c.loop-key.yielded_by c.in-Some.ensures.steps (λ key. is_among key (keys c.args.input.now.new.rows) ≡ true) c.requires.here;
 }
 
@@ -42,7 +41,7 @@ loop-key-preserved g c =
     let key = c.in-Some.key in
     let row = c.in_ok-enter.field-0 in
     let out = next_new yielded c.into_iter-key-iterator.ensures.into_iter_gives c.loop-key.yielded_by c.in-Some.ensures.steps in
-    let read = c.row.ensures.cells ∙ ap (λ (t : Ticking). cells_at key t.new.rows) c.loop-key.invariant.table in
+    let read = c.row.ensures.cells ∙ ap (λ (t : PlainTable). cells_at key t.rows) c.loop-key.invariant.table in
     record {
       table = c.row.ensures.same ∙ c.loop-key.invariant.table;
       by = c.enter.ensures.by ∙ c.loop-key.invariant.by;
@@ -53,7 +52,7 @@ loop-key-preserved g c =
           (arrived_more c.loop-key.self c.enter.new.self c.loop-key.entered.items (entries_under first.by table yielded) row key (entry_under first.by table key) (keys_apart first.by table c.loop-key.self c.loop-key.entered.items yielded key c.loop-key.invariant.entered out) c.enter.ensures.others c.loop-key.invariant.entered
           (subst (HasArrived c.enter.new.self row) (ap₂ (λ (by : List SortBy) (cells : List ℤ). entry_with by cells key) c.loop-key.invariant.by read) c.in_ok-enter.ensures.entered)));
       keys = λ other. c.in_ok-enter.ensures.keys other ∙ key_more other key yielded (keys_of first.handles) (keys_of c.loop-key.self.handles) (c.loop-key.invariant.keys other);
-      reads = reads_one_more table.width c.args.reads.now c.loop-key.reads c.row.new.reads yielded key c.loop-key.invariant.reads (c.row.ensures.reads ∙ ap (λ (t : Ticking). c.loop-key.reads + t.new.width) c.loop-key.invariant.table);
+      reads = reads_one_more table.width c.args.reads.now c.loop-key.reads c.row.new.reads yielded key c.loop-key.invariant.reads (c.row.ensures.reads ∙ ap (λ (t : PlainTable). c.loop-key.reads + t.width) c.loop-key.invariant.table);
     }
 
 pub returns-clause-entered : goal.returns-clause-entered
@@ -67,13 +66,13 @@ returns-clause-keys g c = λ key.
 
 pub returns-in_err-enter-clause-reads : goal.returns-in_err-enter-clause-reads
 returns-in_err-enter-clause-reads g c =
-    let read = c.row.ensures.reads ∙ ap (λ (t : Ticking). c.loop-key.reads + t.new.width) c.loop-key.invariant.table in
+    let read = c.row.ensures.reads ∙ ap (λ (t : PlainTable). c.loop-key.reads + t.width) c.loop-key.invariant.table in
     reads_within c.args.input.now.new.width c.args.reads.now c.loop-key.reads c.row.new.reads c.loop-key.yielded c.in-Some.key _ _
     (yielded_next c.loop-key.yielded c.into_iter-key-iterator.ensures.into_iter_gives c.loop-key.yielded_by c.in-Some.ensures.steps) (omega (arith, c.loop-key.invariant.reads)) (omega (arith, read))
 
 pub returns-in_err-push-clause-reads : goal.returns-in_err-push-clause-reads
 returns-in_err-push-clause-reads g c =
-    let read = c.row.ensures.reads ∙ ap (λ (t : Ticking). c.loop-key.reads + t.new.width) c.loop-key.invariant.table in
+    let read = c.row.ensures.reads ∙ ap (λ (t : PlainTable). c.loop-key.reads + t.width) c.loop-key.invariant.table in
     reads_within c.args.input.now.new.width c.args.reads.now c.loop-key.reads c.row.new.reads c.loop-key.yielded c.in-Some.key _ _
     (yielded_next c.loop-key.yielded c.into_iter-key-iterator.ensures.into_iter_gives c.loop-key.yielded_by c.in-Some.ensures.steps) (omega (arith, c.loop-key.invariant.reads)) (omega (arith, read))
 

@@ -6,7 +6,7 @@ use Rattle.sort_op.proofs.row_order.RowOrder.enter_rows.Given as goal
 
 abbrev pub invariant-loop-key : goal.invariant-loop-key
 invariant-loop-key g l = record {
-  table : l.rows ≡ l.input;
+  table : l.rows ≡ l.input.new;
   by : l.self.by ≡ l.fn.self.by;
   listed : listed l.self ≡ listed l.fn.self;
   entered : AreArrived l.self l.entered.items (entries_under l.fn.self.by l.input.new l.yielded);

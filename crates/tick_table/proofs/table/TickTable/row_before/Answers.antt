@@ -8,8 +8,8 @@ left_row-requires c =
     left_within s.rows s.prev_rows s.placed s.update s.told c.self.invariant c.args.self.now c.self.view_is c.removed.ensures.set.rising c.args.key c.in-Ok.place c.removed.result.now c.removed.ensures.keys
     (sym c.find.ensures.position ∙ c.in-Ok.is)
 
-pub row_stayed-requires-clause-stays : goal.row_stayed-requires-clause-stays
-row_stayed-requires-clause-stays c =
+pub key_now-now-requires-clause-stays : goal.key_now-now-requires-clause-stays
+key_now-now-requires-clause-stays c =
     let s = c.self.inside in
     not_removed s.rows s.prev_rows s.placed s.update s.told c.self.invariant c.args.self.now c.self.view_is c.args.key _ c.removed.result.now c.removed.ensures.keys (sym c.find.ensures.position ∙ c.in-Err.is)
 
