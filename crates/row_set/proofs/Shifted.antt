@@ -104,14 +104,14 @@ pub record IsNext (delta : ℤ) (old new : List Range) (index : ℕ) (range : Ra
   pub is : IsRangeFrom 0 range
   pub moves : Shifts delta range
 
-pub next_is : (delta : ℤ) (from to index : ℕ) (old new : List Range) (range : Range) → from ≤ to → to ≤ length old → from ≤ index → index < to → AreApart 0 (slice_range old from to) → AllByRecursion (Shifts delta) (slice_range old from to) → IsSplicing old from to (map (shift delta) (slice_range old from to)) (index - from) index new → range ≡ get_or new index range → IsNext delta old new index range
-next_is delta from to index old new range order within after lt apart lands found read =
+pub next_is : (delta : ℤ) (from to index : ℕ) (old new : List Range) → from ≤ to → to ≤ length old → from ≤ index → index < to → AreApart 0 (slice_range old from to) → AllByRecursion (Shifts delta) (slice_range old from to) → IsSplicing old from to (map (shift delta) (slice_range old from to)) (index - from) index new → IsNext delta old new index (get_or new index blank)
+next_is delta from to index old new order within after lt apart lands found =
     let others = map (shift delta) (slice_range old from to) in
     let begins : from ≤ length old = omega (arith, order, within) in
     let many : length others ≡ to - from = length-map (slice_range old from to) (shift delta) ∙ length-slice from to old order within in
     let size : length new ≡ length old = omega (arith, length-splicing old from to others (index - from) index new found begins (omega (arith, many, lt)), after, lt, within) in
-    let same : range ≡ get_or old index blank =
-    read ∙ get_or_default new index range blank (omega (arith, size, lt, within)) ∙ splicing_read old from to others (index - from) index new blank found begins (omega (arith, many, lt)) lt in
+    let same : get_or new index blank ≡ get_or old index blank =
+    splicing_read old from to others (index - from) index new blank found begins (omega (arith, many, lt)) lt in
     record {
       within = omega (arith, size, lt, within);
       same = same;

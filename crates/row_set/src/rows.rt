@@ -10,7 +10,7 @@ ghost use Rattle.row_set.specs.Sets.{IsKeySet, count_below, common, found, last_
 use crate::algebra::{Choice, KEYS_END, rest_from, stretch_from};
 use crate::changes::{put_range, put_ranges, take_range, take_ranges};
 use crate::iter::Keys;
-use crate::ranges::Range;
+use crate::ranges::{BLOCK, Range};
 use crate::runs::Runs;
 use crate::search;
 use crate::shifts::shift_keys;
@@ -67,10 +67,10 @@ impl RowSet {
         ensures no_more { IfOk result (λ set. length set ≤ length keys.items) }
     {
         keys.sort_unstable();
-        let mut set = RowSet::new(alloc);
         let Some((least, others)) = keys.split_first() else {
-            return Ok(set);
+            return Ok(RowSet::new(alloc));
         };
+        let mut set = RowSet::with_capacity(alloc, keys.len().min(BLOCK - 1))?;
         let mut first = *least;
         let mut last = *least;
         for key in others {

@@ -1,5 +1,5 @@
 //! Keys of a set that move by one difference, in place, where there is room for the edges that stay behind.
-ghost use Rattle.std.specs.Prelude.{◌≡◌, ℕ, pos, ◌+ℤ◌, ◌+◌, ◌^◌, ◌<◌, ◌≤◌, ◌++◌, length, map, take, drop, slice_range, vec_len, vec_capacity};
+ghost use Rattle.std.specs.Prelude.{◌≡◌, ℕ, pos, ◌+ℤ◌, ◌+◌, ◌^◌, ◌<◌, ◌≤◌, ◌++◌, length, map, take, drop, slice_range};
 ghost use Rattle.std.specs.List.{AllByRecursion};
 ghost use Rattle.key_lists.specs.Keys.{IsRising};
 ghost use Rattle.row_set.specs.Moves.{IsKey, Shifts, moved_key, moved_keys, shift};
@@ -20,14 +20,13 @@ fn moved(key: u64, delta: i64) -> u64
 }
 
 /// Moves the ranges from `from` up to `to`.
-fn shift_ranges(ranges: &mut Vec<Range>, from: usize, to: usize, delta: i64)
+fn shift_ranges(ranges: &mut [Range], from: usize, to: usize, delta: i64)
     requires order { from ≤ to }
-    requires within { to ≤ vec_len ranges.old }
-    requires apart { AreApart 0 (slice_range ranges.old.items from to) }
-    requires lands { AllByRecursion (Shifts delta) (slice_range ranges.old.items from to) }
-    ensures items { ranges.new.items ≡ take from ranges.old.items
-        ++ (map (shift delta) (slice_range ranges.old.items from to) ++ drop to ranges.old.items) }
-    ensures capacity { vec_capacity ranges.old ≤ vec_capacity ranges.new }
+    requires within { to ≤ length ranges.old }
+    requires apart { AreApart 0 (slice_range ranges.old from to) }
+    requires lands { AllByRecursion (Shifts delta) (slice_range ranges.old from to) }
+    ensures { ranges.new ≡ take from ranges.old
+        ++ (map (shift delta) (slice_range ranges.old from to) ++ drop to ranges.old) }
 {
     for index in from..to {
         let range = ranges[index];

@@ -5,65 +5,65 @@ use Rattle.row_set.proofs.shifts.shift_ranges.Goals as goal
 
 pub moved-requires-clause-small : goal.moved-requires-clause-small
 moved-requires-clause-small c =
-    let old = c.args.ranges.now.items in
+    let old = c.args.ranges.now in
     let from = c.args.from in
     let to = c.args.to in
     let index = c.loop-index.index in
     let delta : ℤ = to_z w64 (of_z w64 c.args.delta) in
-    let here : IsNext delta old c.loop-index.ranges.items index c.index-range.result.now =
-    next_is delta from to index old c.loop-index.ranges.items c.index-range.result.now c.requires.order (omega (arith, c.requires.within, c.args.ranges.now.ok.0)) c.loop-index.auto.index c.loop-index-test.true c.requires.apart
-    (subst (λ d. AllByRecursion (Shifts d) (slice_range old from to)) (sym (to_z-of_z c.ranges.delta)) c.requires.lands) c.loop-index.invariant.0 c.index-range.ensures in
+    let here : IsNext delta old c.loop-index.ranges index (get_or c.loop-index.ranges index blank) =
+    next_is delta from to index old c.loop-index.ranges c.requires.order c.requires.within c.loop-index.auto.index c.loop-index-test.true c.requires.apart
+    (subst (λ d. AllByRecursion (Shifts d) (slice_range old from to)) (sym (to_z-of_z c.ranges.delta)) c.requires.lands) c.loop-index.invariant in
     omega (arith, here.is.ascends, here.is.small)
 
 pub moved-requires-clause-lands : goal.moved-requires-clause-lands
 moved-requires-clause-lands c =
-    let old = c.args.ranges.now.items in
+    let old = c.args.ranges.now in
     let from = c.args.from in
     let to = c.args.to in
     let index = c.loop-index.index in
     let delta : ℤ = to_z w64 (of_z w64 c.args.delta) in
-    let here : IsNext delta old c.loop-index.ranges.items index c.index-range.result.now =
-    next_is delta from to index old c.loop-index.ranges.items c.index-range.result.now c.requires.order (omega (arith, c.requires.within, c.args.ranges.now.ok.0)) c.loop-index.auto.index c.loop-index-test.true c.requires.apart
-    (subst (λ d. AllByRecursion (Shifts d) (slice_range old from to)) (sym (to_z-of_z c.ranges.delta)) c.requires.lands) c.loop-index.invariant.0 c.index-range.ensures in
+    let here : IsNext delta old c.loop-index.ranges index (get_or c.loop-index.ranges index blank) =
+    next_is delta from to index old c.loop-index.ranges c.requires.order c.requires.within c.loop-index.auto.index c.loop-index-test.true c.requires.apart
+    (subst (λ d. AllByRecursion (Shifts d) (slice_range old from to)) (sym (to_z-of_z c.ranges.delta)) c.requires.lands) c.loop-index.invariant in
     here.moves.first_key
 
 pub moved-requires-in-loop-index-clause-small : goal.moved-requires-in-loop-index-clause-small
 moved-requires-in-loop-index-clause-small c =
-    let old = c.args.ranges.now.items in
+    let old = c.args.ranges.now in
     let from = c.args.from in
     let to = c.args.to in
     let index = c.loop-index.index in
     let delta : ℤ = to_z w64 (of_z w64 c.args.delta) in
-    let here : IsNext delta old c.loop-index.ranges.items index c.index-range.result.now =
-    next_is delta from to index old c.loop-index.ranges.items c.index-range.result.now c.requires.order (omega (arith, c.requires.within, c.args.ranges.now.ok.0)) c.loop-index.auto.index c.loop-index-test.true c.requires.apart
-    (subst (λ d. AllByRecursion (Shifts d) (slice_range old from to)) (sym (to_z-of_z c.ranges.delta)) c.requires.lands) c.loop-index.invariant.0 c.index-range.ensures in
+    let here : IsNext delta old c.loop-index.ranges index (get_or c.loop-index.ranges index blank) =
+    next_is delta from to index old c.loop-index.ranges c.requires.order c.requires.within c.loop-index.auto.index c.loop-index-test.true c.requires.apart
+    (subst (λ d. AllByRecursion (Shifts d) (slice_range old from to)) (sym (to_z-of_z c.ranges.delta)) c.requires.lands) c.loop-index.invariant in
     here.is.small
 
 pub moved-requires-in-loop-index-clause-lands : goal.moved-requires-in-loop-index-clause-lands
 moved-requires-in-loop-index-clause-lands c =
-    let old = c.args.ranges.now.items in
+    let old = c.args.ranges.now in
     let from = c.args.from in
     let to = c.args.to in
     let index = c.loop-index.index in
     let delta : ℤ = to_z w64 (of_z w64 c.args.delta) in
-    let here : IsNext delta old c.loop-index.ranges.items index c.index-range.result.now =
-    next_is delta from to index old c.loop-index.ranges.items c.index-range.result.now c.requires.order (omega (arith, c.requires.within, c.args.ranges.now.ok.0)) c.loop-index.auto.index c.loop-index-test.true c.requires.apart
-    (subst (λ d. AllByRecursion (Shifts d) (slice_range old from to)) (sym (to_z-of_z c.ranges.delta)) c.requires.lands) c.loop-index.invariant.0 c.index-range.ensures in
+    let here : IsNext delta old c.loop-index.ranges index (get_or c.loop-index.ranges index blank) =
+    next_is delta from to index old c.loop-index.ranges c.requires.order c.requires.within c.loop-index.auto.index c.loop-index-test.true c.requires.apart
+    (subst (λ d. AllByRecursion (Shifts d) (slice_range old from to)) (sym (to_z-of_z c.ranges.delta)) c.requires.lands) c.loop-index.invariant in
     here.moves.last_key
 
 pub loop-index-preserved : goal.loop-index-preserved
 loop-index-preserved c =
-    let old = c.args.ranges.now.items in
+    let old = c.args.ranges.now in
     let from = c.args.from in
     let to = c.args.to in
     let index = c.loop-index.index in
     let delta : ℤ = to_z w64 (of_z w64 c.args.delta) in
-    let here : IsNext delta old c.loop-index.ranges.items index c.index-range.result.now =
-    next_is delta from to index old c.loop-index.ranges.items c.index-range.result.now c.requires.order (omega (arith, c.requires.within, c.args.ranges.now.ok.0)) c.loop-index.auto.index c.loop-index-test.true c.requires.apart
-    (subst (λ d. AllByRecursion (Shifts d) (slice_range old from to)) (sym (to_z-of_z c.ranges.delta)) c.requires.lands) c.loop-index.invariant.0 c.index-range.ensures in
-    let new = c.loop-index.ranges.items in
+    let here : IsNext delta old c.loop-index.ranges index (get_or c.loop-index.ranges index blank) =
+    next_is delta from to index old c.loop-index.ranges c.requires.order c.requires.within c.loop-index.auto.index c.loop-index-test.true c.requires.apart
+    (subst (λ d. AllByRecursion (Shifts d) (slice_range old from to)) (sym (to_z-of_z c.ranges.delta)) c.requires.lands) c.loop-index.invariant in
+    let new = c.loop-index.ranges in
     let order : from ≤ to = c.requires.order in
-    let within : to ≤ length old = omega (arith, c.requires.within, c.args.ranges.now.ok.0) in
+    let within : to ≤ length old = c.requires.within in
     let after : from ≤ index = c.loop-index.auto.index in
     let lt = c.loop-index-test.true in
     let others : List Range = map (shift delta) (slice_range old from to) in
@@ -75,8 +75,6 @@ loop-index-preserved c =
     let next : index - from + 1 ≡ index + 1 - from = omega (arith, after) in
     let parts : set new index (span c.moved.result c.moved-in-loop-index.result) ≡ take index new ++ (get_or others (index - from) blank ∷ drop (index + 1) new) =
     rw add-one (set_split new index (span c.moved.result c.moved-in-loop-index.result) here.within)
-    ∙ ap (λ range. take index new ++ (range ∷ drop (index + 1) new)) one in (
-      subst (λ i. IsSplicing old from to others i (index + 1) (set new index (span c.moved.result c.moved-in-loop-index.result))) next
-          (splicing_replaces old from to others (index - from) index new (set new index (span c.moved.result c.moved-in-loop-index.result)) blank c.loop-index.invariant.0 (omega (arith, order, within)) within (omega (arith, many, lt)) lt parts),
-      c.loop-index.invariant.1,
-    )
+    ∙ ap (λ range. take index new ++ (range ∷ drop (index + 1) new)) one in
+    subst (λ i. IsSplicing old from to others i (index + 1) (set new index (span c.moved.result c.moved-in-loop-index.result))) next
+    (splicing_replaces old from to others (index - from) index new (set new index (span c.moved.result c.moved-in-loop-index.result)) blank c.loop-index.invariant (omega (arith, order, within)) within (omega (arith, many, lt)) lt parts)

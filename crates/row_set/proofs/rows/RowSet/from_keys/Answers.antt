@@ -18,9 +18,9 @@ loop-key-init c =
     let least = c.in-Some.least.now in record {
       order = omega arith;
       last_is = refl;
-      keys = λ other. run_begun other least c.new-set.result (least ∷ c.in-Some.others.now) 0 (omega arith) refl (ap (is_among other) c.new-set.ensures);
-      rising = subst IsRising (sym c.new-set.ensures) tt;
-      no_more = omega (arith, ap length c.new-set.ensures);
+      keys = λ other. run_begun other least c.in_ok-set.set (least ∷ c.in-Some.others.now) 0 (omega arith) refl (ap (is_among other) c.in_ok-set.ensures);
+      rising = subst IsRising (sym c.in_ok-set.ensures) tt;
+      no_more = omega (arith, ap length c.in_ok-set.ensures);
     }
 
 pub overflow_add-last : goal.overflow_add-last
