@@ -101,9 +101,11 @@ impl Index {
         ensures places { self.new.places ≡ self.old.places }
     {
         let block = &mut self.blocks[index];
+        // The first row lies so far below the ceiling, by a number of 32 bits. It is not looked at: its block alone is.
+        let _ = block.rows[0].depth as u64;
+        let depth = block.ceiling - block.first;
         block.first = shifts.landing(block.first);
-        let depth = block.rows[0].depth;
-        block.ceiling = block.first + depth as u64;
+        block.ceiling = block.first + depth;
         self.ceilings[block.number as usize] = block.ceiling;
     }
 
