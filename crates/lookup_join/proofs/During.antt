@@ -4,7 +4,7 @@ use Rattle.std.{specs.Prelude.{int_le, int_lt, option_map, slice_get, slice_inde
 use Rattle.key_lists.proofs.Every.{every, every_weaker, filter_none, filter_same}
 use Rattle.lookup_join.{specs.Latest.{count_before, during}, proofs.Latests.Timed, proofs.Walks.get_index}
 use Rattle.row_groups.{proofs.Order.later_too, specs.Members.{Member, keys_of, member_of}}
-use Rattle.shown_rows.proofs.Walks.{one_more}
+use Rattle.shown_rows.proofs.Walks.{chosen_more, take_next}
 use Rattle.tick_laws.proofs.ResultCells.{length-filter_most}
 
 module _ {X : Type 0} (P : X → Type 0) where
@@ -102,7 +102,7 @@ module _ (from : ℤ) (until : Option ℤ) (members : List Member) (timed : Time
       ∙ append_assoc first (keys_of (filter after (take n members))) (member.key ∷ [])
       ∙ ap (λ ks. first ++ ks)
       (sym (map-append (λ (member : Member). member.key) (filter after (take n members)) (member ∷ []))
-      ∙ ap keys_of (one_more after members n member (filter after (take n members)) at_place (each_after start n member s least at_place) refl))
+      ∙ ap keys_of (chosen_more after (take n members) member (filter after (take n members)) (filter after (take n members) ++ member ∷ []) true refl (sym (each_after start n member s least at_place)) refl ∙ ap (filter after) (sym (take_next members n member at_place))))
     where
       member : Member
       member = slice_index_or members n (member_of 0 [] (pos 0))

@@ -26,12 +26,12 @@ pub fold_next : {X Y : Type 0} (f : Y → X → Y) (start : Y) (xs : List X) (n 
 fold_next f start xs n x e = ap (fold f start) (take_next xs n x e) ∙ fold-append f start (take n xs) (x ∷ [])
 
 -- two places more
-pub noting_two : {X : Type 0} (pick : Pick) (members : List Member) (start : List Note) (first second : X → Spot) (xs : List X) (n : ℕ) (x : X) → slice_get xs n ≡ Some x
-    → with_note (fresh_note pick members (second x)) (with_note (fresh_note pick members (first x)) (noting pick members start (flat_map (λ x. first x ∷ second x ∷ []) (take n xs))))
-    ≡ noting pick members start (flat_map (λ x. first x ∷ second x ∷ []) (take (n + 1) xs))
-noting_two pick members start first second xs n x e =
-    sym (ap (noting pick members start) (ap (flat_map (λ x. first x ∷ second x ∷ [])) (take_next xs n x e) ∙ flat_map-append (λ x. first x ∷ second x ∷ []) (take n xs) (x ∷ []))
-    ∙ fold-append (λ (notes : List Note) spot. with_note (fresh_note pick members spot) notes) start (flat_map (λ x. first x ∷ second x ∷ []) (take n xs)) (first x ∷ second x ∷ []))
+pub noting_two : {X : Type 0} (pick : Pick) (members : List Member) (start : List Note) (first second : X → Spot) (some : List X) (x : X)
+    → with_note (fresh_note pick members (second x)) (with_note (fresh_note pick members (first x)) (noting pick members start (flat_map (λ x. first x ∷ second x ∷ []) some)))
+    ≡ noting pick members start (flat_map (λ x. first x ∷ second x ∷ []) (some ++ x ∷ []))
+noting_two pick members start first second some x =
+    sym (ap (noting pick members start) (flat_map-append (λ x. first x ∷ second x ∷ []) some (x ∷ []))
+    ∙ fold-append (λ (notes : List Note) spot. with_note (fresh_note pick members spot) notes) start (flat_map (λ x. first x ∷ second x ∷ []) some) (first x ∷ second x ∷ []))
 
 -- a note that is put, of what was known before
 pub note_put : (pick : Pick) (members : List Member) (first before after : NoteList) (notes : List Note) (own spot : Spot) → before ≡ (record first { notes = notes }) → own ≡ spot

@@ -117,13 +117,11 @@ pub(crate) fn rekeyed<L: Ledger>(
 {
     let mut changed = KeyPairs::new(alloc);
     let mut rows = RowReader::of(input, Version::Now);
-    for place in 0..pairs.len() {
-        let pair = pairs.at(place);
+    for pair in pairs {
         let row = rows.row(pair.new, reads);
         let time = read_key(side, on, pick, row, buffer)?;
-        if !stands_at(index, pair.old, buffer, time) {
-            changed = changed.with_last(pair)?;
-        }
+        let stands = stands_at(index, pair.old, buffer, time);
+        changed = changed.with_last_if(!stands, pair)?;
     }
     Ok(changed)
 }

@@ -199,8 +199,7 @@ fn note_modified<L: Ledger>(
     ensures reads { reads.new ≤ reads.old + right.now.new.width * length modified.now }
 {
     let mut rows = RowReader::of(right, Version::Now);
-    for place in 0..modified.len() {
-        let pair = modified.at(place);
+    for pair in modified {
         notes.note_old(pick, index, pair.old)?;
         let row = rows.row(pair.new, reads);
         let time = read_key(Side::Right, on, pick, row, buffer)?;

@@ -78,14 +78,14 @@ cells_more table others cells more told added all h a m =
     ∙ ap (λ xs. others ++ xs) (sym (flat_map-append (λ key. cells_at key table.rows) told added) ∙ ap (cells_under table) (sym a))
 
 -- the reads of one more row, and of the next pair
-pub reads_next : (each first so_far more : ℕ) (some : List ℕ) (key : ℕ) → so_far ≤ first + each * length some → more ≤ so_far + each → more ≤ first + each * length (some ++ key ∷ [])
+pub reads_next : {X : Type 0} (each first so_far more : ℕ) (some : List X) (key : X) → so_far ≤ first + each * length some → more ≤ so_far + each → more ≤ first + each * length (some ++ key ∷ [])
 reads_next each first so_far more some key h e = subst (λ n. more ≤ first + each * n) (sym (length-append some (key ∷ []))) (within (length some) h)
   where
     within : (n : ℕ) → so_far ≤ first + each * n → more ≤ first + each * (n + 1)
     within n h = omega (arith, h, e)
 
 -- where one more row is read of those of a set, no more are read than all of them
-pub reads_within : (each first so_far more : ℕ) (some : List ℕ) (key : ℕ) (others keys : List ℕ) → keys ≡ some ++ key ∷ others → so_far ≤ first + each * length some → more ≤ so_far + each → more ≤ first + each * length keys
+pub reads_within : {X : Type 0} (each first so_far more : ℕ) (some : List X) (key : X) (others keys : List X) → keys ≡ some ++ key ∷ others → so_far ≤ first + each * length some → more ≤ so_far + each → more ≤ first + each * length keys
 reads_within each first so_far more some key others keys all h e = subst (λ n. more ≤ first + each * n) (sym (ap length all ∙ length-append some (key ∷ others))) (within (length some) (length others) h)
   where
     within : (n rest : ℕ) → so_far ≤ first + each * n → more ≤ first + each * (n + suc rest)

@@ -72,8 +72,7 @@ fn changed_rows<L: Ledger>(
     let mut leaving = RowSet::new(alloc);
     let mut coming = RowSet::new(alloc);
     let mut rows = RowReader::of(input, Version::Now);
-    for place in 0..pairs.len() {
-        let pair = pairs.at(place);
+    for pair in pairs {
         let before = shown.contains(pair.old);
         let now = passes(test, rows.row(pair.new, reads));
         put_last_if(before && !now, &mut leaving, pair.old)?;

@@ -1,10 +1,10 @@
 -- Lists that are walked from the front.
-use Rattle.std.proofs.Common.{◌≡◌, refl, ap, sym, ◌∙◌, subst, Bool, true, false, cond, ℕ, zero, suc, ◌+◌, ◌<◌, arith, add-one, ap₂, List, [], ◌∷◌, ◌++◌, map, filter, take, length, Some}
-use Rattle.std.{specs.Prelude.slice_get, specs.List.AllByRecursion, proofs.lemmas.List.append-nil, proofs.lemmas.List.Elements.filter-append, proofs.lemmas.Option.{none-some, same_Some}}
+use Rattle.std.proofs.Common.{◌≡◌, refl, ap, sym, ◌∙◌, subst, Bool, cond, ℕ, zero, suc, ◌+◌, ◌^◌, ◌<◌, arith, add-one, ap₂, List, [], ◌∷◌, ◌++◌, map, filter, take, length, Some}
+use Rattle.std.{specs.Iterator.{Yields, YieldsFirst}, specs.Prelude.slice_get, specs.List.AllByRecursion, proofs.lemmas.List.append-nil, proofs.lemmas.List.Elements.filter-append, proofs.lemmas.Option.{none-some, same_Some}}
 use Rattle.key_lists.{specs.Keys.IsRising, proofs.Every.{every-map, every_unmapped, every-filter}}
-use Rattle.row_changes.proofs.Comparing.{length-pairs_of}
+use Rattle.row_set.specs.Sets.{IsKeySet}
 use Rattle.shift_data.specs.Moves.{pairs_of}
-use Rattle.tick_model.specs.declared.update.KeyPair.{KeyPair}
+use Rattle.tick_model.{specs.declared.update.KeyPair.KeyPair, specs.Updates.{new_keys, old_keys}}
 
 -- one element more
 take_suc : {X : Type 0} (xs : List X) (n : ℕ) (x : X) → slice_get xs n ≡ Some x → take (suc n) xs ≡ take n xs ++ x ∷ []
@@ -15,64 +15,67 @@ take_suc (y ∷ ys) (suc n) x e = ap (λ rest. y ∷ rest) (take_suc ys n x e)
 pub take_next : {X : Type 0} (xs : List X) (n : ℕ) (x : X) → slice_get xs n ≡ Some x → take (n + 1) xs ≡ take n xs ++ x ∷ []
 take_next xs n x e = ap (λ k. take k xs) (add-one n) ∙ take_suc xs n x e
 
--- of those that pass a test
-pub filter_next : {X : Type 0} (test : X → Bool) (xs : List X) (n : ℕ) (x : X) → slice_get xs n ≡ Some x → filter test (take (n + 1) xs) ≡ filter test (take n xs) ++ cond (test x) (x ∷ []) []
-filter_next test xs n x e = ap (filter test) (take_next xs n x e) ∙ filter-append test (take n xs) (x ∷ [])
-
-pub one_more : {X : Type 0} (test : X → Bool) (xs : List X) (n : ℕ) (x : X) (made : List X) → slice_get xs n ≡ Some x → test x ≡ true → made ≡ filter test (take n xs) → made ++ x ∷ [] ≡ filter test (take (n + 1) xs)
-one_more test xs n x made e passes so_far = ap (λ some. some ++ x ∷ []) so_far ∙ sym (filter_next test xs n x e ∙ ap (λ b. filter test (take n xs) ++ cond b (x ∷ []) []) passes)
-
-pub none_more : {X : Type 0} (test : X → Bool) (xs : List X) (n : ℕ) (x : X) (made : List X) → slice_get xs n ≡ Some x → test x ≡ false → made ≡ filter test (take n xs) → made ≡ filter test (take (n + 1) xs)
-none_more test xs n x made e fails so_far = so_far ∙ sym (filter_next test xs n x e ∙ ap (λ b. filter test (take n xs) ++ cond b (x ∷ []) []) fails ∙ append-nil (filter test (take n xs)))
-
 -- what holds of all elements holds of the one at a place
 pub of_place : {X : Type 0} (P : X → Type 0) (n : ℕ) (xs : List X) (x : X) → AllByRecursion P xs → slice_get xs n ≡ Some x → P x
 of_place P n [] x h e = absurd (none-some x e)
 of_place P zero (y ∷ ys) x h e = subst P (same_Some _ _ e) h.0
 of_place P (suc n) (y ∷ ys) x h e = of_place P n ys x h.1 e
 
--- the numbers of those before an element are below its own, where they rise
-below_next : {X : Type 0} (f : X → ℕ) (xs : List X) (n : ℕ) (x : X) → IsRising (map f xs) → slice_get xs n ≡ Some x → AllByRecursion (λ y. f y < f x) (take n xs)
-below_next f [] n x r e = absurd (none-some x e)
-below_next f (y ∷ ys) zero x r e = tt
-below_next f (y ∷ ys) (suc n) x r e = (of_place (λ z. f y < f z) n ys x (every_unmapped (λ k. f y < k) f ys r.0) e, below_next f ys n x r.1 e)
+-- of elements whose numbers rise, those before one
+at_seam : {X : Type 0} (P : X → Type 0) (some : List X) (x : X) (others : List X) → AllByRecursion P (some ++ x ∷ others) → P x
+at_seam P [] x others h = h.0
+at_seam P (y ∷ some) x others h = at_seam P some x others h.1
 
-pub below_some : {X : Type 0} (f : X → ℕ) (test : X → Bool) (xs : List X) (n : ℕ) (x : X) (made : List X) → IsRising (map f xs) → slice_get xs n ≡ Some x → made ≡ filter test (take n xs) → AllByRecursion (λ k. k < f x) (map f made)
-below_some f test xs n x made r e so_far = subst (λ some. AllByRecursion (λ k. k < f x) (map f some)) (sym so_far) (every-map (λ k. k < f x) f (filter test (take n xs)) (every-filter (λ y. f y < f x) test (take n xs) (below_next f xs n x r e)))
+below_next : {X : Type 0} (f : X → ℕ) (some : List X) (x : X) (others : List X) → IsRising (map f (some ++ x ∷ others)) → AllByRecursion (λ y. f y < f x) some
+below_next f [] x others r = tt
+below_next f (y ∷ some) x others r = (at_seam (λ z. f y < f z) some x others (every_unmapped (λ k. f y < k) f (some ++ x ∷ others) r.0), below_next f some x others r.1)
 
-pub below_keys : (test : ℕ → Bool) (xs : List ℕ) (n : ℕ) (x : ℕ) (made : List ℕ) → IsRising xs → slice_get xs n ≡ Some x → made ≡ filter test (take n xs) → AllByRecursion (λ k. k < x) made
-below_keys test xs n x made r e so_far = subst (AllByRecursion (λ k. k < x)) (map_same_key made) (below_some (λ k. k) test xs n x made (subst IsRising (sym (map_same_key xs)) r) e so_far)
-  where
-    map_same_key : (ks : List ℕ) → map (λ k. k) ks ≡ ks
-    map_same_key [] = refl
-    map_same_key (k ∷ ks) = ap (λ rest. k ∷ rest) (map_same_key ks)
+-- the pairs that a `for` has been given, of all of them
+abbrev HasYielded : List KeyPair → List KeyPair → List KeyPair → Type 0
+HasYielded = Yields (YieldsFirst {A = KeyPair} (λ pairs. pairs))
+
+in_turn : (from yielded left : List KeyPair) → HasYielded from yielded left → from ≡ yielded ++ left
+in_turn from [] left y = y
+in_turn from (pair ∷ yielded) left y = y.1 ∙ ap (λ pairs. pair ∷ pairs) (in_turn y.0 yielded left y.2)
+
+module _ {pairs from left : List KeyPair} (yielded : List KeyPair) (gives : (from ≡ pairs) × IsKeySet (old_keys pairs) × IsKeySet (new_keys pairs)) (y : HasYielded from yielded left) where
+  pub pairs_all : left ≡ [] → yielded ≡ pairs
+  pairs_all none = sym (append-nil yielded) ∙ ap (λ rest. yielded ++ rest) (sym none) ∙ sym (in_turn from yielded left y) ∙ gives.0
+
+  module _ {others : List KeyPair} {pair : KeyPair} (next : left ≡ pair ∷ others) where
+    pub pairs_next : pairs ≡ yielded ++ pair ∷ others
+    pairs_next = sym gives.0 ∙ in_turn from yielded left y ∙ ap (λ rest. yielded ++ rest) next
+
+    pub pair_has : (P : KeyPair → Type 0) → AllByRecursion P pairs → P pair
+    pair_has P all = at_seam P yielded pair others (subst (AllByRecursion P) pairs_next all)
+
+    pub old_small : pair.old < 2 ^ 62
+    old_small = pair_has (λ pair. pair.old < 2 ^ 62) (every_unmapped (λ key. key < 2 ^ 62) (λ (pair : KeyPair). pair.old) pairs gives.1.small)
+
+    pub new_small : pair.new < 2 ^ 62
+    new_small = pair_has (λ pair. pair.new < 2 ^ 62) (every_unmapped (λ key. key < 2 ^ 62) (λ (pair : KeyPair). pair.new) pairs gives.2.small)
+
+    above : (f : KeyPair → ℕ) → IsRising (map f pairs) → (test : KeyPair → Bool) (made : List KeyPair) → made ≡ filter test yielded → AllByRecursion (λ key. key < f pair) (map f made)
+    above f rising test made so_far =
+        subst (λ some. AllByRecursion (λ key. key < f pair) (map f some)) (sym so_far)
+        (every-map (λ key. key < f pair) f (filter test yielded) (every-filter (λ other. f other < f pair) test yielded (below_next f yielded pair others (subst (λ pairs. IsRising (map f pairs)) pairs_next rising))))
+
+    pub old_above : (test : KeyPair → Bool) (made : List KeyPair) → made ≡ filter test yielded → AllByRecursion (λ key. key < pair.old) (old_keys made)
+    old_above = above (λ pair. pair.old) gives.1.rising
+
+    pub new_above : (test : KeyPair → Bool) (made : List KeyPair) → made ≡ filter test yielded → AllByRecursion (λ key. key < pair.new) (new_keys made)
+    new_above = above (λ pair. pair.new) gives.2.rising
 
 -- those that pass a test, with one more
-pub chosen_more : (test : ℕ → Bool) (some : List ℕ) (key : ℕ) (found more : List ℕ) (wanted : Bool) → found ≡ filter test some → wanted ≡ test key → more ≡ found ++ cond wanted (key ∷ []) [] → more ≡ filter test (some ++ key ∷ [])
-chosen_more test some key found more wanted so_far is last = last ∙ ap₂ (λ keys b. keys ++ cond b (key ∷ []) []) so_far is ∙ sym (filter-append test some (key ∷ []))
+pub chosen_more : {X : Type 0} (test : X → Bool) (some : List X) (x : X) (found more : List X) (wanted : Bool) → found ≡ filter test some → wanted ≡ test x → more ≡ found ++ cond wanted (x ∷ []) [] → more ≡ filter test (some ++ x ∷ [])
+chosen_more test some x found more wanted so_far is last = last ∙ ap₂ (λ xs b. xs ++ cond b (x ∷ []) []) so_far is ∙ sym (filter-append test some (x ∷ []))
 
 pub chosen_below : (test : ℕ → Bool) (some found : List ℕ) (key : ℕ) → AllByRecursion (λ other. other < key) some → found ≡ filter test some → AllByRecursion (λ other. other < key) found
 chosen_below test some found key below so_far = subst (AllByRecursion (λ other. other < key)) (sym so_far) (every-filter (λ other. other < key) test some below)
 
 -- pairs of two lists of one length
-pub pair_at : (old new : List ℕ) (n k l : ℕ) → slice_get old n ≡ Some k → slice_get new n ≡ Some l → slice_get (pairs_of old new) n ≡ (let pair : KeyPair = record { old = k; new = l } in Some pair)
-pair_at [] new n k l e f = absurd (none-some k e)
-pair_at (k' ∷ old) [] n k l e f = absurd (none-some l f)
-pair_at (k' ∷ old) (l' ∷ new) zero k l e f = ap₂ (λ a b. let pair : KeyPair = record { old = a; new = b } in Some pair) (same_Some _ _ e) (same_Some _ _ f)
-pair_at (k' ∷ old) (l' ∷ new) (suc n) k l e f = pair_at old new n k l e f
-
 pub pairs_of-last : (old new : List ℕ) (pair : KeyPair) → length old ≡ length new → pairs_of (old ++ pair.old ∷ []) (new ++ pair.new ∷ []) ≡ pairs_of old new ++ pair ∷ []
 pairs_of-last [] [] pair e = refl
 pairs_of-last [] (l ∷ new) pair e = absurd (omega (arith, e))
 pairs_of-last (k ∷ old) [] pair e = absurd (omega (arith, e))
 pairs_of-last (k ∷ old) (l ∷ new) pair e = ap (λ rest. (let first : KeyPair = record { old = k; new = l } in first) ∷ rest) (pairs_of-last old new pair (omega (arith, e)))
-
--- a pair at a place
-pub within_new : (place : ℕ) (old new : List ℕ) (pairs : List KeyPair) → length old ≡ length new → pairs_of old new ≡ pairs → place < length pairs → place < length new
-within_new place old new pairs even are h = subst (λ n. place < n) (ap length (sym are) ∙ length-pairs_of old new even) h
-
-pub within_old : (place : ℕ) (old new : List ℕ) (pairs : List KeyPair) → length old ≡ length new → pairs_of old new ≡ pairs → place < length pairs → place < length old
-within_old place old new pairs even are h = subst (λ n. place < n) (sym even) (within_new place old new pairs even are h)
-
-pub at_place : (place k l : ℕ) (old new : List ℕ) (pairs : List KeyPair) → pairs_of old new ≡ pairs → slice_get old place ≡ Some k → slice_get new place ≡ Some l → slice_get pairs place ≡ (let pair : KeyPair = record { old = k; new = l } in Some pair)
-at_place place k l old new pairs are e f = ap (λ ps. slice_get ps place) (sym are) ∙ pair_at old new place k l e f

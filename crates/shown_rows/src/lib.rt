@@ -12,6 +12,6 @@ mod rows;
 mod shown;
 
 pub use keys::{keys_among, put_last, put_last_if};
-pub use pairs::KeyPairs;
+pub use pairs::{KeyPairs, Pairs};
 pub use rows::Chooses;
 pub use shown::shown_change;

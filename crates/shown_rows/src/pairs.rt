@@ -1,13 +1,15 @@
 //! The keys of rows that stay, before a step and now.
 
-ghost use Rattle.std.specs.Prelude.{◌≡◌, ◌^◌, ◌<◌, ◌&&◌, not, [], ◌∷◌, ◌++◌, Some, filter, length, slice_get, IfOk};
+ghost use Rattle.std.specs.Prelude.{◌≡◌, ◌^◌, ◌<◌, ◌&&◌, not, [], ◌∷◌, ◌++◌, filter, if◌then◌else◌, length, IfOk};
 ghost use Rattle.std.specs.List.{AllByRecursion};
-ghost use Rattle.key_lists.specs.Keys.{is_among, IsRising};
+ghost use Rattle.std.specs.Iterator.{YieldsFirst, item_count};
+ghost use Rattle.key_lists.specs.Keys.{is_among};
+ghost use Rattle.row_set.specs.Sets.{IsKeySet};
 ghost use Rattle.tick_model.specs.Updates.{new_keys, old_keys, pairs as pairs_kept};
 ghost use Rattle.tick_table.specs.Exact.{IsExact};
 
 use crate::keys::put_last;
-use row_set::RowSet;
+use row_set::{Keys, RowSet};
 use std::alloc::{AllocError, Global};
 use std::marker::Model;
 use tick_model::update::KeyPair;
@@ -54,28 +56,6 @@ impl KeyPairs {
         Ok(KeyPairs { from, to })
     }
 
-    /// How many there are.
-    pub fn len(&self) -> u64
-        ensures count { result ≡ length self.now }
-        ensures old { IsRising (old_keys self.now) }
-        ensures new { IsRising (new_keys self.now) }
-    {
-        let _ = self.from.len();
-        self.to.len()
-    }
-
-    /// The pair at a place.
-    pub fn at(&self, place: u64) -> KeyPair
-        requires { place < length self.now }
-        ensures pair { slice_get self.now place ≡ Some result }
-        ensures old { result.old < 2 ^ 62 }
-        ensures new { result.new < 2 ^ 62 }
-    {
-        let old = self.from.get(place).unwrap();
-        let new = self.to.get(place).unwrap();
-        KeyPair { old, new }
-    }
-
     /// The pairs with one behind them.
     pub fn with_last(self, pair: KeyPair) -> Result<KeyPairs, AllocError>
         requires old_small { pair.old < 2 ^ 62 }
@@ -90,6 +70,21 @@ impl KeyPairs {
         Ok(KeyPairs { from, to })
     }
 
+    /// The pairs with one behind them, if so it is to be.
+    pub fn with_last_if(self, wanted: bool, pair: KeyPair) -> Result<KeyPairs, AllocError>
+        requires old_small { pair.old < 2 ^ 62 }
+        requires new_small { pair.new < 2 ^ 62 }
+        requires old { AllByRecursion (λ other. other < pair.old) (old_keys self) }
+        requires new { AllByRecursion (λ other. other < pair.new) (new_keys self) }
+        ensures { IfOk result (λ pairs. pairs ≡ self ++ (if wanted then pair ∷ [] else [])) }
+    {
+        if wanted {
+            self.with_last(pair)
+        } else {
+            Ok(self)
+        }
+    }
+
     /// Those whose old key is in one set and not in another.
     pub fn within(
         &self,
@@ -100,8 +95,7 @@ impl KeyPairs {
         ensures { IfOk result (λ pairs. pairs ≡ filter (λ pair. is_among pair.old shown.now && not (is_among pair.old leaving.now)) self.now) }
     {
         let mut within = KeyPairs::new(alloc);
-        for place in 0..self.len() {
-            let pair = self.at(place);
+        for pair in self {
             if shown.contains(pair.old) && !leaving.contains(pair.old) {
                 within = within.with_last(pair)?;
             }
@@ -116,5 +110,53 @@ impl KeyPairs {
         ensures even { length result.0 ≡ length result.1 }
     {
         (self.from, self.to)
+    }
+}
+
+impl<'a> IntoIterator for &'a KeyPairs {
+    type Item = KeyPair;
+
+    type IntoIter = Pairs<'a>;
+
+    ghost into_iter_gives = { λ pairs coming. (coming ≡ pairs.now) × IsKeySet (old_keys pairs.now) × IsKeySet (new_keys pairs.now) };
+
+    fn into_iter(self) -> Self::IntoIter {
+        Pairs {
+            from: self.from.iter(),
+            to: self.to.iter(),
+        }
+    }
+}
+
+/// The pairs that are still to come. A contract sees the list of them.
+#[derive(Drop)]
+pub struct Pairs<'a> {
+    from: Keys<'a>,
+    to: Keys<'a>,
+}
+
+impl<'a> Model for Pairs<'a> {
+    ghost use Rattle.std.specs.Prelude.{◌≡◌, List, length};
+    ghost use Rattle.shift_data.specs.Moves.{pairs_of};
+    ghost use Rattle.tick_model.specs.declared.update.KeyPair.{KeyPair};
+
+    ghost Value = { List KeyPair };
+
+    ghost view = { λ pairs. pairs_of pairs.from pairs.to };
+
+    ghost invariant = { λ pairs. length pairs.from ≡ length pairs.to };
+}
+
+impl<'a> Iterator for Pairs<'a> {
+    type Item = KeyPair;
+
+    ghost next_gives = { YieldsFirst (λ pairs. pairs) };
+
+    ghost remaining = { item_count (λ pairs. pairs) };
+
+    fn next(&mut self) -> Option<KeyPair> {
+        let old = self.from.next()?;
+        let new = self.to.next()?;
+        Some(KeyPair { old, new })
     }
 }

@@ -37,13 +37,10 @@ pub(crate) fn modified_rows<L: Ledger>(
     let mut moving = KeyPairs::new(alloc);
     let mut staying = KeyPairs::new(alloc);
     let mut rows = RowReader::of(input, Version::Now);
-    for place in 0..pairs.len() {
-        let pair = pairs.at(place);
-        if order.has_cells(pair.old, rows.row(pair.new, reads)) {
-            staying = staying.with_last(pair)?;
-        } else {
-            moving = moving.with_last(pair)?;
-        }
+    for pair in &pairs {
+        let stays = order.has_cells(pair.old, rows.row(pair.new, reads));
+        staying = staying.with_last_if(stays, pair)?;
+        moving = moving.with_last_if(!stays, pair)?;
     }
     Ok(Modified { moving, staying })
 }

@@ -1,8 +1,6 @@
-use Rattle.std.proofs.Common.{◌≡◌, refl, sym, ◌∙◌, ap, arith, length, filter}
-use Rattle.std.proofs.lemmas.List.{length-map}
-use Rattle.tick_model.{specs.declared.update.KeyPair.KeyPair, specs.Updates.Update, specs.Formulas.truth}
-use Rattle.shown_rows.proofs.Restricted.{is_modified, kept, modified_new}
-use Rattle.row_ops.{proofs.Walked.crossing_reads, proofs.Crossed.{added_there, coming_is, leaving_is, modified_keys_there}}
+use Rattle.std.proofs.Common.{refl, ◌∙◌, ap, arith, length}
+use Rattle.tick_model.{specs.Updates.Update, specs.Formulas.truth}
+use Rattle.row_ops.{proofs.Walked.{crossing_reads, modified_count}, proofs.Crossed.{added_there, coming_is, leaving_is, modified_keys_there}}
 use Rattle.row_ops.proofs.crossing.crossing_rows.Goals as goal
 
 pub passing_keys-requires-clause-here : goal.passing_keys-requires-clause-here
@@ -36,31 +34,23 @@ returns-in_err-modified-clause-reads g c =
 pub returns-in_err-changed-clause-reads : goal.returns-in_err-changed-clause-reads
 returns-in_err-changed-clause-reads g c =
     let t = c.args.input.now in
-    let pairs : length c.in_ok-modified.modified ≡ length t.update.modified =
-    ap length c.in_ok-modified.ensures ∙ sym (length-map (filter (is_modified t c.requires.exact) (kept t c.requires.exact)) (λ (pair : KeyPair). pair.new)) ∙ ap length (sym (modified_new t c.requires.exact)) in
     crossing_reads t.new.width c.args.reads.now c.passing_keys.new.reads c.changed_rows.new.reads (length t.update.added) (length t.update.modified) (length c.added.result.now) (length c.in_ok-modified.modified)
-    c.passing_keys.ensures.reads c.changed_rows.ensures.reads (ap length (c.added.ensures.keys ∙ ap (λ (update : Update). update.added) c.update-update.ensures)) pairs
+    c.passing_keys.ensures.reads c.changed_rows.ensures.reads (ap length (c.added.ensures.keys ∙ ap (λ (update : Update). update.added) c.update-update.ensures)) (modified_count t c.requires.exact c.in_ok-modified.modified c.in_ok-modified.ensures)
 
 pub returns-in_err-leaving-clause-reads : goal.returns-in_err-leaving-clause-reads
 returns-in_err-leaving-clause-reads g c =
     let t = c.args.input.now in
-    let pairs : length c.in_ok-modified.modified ≡ length t.update.modified =
-    ap length c.in_ok-modified.ensures ∙ sym (length-map (filter (is_modified t c.requires.exact) (kept t c.requires.exact)) (λ (pair : KeyPair). pair.new)) ∙ ap length (sym (modified_new t c.requires.exact)) in
     crossing_reads t.new.width c.args.reads.now c.passing_keys.new.reads c.changed_rows.new.reads (length t.update.added) (length t.update.modified) (length c.added.result.now) (length c.in_ok-modified.modified)
-    c.passing_keys.ensures.reads c.changed_rows.ensures.reads (ap length (c.added.ensures.keys ∙ ap (λ (update : Update). update.added) c.update-update.ensures)) pairs
+    c.passing_keys.ensures.reads c.changed_rows.ensures.reads (ap length (c.added.ensures.keys ∙ ap (λ (update : Update). update.added) c.update-update.ensures)) (modified_count t c.requires.exact c.in_ok-modified.modified c.in_ok-modified.ensures)
 
 pub returns-in_err-coming-clause-reads : goal.returns-in_err-coming-clause-reads
 returns-in_err-coming-clause-reads g c =
     let t = c.args.input.now in
-    let pairs : length c.in_ok-modified.modified ≡ length t.update.modified =
-    ap length c.in_ok-modified.ensures ∙ sym (length-map (filter (is_modified t c.requires.exact) (kept t c.requires.exact)) (λ (pair : KeyPair). pair.new)) ∙ ap length (sym (modified_new t c.requires.exact)) in
     crossing_reads t.new.width c.args.reads.now c.passing_keys.new.reads c.changed_rows.new.reads (length t.update.added) (length t.update.modified) (length c.added.result.now) (length c.in_ok-modified.modified)
-    c.passing_keys.ensures.reads c.changed_rows.ensures.reads (ap length (c.added.ensures.keys ∙ ap (λ (update : Update). update.added) c.update-update.ensures)) pairs
+    c.passing_keys.ensures.reads c.changed_rows.ensures.reads (ap length (c.added.ensures.keys ∙ ap (λ (update : Update). update.added) c.update-update.ensures)) (modified_count t c.requires.exact c.in_ok-modified.modified c.in_ok-modified.ensures)
 
 pub returns-clause-reads : goal.returns-clause-reads
 returns-clause-reads g c =
     let t = c.args.input.now in
-    let pairs : length c.in_ok-modified.modified ≡ length t.update.modified =
-    ap length c.in_ok-modified.ensures ∙ sym (length-map (filter (is_modified t c.requires.exact) (kept t c.requires.exact)) (λ (pair : KeyPair). pair.new)) ∙ ap length (sym (modified_new t c.requires.exact)) in
     crossing_reads t.new.width c.args.reads.now c.passing_keys.new.reads c.changed_rows.new.reads (length t.update.added) (length t.update.modified) (length c.added.result.now) (length c.in_ok-modified.modified)
-    c.passing_keys.ensures.reads c.changed_rows.ensures.reads (ap length (c.added.ensures.keys ∙ ap (λ (update : Update). update.added) c.update-update.ensures)) pairs
+    c.passing_keys.ensures.reads c.changed_rows.ensures.reads (ap length (c.added.ensures.keys ∙ ap (λ (update : Update). update.added) c.update-update.ensures)) (modified_count t c.requires.exact c.in_ok-modified.modified c.in_ok-modified.ensures)
