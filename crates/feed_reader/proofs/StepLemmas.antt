@@ -1,7 +1,7 @@
 -- What is gathered while a feed is read: rows whose texts have numbers, and texts that stand in rows.
 use Rattle.std.proofs.Common.{◌≡◌, ℕ, zero, suc, ◌+◌, ◌≤◌, Bool, true, false, List, [], ◌∷◌, ◌++◌, map, length, Option, Some, None, Result, Ok, Err, ℤ, refl, sym, ap, ap₂, ◌∙◌, subst, arith}
 use Rattle.std.{specs.Prelude.{◌||◌, flat_map, option_map}, specs.List.{AllByRecursion, list_any}, specs.Option.{option_to_list, ForSome}, specs.Str.bytes_eq, proofs.lemmas.Bool.or_right, proofs.lemmas.List.{append-nil, length-map}, proofs.lemmas.List.Concat.flat_map-append, proofs.lemmas.List.Folds.list_any-append, proofs.lemmas.Option.same_Some}
-use Rattle.key_lists.proofs.Every.{every_weaker, every-append, map_same}
+use Rattle.key_lists.{proofs.Booleans.or_assoc, proofs.Every.{every_weaker, every-append, map_same}}
 use Rattle.tick_model.{specs.declared.feed.Batch.Batch as BatchRead, specs.declared.feed.Block.Block as BlockRead, specs.declared.plan.Kind.Kind, specs.declared.plan.Node.Node, specs.declared.plan.Plan.Plan, specs.Plans.columns_at}
 use Rattle.feed_reader.{specs.declared.cells.ReadCells.ReadCells, specs.declared.entries.Entry.Entry as Told, specs.declared.fault.TextKind.TextKind, specs.declared.feeds.ReadSteps.ReadSteps, specs.declared.gathered.Gathered.Gathered as Read, specs.declared.place.Part.Part, specs.declared.place.Place.Place, specs.declared.place.Place.TheVariants.{Outside, Inside}, specs.declared.raw.RawBatch.RawBatch, specs.declared.raw.RawBlock.RawBlock, specs.declared.raw.RawRow.RawRow, specs.Cells.kinds_in, specs.Entries.entry_of, specs.Gathered.{Gathered, raw_steps, ended_blocks, with_entry, begun, gathered, kinds_of_block, AreNumberedSteps, FitsRow, IsNumberedEntry}, specs.Places.{opened, passed, place_after, is_outside}, specs.ReadSteps.{kinds_by_node, steps_of, steps_texts, IsAt, AreReadSteps, IsStep}, specs.Raw.{row_texts, rows_texts, block_texts, batch_texts, raw_row, raw_block, raw_batch, kinds_at, AreTold, Grows, IsNumberedRow, IsNumberedBlock, AreNumberedBatches}, specs.Said.{Entry, Block, Removed, Shift, Added, Modified, End, said, kinds_within, IsReadEntry}, proofs.FeedLemmas.{left_to_read, one_more, refused, few_steps}, proofs.Orderly.{fits_at, StandsAt, EntryFits, IsRange, IsMove, IsRawRow}, proofs.RawLemmas.{rows_kept, rows_more, grows_none, grown_longer}}
 use Rattle.feed_reader.specs.declared.entries.Entry.TheVariants as told
@@ -31,10 +31,6 @@ entry_texts End = []
 or_false : (a : Bool) → a ≡ (a || false)
 or_false true = refl
 or_false false = refl
-
-or_assoc : (a b c : Bool) → (a || (b || c)) ≡ ((a || b) || c)
-or_assoc true b c = refl
-or_assoc false b c = refl
 
 or_swap : (a b c : Bool) → ((a || b) || c) ≡ ((a || c) || b)
 or_swap true b c = refl

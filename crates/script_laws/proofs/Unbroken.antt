@@ -1,9 +1,9 @@
 -- A node that breaks no rule.
-use Rattle.std.proofs.Common.{◌≡◌, refl, Bool, true, false, not, cond, ℕ, ◌^◌, ◌<◌, ◌≤◌, List, length, map, Option, Some, None}
+use Rattle.std.proofs.Common.{◌≡◌, refl, Bool, true, false, ℕ, ◌^◌, ◌<◌, ◌≤◌, List, length, map, Option, Some, None}
 use Rattle.std.{specs.Prelude.{nat_le, nat_lt, slice_index}, proofs.lemmas.Bool.{leb-false, ltb-false}}
 use Rattle.tick_model.{specs.declared.plan.ColumnSpec.ColumnSpec, specs.declared.plan.Node.Node, specs.Names.{is_one_of, are_distinct}, specs.Plans.key_bounds, specs.Operators.bound_of}
-use Rattle.script_lines.{specs.declared.fault.ScriptKind.ScriptKind, specs.declared.fault.ScriptKind.TheVariants.{TakenName, TakenColumn, WrongKind, NumberRange, TooManyNodes, TooManyColumns, KeySpace}}
-use Rattle.script_reader.specs.Checks.{broken, or_broken, Draft, names_of}
+use Rattle.script_lines.specs.declared.fault.ScriptKind.{ScriptKind}
+use Rattle.script_reader.{specs.Checks.{broken, or_broken, Draft, names_of}, proofs.Placing.first_of}
 use Rattle.script_laws.proofs.Reading.{Holds, done}
 
 record AreUnbroken (taken distinct kinds_fit rows_fit many_columns many_nodes no_room : Bool) : Type 0 where
@@ -14,17 +14,6 @@ record AreUnbroken (taken distinct kinds_fit rows_fit many_columns many_nodes no
   pub columns : many_columns ≡ false
   pub nodes : many_nodes ≡ false
   pub room : no_room ≡ false
-
--- the rules in their order
-abbrev first_of : (taken distinct kinds_fit rows_fit many_columns many_nodes no_room : Bool) → Option ScriptKind
-first_of taken distinct kinds_fit rows_fit many_columns many_nodes no_room =
-    cond taken (Some TakenName)
-    (cond (not distinct) (Some TakenColumn)
-    (cond (not kinds_fit) (Some WrongKind)
-    (cond (not rows_fit) (Some NumberRange)
-    (cond many_columns (Some TooManyColumns)
-    (cond many_nodes (Some TooManyNodes)
-    (cond no_room (Some KeySpace) None))))))
 
 none_of : (a b c d e f g : Bool) → first_of a b c d e f g ≡ None → AreUnbroken a b c d e f g
 none_of true b c d e f g h = absurd (cc)

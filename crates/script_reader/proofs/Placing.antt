@@ -7,7 +7,7 @@ use Rattle.script_lines.specs.declared.fault.LineFault.TheVariants as faults
 use Rattle.script_reader.{specs.declared.drafts.Draft.Draft as Made, specs.Checks.{Draft, broken, or_broken, names_of, with_text}, specs.Drafts.shown, specs.Plain.{plain_node, plain_op}, proofs.Plainly.{names_plain, key_bounds_plain, bound_plain}}
 
 -- the rules in their order
-abbrev first_of : (taken distinct kinds_fit rows_fit many_columns many_nodes no_room : Bool) → Option ScriptKind
+abbrev pub first_of : (taken distinct kinds_fit rows_fit many_columns many_nodes no_room : Bool) → Option ScriptKind
 first_of taken distinct kinds_fit rows_fit many_columns many_nodes no_room =
     cond taken (Some TakenName)
     (cond (not distinct) (Some TakenColumn)

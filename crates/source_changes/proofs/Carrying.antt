@@ -7,8 +7,8 @@ use Rattle.shown_rows.proofs.Named.{of_named}
 use Rattle.table_update.{proofs.KeysAfter.{KeepsRules, rules_kept}, proofs.LawfulParts.{lawful_below, lawful_some, places_rise}}
 use Rattle.tick_laws.{specs.Checked.{IsChecked, keys_after}, proofs.Blocks.block_told, proofs.CheckedUpdates.{among-put_keys, keys-carry}}
 use Rattle.tick_model.{specs.declared.feed.Block.Block, specs.declared.table.PlainRow.PlainRow, specs.declared.table.PlainTable.PlainTable, specs.Rules.landed, specs.Shifts.{as_key, moved}, specs.Sources.{carried, update_of}, specs.Tables.{cells_at, keys, row_at}, specs.Updates.{adding, modifying, removing, rows_at, shifting}, proofs.Among.rows_among}
-use Rattle.tick_table.{proofs.NewKeys.among-adding, proofs.CarriedRows.keys-removing}
-use Rattle.source_changes.{specs.Stepping.{put_rows, told_after}, proofs.Looked.{among-put_rows, cells_at-stay, is_there, keys-shifting, rising-put_rows, row_at-adding, row_at-modified, row_at-put_rows}}
+use Rattle.tick_table.{specs.Placed.put_rows, proofs.NewKeys.among-adding, proofs.CarriedRows.keys-removing}
+use Rattle.source_changes.{specs.Stepping.told_after, proofs.Looked.{among-put_rows, cells_at-stay, is_there, keys-shifting, rising-put_rows, row_at-adding, row_at-modified, row_at-put_rows}}
 
 abbrev pub cells_of : Option PlainRow → List ℤ
 cells_of o = unwrap_or (option_map (λ (row : PlainRow). row.cells) o) []

@@ -3,8 +3,7 @@ use Rattle.std.proofs.Common.{◌≡◌, refl, ap, ap₂, sym, ◌∙◌, subst,
 use Rattle.std.{specs.Prelude.option_map, specs.List.AllByRecursion, specs.Option.{is_some, option_or}, proofs.lemmas.Bool.{cases_eq, ne_eqb, eq-eqb, eqb-true, eqb-false, ltb-true, ltb-false, or_parts, or_from}}
 use Rattle.key_lists.{specs.Keys.{is_among, IsRising, without}, proofs.Among.{among_below, among-filter, of_among}, proofs.Every.{every_weaker, every_unmapped, map_map}}
 use Rattle.tick_model.{specs.declared.table.PlainRow.PlainRow, specs.declared.update.ShiftRange.ShiftRange, specs.Rules.landed, specs.Shifts.{as_key, moved}, specs.Tables.{cells_at, keys, row_at}, specs.Updates.{adding, insert_row, modifying, moved_row, removing, shifting}, proofs.Among.{rest_above, row_at-filter, row_below}}
-use Rattle.tick_table.{proofs.NewKeys.{among-adding, key-row_at}, proofs.CarriedRows.keys-removing}
-use Rattle.source_changes.specs.Stepping.{put_row, put_rows}
+use Rattle.tick_table.{specs.Placed.{put_row, put_rows}, proofs.NewKeys.{among-adding, key-row_at}, proofs.CarriedRows.keys-removing}
 
 -- a row is found exactly under the keys of the rows
 pub is_there : (key : ℕ) (rows : List PlainRow) → is_among key (keys rows) ≡ is_some (row_at key rows)

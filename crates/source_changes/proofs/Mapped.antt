@@ -6,7 +6,8 @@ use Rattle.key_lists.{specs.Keys.{is_among, IsRising}, proofs.Among.among-append
 use Rattle.row_set.{specs.declared.ranges.Range.Range, specs.Ranges.{AreApart, holds, keys_in, keys_of}, proofs.Held.among-in}
 use Rattle.shift_data.{specs.Moves.IsLawful, specs.ShiftLists.IsShiftList, proofs.Lawful.{lawful, not_past}}
 use Rattle.tick_model.{specs.declared.table.PlainRow.PlainRow, specs.declared.update.ShiftRange.ShiftRange, specs.Printable.IsShiftRange, specs.Rules.is_past, specs.Shifts.{as_key, holds as moves, moved}, specs.Tables.{keys, row_at}, specs.Updates.{moved_row, removing, shifting}}
-use Rattle.source_changes.{specs.Stepping.{put_row, put_rows}, specs.Told.told_row, proofs.Looked.keys-shifting}
+use Rattle.tick_table.specs.Placed.{put_row, put_rows}
+use Rattle.source_changes.{specs.Told.told_row, proofs.Looked.keys-shifting}
 
 abbrev Told : Type 0
 Told = ℕ × Bor (List ℤ)

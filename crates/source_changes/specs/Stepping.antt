@@ -1,5 +1,4 @@
 -- A source through the blocks of a step.
---     put_rows rows others      the others, with these rows put among them, one after the other
 --     Stepping      the table before the step, the update so far, and rows that blocks have told, under their keys now
 --     now_of step      the table as the blocks so far have left it
 --     step_in version step      the table before the step, or that one
@@ -8,25 +7,14 @@
 --     told_after told block      the told rows after a block
 --     update_after old update next      the update so far and then the next one, of a table with the old keys
 --     stepped step block      the step after a block
-use Rattle.std.{specs.Prelude.{◌≡◌, ℕ, ◌==◌, false, true, List, [], ◌∷◌, map, find, flat_map, nat_lt, if◌then◌else◌, Option, ℤ, option_map, unwrap_or}, specs.List.AllByRecursion, specs.Option.option_or}
+use Rattle.std.{specs.Prelude.{◌≡◌, ℕ, false, true, List, [], ◌∷◌, map, find, flat_map, if◌then◌else◌, Option, ℤ, option_map, unwrap_or}, specs.List.AllByRecursion, specs.Option.option_or}
 use Rattle.key_lists.specs.Keys.{is_among, IsRising, without}
 use Rattle.row_changes.specs.Parts.{Parts}
 use Rattle.shift_data.specs.Moves.{canonical}
 use Rattle.table_update.{specs.Coalesced.coalesced, specs.Kept.old_modified}
 use Rattle.tick_laws.specs.Checked.{keys_after}
-use Rattle.tick_table.{specs.declared.version.Version.Version, specs.declared.version.Version.TheVariants.{Before, Now}}
+use Rattle.tick_table.{specs.declared.version.Version.Version, specs.declared.version.Version.TheVariants.{Before, Now}, specs.Placed.put_rows}
 use Rattle.tick_model.{specs.declared.feed.Block.Block, specs.declared.table.PlainRow.PlainRow, specs.declared.table.PlainTable.PlainTable, specs.Changes.{is_empty, told_keys}, specs.Shifts.{as_key, moved}, specs.Sources.{keys_within, update_of}, specs.Tables.{cells_at, keys, row_at}, specs.Updates.{IsTick, Tick, Update, between, new_keys, pairs, removing, shifting}}
-
--- the row among others by key, in place of one under its key
-abbrev pub put_row : PlainRow → List PlainRow → List PlainRow
-put_row row [] = row ∷ []
-put_row row (other ∷ others) =
-    if nat_lt other.key row.key then other ∷ put_row row others
-    else (if other.key == row.key then row ∷ others else row ∷ other ∷ others)
-
-abbrev pub put_rows : List PlainRow → List PlainRow → List PlainRow
-put_rows [] others = others
-put_rows (row ∷ rows) others = put_rows rows (put_row row others)
 
 pub record Stepping : Type 0 where
   pub old : PlainTable

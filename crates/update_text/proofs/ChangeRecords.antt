@@ -2,7 +2,7 @@
 use Rattle.std.proofs.Common.{◌≡◌, refl, ap, sym, ◌∙◌, Bool, true, false, cond, ◌||◌, ℕ, zero, suc, ◌+◌, ◌-◌, ◌*◌, ◌<◌, ◌≤◌, arith, List, [], ◌∷◌, ◌++◌, length, map, drop, get_or, append_assoc, length-append, eq-eqb, ne_eqb, inl, inr}
 use Rattle.std.{specs.Prelude.{ℤ, codes, filter, flat_map, ◌==◌}, specs.List.{AllByRecursion, range_with_len}, proofs.lemmas.Bool.{cases_eq, cond-false}, proofs.lemmas.Grind.flat_map-append, proofs.lemmas.List.{get_or-map, length-map}}
 use Rattle.key_lists.{specs.Keys.{is_among, IsRising, run_with, runs}, proofs.Every.{every_weaker, map_map}, proofs.Rising.as_filter}
-use Rattle.row_set.{specs.declared.ranges.Range.Range, specs.Ranges.{preceded, ranges_of}, proofs.Held.range_rises}
+use Rattle.row_set.{specs.declared.ranges.Range.Range, specs.Ranges.{preceded, ranges_of}, proofs.Held.range_rises, proofs.Middles.span}
 use Rattle.tick_model.{specs.declared.plan.ColumnSpec.ColumnSpec, specs.Changes.{Change, is_empty, is_none, rows_under}, specs.Texts.{change_records, column_name, columns_record, comma_before, records_text, removed_record, row_record, shift_record, step_record}}
 use Rattle.update_text.specs.Told.{parts_shown, range_record, records_of}
 
@@ -12,9 +12,6 @@ Record = List (List ℕ)
 -- the longest ranges of keys are their longest runs
 abbrev ends_of : Range → ℕ × ℕ
 ends_of range = (range.first, range.last)
-
-abbrev span : ℕ → ℕ → Range
-span first last = record { first = first; last = last }
 
 preceded_ends : (key : ℕ) (ranges : List Range) → map ends_of (preceded key ranges) ≡ run_with key (map ends_of ranges)
 preceded_ends key [] = refl

@@ -2,7 +2,8 @@ use Rattle.std.proofs.Common.{◌≡◌, ap, sym, ◌∙◌, subst, false, ℕ, 
 use Rattle.std.{specs.List.AllByRecursion, specs.Map.keys_of as map_keys, proofs.lemmas.List.nil_from_length}
 use Rattle.shift_data.proofs.Lawful.{lawful}
 use Rattle.tick_model.{specs.Rules.is_past, specs.Shifts.moved, specs.Updates.shifting}
-use Rattle.source_changes.{specs.Stepping.{put_row, put_rows}, specs.Told.told_row, proofs.Mapped.{all_moved, told_put}}
+use Rattle.tick_table.specs.Placed.{put_row, put_rows}
+use Rattle.source_changes.{specs.Told.told_row, proofs.Mapped.{all_moved, told_put}}
 use Rattle.source_changes.proofs.told.moved_rows.Goals as goal
 
 pub loop-key-init : goal.loop-key-init

@@ -1,7 +1,8 @@
 use Rattle.std.proofs.Common.{◌≡◌, false, ◌^◌, ◌<◌, map, length, []}
 use Rattle.std.{specs.List.AllByRecursion, specs.Map.keys_of as map_keys}
 use Rattle.tick_model.{specs.Rules.is_past, specs.Shifts.moved, specs.Updates.shifting}
-use Rattle.source_changes.{specs.Stepping.put_rows, specs.Told.told_row}
+use Rattle.tick_table.specs.Placed.{put_rows}
+use Rattle.source_changes.specs.Told.{told_row}
 use Rattle.source_changes.proofs.told.moved_rows.Given as goal
 
 abbrev pub invariant-loop-key : goal.invariant-loop-key

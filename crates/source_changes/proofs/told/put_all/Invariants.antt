@@ -1,5 +1,6 @@
 use Rattle.std.proofs.Common.{◌≡◌, map, take}
-use Rattle.source_changes.{specs.Stepping.put_rows, specs.Told.told_row}
+use Rattle.tick_table.specs.Placed.{put_rows}
+use Rattle.source_changes.specs.Told.{told_row}
 use Rattle.source_changes.proofs.told.put_all.Given as goal
 
 abbrev pub invariant-loop-place : goal.invariant-loop-place
