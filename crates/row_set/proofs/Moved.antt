@@ -2,7 +2,8 @@
 use Rattle.std.proofs.Common.{◌≡◌, refl, ap, ap₂, sym, ◌∙◌, subst, cond, ℕ, zero, suc, ◌+◌, ◌-◌, ◌*◌, ◌<◌, ◌≤◌, arith, List, [], ◌∷◌, ◌++◌, length, map, take, drop, slice_range, leb, le-leb, length-append, take-append-drop, ℤ, pos, ◌+ℤ◌}
 use Rattle.std.{specs.List.AllByRecursion, proofs.lemmas.Bool.and_from, proofs.lemmas.Int.ints, proofs.lemmas.List.{length-map, map-append}}
 use Rattle.key_lists.{proofs.Every.{every_both, every_weaker, every-append, map_own}, proofs.Among.of_among, proofs.Parts.{every_back, every_front, every-take, every-drop}}
-use Rattle.row_set.{specs.declared.ranges.Range.Range, specs.Ranges.{keys_before, keys_in, keys_of, AreApart, AreRanges, IsPart, IsRangeFrom}, specs.Runs.AreCounted, specs.Moves.{moved_key, as_key, moved_keys, IsKey, Shifts, shift}, proofs.Apart.{apart-append, apart_weaker, each_above, each_range}, proofs.Counts.keys_before_all, proofs.Held.{among-in, each_key, holds-true, keys_of-append, length-keys_in}, proofs.Lying.lying_spliced, proofs.Middles.three_parts, proofs.Shifted.{after, before, length-slice, moved_together, placed, pos-as_key, shifted_apart}, proofs.Starts.part_of}
+use Rattle.row_set.{specs.declared.ranges.Range.Range, specs.Ranges.{keys_before, keys_in, keys_of, AreApart, AreRanges, IsPart, IsRangeFrom}, specs.Runs.AreCounted, specs.Moves.{moved_key, moved_keys, IsKey, Shifts, shift}, proofs.Apart.{apart-append, apart_weaker, each_above, each_range}, proofs.Counts.keys_before_all, proofs.Held.{among-in, each_key, holds-true, keys_of-append, length-keys_in}, proofs.Lying.lying_spliced, proofs.Middles.three_parts, proofs.Shifted.{after, before, length-slice, moved_together, placed, pos-as_key, shifted_apart}, proofs.Starts.part_of}
+use Rattle.tick_model.specs.Shifts.{as_key}
 
 abbrev move : ℕ → ℕ → ℤ → ℕ → ℕ
 move first last delta key = as_key (moved_key first last delta key)

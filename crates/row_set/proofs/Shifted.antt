@@ -2,7 +2,8 @@
 use Rattle.std.proofs.Common.{◌≡◌, refl, ap, ap₂, sym, ◌∙◌, subst, cond, ℕ, zero, suc, ◌+◌, ◌-◌, ◌<◌, ◌≤◌, arith, List, [], ◌∷◌, ◌++◌, length, map, take, take_at, drop, slice_range, get_or, leb, le-leb, get_or-drop, get_or-take, length-drop, length-take-le, ℤ, pos, negsuc, ◌+ℤ◌, ◌≤ℤ◌}
 use Rattle.std.{specs.List.{AllByRecursion, range_with_len}, proofs.lemmas.Bool.{and_from, and_left, and_right, lt-leb}, proofs.lemmas.Int.ints, proofs.lemmas.List.{drop_at, drop-drop, get_or-map, get_or_default, length-map, map-append}}
 use Rattle.key_lists.proofs.Every.{all_from, map_same}
-use Rattle.row_set.{specs.declared.ranges.Range.Range, specs.Ranges.{keys_in, keys_of, IsRangeFrom, AreApart}, specs.Moves.{moved_key, as_key, Shifts, shift}, proofs.Apart.apart_weaker, proofs.Counts.blank, proofs.Held.each_between, proofs.Places.range_at, proofs.Spliced.{IsSplicing, length-splicing, splicing_read}}
+use Rattle.row_set.{specs.declared.ranges.Range.Range, specs.Ranges.{keys_in, keys_of, IsRangeFrom, AreApart}, specs.Moves.{moved_key, Shifts, shift}, proofs.Apart.apart_weaker, proofs.Counts.blank, proofs.Held.each_between, proofs.Places.range_at, proofs.Spliced.{IsSplicing, length-splicing, splicing_read}}
+use Rattle.tick_model.specs.Shifts.{as_key}
 
 pub pos-as_key : (number : ℤ) → pos 0 ≤ℤ number → pos (as_key number) ≡ number
 pos-as_key (pos n) h = refl

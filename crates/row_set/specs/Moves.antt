@@ -4,16 +4,12 @@
 --     IsKey number      the number is one that a key may be
 --     shift delta range      the range, moved
 --     Shifts delta range      both ends of the range are keys once they have moved
-use Rattle.std.specs.Prelude.{ℕ, ◌^◌, ◌&&◌, List, map, nat_le, if◌then◌else◌, ℤ, pos, negsuc, ◌+ℤ◌, ◌≤ℤ◌, ◌<ℤ◌}
+use Rattle.std.specs.Prelude.{ℕ, ◌^◌, ◌&&◌, List, map, nat_le, if◌then◌else◌, ℤ, pos, ◌+ℤ◌, ◌≤ℤ◌, ◌<ℤ◌}
 use Rattle.row_set.specs.declared.ranges.Range.{Range}
+use Rattle.tick_model.specs.Shifts.{as_key}
 
 abbrev pub moved_key : ℕ → ℕ → ℤ → ℕ → ℤ
 moved_key first last delta key = if nat_le first key && nat_le key last then pos key +ℤ delta else pos key
-
--- the key that a number is, or 0
-abbrev pub as_key : ℤ → ℕ
-as_key (pos n) = n
-as_key (negsuc n) = 0
 
 abbrev pub moved_keys : ℕ → ℕ → ℤ → List ℕ → List ℕ
 moved_keys first last delta = map (λ key. as_key (moved_key first last delta key))

@@ -6,9 +6,7 @@ ghost use Rattle.row_set.specs.Choice.{takes, AreAhead};
 
 use crate::ranges::Range;
 use crate::search::ended_before;
-
-/// The number past the greatest key that a set may have.
-pub(crate) const KEYS_END: u64 = 1 << 62;
+use tick_model::limits::KEY_SPACE;
 
 /// Neighbouring keys that are all held or all left out.
 #[derive(Clone, Copy)]
@@ -71,15 +69,15 @@ impl Choice {
 /// The stretch of keys from `at` on that are all among the keys of the ranges, or all not.
 pub(crate) fn stretch_from(ranges: &[Range], at: u64) -> Stretch
     requires ahead { AreAhead at ranges.now }
-    requires small { at < KEYS_END }
+    requires small { at < KEY_SPACE }
     ensures begins { at < result.end }
-    ensures ends { result.end ≤ KEYS_END }
+    ensures ends { result.end ≤ KEY_SPACE }
     ensures same { (key : ℕ) → at ≤ key → key < result.end → is_among key (keys_of ranges.now) ≡ result.held }
 {
     match ranges.first() {
         None => Stretch {
             held: false,
-            end: KEYS_END,
+            end: KEY_SPACE,
         },
         Some(range) => {
             if range.first <= at {

@@ -7,7 +7,7 @@ ghost use Rattle.row_set.specs.Choice.{chosen};
 ghost use Rattle.row_set.specs.Moves.{IsKey, moved_key, moved_keys};
 ghost use Rattle.row_set.specs.Sets.{IsKeySet, count_below, common, found, last_key, united};
 
-use crate::algebra::{Choice, KEYS_END, rest_from, stretch_from};
+use crate::algebra::{Choice, rest_from, stretch_from};
 use crate::changes::{put_range, put_ranges, take_range, take_ranges};
 use crate::iter::Keys;
 use crate::ranges::{BLOCK, Range};
@@ -16,6 +16,7 @@ use crate::search;
 use crate::shifts::shift_keys;
 use std::alloc::{AllocError, Global};
 use std::marker::Model;
+use tick_model::limits::KEY_SPACE;
 
 /// An ordered set of row keys. A contract sees the rising list of the keys.
 pub struct RowSet {
@@ -323,7 +324,7 @@ impl RowSet {
         let room = choice.room(first.len(), second.len());
         let mut kept = RowSet::with_capacity(*self.runs.all.allocator(), room)?;
         let mut at = 0;
-        while at < KEYS_END {
+        while at < KEY_SPACE {
             let here = stretch_from(first, at);
             let there = stretch_from(second, at);
             let end = choice.until(here, there);

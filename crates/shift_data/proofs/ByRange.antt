@@ -2,13 +2,9 @@
 use Rattle.std.proofs.Common.{◌≡◌, refl, ap, sym, ◌∙◌, subst, true, false, cond, ◌||◌, ℕ, ◌-◌, ◌^◌, ◌<◌, ◌≤◌, arith, List, [], ◌∷◌, map, length, get_or, take, drop, leb, leb-false, ltb-true, pos, negsuc, ℤ, ◌+ℤ◌, unwrap_or, option_map, Option, true≢false, ◌⊎◌, inl, inr, w64, to_z, of_z}
 use Rattle.std.{specs.Prelude.{int_le, int_lt, IfNone, IfSome}, specs.Bool.then_some, specs.List.AllByRecursion, proofs.lemmas.Bool.{cases_eq, cases_lt, ne_eqb, and_from, and_left, and_right, le-leb, le-ltb, leb-true, lt-leb, or_from}, proofs.lemmas.Int.{ints, to_z-of_z}, proofs.lemmas.List.take_all}
 use Rattle.key_lists.{specs.Keys.{is_among, IsRising}, proofs.Among.{each_among, of_among}, proofs.Every.{every_both, every_weaker, every-map, every_unmapped, map_map, map_own, map_same}}
-use Rattle.row_set.{specs.Moves.{IsKey, moved_key, moved_keys, as_key as key_of}, specs.Sets.IsKeySet}
+use Rattle.row_set.{specs.Moves.{IsKey, moved_key, moved_keys}, specs.Sets.IsKeySet}
 use Rattle.tick_model.{specs.declared.update.ShiftRange.ShiftRange, specs.Rules.{is_past, landed}, specs.Shifts.{moved, as_key, holds}}
 use Rattle.shift_data.{specs.Parts.IsLastUpTo, specs.ShiftLists.IsShiftList, proofs.Lawful.{not_past, place}, proofs.Searches.{find_here, find_none, find_past, holds_not_after, holds_not_before, holds_within}, proofs.Segments.fits_delta}
-
-same_key : (place : ℤ) → key_of place ≡ as_key place
-same_key (pos n) = refl
-same_key (negsuc n) = refl
 
 is_key : (place : ℤ) → is_past (2 ^ 62) place ≡ false → IsKey place
 is_key place e =
@@ -216,13 +212,13 @@ module _ (range : ShiftRange) (others : List ShiftRange) (keys : List ℕ) (h : 
       down : (key : ℕ) → is_among key keys ≡ true → key ≤ range.end → place (range ∷ others) key ≤ key
       down key own le = fallen (place (range ∷ others) key) key range.delta falls (goes key own le)
 
-      first_place : (key : ℕ) → is_among key keys ≡ true → key ≤ range.end → key_of (shift key) ≡ place (range ∷ others) key
-      first_place key own le = same_key (shift key) ∙ ap as_key (shifted_here key own le)
+      first_place : (key : ℕ) → is_among key keys ≡ true → key ≤ range.end → as_key (shift key) ≡ place (range ∷ others) key
+      first_place key own le = ap as_key (shifted_here key own le)
 
-      then_moves : (key : ℕ) → is_among key keys ≡ true → moved others (key_of (shift key)) ≡ moved (range ∷ others) key
+      then_moves : (key : ℕ) → is_among key keys ≡ true → moved others (as_key (shift key)) ≡ moved (range ∷ others) key
       then_moves key own =
           elim (cases_lt range.end key) [
-            | inl past ↦ ap (λ n. moved others (key_of n)) (after_last key past) ∙ sym (past_end key past)
+            | inl past ↦ ap (λ n. moved others (as_key n)) (after_last key past) ∙ sym (past_end key past)
             | inr le ↦ ap (moved others) (first_place key own le) ∙ stays (place (range ∷ others) key) (omega (arith, le, down key own le)) ∙ sym (lands key own)
           ]
 
@@ -237,26 +233,26 @@ module _ (range : ShiftRange) (others : List ShiftRange) (keys : List ℕ) (h : 
 
       pub fall_rises : IsRising (moved_keys range.begin last range.delta keys)
       fall_rises =
-          joined_rise (place (range ∷ others)) (λ key. key) (λ key. key_of (shift key)) range.end keys set.rising h.rising own_rise
-          (each (IsJoined (place (range ∷ others)) (λ key. key) (λ key. key_of (shift key)) range.end) keys
+          joined_rise (place (range ∷ others)) (λ key. key) (λ key. as_key (shift key)) range.end keys set.rising h.rising own_rise
+          (each (IsJoined (place (range ∷ others)) (λ key. key) (λ key. as_key (shift key)) range.end) keys
           (λ key own. record {
             order = down key own;
             below = first_place key own;
-            above = λ past. ap key_of (after_last key past);
+            above = λ past. ap as_key (after_last key past);
           }))
 
       pub then_land : landed others (moved_keys range.begin last range.delta keys) ≡ landed (range ∷ others) keys
       then_land =
-          map_map (place others) (λ key. key_of (shift key)) keys
-          ∙ map_same (λ key. place others (key_of (shift key))) (place (range ∷ others)) keys
-          (each (λ key. place others (key_of (shift key)) ≡ place (range ∷ others) key) keys (λ key own. ap as_key (then_moves key own)))
+          map_map (place others) (λ key. as_key (shift key)) keys
+          ∙ map_same (λ key. place others (as_key (shift key))) (place (range ∷ others)) keys
+          (each (λ key. place others (as_key (shift key)) ≡ place (range ∷ others) key) keys (λ key own. ap as_key (then_moves key own)))
 
       pub then_move : IsMovable others (moved_keys range.begin last range.delta keys)
       then_move = record {
         list = others_list;
         inside =
-            every-map (λ key. is_past (2 ^ 62) (moved others key) ≡ false) (λ key. key_of (shift key)) keys
-            (each (λ key. is_past (2 ^ 62) (moved others (key_of (shift key))) ≡ false) keys
+            every-map (λ key. is_past (2 ^ 62) (moved others key) ≡ false) (λ key. as_key (shift key)) keys
+            (each (λ key. is_past (2 ^ 62) (moved others (as_key (shift key))) ≡ false) keys
             (λ key own. ap (is_past (2 ^ 62)) (then_moves key own) ∙ inside key own));
         rising = subst IsRising (sym then_land) h.rising;
       }
@@ -305,9 +301,9 @@ module _ (range : ShiftRange) (others : List ShiftRange) (keys : List ℕ) (h : 
 
       pub last_land : moved_keys range.begin last range.delta (landed others keys) ≡ landed (range ∷ others) keys
       last_land =
-          map_map (λ key. key_of (shift key)) (place others) keys
-          ∙ map_same (λ key. key_of (shift (place others key))) (place (range ∷ others)) keys
-          (each (λ key. key_of (shift (place others key)) ≡ place (range ∷ others) key) keys (λ key own. same_key (shift (place others key)) ∙ ap as_key (last_moves key own)))
+          map_map (λ key. as_key (shift key)) (place others) keys
+          ∙ map_same (λ key. as_key (shift (place others key))) (place (range ∷ others)) keys
+          (each (λ key. as_key (shift (place others key)) ≡ place (range ∷ others) key) keys (λ key own. ap as_key (last_moves key own)))
 
       pub last_rises : IsRising (moved_keys range.begin last range.delta (landed others keys))
       last_rises = subst IsRising (sym last_land) h.rising

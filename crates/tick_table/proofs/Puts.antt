@@ -151,10 +151,6 @@ pub rest_next : (n width : ℕ) (cells : List ℤ) → drop (n * width) (drop wi
 rest_next n width cells = let more : width + n * width ≡ suc n * width = omega (arith, suc-mul n width) in drop-drop (n * width) width cells ∙ ap (λ k. drop k cells) more
 
 -- rows whose cells stand one after the other
-pub keys-rows_under : (width : ℕ) (ks : List ℕ) (cells : List ℤ) → keys (rows_under width ks cells) ≡ ks
-keys-rows_under width [] cells = refl
-keys-rows_under width (key ∷ ks) cells = ap (λ rest. key ∷ rest) (keys-rows_under width ks (drop width cells))
-
 pub rows_under-append : (width : ℕ) (first second : List ℕ) (cells : List ℤ) → rows_under width (first ++ second) cells ≡ rows_under width first cells ++ rows_under width second (drop (length first * width) cells)
 rows_under-append width [] second cells = ap (λ n. rows_under width second (drop n cells)) (sym (zero-mul width))
 rows_under-append width (key ∷ first) second cells =

@@ -2,7 +2,7 @@
 use Rattle.std.proofs.Common.{◌≡◌, refl, ap, sym, ◌∙◌, subst, Bool, true, false, cond, ℕ, ◌+◌, ◌*◌, ◌^◌, ◌<◌, ◌≤◌, arith, List, [], ◌∷◌, ◌++◌, length, length-append, drop, map, append_assoc, ne_eqb}
 use Rattle.std.{specs.Prelude.{ℤ, codes, flat_map, FitsSigned, ◌==◌, Result, Ok, Err, IfOk, OnOk}, specs.Int.w64, specs.List.AllByRecursion, proofs.lemmas.Grind.flat_map-append, proofs.lemmas.List.{append-nil, map-append}}
 use Rattle.tick_laws.proofs.LawfulSources.{length-fit_columns}
-use Rattle.tick_table.proofs.Puts.{keys-rows_under}
+use Rattle.tick_model.proofs.RowLists.{keys-rows_under}
 use Rattle.key_lists.{specs.Keys.{IsRising, is_among, runs}, proofs.Every.{every_both, every_weaker, every-append, filter_none}, proofs.Parts.{every_front, every_back}}
 use Rattle.row_set.specs.Sets.{IsKeySet, common}
 use Rattle.shift_data.specs.ShiftLists.{IsShiftList}

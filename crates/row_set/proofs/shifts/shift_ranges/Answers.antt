@@ -1,6 +1,7 @@
 use Rattle.std.proofs.Common.{◌≡◌, ◌-◌, ◌+◌, ◌≤◌, ◌∷◌, ◌++◌, List, length, map, take, drop, slice_range, set, get_or, ap, ap₂, sym, ◌∙◌, subst, ℤ, to_z, of_z, to_z-of_z, w64, arith, add-one}
 use Rattle.std.{specs.List.AllByRecursion, proofs.lemmas.List.{length-map, set_split}}
-use Rattle.row_set.{specs.declared.ranges.Range.Range, specs.Moves.{Shifts, as_key, shift}, proofs.Shifted.{IsNext, next_is, length-slice, shifted_at}, proofs.Counts.blank, proofs.Middles.span, proofs.Spliced.{IsSplicing, splicing_replaces}}
+use Rattle.row_set.{specs.declared.ranges.Range.Range, specs.Moves.{Shifts, shift}, proofs.Shifted.{IsNext, next_is, length-slice, shifted_at}, proofs.Counts.blank, proofs.Middles.span, proofs.Spliced.{IsSplicing, splicing_replaces}}
+use Rattle.tick_model.specs.Shifts.{as_key}
 use Rattle.row_set.proofs.shifts.shift_ranges.Goals as goal
 
 pub moved-requires-clause-small : goal.moved-requires-clause-small
