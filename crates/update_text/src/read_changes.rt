@@ -24,9 +24,6 @@ use tick_model::limits::KEY_SPACE;
 use tick_model::plan::ColumnSpec;
 use tick_model::update::ShiftRange;
 
-/// The number past the farthest that a row moves.
-const MOVES_END: i64 = 1 << 62;
-
 /// Reads the record of a range of removed keys behind its tag.
 fn read_range<'a>(
     bytes: &'a [u8],
@@ -97,7 +94,8 @@ fn put_shift(shifts: &mut ShiftData, range: ShiftRange) -> Result<(), PrintedFau
     if range.begin >= KEY_SPACE || range.end >= KEY_SPACE {
         return Err(PrintedFault::NotPrinted);
     }
-    if range.delta >= MOVES_END || range.delta <= -MOVES_END {
+    let end = KEY_SPACE as i64;
+    if range.delta >= end || range.delta <= -end {
         return Err(PrintedFault::NotPrinted);
     }
     match shifts.push(range.begin, range.end, range.delta) {
