@@ -1,17 +1,13 @@
 -- Lists without what stands at some positions.
-use Rattle.std.proofs.Common.{◌≡◌, refl, ap, sym, ◌∙◌, subst, Bool, true, false, cond, not, ◌||◌, ℕ, zero, suc, ◌+◌, ◌<◌, ◌≤◌, arith, List, [], ◌∷◌, map, drop, length, Option, Some, None}
-use Rattle.std.{specs.Prelude.{filter, option_map, remove, slice_get}, specs.List.AllByRecursion, specs.Option.option_map_or, proofs.lemmas.Bool.{eq-eqb, ne_eqb}, proofs.lemmas.List.drop_all, proofs.lemmas.Option.slice_get-map}
-use Rattle.key_lists.{specs.Keys.{is_among, IsRising}, proofs.Among.{among_below, among_past, each_among}, proofs.Every.every_weaker, proofs.Parts.{drop_got, every_got}}
-use Rattle.row_set.proofs.Windows.{rising-drop}
+use Rattle.std.proofs.Common.{◌≡◌, refl, ap, sym, ◌∙◌, subst, Bool, true, false, cond, not, ◌||◌, ℕ, zero, suc, ◌+◌, ◌<◌, ◌≤◌, arith, List, [], ◌∷◌, ◌++◌, map, length, Option, Some, None}
+use Rattle.std.{specs.Prelude.{filter, option_map, remove, slice_get}, specs.List.AllByRecursion, specs.Option.option_map_or, proofs.lemmas.Bool.{eq-eqb, ne_eqb}, proofs.lemmas.Option.slice_get-map}
+use Rattle.key_lists.{specs.Keys.{is_among, IsRising}, proofs.Among.{among_below, among_past, each_among}, proofs.Every.{every, every_weaker}}
 use Rattle.sort_op.{specs.Places.{AreUnder, left_from}, proofs.Made.held_within}
 
 -- where none is left out
-left_none : {X : Type 0} (first : ℕ) (entries : List X) → left_from first [] entries ≡ entries
+pub left_none : {X : Type 0} (first : ℕ) (entries : List X) → left_from first [] entries ≡ entries
 left_none first [] = refl
 left_none first (entry ∷ entries) = ap (λ others. entry ∷ others) (left_none (suc first) entries)
-
-pub left_all : {X : Type 0} (entries : List X) (positions : List ℕ) (n : ℕ) → n ≡ length positions → entries ≡ left_from 0 (drop n positions) entries
-left_all entries positions n is = sym (ap (λ some. left_from 0 some entries) (drop_all n positions (omega (arith, is))) ∙ left_none 0 entries)
 
 -- a position before the first entry leaves none out
 left_past : {X : Type 0} (first position : ℕ) (later : List ℕ) (entries : List X) → position < first → left_from first (position ∷ later) entries ≡ left_from first later entries
@@ -23,44 +19,34 @@ left_past first position later (entry ∷ entries) past =
 none_here : (first position : ℕ) (later : List ℕ) → first ≤ position → AllByRecursion (λ other. position < other) later → is_among first later ≡ false
 none_here first position later le above = among_below first later (every_weaker (λ other. position < other) (λ other. first < other) later (λ other less. omega (arith, less, le)) above)
 
--- a position before all others leaves one entry more out
-left_one : {X : Type 0} (entries : List X) (at first position : ℕ) (later : List ℕ) → position ≡ first + at → at < length entries → AllByRecursion (λ other. position < other) later
-    → (at < length (left_from first later entries)) × (left_from first (position ∷ later) entries ≡ remove (left_from first later entries) at)
-left_one [] at first position later is within above = absurd (omega (arith, within))
-left_one (entry ∷ entries) zero first position later is within above =
-    let others = left_from (suc first) later entries in
-    let none = none_here first position later (omega (arith, is)) above in
-    let kept : cond (is_among first later) others (entry ∷ others) ≡ entry ∷ others = ap (λ b. cond b others (entry ∷ others)) none in
-    let count = ap length kept in (
-      omega (arith, count),
-      ap (λ b. cond (b || is_among first later) (left_from (suc first) (position ∷ later) entries) (entry ∷ left_from (suc first) (position ∷ later) entries)) (eq-eqb position first (omega (arith, is)))
-          ∙ left_past (suc first) position later entries (omega (arith, is))
-          ∙ sym (ap (λ xs. remove xs 0) kept),
-    )
-left_one (entry ∷ entries) (suc at) first position later is within above =
-    let others = left_from (suc first) later entries in
-    let none = none_here first position later (omega (arith, is)) above in
-    let kept : cond (is_among first later) others (entry ∷ others) ≡ entry ∷ others = ap (λ b. cond b others (entry ∷ others)) none in
-    let count = ap length kept in
-    let rest = left_one entries at (suc first) position later (omega (arith, is)) (omega (arith, within)) above in
-    let other : is_among first (position ∷ later) ≡ false = ap (λ b. b || is_among first later) (ne_eqb position first (λ e. omega (arith, is, e))) ∙ none in (
-      omega (arith, rest.0, count),
-      ap (λ b. cond b (left_from (suc first) (position ∷ later) entries) (entry ∷ left_from (suc first) (position ∷ later) entries)) other
-          ∙ ap (λ xs. entry ∷ xs) rest.1
-          ∙ sym (ap (λ xs. remove xs (suc at)) kept),
-    )
+-- the first of the positions, where those behind it are counted on
+pub left_next : {X : Type 0} (entries : List X) (at first position : ℕ) (later : List ℕ) → position ≡ first + at → at < length entries → AllByRecursion (λ other. position < other) later
+    → left_from first (position ∷ later) entries ≡ left_from (suc first) later (remove entries at)
+left_next [] at first position later is within above = absurd (omega (arith, within))
+left_next (entry ∷ entries) zero first position later is within above =
+    ap (λ b. cond (b || is_among first later) (left_from (suc first) (position ∷ later) entries) (entry ∷ left_from (suc first) (position ∷ later) entries)) (eq-eqb position first (omega (arith, is)))
+    ∙ left_past (suc first) position later entries (omega (arith, is))
+left_next (entry ∷ entries) (suc at) first position later is within above =
+    let others = left_from (suc (suc first)) later (remove entries at) in
+    let other : is_among first (position ∷ later) ≡ false =
+    ap (λ b. b || is_among first later) (ne_eqb position first (λ e. omega (arith, is, e))) ∙ none_here first position later (omega (arith, is)) above in
+    ap (λ b. cond b (left_from (suc first) (position ∷ later) entries) (entry ∷ left_from (suc first) (position ∷ later) entries)) other
+    ∙ ap (λ xs. entry ∷ xs) (left_next entries at (suc first) position later (omega (arith, is)) (omega (arith, within)) above)
+    ∙ sym (ap (λ b. cond b others (entry ∷ others)) (none_here (suc first) position later (omega (arith, is)) above))
 
--- what is left out from one place of the positions on
-pub left_more : {X : Type 0} (entries : List X) (positions : List ℕ) (n next position : ℕ) → next ≡ suc n → IsRising positions → AllByRecursion (λ position. position < length entries) positions → slice_get positions n ≡ Some position
-    → (position < length (left_from 0 (drop next positions) entries)) × (left_from 0 (drop n positions) entries ≡ remove (left_from 0 (drop next positions) entries) position)
-left_more entries positions n next position is rising within at =
-    let split = drop_got positions n position at in
-    let above = (subst IsRising split (rising-drop n positions rising)).0 in
-    let one = left_one entries position 0 position (drop (suc n) positions) (omega arith) (every_got (λ position. position < length entries) positions n position at within) above in
-    let same : drop next positions ≡ drop (suc n) positions = ap (λ k. drop k positions) is in (
-      subst (λ later. position < length (left_from 0 later entries)) (sym same) one.0,
-      ap (λ some. left_from 0 some entries) split ∙ one.1 ∙ ap (λ later. remove (left_from 0 later entries) position) (sym same),
-    )
+-- as many numbers as come before one that rises behind them are below it
+many_below : (first : ℕ) (numbers : List ℕ) (number : ℕ) (others : List ℕ) → AllByRecursion (λ other. first ≤ other) (numbers ++ number ∷ others) → IsRising (numbers ++ number ∷ others) → first + length numbers ≤ number
+many_below first [] number others from rising = omega (arith, from.0)
+many_below first (other ∷ numbers) number others from rising =
+    let rest = many_below (suc first) numbers number others (every_weaker (λ later. other < later) (λ later. suc first ≤ later) (numbers ++ number ∷ others) (λ later less. omega (arith, from.0, less)) rising.0) rising.1 in
+    omega (arith, rest)
+
+pub many_before : (numbers : List ℕ) (number : ℕ) (others : List ℕ) → IsRising (numbers ++ number ∷ others) → length numbers ≤ number
+many_before numbers number others rising = omega (arith, many_below 0 numbers number others (every (λ (other : ℕ). 0 ≤ other) (numbers ++ number ∷ others) (λ other. omega arith)) rising)
+
+pub next_before : {X : Type 0} (some : List X) (x : X) (others all : List X) → all ≡ (some ++ x ∷ []) ++ others → all ≡ some ++ x ∷ others
+next_before [] x others all is = is
+next_before (other ∷ some) x others all is = is ∙ ap (λ rest. other ∷ rest) (next_before some x others ((some ++ x ∷ []) ++ others) refl)
 
 -- where the positions are those that pass a test
 left_passed : {X : Type 0} (p : X → Bool) (positions : List ℕ) (first : ℕ) (entries : List X) → ((position at : ℕ) → position ≡ first + at → is_among position positions ≡ option_map_or p (slice_get entries at) false) → left_from first positions entries ≡ filter (λ entry. not (p entry)) entries

@@ -226,18 +226,17 @@ impl RowOrder {
         let _ = self.rows.remove(position);
     }
 
-    /// Takes out the rows at these positions, the last one first, so that no other of them moves. It takes no memory.
+    /// Takes out the rows at these positions. It takes no memory.
     pub(crate) fn remove_found(&mut self, positions: &RowSet)
         requires { AllByRecursion (λ position. position < length self.old.rows) positions.now }
         ensures left { self.new ≡ record self.old { rows = left_from 0 positions.now self.old.rows } }
         ensures ranking { IsRanking self.old }
     {
         let _count = self.len();
-        let mut place = positions.len();
-        while place > 0 {
-            place -= 1;
-            let position = positions.get(place).unwrap();
-            self.remove_at(position as usize);
+        let mut removed = 0;
+        for position in positions {
+            self.remove_at(position as usize - removed);
+            removed += 1;
         }
     }
 

@@ -1,12 +1,11 @@
-use Rattle.std.proofs.Common.{◌≡◌, ◌≤◌, drop, length}
+use Rattle.std.proofs.Common.{◌≡◌, ◌+◌, ◌++◌, length, List, ℕ}
 use Rattle.sort_op.specs.Places.{left_from}
 use Rattle.sort_op.proofs.row_order.RowOrder.remove_found.Given as goal
 
-abbrev pub invariant-loop-place : goal.invariant-loop-place
-invariant-loop-place l = record {
-  within : l.place ≤ length l.positions;
-  left : l.self ≡ record l.initial.self { rows = left_from 0 (drop l.place l.positions) l.initial.self.rows };
+abbrev pub invariant-loop-position : goal.invariant-loop-position
+invariant-loop-position l = record {
+  removed : l.removed ≡ length l.yielded;
+  count : length l.self.rows + l.removed ≡ length l.fn.self.rows;
+  self : l.self ≡ record l.fn.self { rows = l.self.rows };
+  left : (rest : List ℕ) → l.positions ≡ l.yielded ++ rest → left_from 0 l.positions l.fn.self.rows ≡ left_from l.removed rest l.self.rows;
 }
-
-abbrev pub decreases-loop-place : goal.decreases-loop-place
-decreases-loop-place l = l.place
