@@ -2,7 +2,7 @@
 use Rattle.std.proofs.Common.{◌≡◌, refl, ap, ap₂, sym, ◌∙◌, subst, Bool, true, false, cond, ℕ, ◌<◌, List, [], map, filter, Option, Some, None, ℤ, true≢false}
 use Rattle.std.{specs.Prelude.{int_le, int_lt, option_map, IfSome}, specs.List.AllByRecursion}
 use Rattle.key_lists.proofs.Every.{every_weaker, filter-map}
-use Rattle.lookup_join.{specs.declared.keyed.Side.TheVariants.Right, specs.declared.pick.Pick.Pick, specs.Keyed.{indexed, key_cells, keyed, time_of}, specs.Latest.{latest_by, match_of}, specs.Notes.{Note, note_of, taken_key}, specs.Taken.{AreMatched, IsFrom, IsThere, before_by, cell_of, gathered, match_as_before, match_before, match_now, speaks, step_notes, taken_cells}, proofs.Gathered.match_is, proofs.Noted.{found_own, noted_stays, noted_then}, proofs.Spans.{apart, early_is, late_is, latest-map, latest_split, or_else, reach}, proofs.Stays.{late, own, time}, proofs.Taking.{IsOwn, is_there_before, is_there_now, map_twice, notes_own, taken_before, taken_now, unnoted_stays}}
+use Rattle.lookup_join.{specs.declared.keyed.Side.TheVariants.Right, specs.declared.pick.Pick.Pick, specs.Keyed.{indexed, key_cells, keyed, time_of}, specs.Latest.{latest_by, match_of}, specs.Notes.{Note, note_of, taken_key}, specs.Taken.{AreMatched, IsFrom, IsThere, before_by, cell_of, gathered, match_as_before, match_before, match_now, speaks, step_notes, taken_cells, told_notes}, proofs.Gathered.match_is, proofs.Noted.{found_own, noted_stays, noted_then}, proofs.Noting.told_all, proofs.Spans.{apart, early_is, late_is, latest-map, latest_split, or_else, reach}, proofs.Stays.{late, own, time}, proofs.Taking.{IsOwn, is_there_before, is_there_now, map_twice, notes_own, taken_before, taken_now, unnoted_stays}}
 use Rattle.row_groups.specs.Members.{Grouped, Member, member_of}
 use Rattle.tick_model.{specs.declared.plan.OnPair.OnPair, specs.declared.table.PlainRow.PlainRow}
 use Rattle.tick_table.{specs.Exact.IsExact, specs.Ticking.Ticking}
@@ -104,14 +104,14 @@ module _ (on : List OnPair) (pick : Pick) (t : Ticking) (e : IsExact t) where
       by None is = now_taken ∙ sym (unnoted_stays on pick t e take cells until is)
       by (Some note) is = spoken note is (speaks (match_of pick cells until members) note.at) refl
 
-  pub matched : (take : List ℕ) (left : Ticking) (index : Grouped) (noted : List Note) → IsExact left → AllByRecursion (λ column. column < t.new.width) take → index ≡ indexed Right on pick t.new.rows → noted ≡ notes → AreMatched on pick take left t index noted
+  pub matched : (take : List ℕ) (left : Ticking) (index : Grouped) (noted : List Note) → IsExact left → AllByRecursion (λ column. column < t.new.width) take → index ≡ indexed Right on pick t.new.rows → noted ≡ told_notes on pick left t → AreMatched on pick take left t index noted
   matched take left index noted l within i n = record {
     left_exact = l;
     right_exact = e;
     within = within;
     rows = i;
-    there = λ cells until. subst (λ rows. IsThere t.old t.new (match_as_before pick rows noted cells until)) (sym (ap (λ (index : Grouped). index.members) i)) (subst (λ notes. IsThere t.old t.new (match_as_before pick members notes cells until)) (sym n) (before_there cells until));
-    before = λ cells until. ap₂ (λ (index : Grouped) notes. map (cell_of t.old.rows t.new.rows (match_as_before pick index.members notes cells until)) take) i n ∙ before_taken take cells until;
+    there = λ some cells until. subst (λ rows. IsThere t.old t.new (match_as_before pick rows noted cells until)) (sym (ap (λ (index : Grouped). index.members) i)) (subst (λ notes. IsThere t.old t.new (match_as_before pick members notes cells until)) (sym (n ∙ told_all on pick t e left some)) (before_there cells until));
+    before = λ some cells until. ap₂ (λ (index : Grouped) notes. map (cell_of t.old.rows t.new.rows (match_as_before pick index.members notes cells until)) take) i (n ∙ told_all on pick t e left some) ∙ before_taken take cells until;
   }
 
   -- each note is of the row that was taken, and this is there as the one that is taken now

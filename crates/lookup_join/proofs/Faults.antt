@@ -2,7 +2,7 @@
 use Rattle.std.proofs.Common.{◌≡◌, refl, ap, ap₂, sym, ◌∙◌, subst, Bool, true, false, cond, ◌&&◌, ◌||◌, ℕ, ◌<◌, ◌≤◌, ◌==◌, arith, ◌⊎◌, inl, inr, List, [], ◌∷◌, ◌++◌, map, filter, length, Option, Some, None, ℤ, true≢false}
 use Rattle.std.{specs.Prelude.{filter_map, find, nat_lt, option_map, slice_get, unwrap_or}, specs.List.{AllByRecursion, cons_option}, proofs.lemmas.Bool.{and_parts, eqb-true, ltb-false, ltb-true}, proofs.lemmas.List.length-map, proofs.lemmas.Option.none-some}
 use Rattle.key_lists.{specs.Keys.{is_among, IsRising}, proofs.Among.{among_own, each_among, of_among}, proofs.Every.{every_both, every_weaker, every-map, every_unmapped, filter-map, none_pass}, proofs.Rising.rising-filter, proofs.Parts.{every_front, every_back}}
-use Rattle.lookup_join.{specs.declared.duplicates.Duplicate.Duplicate, specs.declared.keyed.Side.TheVariants.{Left, Right}, specs.Duplicates.{cells_under, earlier, faulty_group, first_with_two, least_fault, least_of}, specs.Keyed.{indexed, key_at, key_cells, keyed}, specs.declared.pick.Pick.Pick, specs.declared.pick.Pick.TheVariants.First as FirstRow, specs.Matched.pick_of, specs.Notes.{Note, NoteList}, specs.Taken.step_notes, proofs.Brought.{all_keys, brought, came, came_there, kept_key, keys-keyed}, proofs.Gathered.{keys-group, matches_are, with_cells}, proofs.Noting.quiet, proofs.Quiet.cells_stay, proofs.Told.{passing_at, same_is, same_own}, proofs.Walks.member_known}
+use Rattle.lookup_join.{specs.declared.duplicates.Duplicate.Duplicate, specs.declared.keyed.Side.TheVariants.{Left, Right}, specs.Duplicates.{cells_under, earlier, faulty_group, first_with_two, least_fault, least_of}, specs.Keyed.{indexed, key_at, key_cells, keyed}, specs.declared.pick.Pick.Pick, specs.declared.pick.Pick.TheVariants.First as FirstRow, specs.Matched.pick_of, specs.Notes.{Note, NoteList}, specs.Taken.{step_notes, told_notes}, proofs.Brought.{all_keys, brought, came, came_there, kept_key, keys-keyed}, proofs.Gathered.{keys-group, matches_are, with_cells}, proofs.Noting.{quiet, told_all}, proofs.Quiet.cells_stay, proofs.Taking.has_row, proofs.Told.{passing_at, same_is, same_own}, proofs.Walks.member_known}
 use Rattle.row_groups.specs.Members.{Grouped, Member, keys_of}
 use Rattle.tick_model.{specs.declared.plan.Choice.Choice, specs.declared.plan.Choice.TheVariants.{Error, First, Last}, specs.declared.plan.OnPair.OnPair, specs.declared.table.NodeFault.NodeFault, specs.declared.table.NodeFault.TheVariants.DuplicateRight, specs.declared.table.PlainRow.PlainRow, specs.declared.table.PlainTable.PlainTable, specs.Join.{duplicate, join_fault, matches}, specs.Tables.{IsTable, keys, row_at, same_cells}, proofs.Among.{each_found, rows_among}}
 use Rattle.tick_table.{specs.Exact.IsExact, specs.Ticking.Ticking}
@@ -262,7 +262,7 @@ found_has {X = X} P p (y ∷ xs) x h e = at_first (p y) refl e (λ found. found_
 
 module _ (on : List OnPair) (l : Ticking) (left_exact : IsExact l) (r : Ticking) (right_exact : IsExact r) where
   abbrev notes : List Note
-  notes = step_notes on FirstRow r
+  notes = told_notes on FirstRow l r
 
   abbrev left_rows : List Member
   left_rows = keyed Left on FirstRow l.new.rows
@@ -292,7 +292,7 @@ module _ (on : List OnPair) (l : Ticking) (left_exact : IsExact l) (r : Ticking)
   came_told = every_unmapped IsTold (cells_under left_rows) fresh (every_back IsTold (map (λ (note : Note). note.cells) notes) (map (cells_under left_rows) fresh) all_told)
 
   -- a group of no note has as many right rows as before
-  module _ (cells : List ℤ) (none : AllByRecursion (λ (note : Note). same_cells cells note.cells ≡ false) notes) where
+  module _ (cells : List ℤ) (none : AllByRecursion (λ (note : Note). same_cells cells note.cells ≡ false) (step_notes on FirstRow r)) where
     abbrev has : List ℤ → Bool
     has row = same_cells cells (key_cells Right on row)
 
@@ -322,7 +322,7 @@ module _ (on : List OnPair) (l : Ticking) (left_exact : IsExact l) (r : Ticking)
         by_came none false is =
             let stays = kept_key Left on FirstRow l left_exact key (sym (ap (λ b. b || is_among key (keys_of (brought Left on FirstRow l left_exact))) is) ∙ all_keys Left on FirstRow l left_exact key ∙ there) in
             inr (subst (λ n. n ≤ 1)
-            (ap (λ cells. length (keys (with_cells Right on r.old.rows cells))) stays.1.1 ∙ unnoted_count (key_at Left on l.new.rows key) none)
+            (ap (λ cells. length (keys (with_cells Right on r.old.rows cells))) stays.1.1 ∙ unnoted_count (key_at Left on l.new.rows key) (subst (AllByRecursion (λ (note : Note). same_cells (key_at Left on l.new.rows key) note.cells ≡ false)) (told_all on FirstRow r right_exact l (has_row (keys l.old.rows) _ stays.1.0)) none))
             (of_among (λ key. length (matched on l.old r.old left_exact.tick.old_table right_exact.tick.old_table (key_at Left on l.old.rows key)) ≤ 1) stays.0 (keys l.old.rows) (sound_counts on l.old r.old left_exact.tick.old_table right_exact.tick.old_table sound) stays.1.0))
 
         by_note : (o : Option Note) → find (λ (note : Note). same_cells (key_at Left on l.new.rows key) note.cells) notes ≡ o → IsFound key
@@ -336,18 +336,18 @@ module _ (on : List OnPair) (l : Ticking) (left_exact : IsExact l) (r : Ticking)
 
   -- what a step tells is the fault of the tables of now
   fault_is : (choice : Choice) → join_fault on choice l.old r.old ≡ None
-      → option_map node_of (least_of choice (keyed Left on (pick_of choice) l.new.rows) (keyed Right on (pick_of choice) r.new.rows) (map (λ (note : Note). note.cells) (step_notes on (pick_of choice) r) ++ map (cells_under (keyed Left on (pick_of choice) l.new.rows)) (came Left on (pick_of choice) l left_exact)))
+      → option_map node_of (least_of choice (keyed Left on (pick_of choice) l.new.rows) (keyed Right on (pick_of choice) r.new.rows) (map (λ (note : Note). note.cells) (told_notes on (pick_of choice) l r) ++ map (cells_under (keyed Left on (pick_of choice) l.new.rows)) (came Left on (pick_of choice) l left_exact)))
       ≡ join_fault on choice l.new r.new
   fault_is Error sound = least_is_first on l.new r.new left_exact.tick.new_table right_exact.tick.new_table groups (covered sound)
   fault_is First sound = refl
   fault_is Last sound = refl
 
-  pub told_is : (choice : Choice) (pick : Pick) → pick ≡ pick_of choice → (left right : Grouped) (noted : NoteList) (new : List ℕ) → left ≡ indexed Left on pick l.new.rows → right ≡ indexed Right on pick r.new.rows → noted ≡ (record { width = length on; notes = step_notes on pick r }) → new ≡ came Left on pick l left_exact
+  pub told_is : (choice : Choice) (pick : Pick) → pick ≡ pick_of choice → (left right : Grouped) (noted : NoteList) (new : List ℕ) → left ≡ indexed Left on pick l.new.rows → right ≡ indexed Right on pick r.new.rows → noted ≡ (record { width = length on; notes = told_notes on pick l r }) → new ≡ came Left on pick l left_exact
       → join_fault on choice l.old r.old ≡ None → option_map node_of (least_of choice left.members right.members (map (λ (note : Note). note.cells) noted.notes ++ map (cells_under left.members) new)) ≡ join_fault on choice l.new r.new
   told_is choice pick is left right noted new a b n c sound =
       ap₂ (λ (left : Grouped) (right : Grouped). option_map node_of (least_of choice left.members right.members (map (λ (note : Note). note.cells) noted.notes ++ map (cells_under left.members) new))) a b
       ∙ ap₂ (λ (noted : NoteList) (new : List ℕ). option_map node_of (least_of choice (keyed Left on pick l.new.rows) (keyed Right on pick r.new.rows) (map (λ (note : Note). note.cells) noted.notes ++ map (cells_under (keyed Left on pick l.new.rows)) new))) n c
-      ∙ ap (λ (pick : Pick). option_map node_of (least_of choice (keyed Left on pick l.new.rows) (keyed Right on pick r.new.rows) (map (λ (note : Note). note.cells) (step_notes on pick r) ++ map (cells_under (keyed Left on pick l.new.rows)) (came Left on pick l left_exact)))) is
+      ∙ ap (λ (pick : Pick). option_map node_of (least_of choice (keyed Left on pick l.new.rows) (keyed Right on pick r.new.rows) (map (λ (note : Note). note.cells) (told_notes on pick l r) ++ map (cells_under (keyed Left on pick l.new.rows)) (came Left on pick l left_exact)))) is
       ∙ fault_is choice sound
 
   pub came_members : (pick : Pick) (left : Grouped) (new : List ℕ) → left ≡ indexed Left on pick l.new.rows → new ≡ came Left on pick l left_exact → AllByRecursion (λ key. is_among key (keys_of left.members) ≡ true) new

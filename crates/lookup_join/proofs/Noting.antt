@@ -1,10 +1,10 @@
 -- What notes of places say: each touched place is noted, and between notes no row is touched.
-use Rattle.std.proofs.Common.{◌≡◌, refl, ap₂, sym, ◌∙◌, subst, Bool, true, false, cond, ◌&&◌, ℕ, ◌+◌, ◌*◌, ◌≤◌, arith, List, [], ◌∷◌, ◌++◌, map, filter, length, length-append, Option, Some, None, ℤ}
+use Rattle.std.proofs.Common.{◌≡◌, refl, ap, ap₂, sym, ◌∙◌, subst, Bool, true, false, cond, ◌&&◌, ℕ, ◌+◌, ◌*◌, ◌≤◌, ◌==◌, arith, List, [], ◌∷◌, ◌++◌, map, filter, length, length-append, Option, Some, None, ℤ}
 use Rattle.std.{specs.Prelude.{flat_map, int_le, IfSome}, specs.Cmp.signed_Decides, specs.Cmp.Rules.signed_items, specs.List.AllByRecursion, specs.Ordering.int_eq, proofs.lemmas.Bool.and_parts, proofs.lemmas.List.length-map}
 use Rattle.key_lists.{proofs.Every.{every_both, every_unmapped, every_weaker, every-filter, filter_passes}, proofs.Parts.{every_front, every_back}}
-use Rattle.lookup_join.{specs.declared.keyed.Side.TheVariants.Right, specs.declared.pick.Pick.Pick, specs.declared.pick.Pick.TheVariants.Last, specs.Keyed.{key_cells, keyed, time_of}, specs.Notes.{Note, Spot, fresh_note, is_noted, note_of, noting, with_note}, specs.Taken.{modified_pairs, spot_at, step_notes, touched_spots}, proofs.Quiet.FailsBoth, proofs.Spans.latest_every, proofs.Stays.IsQuiet}
+use Rattle.lookup_join.{specs.declared.keyed.Side.TheVariants.Right, specs.declared.pick.Pick.Pick, specs.declared.pick.Pick.TheVariants.Last, specs.Keyed.{key_cells, keyed, time_of}, specs.Notes.{Note, Spot, fresh_note, is_noted, note_of, noting, with_note}, specs.Taken.{HasRow, modified_pairs, spot_at, step_notes, told_notes, touched_spots}, proofs.Quiet.FailsBoth, proofs.Spans.latest_every, proofs.Stays.IsQuiet}
 use Rattle.row_groups.specs.Members.{Member}
-use Rattle.tick_model.{specs.declared.plan.OnPair.OnPair, specs.declared.update.KeyPair.KeyPair, specs.Tables.{cells_at, same_cells}}
+use Rattle.tick_model.{specs.declared.plan.OnPair.OnPair, specs.declared.update.KeyPair.KeyPair, specs.Tables.{cells_at, keys, same_cells}}
 use Rattle.tick_table.{specs.Exact.IsExact, specs.Ticking.Ticking}
 
 every_two : {X Y : Type 0} (P : Y → Type 0) (f g : X → Y) (xs : List X) → AllByRecursion P (flat_map (λ x. f x ∷ g x ∷ []) xs) → AllByRecursion (λ x. P (f x) × P (g x)) xs
@@ -87,7 +87,7 @@ module _ (on : List OnPair) (pick : Pick) (t : Ticking) (e : IsExact t) where
   all_noted = noting_all pick (keyed Right on pick t.old.rows) [] (touched_spots on pick t.old.rows t.new.rows t.update (modified_pairs t))
 
   -- as many as the rows that the step touches, with the modified ones twice
-  pub notes_few : length notes ≤ length t.update.removed + length t.update.added + 2 * length (modified_pairs t)
+  notes_few : length notes ≤ length t.update.removed + length t.update.added + 2 * length (modified_pairs t)
   notes_few =
       omega (
         arith,
@@ -102,6 +102,12 @@ module _ (on : List OnPair) (pick : Pick) (t : Ticking) (e : IsExact t) where
       two_each : (pairs : List KeyPair) → length (flat_map (λ (pair : KeyPair). spot_at on pick t.old.rows pair.old ∷ spot_at on pick t.new.rows pair.new ∷ []) pairs) ≡ 2 * length pairs
       two_each [] = omega arith
       two_each (pair ∷ pairs) = omega (arith, two_each pairs)
+
+  pub told_few : (left : Ticking) → length (told_notes on pick left t) ≤ length t.update.removed + length t.update.added + 2 * length (modified_pairs t)
+  told_few left = elim (length (keys left.old.rows) == 0) as (λ b. length (cond b [] notes) ≤ length t.update.removed + length t.update.added + 2 * length (modified_pairs t)) [ true ↦ omega arith | false ↦ notes_few ]
+
+  pub told_all : (left : Ticking) → HasRow left.old → told_notes on pick left t ≡ notes
+  told_all left some = ap (λ b. cond b [] notes) some
 
   -- a test of key cells and times that fails at all notes fails at each touched row
   pub quiet : (take : List ℕ) (cells : List ℤ) (f : List ℤ → ℤ → Bool) (test : List ℤ → Bool) → ((rows : List ℤ) → test rows ≡ f (key_cells Right on rows) (time_of Right pick rows)) → AllByRecursion (λ (note : Note). f note.cells note.at ≡ false) notes → IsQuiet on pick take cells t e test

@@ -1,8 +1,8 @@
 -- What was taken before a step, by its notes or by the right rows of now.
-use Rattle.std.proofs.Common.{◌≡◌, refl, ap, sym, ◌∙◌, subst, Bool, true, false, cond, ◌&&◌, ℕ, List, [], ◌∷◌, ◌++◌, map, filter, Option, Some, None, ℤ, true≢false, unwrap_or}
-use Rattle.std.{specs.Prelude.{int_le, option_map, IfSome}, specs.List.AllByRecursion, proofs.lemmas.Option.none-some}
+use Rattle.std.proofs.Common.{◌≡◌, refl, ap, sym, ◌∙◌, subst, Bool, true, false, cond, ◌&&◌, ℕ, List, [], ◌∷◌, ◌++◌, map, filter, Option, Some, None, ℤ, true≢false, unwrap_or, ◌==◌, length, arith}
+use Rattle.std.{specs.Prelude.{int_le, option_map, IfSome}, specs.List.AllByRecursion, proofs.lemmas.Bool.ne_eqb, proofs.lemmas.Option.none-some}
 use Rattle.key_lists.{specs.Keys.{is_among, IsRising}, proofs.Every.{every-append, every-filter}}
-use Rattle.lookup_join.{specs.declared.keyed.Side.TheVariants.Right, specs.declared.pick.Pick.Pick, specs.declared.pick.Pick.TheVariants.Last, specs.Keyed.{key_cells, keyed, time_of}, specs.Latest.{beats, latest_by, or_later}, specs.Notes.{Note, Spot, fresh_note, is_noted, note_of, noting, taken_key, with_note}, specs.Taken.{AreMatched, IsThere, cell_of, gathered, match_before, match_in, match_now, modified_pairs, step_notes, taken_cells, touched_spots}, proofs.Gathered.match_is, proofs.Latests.latest_first, proofs.Noting.quiet, proofs.Spans.{latest_every, reach}, proofs.Stays.{own, stays_whole, time}}
+use Rattle.lookup_join.{specs.declared.keyed.Side.TheVariants.Right, specs.declared.pick.Pick.Pick, specs.declared.pick.Pick.TheVariants.Last, specs.Keyed.{key_cells, keyed, time_of}, specs.Latest.{beats, latest_by, or_later}, specs.Notes.{Note, Spot, fresh_note, is_noted, note_of, noting, taken_key, with_note}, specs.Taken.{AreMatched, HasRow, IsThere, cell_of, gathered, match_before, match_in, match_now, modified_pairs, step_notes, taken_cells, touched_spots}, proofs.Gathered.match_is, proofs.Latests.latest_first, proofs.Noting.quiet, proofs.Spans.{latest_every, reach}, proofs.Stays.{own, stays_whole, time}}
 use Rattle.row_groups.specs.Members.{Grouped, Member, member_of}
 use Rattle.tick_model.{specs.declared.plan.OnPair.OnPair, specs.declared.table.PlainRow.PlainRow, specs.declared.table.PlainTable.PlainTable, specs.Join.taken, specs.Tables.{cell, keys, row_at, same_cells}, proofs.Among.{each_found, rows_among}}
 use Rattle.tick_table.{specs.declared.version.Version.Version, specs.declared.version.Version.TheVariants.{Before, Now}, specs.Exact.IsExact, specs.Ticking.Ticking, specs.Versions.table_in}
@@ -52,15 +52,19 @@ module _ (on : List OnPair) (pick : Pick) (take : List ℕ) (table : PlainTable)
   pub is_there_now : (other : PlainTable) → IsThere other table (match_now (taken_key pick (keyed Right on pick table.rows) cells until))
   is_there_now other = subst (λ o. IsThere other table (match_now o)) (sym key_is) (there_now other chosen (every_chosen (λ row. is_among row.key (keys table.rows) ≡ true) (rows_among table.rows)))
 
+pub has_row : (ks : List ℕ) (key : ℕ) → is_among key ks ≡ true → (length ks == 0) ≡ false
+has_row [] key h = absurd (true≢false (sym h))
+has_row (k ∷ ks) key h = ne_eqb (length (k ∷ ks)) 0 (λ e. omega (arith, e))
+
 -- what was taken, or is, where the rows of a join may be read
 module _ {on : List OnPair} {pick : Pick} {take : List ℕ} {left right : Ticking} {index : Grouped} {notes : List Note} (are : AreMatched on pick take left right index notes) (cells : List ℤ) (time : ℤ) where
-  pub in_there : (version : Version) → IsThere right.old right.new (match_in version pick index.members notes cells time)
-  in_there Before = are.there cells time
-  in_there Now = subst (λ (index : Grouped). IsThere right.old right.new (match_now (taken_key pick index.members cells time))) (sym are.rows) (is_there_now on pick take right.new are.right_exact.tick.new_table.rising cells time right.old)
+  pub in_there : (version : Version) → HasRow (table_in version left) → IsThere right.old right.new (match_in version pick index.members notes cells time)
+  in_there Before some = are.there some cells time
+  in_there Now some = subst (λ (index : Grouped). IsThere right.old right.new (match_now (taken_key pick index.members cells time))) (sym are.rows) (is_there_now on pick take right.new are.right_exact.tick.new_table.rising cells time right.old)
 
-  pub in_cells : (version : Version) → map (cell_of right.old.rows right.new.rows (match_in version pick index.members notes cells time)) take ≡ taken_cells on pick take (table_in version right).rows cells time
-  in_cells Before = are.before cells time
-  in_cells Now = subst (λ (index : Grouped). map (cell_of right.old.rows right.new.rows (match_now (taken_key pick index.members cells time))) take ≡ taken_cells on pick take right.new.rows cells time) (sym are.rows) (taken_now on pick take right.new are.right_exact.tick.new_table.rising cells time right.old.rows)
+  pub in_cells : (version : Version) → HasRow (table_in version left) → map (cell_of right.old.rows right.new.rows (match_in version pick index.members notes cells time)) take ≡ taken_cells on pick take (table_in version right).rows cells time
+  in_cells Before some = are.before some cells time
+  in_cells Now some = subst (λ (index : Grouped). map (cell_of right.old.rows right.new.rows (match_now (taken_key pick index.members cells time))) take ≡ taken_cells on pick take right.new.rows cells time) (sym are.rows) (taken_now on pick take right.new are.right_exact.tick.new_table.rising cells time right.old.rows)
 
 -- where there is no latest, none passes
 pub latest_none : {X : Type 0} (pick : Pick) (time : X → ℤ) (p : X → Bool) (xs : List X) → latest_by pick time (filter p xs) ≡ None → AllByRecursion (λ x. p x ≡ false) xs

@@ -8,8 +8,9 @@
 --     match_as_before pick members notes cells at      the right row that was taken before the step
 --     match_in version pick members notes cells at      the right row that was taken before the step, or is taken now
 --     turned_note pick take left right notes old new note      the left rows for which a note speaks, where they take other cells now
+--     told_notes on pick left right      what is noted in a step: nothing, where there was no left row
 --     turned_keys on pick take left right      the left rows for which the notes of a step speak so
-use Rattle.std.{specs.Prelude.{◌≡◌, ℕ, ◌<◌, Bool, true, ◌&&◌, List, [], ◌∷◌, ◌++◌, Option, Some, None, filter, flat_map, int_le, map, option_map, ℤ, if◌then◌else◌, IsTrue}, specs.List.AllByRecursion}
+use Rattle.std.{specs.Prelude.{◌≡◌, ℕ, ◌<◌, ◌==◌, Bool, false, true, ◌&&◌, List, [], ◌∷◌, ◌++◌, Option, Some, None, filter, flat_map, int_le, length, map, option_map, ℤ, if◌then◌else◌, IsTrue}, specs.List.AllByRecursion}
 use Rattle.key_lists.specs.Keys.{is_among}
 use Rattle.lookup_join.{specs.declared.keyed.Side.Side, specs.declared.keyed.Side.TheVariants.{Left, Right}, specs.declared.matches.Match.Match, specs.declared.matches.Match.TheVariants.{Before, Now, Nothing}, specs.declared.pick.Pick.Pick, specs.Keyed.{indexed, key_at, key_cells, keyed, rekeys, time_at, time_of}, specs.Latest.{during, earlier, latest_by, match_of, next_time}, specs.Notes.{Note, Spot, next_after, note_of, noting, taken_key}}
 use Rattle.row_groups.specs.Members.{Grouped, Member, group_of, keys_of}
@@ -86,14 +87,18 @@ abbrev pub match_in : Version → Pick → List Member → List Note → List �
 match_in versions.Before pick members notes cells at = match_as_before pick members notes cells at
 match_in versions.Now pick members notes cells at = match_now (taken_key pick members cells at)
 
--- the rows of an as-of join may be read: the index has the right rows of now, and what is noted or not says what was taken before
+-- a table has a row
+abbrev pub HasRow : PlainTable → Type 0
+HasRow table = (length (keys table.rows) == 0) ≡ false
+
+-- the rows of an as-of join may be read: the index has the right rows of now, and what is noted or not says what left rows took before
 pub record AreMatched (on : List OnPair) (pick : Pick) (take : List ℕ) (left right : Ticking) (index : Grouped) (notes : List Note) : Type 0 where
   pub left_exact : IsExact left
   pub right_exact : IsExact right
   pub within : AllByRecursion (λ column. column < right.new.width) take
   pub rows : index ≡ indexed Right on pick right.new.rows
-  pub there : (cells : List ℤ) (time : ℤ) → IsThere right.old right.new (match_as_before pick index.members notes cells time)
-  pub before : (cells : List ℤ) (time : ℤ) → map (cell_of right.old.rows right.new.rows (match_as_before pick index.members notes cells time)) take ≡ taken_cells on pick take right.old.rows cells time
+  pub there : HasRow left.old → (cells : List ℤ) (time : ℤ) → IsThere right.old right.new (match_as_before pick index.members notes cells time)
+  pub before : HasRow left.old → (cells : List ℤ) (time : ℤ) → map (cell_of right.old.rows right.new.rows (match_as_before pick index.members notes cells time)) take ≡ taken_cells on pick take right.old.rows cells time
 
 -- the pairs of modified rows, and of those that change their key cells or their time
 abbrev pub modified_pairs : Ticking → List KeyPair
@@ -105,6 +110,9 @@ rekeyed_pairs side on pick input = filter (rekeys side on pick input.old input.n
 -- what is noted in a step of the right input
 abbrev pub step_notes : List OnPair → Pick → Ticking → List Note
 step_notes on pick right = noting pick (keyed Right on pick right.old.rows) [] (touched_spots on pick right.old.rows right.new.rows right.update (modified_pairs right))
+
+abbrev pub told_notes : List OnPair → Pick → Ticking → Ticking → List Note
+told_notes on pick left right = if length (keys left.old.rows) == 0 then [] else step_notes on pick right
 
 abbrev pub turned_keys : List OnPair → Pick → List ℕ → Ticking → Ticking → List ℕ
 turned_keys on pick take left right = turned_members pick take (keyed Left on pick left.new.rows) (keyed Right on pick right.new.rows) (step_notes on pick right) right.old.rows right.new.rows (step_notes on pick right)

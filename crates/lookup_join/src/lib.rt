@@ -17,7 +17,7 @@
 //! So it is enough to look at the times of touched right rows, each with its key cells: those of removed rows, those of added
 //! rows, and both of modified ones. For each such place the right row that was taken at it is noted (`notes`) before the
 //! indexes are brought on (`lookup`). A note speaks for the left rows of its group from its time until the next right row's or
-//! the next note's (`turned`). Where there was no left row before the step, each one is new, and no note is looked at.
+//! the next note's (`turned`). Where there was no left row before the step, each one is new, and nothing is noted.
 //!
 //! The reads. A note costs the taken cells of two right rows, the one before and the one of now, however many left rows it
 //! speaks for; and there are no more notes than the right input counts: removed rows, added rows and twice the modified ones.

@@ -5,7 +5,7 @@ ghost use Rattle.std.specs.List.{AllByRecursion};
 ghost use Rattle.key_lists.specs.Keys.{is_among};
 ghost use Rattle.lookup_join.specs.Keyed.{indexed};
 ghost use Rattle.lookup_join.specs.Matched.{matched_tick};
-ghost use Rattle.lookup_join.specs.Taken.{AreMatched, rekeyed_pairs, step_notes, turned_keys};
+ghost use Rattle.lookup_join.specs.Taken.{AreMatched, rekeyed_pairs, told_notes, turned_keys};
 ghost use Rattle.row_set.specs.Sets.{united};
 ghost use Rattle.tick_model.specs.Changes.{change_of};
 ghost use Rattle.tick_model.specs.Updates.{between, new_keys};
@@ -57,13 +57,13 @@ pub(crate) fn lookup_step<L: Ledger>(
     ensures left_rows { OnOk result (left_rows.new ≡ indexed Side.Left on.now pick left.now.new.rows) }
     ensures right_rows { OnOk result (right_rows.new ≡ indexed Side.Right on.now pick right.now.new.rows) }
     ensures change { IfOk result (λ outcome. outcome.change ≡ change_of (matched_tick on.now pick take.now (tick_of left.now) (tick_of right.now))) }
-    ensures notes { IfOk result (λ outcome. outcome.notes ≡ record { width = length on.now; notes = step_notes on.now pick right.now }) }
+    ensures notes { IfOk result (λ outcome. outcome.notes ≡ record { width = length on.now; notes = told_notes on.now pick left.now right.now }) }
     ensures came { IfOk result (λ outcome. outcome.came ≡ united (new_keys (rekeyed_pairs Side.Left on.now pick left.now)) left.now.update.added) }
     ensures reads { reads.new ≤ reads.old
         + 4 * (left.now.new.width + right.now.new.width + (left.now.new.width + length take.now))
         * (counted left.now.update + counted right.now.update + counted (change_of (matched_tick on.now pick take.now (tick_of left.now) (tick_of right.now))).update) }
 {
-    let notes = bring_right_on(alloc, on, pick, right_rows, right, buffer, reads)?;
+    let notes = bring_right_on(alloc, on, pick, right_rows, left, right, buffer, reads)?;
     let came = bring_left_on(alloc, on, pick, left_rows, left, buffer, reads)?;
     let rows = MatchedRows {
         left,
@@ -88,6 +88,7 @@ fn bring_right_on<L: Ledger>(
     on: &[OnPair],
     pick: Pick,
     index: &mut Groups,
+    left: &TickTable,
     right: &TickTable,
     buffer: &mut Vec<i64>,
     reads: &mut Steps<L>,
@@ -95,11 +96,13 @@ fn bring_right_on<L: Ledger>(
     requires exact { IsExact right.now }
     requires index { index.old ≡ indexed Side.Right on.now pick right.now.old.rows }
     ensures index { OnOk result (index.new ≡ indexed Side.Right on.now pick right.now.new.rows) }
-    ensures notes { IfOk result (λ notes. notes ≡ record { width = length on.now; notes = step_notes on.now pick right.now }) }
+    ensures notes { IfOk result (λ notes. notes ≡ record { width = length on.now; notes = told_notes on.now pick left.now right.now }) }
     ensures reads { reads.new ≤ reads.old + right.now.new.width * (3 * length right.now.update.modified + 2 * length right.now.update.added) }
 {
     let modified = KeyPairs::modified(right)?;
-    let notes = touched_places(alloc, on, pick, index, right, &modified, buffer, reads)?;
+    let notes = touched_places(
+        alloc, on, pick, index, left, right, &modified, buffer, reads,
+    )?;
     let changed = rekeyed(
         alloc,
         Side::Right,
@@ -156,7 +159,7 @@ fn turned_set<L: Ledger>(
 ) -> Result<RowSet, AllocError>
     requires left_rows { left_rows.now ≡ indexed Side.Left rows.now.on.now rows.now.pick rows.now.left.now.new.rows }
     requires matched { AreMatched rows.now.on.now rows.now.pick rows.now.take.now rows.now.left.now rows.now.right.now rows.now.index.now rows.now.notes.now.notes }
-    requires notes { rows.now.notes.now.notes ≡ step_notes rows.now.on.now rows.now.pick rows.now.right.now }
+    requires notes { rows.now.notes.now.notes ≡ told_notes rows.now.on.now rows.now.pick rows.now.left.now rows.now.right.now }
     ensures keys { IfOk result (λ set. (key : ℕ) → is_among key rows.now.left.now.update.added ≡ false → is_among key set ≡ is_among key (turned_keys rows.now.on.now rows.now.pick rows.now.take.now rows.now.left.now rows.now.right.now)) }
     ensures reads { reads.new ≤ reads.old + 2 * length rows.now.take.now * length rows.now.notes.now.notes }
 {
@@ -180,7 +183,7 @@ fn matched_change<L: Ledger>(
     requires few { rows.now.left.now.new.width + length rows.now.take.now ≤ 32 }
     requires left_rows { left_rows.now ≡ indexed Side.Left rows.now.on.now rows.now.pick rows.now.left.now.new.rows }
     requires matched { AreMatched rows.now.on.now rows.now.pick rows.now.take.now rows.now.left.now rows.now.right.now rows.now.index.now rows.now.notes.now.notes }
-    requires notes { rows.now.notes.now.notes ≡ step_notes rows.now.on.now rows.now.pick rows.now.right.now }
+    requires notes { rows.now.notes.now.notes ≡ told_notes rows.now.on.now rows.now.pick rows.now.left.now rows.now.right.now }
     ensures change { IfOk result (λ change. change ≡ change_of (matched_tick rows.now.on.now rows.now.pick rows.now.take.now (tick_of rows.now.left.now) (tick_of rows.now.right.now))) }
     ensures reads { reads.new ≤ reads.old
         + 2 * length rows.now.take.now * length rows.now.notes.now.notes

@@ -6,7 +6,7 @@ ghost use Rattle.key_lists.specs.Keys.{is_among};
 ghost use Rattle.lookup_join.specs.Keyed.{indexed};
 ghost use Rattle.lookup_join.specs.Latest.{AreTimed};
 ghost use Rattle.lookup_join.specs.Notes.{fresh_note, is_noted, next_after, note_of, noted_of, noting, spot_under, with_note};
-ghost use Rattle.lookup_join.specs.Taken.{spot_at, touched_spots};
+ghost use Rattle.lookup_join.specs.Taken.{modified_pairs, spot_at, told_notes};
 ghost use Rattle.row_groups.specs.Members.{member_under};
 ghost use Rattle.tick_model.specs.Tables.{keys};
 ghost use Rattle.tick_table.specs.Exact.{IsExact};
@@ -233,12 +233,14 @@ fn note_added<L: Ledger>(
     Ok(())
 }
 
-/// Notes each place that a step of the right input touches, where the index has the rows before it.
+/// Notes each place that a step of the right input touches, where the index has the rows before it. Where there was no left row
+/// before the step, nothing is noted: notes are for those alone.
 pub(crate) fn touched_places<L: Ledger>(
     alloc: Global,
     on: &[OnPair],
     pick: Pick,
     index: &Groups,
+    left: &TickTable,
     right: &TickTable,
     modified: &KeyPairs,
     buffer: &mut Vec<i64>,
@@ -246,12 +248,14 @@ pub(crate) fn touched_places<L: Ledger>(
 ) -> Result<Notes, AllocError>
     requires index { index.now ≡ indexed Side.Right on.now pick right.now.old.rows }
     requires exact { IsExact right.now }
-    requires before { AllByRecursion (λ pair. IsTrue (is_among pair.old (keys right.now.old.rows))) modified.now }
-    requires now { AllByRecursion (λ pair. IsTrue (is_among pair.new (keys right.now.new.rows))) modified.now }
-    ensures notes { IfOk result (λ notes. notes ≡ record { width = length on.now; notes = noting pick index.now.members [] (touched_spots on.now pick right.now.old.rows right.now.new.rows right.now.update modified.now) }) }
+    requires modified { modified.now ≡ modified_pairs right.now }
+    ensures notes { IfOk result (λ notes. notes ≡ record { width = length on.now; notes = told_notes on.now pick left.now right.now }) }
     ensures reads { reads.new ≤ reads.old + right.now.new.width * (length modified.now + length right.now.update.added) }
 {
     let mut notes = Notes::new(alloc, on.len());
+    if left.prev_rows().is_empty() {
+        return Ok(notes);
+    }
     note_removed(pick, index, right.update().removed(), &mut notes)?;
     note_modified(on, pick, index, right, modified, &mut notes, buffer, reads)?;
     note_added(on, pick, index, right, &mut notes, buffer, reads)?;

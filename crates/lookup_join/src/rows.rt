@@ -5,7 +5,7 @@ ghost use Rattle.lookup_join.specs.Keyed.{key_cells, time_of};
 ghost use Rattle.lookup_join.specs.Latest.{AreTimed, match_of};
 ghost use Rattle.lookup_join.specs.Notes.{taken_key};
 ghost use Rattle.tick_table.specs.Versions.{table_in};
-ghost use Rattle.lookup_join.specs.Taken.{AreMatched, match_in, match_now, speaks, taken_cells};
+ghost use Rattle.lookup_join.specs.Taken.{AreMatched, HasRow, match_in, match_now, speaks, taken_cells};
 
 use crate::keyed::{Side, put_key_cells, time_from};
 use crate::latest::{latest, latest_key};
@@ -78,6 +78,7 @@ impl MatchedRows<'_> {
         reads: &mut Steps<L>,
     ) -> Result<(), AllocError>
         requires start { start ≤ vec_len cells.old }
+        requires some { HasRow (table_in version self.now.left.now) }
         requires matched { AreMatched self.now.on.now self.now.pick self.now.take.now self.now.left.now self.now.right.now self.now.index.now self.now.notes.now.notes }
         ensures cells { OnOk result (cells.new.items ≡ cells.old.items
             ++ taken_cells self.now.on.now self.now.pick self.now.take.now (table_in version self.now.right.now).rows

@@ -1,17 +1,10 @@
-use Rattle.std.proofs.Common.{◌≡◌, ap, ap₂, sym, ◌∙◌, subst, arith, true, List, ◌≤◌, [], filter, length}
+use Rattle.std.proofs.Common.{◌≡◌, ap, sym, ◌∙◌, subst, arith, true, List, ◌≤◌, filter, length}
 use Rattle.std.specs.List.{AllByRecursion}
 use Rattle.key_lists.specs.Keys.{is_among}
-use Rattle.lookup_join.{specs.declared.keyed.Side.TheVariants.Right, specs.Keyed.rekeys, specs.Notes.{NoteList, noting}, specs.Taken.touched_spots, proofs.Stepping.{brought_reads, modified_before, modified_count, modified_now, noted_reads}}
-use Rattle.row_groups.specs.Members.{Grouped, Member}
+use Rattle.lookup_join.{specs.declared.keyed.Side.TheVariants.Right, specs.Keyed.rekeys, proofs.Stepping.{brought_reads, modified_before, modified_count, modified_now, noted_reads}}
 use Rattle.tick_laws.proofs.ResultCells.{length-filter_most}
 use Rattle.tick_model.{specs.declared.update.KeyPair.KeyPair, specs.Tables.keys}
 use Rattle.lookup_join.proofs.lookup.bring_right_on.Goals as goal
-
-pub touched_places-requires-clause-before : goal.touched_places-requires-clause-before
-touched_places-requires-clause-before g c = subst (AllByRecursion (λ (pair : KeyPair). is_among pair.old (keys c.args.right.now.old.rows) ≡ true)) (sym c.in_ok-modified.ensures) (modified_before c.args.right.now c.requires.exact)
-
-pub touched_places-requires-clause-now : goal.touched_places-requires-clause-now
-touched_places-requires-clause-now g c = subst (AllByRecursion (λ (pair : KeyPair). is_among pair.new (keys c.args.right.now.new.rows) ≡ true)) (sym c.in_ok-modified.ensures) (modified_now c.args.right.now c.requires.exact)
 
 pub rekeyed-requires-clause-before : goal.rekeyed-requires-clause-before
 rekeyed-requires-clause-before g c = subst (AllByRecursion (λ (pair : KeyPair). is_among pair.old (keys c.args.right.now.old.rows) ≡ true)) (sym c.in_ok-modified.ensures) (modified_before c.args.right.now c.requires.exact)
@@ -21,13 +14,6 @@ rekeyed-requires-clause-now g c = subst (AllByRecursion (λ (pair : KeyPair). is
 
 pub bring_on-requires-clause-rekeyed : goal.bring_on-requires-clause-rekeyed
 bring_on-requires-clause-rekeyed g c = c.in_ok-changed.ensures.pairs ∙ ap (filter (rekeys Right c.args.on.now c.args.pick c.args.right.now.old c.args.right.now.new)) c.in_ok-modified.ensures
-
-pub returns-clause-notes : goal.returns-clause-notes
-returns-clause-notes g c =
-    let right = c.args.right.now in
-    c.in_ok-notes.ensures.notes
-    ∙ ap₂ (λ (members : List Member) (modified : List KeyPair). let noted : NoteList = record { width = length c.args.on.now; notes = noting c.args.pick members [] (touched_spots c.args.on.now c.args.pick right.old.rows right.new.rows right.update modified) } in noted)
-    (ap (λ (index : Grouped). index.members) c.requires.index) c.in_ok-modified.ensures
 
 pub returns-in_err-notes-clause-reads : goal.returns-in_err-notes-clause-reads
 returns-in_err-notes-clause-reads g c =

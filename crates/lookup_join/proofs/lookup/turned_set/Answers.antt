@@ -1,7 +1,7 @@
 use Rattle.std.proofs.Common.{◌≡◌, ap, ap₂, sym, ◌∙◌, subst, ◌<◌, ◌^◌, ◌==◌, ℕ, List, [], length}
 use Rattle.std.{specs.List.AllByRecursion, proofs.lemmas.Bool.eqb-true, proofs.lemmas.List.nil_from_length}
 use Rattle.key_lists.specs.Keys.{is_among}
-use Rattle.lookup_join.{specs.declared.keyed.Side.TheVariants.Right, specs.declared.pick.Pick.Pick, specs.Notes.Note, specs.Taken.{IsFrom, step_notes, turned_keys, turned_members}, proofs.Before.notes_from, proofs.Latests.timed_index, proofs.Compared.{told_came, turned_small}}
+use Rattle.lookup_join.{specs.declared.keyed.Side.TheVariants.Right, specs.declared.pick.Pick.Pick, specs.Notes.Note, specs.Taken.{IsFrom, step_notes, turned_keys, turned_members}, proofs.Before.notes_from, proofs.Latests.timed_index, proofs.Noting.told_all, proofs.Compared.{told_came, turned_small}}
 use Rattle.row_groups.specs.Members.{Grouped, Member}
 use Rattle.tick_model.{specs.declared.table.PlainRow.PlainRow, specs.Tables.keys}
 use Rattle.lookup_join.proofs.lookup.turned_set.Goals as goal
@@ -22,7 +22,7 @@ pub turned_rows-requires-clause-there : goal.turned_rows-requires-clause-there
 turned_rows-requires-clause-there g c =
     let rows = c.args.rows.now in
     let right = rows.right.now in
-    subst (λ (notes : List Note). AllByRecursion (IsFrom rows.pick rows.index.now.members right.old right.new) notes) (sym c.requires.notes)
+    subst (λ (notes : List Note). AllByRecursion (IsFrom rows.pick rows.index.now.members right.old right.new) notes) (sym (c.requires.notes ∙ told_all rows.on.now rows.pick right c.requires.matched.right_exact rows.left.now (sym (c.if-is_empty.ensures.empty ∙ ap (λ ks. length ks == 0) c.prev_rows.ensures.keys))))
     (subst (λ (members : List Member). AllByRecursion (IsFrom rows.pick members right.old right.new) (step_notes rows.on.now rows.pick right)) (sym (ap (λ (index : Grouped). index.members) c.requires.matched.rows))
     (notes_from rows.on.now rows.pick right c.requires.matched.right_exact))
 
@@ -30,7 +30,7 @@ pub from_keys-requires : goal.from_keys-requires
 from_keys-requires g c =
     let rows = c.args.rows.now in
     let turned_are : c.in_ok-turned.turned.items ≡ turned_keys rows.on.now rows.pick rows.take.now rows.left.now rows.right.now =
-    c.in_ok-turned.ensures.keys ∙ turned_same _ _ _ _ _ _ _ _ _ _ (ap (λ (index : Grouped). index.members) c.requires.left_rows) (ap (λ (index : Grouped). index.members) c.requires.matched.rows) c.requires.notes in
+    c.in_ok-turned.ensures.keys ∙ turned_same _ _ _ _ _ _ _ _ _ _ (ap (λ (index : Grouped). index.members) c.requires.left_rows) (ap (λ (index : Grouped). index.members) c.requires.matched.rows) (c.requires.notes ∙ told_all rows.on.now rows.pick rows.right.now c.requires.matched.right_exact rows.left.now (sym (c.if-is_empty.ensures.empty ∙ ap (λ ks. length ks == 0) c.prev_rows.ensures.keys))) in
     record { small = subst (AllByRecursion (λ key. key < 2 ^ 62)) (sym turned_are) (turned_small rows.on.now rows.pick rows.take.now rows.left.now c.requires.matched.left_exact rows.right.now c.requires.matched.right_exact) }
 
 pub returns-then-is_empty-clause-keys : goal.returns-then-is_empty-clause-keys

@@ -12,7 +12,7 @@ match_in-taken-requires g c =
 pub put_cells-requires-clause-there : goal.put_cells-requires-clause-there
 put_cells-requires-clause-there g c =
     let right = c.args.self.now.right.now in
-    subst (IsThere right.old right.new) (sym c.match_in-taken.ensures) (in_there c.requires.matched _ _ c.args.version)
+    subst (IsThere right.old right.new) (sym c.match_in-taken.ensures) (in_there c.requires.matched _ _ c.args.version c.requires.some)
 
 pub put_cells-requires-clause-take : goal.put_cells-requires-clause-take
 put_cells-requires-clause-take g c = c.requires.matched.within
@@ -23,7 +23,7 @@ returns-clause-cells g c =
     let right = rows.right.now in
     let end : c.len-end.result ≡ length c.args.cells.now.items = search rules in
     let fits : SFits w64 c.time_from-time.result = search rules in
-    let taken = ap (λ (m : Match). map (cell_of right.old.rows right.new.rows m) rows.take.now) c.match_in-taken.ensures ∙ in_cells c.requires.matched _ _ c.args.version in
+    let taken = ap (λ (m : Match). map (cell_of right.old.rows right.new.rows m) rows.take.now) c.match_in-taken.ensures ∙ in_cells c.requires.matched _ _ c.args.version c.requires.some in
     let whole = taken_behind rows.on.now rows.pick rows.take.now (table_in c.args.version right).rows c.args.cells.now.items c.put_key_cells.new.cells.items c.truncate.new.self.items _ _ _ c.args.start c.len-end.result end c.in_ok-put_key_cells.ensures c.truncate.ensures.items
     (take_rest c.deref-2.result.now c.len-end.result ∙ ap (drop c.len-end.result) c.deref-2.ensures.value)
     (to_z-of_z w64 c.time_from-time.result fits ∙ c.time_from-time.ensures ∙ ap (λ (cells : List ℤ). time_of Left rows.pick (drop c.args.start cells)) c.deref.ensures.value) taken in

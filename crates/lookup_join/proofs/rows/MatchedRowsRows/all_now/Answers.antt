@@ -1,6 +1,6 @@
 use Rattle.std.proofs.Common.{◌≡◌, ap, sym, ◌∙◌, subst, rules, arith, true, List, ℕ, ◌++◌, ◌+◌, ◌*◌, ◌≤◌, append-nil, [], ◌∷◌, refl, ℤ, length}
 use Rattle.key_lists.specs.Keys.{is_among}
-use Rattle.lookup_join.{specs.Matched.matched_table, proofs.Compared.{matched_at, matched_keys}, proofs.Reading.row_behind, proofs.Walks.{reader_has, row_given, row_read}}
+use Rattle.lookup_join.{specs.Matched.matched_table, proofs.Compared.{matched_at, matched_keys}, proofs.Reading.row_behind, proofs.Taking.has_row, proofs.Walks.{reader_has, row_given, row_read}}
 use Rattle.row_changes.{proofs.Comparing.{cells_more, reads_next, reads_within}, specs.Parts.cells_under}
 use Rattle.row_set.proofs.Yielded.{next_has, yielded_all, yielded_next}
 use Rattle.tick_model.specs.Tables.{cells_at, keys}
@@ -15,6 +15,14 @@ row-requires g c =
           (subst (λ ks. is_among c.in-Some.key ks ≡ true) (matched_keys rows.on.now rows.pick rows.take.now left.new rows.right.now.new)
           (next_has c.loop-key.yielded c.into_iter-key-iterator.ensures.into_iter_gives c.loop-key.yielded_by c.in-Some.ensures.steps (λ key. is_among key (keys (matched_table rows.on.now rows.pick rows.take.now left.new rows.right.now.new).rows) ≡ true) c.requires.there));
     }
+
+pub put_taken-requires-clause-some : goal.put_taken-requires-clause-some
+put_taken-requires-clause-some g c =
+    let rows = c.args.self.now in
+    let left = rows.left.now.new in
+    has_row (keys left.rows) c.in-Some.key
+    (subst (λ ks. is_among c.in-Some.key ks ≡ true) (matched_keys rows.on.now rows.pick rows.take.now left rows.right.now.new)
+    (next_has c.loop-key.yielded c.into_iter-key-iterator.ensures.into_iter_gives c.loop-key.yielded_by c.in-Some.ensures.steps (λ key. is_among key (keys (matched_table rows.on.now rows.pick rows.take.now left rows.right.now.new).rows) ≡ true) c.requires.there))
 
 pub loop-key-preserved : goal.loop-key-preserved
 loop-key-preserved g c =
