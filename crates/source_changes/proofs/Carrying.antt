@@ -13,7 +13,7 @@ use Rattle.source_changes.{specs.Stepping.told_after, proofs.Looked.{among-put_r
 abbrev pub cells_of : Option PlainRow → List ℤ
 cells_of o = unwrap_or (option_map (λ (row : PlainRow). row.cells) o) []
 
-not_there : (key : ℕ) (rows : List PlainRow) → is_among key (keys rows) ≡ false → row_at key rows ≡ None
+pub not_there : (key : ℕ) (rows : List PlainRow) → is_among key (keys rows) ≡ false → row_at key rows ≡ None
 not_there key rows h = go (row_at key rows) (sym (is_there key rows) ∙ h)
   where
     go : (o : Option PlainRow) → is_some o ≡ false → o ≡ None

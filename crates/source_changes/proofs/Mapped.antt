@@ -1,13 +1,13 @@
 -- Told rows in a map by key: as they are found, put, taken away and moved.
-use Rattle.std.proofs.Common.{◌≡◌, refl, ap, ap₂, sym, ◌∙◌, subst, Bool, true, false, cond, not, ◌&&◌, ◌==◌, ℕ, ◌+◌, ◌^◌, ◌<◌, ◌≤◌, arith, List, [], ◌∷◌, ◌++◌, append_assoc, length, get_or, take, map, add-one, ℤ, pos, Bor, Some, None, Less, Equal, Greater, nat_cmp, leb, inl, inr, filter, unwrap_or, Ordering}
-use Rattle.std.{proofs.Math.Seq.take-suc, specs.BTreeMap.{insert_entry, is_at}, specs.BTreeMap.Range.{entries_between, range_contains}, specs.declared.ops.Bound.TheVariants.Included, specs.Cmp.nat_cmp_is, specs.List.AllByRecursion, specs.Map.{keys_of as map_keys, lookup, remove_entry}, specs.Ordering.{is_eq, is_le, is_lt, match_ordering}, specs.Prelude.{option_map, find, ◌+ℤ◌}, proofs.lemmas.Bool.{and_right, cases_eq, cases_lt, eq-eqb, eqb-true, le-leb, le-ltb, lt-leb, lt-ltb, ne_eqb}, proofs.lemmas.Grind.flat_map-append, proofs.lemmas.Int.ints, proofs.lemmas.List.append-nil}
+use Rattle.std.proofs.Common.{◌≡◌, refl, ap, ap₂, sym, ◌∙◌, subst, Bool, true, false, cond, not, ◌||◌, ◌&&◌, ◌==◌, ℕ, zero, suc, ◌+◌, ◌^◌, ◌<◌, ◌≤◌, arith, List, [], ◌∷◌, ◌++◌, append_assoc, length, get_or, take, map, add-one, ℤ, pos, Bor, Option, Some, None, Result, Ok, Err, Less, Equal, Greater, nat_cmp, leb, inl, inr, filter, unwrap_or, Ordering}
+use Rattle.std.{proofs.Math.Seq.take-suc, specs.BTreeMap.{insert_entry, is_at}, specs.BTreeMap.Range.{entries_between, range_contains}, specs.declared.ops.Bound.TheVariants.Included, specs.Cmp.nat_cmp_is, specs.List.AllByRecursion, specs.List.Sorted.IsBinarySearchResult, specs.Map.{keys_of as map_keys, lookup, remove_entry}, specs.Option.option_or, specs.Result.MatchResult, specs.Ordering.{is_eq, is_le, is_lt, match_ordering}, specs.Prelude.{option_map, find, ◌+ℤ◌}, proofs.lemmas.Bool.{and_right, cases_eq, cases_lt, eq-eqb, eqb-true, le-leb, le-ltb, lt-leb, lt-ltb, ne_eqb}, proofs.lemmas.Grind.flat_map-append, proofs.lemmas.Int.ints, proofs.lemmas.List.{append-nil, get_or-map, length-map}, proofs.lemmas.List.Sorted.searched}
 use Rattle.table_update.proofs.StillKeys.{still_key}
-use Rattle.key_lists.{specs.Keys.{is_among, IsRising}, proofs.Among.among-append, proofs.Every.{every, every_weaker, filter-map, filter_all, filter_filter, filter_same, map_map, map_own}, proofs.Booleans.{neither, is_eq-nat_cmp}}
+use Rattle.key_lists.{specs.Keys.{is_among, IsRising}, proofs.Among.among-append, proofs.Every.{every, every_weaker, filter-map, filter_all, filter_filter, filter_same, map_map, map_own}, proofs.Booleans.{neither, is_eq-nat_cmp}, proofs.Parts.every_at}
 use Rattle.row_set.{specs.declared.ranges.Range.Range, specs.Ranges.{AreApart, holds, keys_in, keys_of}, proofs.Held.among-in}
 use Rattle.shift_data.{specs.Moves.IsLawful, specs.ShiftLists.IsShiftList, proofs.Lawful.{lawful, not_past}}
-use Rattle.tick_model.{specs.declared.table.PlainRow.PlainRow, specs.declared.update.ShiftRange.ShiftRange, specs.Printable.IsShiftRange, specs.Rules.is_past, specs.Shifts.{as_key, holds as moves, moved}, specs.Tables.{keys, row_at}, specs.Updates.{moved_row, removing, shifting}}
+use Rattle.tick_model.{specs.declared.table.PlainRow.PlainRow, specs.declared.update.ShiftRange.ShiftRange, specs.Printable.IsShiftRange, specs.Rules.is_past, specs.Shifts.{as_key, holds as moves, moved}, specs.Tables.{keys, row_at}, specs.Updates.{moved_row, removing, shifting}, proofs.Among.each_found}
 use Rattle.tick_table.specs.Placed.{put_row, put_rows}
-use Rattle.source_changes.{specs.Told.told_row, proofs.Looked.keys-shifting}
+use Rattle.source_changes.{specs.Told.told_row, proofs.Carrying.not_there, proofs.Looked.keys-shifting}
 
 abbrev Told : Type 0
 Told = ℕ × Bor (List ℤ)
@@ -184,8 +184,8 @@ pub keys-told : (entries : List Told) → keys (map told_row entries) ≡ map_ke
 keys-told entries = map_map (λ (row : PlainRow). row.key) told_row entries
 
 -- the rows under other keys
-pub told_left : (removed : List ℕ) (entries : List Told) → map told_row (filter (λ entry. not (is_among entry.0 removed)) entries) ≡ removing removed (map told_row entries)
-told_left removed entries = sym (filter-map (λ (row : PlainRow). not (is_among row.key removed)) told_row entries)
+pub told_left : (removed ks : List ℕ) (left entries : List Told) (told : List PlainRow) → left ≡ filter (λ entry. not (is_among entry.0 ks)) entries → ks ≡ removed → map told_row entries ≡ told → map told_row left ≡ removing removed told
+told_left removed ks left entries told less same all = ap (map told_row) less ∙ sym (filter-map (λ (row : PlainRow). not (is_among row.key ks)) told_row entries) ∙ ap₂ removing same all
 
 -- with no range, and with all rows moved
 pub none_shifted : (shifts : List ShiftRange) (rows : List PlainRow) → shifts ≡ [] → rows ≡ shifting shifts rows
@@ -195,3 +195,43 @@ none_shifted shifts rows none =
 pub all_moved : (shifts : List ShiftRange) (entries done all : List Told) → entries ≡ [] → IsLawful shifts (map_keys all) → put_rows (shifting shifts (map told_row entries)) (map told_row done) ≡ put_rows (shifting shifts (map told_row all)) [] → map told_row done ≡ shifting shifts (map told_row all)
 all_moved shifts entries done all none law whole =
     sym (ap (λ (entries : List Told). put_rows (shifting shifts (map told_row entries)) (map told_row done)) none) ∙ whole ∙ all_put shifts (map told_row all) (subst (IsLawful shifts) (sym (keys-told all)) law)
+
+-- the row under a key, as a search among keys that rise finds it
+rising_far : (ks : List ℕ) → IsRising ks → (i j : ℕ) → i ≤ j → j < length ks → get_or ks i 0 ≤ get_or ks j 0
+rising_far [] r i j le less = absurd (omega (arith, less))
+rising_far (key ∷ ks) r zero zero le less = omega arith
+rising_far (key ∷ ks) r zero (suc j) le less = let above = every_at (λ other. key < other) ks j 0 (omega (arith, less)) r.0 in omega (arith, above)
+rising_far (key ∷ ks) r (suc i) zero le less = absurd (omega (arith, le))
+rising_far (key ∷ ks) r (suc i) (suc j) le less = rising_far ks r.1 i j (omega (arith, le)) (omega (arith, less))
+
+absent : (key : ℕ) (ks : List ℕ) → ((i : ℕ) → i < length ks → get_or ks i 0 ≡ key → ⊥) → is_among key ks ≡ false
+absent key [] h = refl
+absent key (k ∷ ks) h = ap₂ (λ a b. a || b) (ne_eqb k key (h 0 (omega arith))) (absent key ks (λ i less. h (suc i) (omega (arith, less))))
+
+-- in place of a row past the last
+pub blank : PlainRow
+blank = record { key = 0; cells = [] }
+
+abbrev pub Searched : ℕ → List PlainRow → Result ℕ ℕ → Type 0
+Searched key rows r = MatchResult r (λ i. (i < length rows) × (row_at key rows ≡ Some (get_or rows i blank))) (λ _. row_at key rows ≡ None)
+
+pub row_searched : (key : ℕ) (rows : List PlainRow) (ks : List ℕ) (r : Result ℕ ℕ) → IsRising (keys rows) → ks ≡ keys rows → IsBinarySearchResult (λ k. nat_cmp k key) ks r → Searched key rows r
+row_searched key rows ks (Ok i) rise are h =
+    let place = searched ks key (Ok i) h (rising_far ks (subst IsRising (sym are) rise)) in
+    let less : i < length rows = omega (arith, place.0, ap length are, length-map rows (λ (row : PlainRow). row.key)) in
+    let same : (get_or rows i blank).key ≡ key = sym (ap (λ ks. get_or ks i 0) are ∙ get_or-map (λ (row : PlainRow). row.key) rows i blank 0 less) ∙ place.1 in
+    (less, ap (λ k. row_at k rows) (sym same) ∙ every_at (λ (row : PlainRow). row_at row.key rows ≡ Some row) rows i blank less (each_found rows rise))
+row_searched key rows ks (Err i) rise are h =
+    let place = searched ks key (Err i) h (rising_far ks (subst IsRising (sym are) rise)) in
+    not_there key rows (sym (ap (is_among key) are) ∙ absent key ks (λ k less same. elim (cases_lt k i) [
+      | inl before ↦ let below = place.1 k before in absurd (omega (arith, below, same))
+      | inr behind ↦ let above = place.2 k (omega arith) less in absurd (omega (arith, above, same))
+    ]))
+
+-- the cells of the first of two rows that is there
+pub cells_either : (o p : Option (Bor (List ℤ))) (r s : Option PlainRow) → option_map (λ cells. cells.now) o ≡ option_map (λ (row : PlainRow). row.cells) r → option_map (λ cells. cells.now) p ≡ option_map (λ (row : PlainRow). row.cells) s
+    → option_map (λ (cells : Bor (List ℤ)). cells.now) (option_or o p) ≡ option_map (λ (row : PlainRow). row.cells) (option_or r s)
+cells_either None p None s e f = f
+cells_either None p (Some row) s e f = absurd (cc e)
+cells_either (Some cells) p None s e f = absurd (cc e)
+cells_either (Some cells) p (Some row) s e f = e

@@ -5,17 +5,18 @@ ghost use Rattle.std.specs.BTreeMap.{get};
 ghost use Rattle.std.specs.List.{AllByRecursion};
 ghost use Rattle.std.specs.Map.{keys_of as map_keys};
 ghost use Rattle.std.specs.Ordering.{nat_cmp};
-ghost use Rattle.key_lists.specs.Keys.{is_among, without};
+ghost use Rattle.key_lists.specs.Keys.{is_among, IsRising, without};
 ghost use Rattle.row_set.specs.Ranges.{holds, keys_of};
 ghost use Rattle.shift_data.specs.Moves.{IsLawful};
+ghost use Rattle.source_changes.specs.Blocks.{IsReadable};
 ghost use Rattle.source_changes.specs.Stepping.{told_after};
+ghost use Rattle.source_changes.specs.Told.{told_row, with_block};
 ghost use Rattle.tick_table.specs.Placed.{put_rows};
-ghost use Rattle.source_changes.specs.Told.{told_row};
 ghost use Rattle.tick_model.specs.Sources.{update_of};
 ghost use Rattle.tick_model.specs.Tables.{keys, row_at};
-ghost use Rattle.tick_model.specs.Updates.{removing, shifting};
+ghost use Rattle.tick_model.specs.Updates.{shifting};
 
-use row_set::{Range, RowSet};
+use row_set::Range;
 use shift_data::ShiftData;
 use std::alloc::{AllocError, Global};
 use std::collections::BTreeMap;
@@ -25,21 +26,26 @@ use table_update::Update;
 use tick_model::feed::Block;
 use tick_model::row_list::RowList;
 
-/// Rows of blocks, of which the cells are not copied. A contract sees the list of the rows, which rise by key.
+/// Rows of blocks, of which the cells are not copied. A contract sees the list of the rows, which rise by key. Those of the last
+/// block are left where they lie: where a step has one block for a source, no row is put into the map.
 #[derive(Drop)]
 pub(crate) struct ToldRows<'a> {
-    /// The cells of each row under its key.
+    /// The cells of each row that the blocks before the last one told, under its key.
     rows: BTreeMap<u64, &'a [i64]>,
+    /// The last block, if there is one.
+    last: Option<&'a Block>,
 }
 
 impl<'a> Model for ToldRows<'a> {
     ghost use Rattle.std.specs.Prelude.{List, map};
-    ghost use Rattle.source_changes.specs.Told.{told_row};
+    ghost use Rattle.source_changes.specs.Told.{Rises, told_row, with_block};
     ghost use Rattle.tick_model.specs.declared.table.PlainRow.{PlainRow};
 
     ghost Value = { List PlainRow };
 
-    ghost view = { λ told. map told_row told.rows.entries };
+    ghost view = { λ told. with_block told.last (map told_row told.rows.entries) };
+
+    ghost invariant = { λ told. Rises told.last };
 }
 
 impl<'a> ToldRows<'a> {
@@ -49,6 +55,7 @@ impl<'a> ToldRows<'a> {
     {
         ToldRows {
             rows: BTreeMap::new(alloc),
+            last: None,
         }
     }
 
@@ -56,35 +63,11 @@ impl<'a> ToldRows<'a> {
     pub(crate) fn get(&self, key: u64) -> Option<&'a [i64]>
         ensures { option_map (λ cells. cells.now) result ≡ option_map (λ row. row.cells) (row_at key self.now) }
     {
-        self.rows.get(&key).copied()
-    }
-
-    /// Takes the rows under these keys away.
-    fn remove(&mut self, removed: &RowSet)
-        ensures { self.new ≡ removing removed.now self.old }
-    {
-        remove_ranges(&mut self.rows, removed.ranges());
-    }
-
-    /// Moves the rows. After a refusal they are to be given up.
-    fn shift(&mut self, alloc: Global, shift: &ShiftData) -> Result<(), AllocError>
-        requires { IsLawful shift.now (keys self.old) }
-        ensures { OnOk result (self.new ≡ shifting shift.now self.old) }
-    {
-        if shift.ranges().is_empty() {
-            return Ok(());
-        }
-        let rows = mem::replace(&mut self.rows, BTreeMap::new(alloc));
-        let moved = moved_rows(alloc, rows, shift)?;
-        self.rows = moved;
-        Ok(())
-    }
-
-    /// Puts rows among those that are told. After a refusal they are to be given up.
-    fn put(&mut self, rows: &'a RowList) -> Result<(), AllocError>
-        ensures { OnOk result (self.new ≡ put_rows rows.now self.old) }
-    {
-        put_all(&mut self.rows, rows)
+        let earlier = self.rows.get(&key).copied();
+        let Some(block) = self.last else {
+            return earlier;
+        };
+        cells_under(&block.modified, key).or(cells_under(&block.added, key).or(earlier))
     }
 
     /// Makes the told rows those after a block, whose update this is. After a refusal they are to be given up.
@@ -95,13 +78,26 @@ impl<'a> ToldRows<'a> {
         block: &'a Block,
     ) -> Result<(), AllocError>
         requires update { update.now ≡ update_of block.now }
+        requires readable { IsReadable block.now }
         requires lawful { IsLawful block.now.shifts (without (update_of block.now).removed (keys self.old)) }
         ensures { OnOk result (self.new ≡ told_after self.old block.now) }
     {
-        self.remove(update.removed());
-        self.shift(alloc, update.shifted())?;
-        self.put(&block.added)?;
-        self.put(&block.modified)
+        put_block(&mut self.rows, self.last)?;
+        remove_ranges(&mut self.rows, update.removed().ranges());
+        shift_rows(alloc, &mut self.rows, update.shifted())?;
+        self.last = Some(block);
+        Ok(())
+    }
+}
+
+/// The cells of the row under a key, among rows that rise by key.
+fn cells_under<'a>(rows: &'a RowList, key: u64) -> Option<&'a [i64]>
+    requires { IsRising (keys rows.now) }
+    ensures { option_map (λ cells. cells.now) result ≡ option_map (λ row. row.cells) (row_at key rows.now) }
+{
+    match rows.keys().binary_search(&key) {
+        Ok(place) => Some(rows.row(place)),
+        Err(_) => None,
     }
 }
 
@@ -138,6 +134,24 @@ fn remove_ranges<'a>(rows: &mut BTreeMap<u64, &'a [i64]>, ranges: &[Range])
     }
 }
 
+/// Moves the rows. After a refusal they are to be given up.
+fn shift_rows<'a>(
+    alloc: Global,
+    rows: &mut BTreeMap<u64, &'a [i64]>,
+    shift: &ShiftData,
+) -> Result<(), AllocError>
+    requires { IsLawful shift.now (map_keys rows.old.entries) }
+    ensures { OnOk result (map told_row rows.new.entries ≡ shifting shift.now (map told_row rows.old.entries)) }
+{
+    if shift.ranges().is_empty() {
+        return Ok(());
+    }
+    let staying = mem::replace(rows, BTreeMap::new(alloc));
+    let moved = moved_rows(alloc, staying, shift)?;
+    *rows = moved;
+    Ok(())
+}
+
 /// The rows under the keys to which they move.
 fn moved_rows<'a>(
     alloc: Global,
@@ -161,6 +175,20 @@ fn put_all<'a>(told: &mut BTreeMap<u64, &'a [i64]>, rows: &'a RowList) -> Result
 {
     for (place, key) in rows.keys().iter().enumerate() {
         told.insert(*key, rows.row(place))?;
+    }
+    Ok(())
+}
+
+/// Puts the rows of a block, if there is one, among those that are told.
+fn put_block<'a>(
+    told: &mut BTreeMap<u64, &'a [i64]>,
+    block: Option<&'a Block>,
+) -> Result<(), AllocError>
+    ensures { OnOk result (map told_row told.new.entries ≡ with_block block.entry (map told_row told.old.entries)) }
+{
+    if let Some(block) = block {
+        put_all(told, &block.added)?;
+        put_all(told, &block.modified)?;
     }
     Ok(())
 }

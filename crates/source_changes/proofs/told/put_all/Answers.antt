@@ -1,13 +1,9 @@
-use Rattle.std.proofs.Common.{◌≡◌, ◌<◌, [], ap, ap₂, ◌∙◌, ℕ, map, length, get_or, List, ℤ, arith}
+use Rattle.std.proofs.Common.{◌≡◌, ◌<◌, ap, ap₂, ◌∙◌, ℕ, map, length, get_or, List, ℤ, arith}
 use Rattle.std.{proofs.lemmas.List.{get_or-map, get_or_default, length-map}, proofs.lemmas.Option.slice_get-get_or}
 use Rattle.tick_model.specs.declared.table.PlainRow.{PlainRow}
 use Rattle.tick_table.specs.Placed.{put_row}
-use Rattle.source_changes.{specs.Told.told_row, proofs.Mapped.{put_more, told_put}}
+use Rattle.source_changes.{specs.Told.told_row, proofs.Mapped.{blank, put_more, told_put}}
 use Rattle.source_changes.proofs.told.put_all.Goals as goal
-
--- in place of a row past the last
-blank : PlainRow
-blank = record { key = 0; cells = [] }
 
 pub row-requires : goal.row-requires
 row-requires c = omega (arith, c.loop-place-test.true, ap length c.keys-key-items.ensures, length-map c.args.rows.now (λ (row : PlainRow). row.key))
