@@ -34,6 +34,7 @@ impl<L: Ledger, C: Chooses> Rows<L> for ChosenRows<'_, C> {
 
     ghost ready = { λ rows. IsExact rows.input.now × ((version : Version) → IsPart (C.chosen rows.choice.now (table_in version rows.input.now)) (table_in version rows.input.now)) };
 
+    /// A row of now that the step modifies is found by its place among these, and not in the whole table.
     fn row(
         &self,
         version: Version,
@@ -41,7 +42,17 @@ impl<L: Ledger, C: Chooses> Rows<L> for ChosenRows<'_, C> {
         cells: &mut Vec<i64>,
         reads: &mut Steps<L>,
     ) -> Result<(), AllocError> {
-        self.input.row(version, key, cells, reads)
+        let input = self.input;
+        match version {
+            Version::Before => input.row(version, key, cells, reads),
+            Version::Now => match input.update().modified().find(key) {
+                Ok(place) => {
+                    cells.extend_from_slice(input.modified_row(place, reads))?;
+                    Ok(())
+                }
+                Err(_) => input.row(version, key, cells, reads),
+            },
+        }
     }
 
     fn all_now(
