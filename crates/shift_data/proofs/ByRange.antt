@@ -6,7 +6,7 @@ use Rattle.row_set.{specs.Moves.{IsKey, moved_key, moved_keys}, specs.Sets.IsKey
 use Rattle.tick_model.{specs.declared.update.ShiftRange.ShiftRange, specs.Rules.{is_past, landed}, specs.Shifts.{moved, as_key, holds}}
 use Rattle.shift_data.{specs.Parts.IsLastUpTo, specs.ShiftLists.IsShiftList, proofs.Lawful.{not_past, place}, proofs.Searches.{find_here, find_none, find_past, holds_not_after, holds_not_before, holds_within}, proofs.Segments.fits_delta}
 
-is_key : (place : ℤ) → is_past (2 ^ 62) place ≡ false → IsKey place
+pub is_key : (place : ℤ) → is_past (2 ^ 62) place ≡ false → IsKey place
 is_key place e =
     let is = not_past (2 ^ 62) place e in
     subst IsKey (sym is.0) (small (as_key place) is.1)
@@ -96,7 +96,7 @@ moved_before first last key delta lt = ap (λ b. cond b (pos key +ℤ delta) (po
 moved_after : (first last key : ℕ) (delta : ℤ) → last < key → moved_key first last delta key ≡ pos key
 moved_after first last key delta lt = ap (λ b. cond b (pos key +ℤ delta) (pos key)) (and_right (leb first key) (leb key last) (lt-leb key last lt))
 
-moved_within : (first last key : ℕ) (delta : ℤ) → first ≤ key → key ≤ last → moved_key first last delta key ≡ pos key +ℤ delta
+pub moved_within : (first last key : ℕ) (delta : ℤ) → first ≤ key → key ≤ last → moved_key first last delta key ≡ pos key +ℤ delta
 moved_within first last key delta above below = ap (λ b. cond b (pos key +ℤ delta) (pos key)) (and_from (leb first key) (leb key last) (le-leb first key above) (le-leb key last below))
 
 fallen : (place key : ℕ) (delta : ℤ) → int_lt delta (pos 0) ≡ true → (pos place ≡ pos key) ⊎ (pos place ≡ pos key +ℤ delta) → place ≤ key

@@ -16,3 +16,4 @@ pub mod Segments
 pub mod ShiftOf
 pub mod Stretched
 pub mod Through
+pub mod Together

@@ -14,7 +14,7 @@ ghost use Rattle.shift_data.specs.Parts.{IsLastUpTo};
 
 use crate::ahead::{runs_from, shifts_from};
 use crate::apply::{landing, moved_keys};
-use crate::parts::{Part, last_up_to, segment_at};
+use crate::parts::{Part, last_up_to, part_through, segment_at};
 use row_set::{Range, RowSet};
 use std::alloc::{AllocError, Global};
 use tick_model::update::ShiftRange;
@@ -40,6 +40,32 @@ pub(crate) fn move_keys(
         _ if shifts.len() <= FEW_RANGES => move_ranges(shifts, keys),
         _ => moved_keys(alloc, shifts, &keys),
     }
+}
+
+/// The keys, moved by one shift and then by the next: once, where all keys move alike.
+pub(crate) fn move_through(
+    alloc: Global,
+    shifts: &[ShiftRange],
+    next: &[ShiftRange],
+    mut keys: RowSet,
+) -> Result<RowSet, AllocError>
+    requires shifts { IsShiftList shifts.now }
+    requires next { IsShiftList next.now }
+    requires lawful { IsLawful shifts.now keys }
+    requires next_lawful { IsLawful next.now (landed shifts.now keys) }
+    ensures { IfOk result (λ places. places ≡ landed next.now (landed shifts.now keys)) }
+{
+    let Some(part) = part_through(shifts, next, &keys, 0) else {
+        return Ok(keys);
+    };
+    if keys.next_from(part.last + 1).is_some() {
+        let places = move_keys(alloc, shifts, keys)?;
+        return move_keys(alloc, next, places);
+    }
+    if part.delta != 0 {
+        keys.shift_range(part.first, part.last, part.delta)?;
+    }
+    Ok(keys)
 }
 
 /// Whether one of eight ranges of keys moves, or more, as far as those that the shift meets can tell. About there the cost of

@@ -10,7 +10,7 @@ ghost use Rattle.shift_data.specs.ShiftLists.{IsShiftList, offset_by};
 
 use crate::apply::moved_keys;
 use crate::canonical::{canonical, canonical_through, canonical_without};
-use crate::in_place::move_keys;
+use crate::in_place::{move_keys, move_through};
 use crate::order::broken;
 use crate::pairs::ranges_of_pairs;
 use crate::search::{place_of, range_of};
@@ -171,6 +171,16 @@ impl ShiftData {
         ensures { IfOk result (λ places. places ≡ landed self.now keys) }
     {
         move_keys(*self.ranges.allocator(), &self.ranges, keys)
+    }
+
+    /// The same keys, moved where they lie by this shift and then by the next: once, where all move alike. After a refusal the
+    /// keys are gone.
+    pub fn apply_both_in_place(&self, next: &ShiftData, keys: RowSet) -> Result<RowSet, AllocError>
+        requires lawful { IsLawful self.now keys }
+        requires next_lawful { IsLawful next.now (landed self.now keys) }
+        ensures { IfOk result (λ places. places ≡ landed next.now (landed self.now keys)) }
+    {
+        move_through(*self.ranges.allocator(), &self.ranges, &next.ranges, keys)
     }
 
     /// Those of the survivors whose moved key is in `after`.
