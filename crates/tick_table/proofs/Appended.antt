@@ -4,9 +4,8 @@ use Rattle.std.{specs.Prelude.{filter, slice_get, Option}, specs.Bool.OnTrue, sp
 use Rattle.key_lists.{specs.Keys.{is_among, IsRising, without}, proofs.Among.{among-append, among-filter, of_among}, proofs.Booleans.or_false, proofs.Every.{every_weaker, map_same}, proofs.Ranges.each_from, proofs.Rising.{rising-append, rising_same, rising_some}}
 use Rattle.row_set.specs.Sets.{count_below}
 use Rattle.tick_laws.proofs.ResultCells.{length-filter_most}
-use Rattle.tick_model.{specs.declared.table.PlainRow.PlainRow, specs.Changes.rows_under, specs.Tables.keys}
+use Rattle.tick_model.{specs.declared.table.PlainRow.PlainRow, specs.Changes.rows_under, specs.Tables.keys, proofs.RowLists.keys-rows_under}
 use Rattle.tick_table.{specs.Placed.{paired, put_row, put_rows}, specs.Slots.{slot_cells, slot_list}, proofs.Paired.{count_without, keys-paired, put_behind}, proofs.SlotCells.slot_fits}
-use Rattle.tick_model.proofs.RowLists.{keys-rows_under}
 
 -- all pass where as many pass as there are
 pass_as_many : (p : ℕ → Bool) (xs : List ℕ) → length (filter p xs) ≡ length xs → AllByRecursion (λ x. p x ≡ true) xs

@@ -2,9 +2,8 @@
 use Rattle.std.proofs.Common.{◌≡◌, refl, ap, ap₂, sym, ◌∙◌, true, false, cond, not, ◌&&◌, ◌||◌, ℕ, suc, ◌<◌, ◌^◌, arith, List, [], ◌∷◌, ◌++◌, Some, None, pos, leb}
 use Rattle.std.{specs.Prelude.{filter, find, option_map, int_le, int_lt}, specs.List.AllByRecursion, specs.Option.option_or, proofs.lemmas.Bool.{lt-leb, or_from, not-true}, proofs.lemmas.List.map-id}
 use Rattle.key_lists.{specs.Keys.{is_among, IsRising, without}, proofs.Among.{among-append, among-filter, each_among, of_among}, proofs.Every.{every_weaker, every_both, every-map, every_unmapped, every-filter, filter_passes, map_map, find_none}, proofs.Rising.rising_some}
-use Rattle.tick_model.{specs.declared.table.PlainRow.PlainRow, specs.declared.update.KeyPair.KeyPair, specs.declared.update.ShiftRange.ShiftRange, specs.declared.update.UpdateFault.TheVariants.{RemovedAbsent, ShiftBreaks, AddedTaken, ModifiedAbsent, ModifiedAdded}, specs.declared.table.PlainTable.PlainTable, specs.Changes.{change_of, rows_under, told_keys}, specs.Rules.{is_past, landed, shift_fault, shift_fault_after, update_fault}, specs.Shifts.moved, specs.Tables.{IsRow, keys}, specs.Updates.{IsTick, Tick, Update, between, differs, kept_pair, new_keys, old_keys, pairs}}
+use Rattle.tick_model.{specs.declared.table.PlainRow.PlainRow, specs.declared.update.KeyPair.KeyPair, specs.declared.update.ShiftRange.ShiftRange, specs.declared.update.UpdateFault.TheVariants.{RemovedAbsent, ShiftBreaks, AddedTaken, ModifiedAbsent, ModifiedAdded}, specs.declared.table.PlainTable.PlainTable, specs.Changes.{change_of, rows_under, told_keys}, specs.Rules.{is_past, landed, shift_fault, shift_fault_after, update_fault}, specs.Shifts.moved, specs.Tables.{IsRow, keys}, specs.Updates.{IsTick, Tick, Update, between, differs, kept_pair, new_keys, old_keys, pairs}, proofs.RowLists.keys-rows_under}
 use Rattle.tick_laws.{specs.Checked.{IsChecked, keys_after}, proofs.Carried.pairs-between, proofs.CheckedUpdates.keys-carry, proofs.Moves.each_lands, proofs.ToldRows.change-carries}
-use Rattle.tick_model.proofs.RowLists.{keys-rows_under}
 
 -- pairs whose old keys move to their new ones, which are keys and rise, break no order
 abbrev Lands : List ShiftRange → KeyPair → Type 0

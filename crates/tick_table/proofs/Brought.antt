@@ -2,10 +2,9 @@
 use Rattle.std.proofs.Common.{ap₂, ◌≡◌, refl, ap, sym, ◌∙◌, Bool, true, false, not, ◌&&◌, ◌||◌, ℕ, ◌^◌, List, [], ◌∷◌, ℤ, None, true≢false}
 use Rattle.std.{specs.Prelude.flat_map, specs.List.AllByRecursion, proofs.lemmas.Bool.{or_left, or_right}}
 use Rattle.key_lists.{specs.Keys.{is_among, IsRising, without}, proofs.Among.{among-filter, each_among}, proofs.Every.every_weaker, proofs.Rising.{rising_same, rising_some}}
-use Rattle.tick_model.{specs.declared.table.PlainRow.PlainRow, specs.declared.update.ShiftRange.ShiftRange, specs.Changes.rows_under, specs.Rules.{landed, update_fault}, specs.Shifts.{as_key, moved}, specs.Tables.cells_at, specs.Updates.{Update, removing, shifting}}
+use Rattle.tick_model.{specs.declared.table.PlainRow.PlainRow, specs.declared.update.ShiftRange.ShiftRange, specs.Changes.rows_under, specs.Rules.{landed, update_fault}, specs.Shifts.{as_key, moved}, specs.Tables.cells_at, specs.Updates.{Update, removing, shifting}, proofs.RowLists.keys-rows_under}
 use Rattle.tick_laws.{specs.Checked.{IsChecked, keys_after}, proofs.CheckedUpdates.{among-put_keys, keys_after-rise}}
 use Rattle.tick_table.{specs.Placed.{paired, put_rows, stayed}, proofs.Applied.{added_new, modified_stay, not_added, places_rising}, proofs.Paired.row_of, proofs.Told.{at_put_rows, flat_map-same}}
-use Rattle.tick_model.proofs.RowLists.{keys-rows_under}
 
 -- rows that move are those under the keys to which they move
 paired-moved : (shifts : List ShiftRange) (ks : List ℕ) (rows : List (List ℤ)) → paired (landed shifts ks) rows ≡ shifting shifts (paired ks rows)

@@ -3,10 +3,9 @@ use Rattle.std.proofs.Common.{◌≡◌, refl, ap, ap₂, sym, ◌∙◌, subst,
 use Rattle.std.{specs.List.AllByRecursion, proofs.lemmas.List.Elements.filter-append, proofs.lemmas.Bool.not-false}
 use Rattle.key_lists.{specs.Keys.{is_among, IsRising, without}, proofs.Among.{each_among, among-append, apart_back}, proofs.Every.{every_weaker, every_unmapped, filter_same, filter_none, filter_all, filter-map, none_pass}}
 use Rattle.table_update.proofs.KeysAfter.{rules_kept}
-use Rattle.tick_model.{specs.declared.table.PlainRow.PlainRow, specs.declared.table.PlainTable.PlainTable, specs.Changes.{rows_under, told_keys}, specs.Rules.landed, specs.Tables.keys, specs.Updates.{Update, rows_at, carry, removing, shifting, adding, modifying}}
+use Rattle.tick_model.{specs.declared.table.PlainRow.PlainRow, specs.declared.table.PlainTable.PlainTable, specs.Changes.{rows_under, told_keys}, specs.Rules.landed, specs.Tables.keys, specs.Updates.{Update, rows_at, carry, removing, shifting, adding, modifying}, proofs.RowLists.keys-rows_under}
 use Rattle.tick_laws.{specs.Checked.IsChecked, proofs.CheckedUpdates.{modified_not_added, keys_after-rise, keys-stay, keys-carry, keys-modifying}}
 use Rattle.tick_table.{specs.Placed.{put_rows, stepped}, proofs.NewKeys.among-adding, proofs.Puts.{put_rows-append, put_rows-new, put_rows-known, rows_under-append}}
-use Rattle.tick_model.proofs.RowLists.{keys-rows_under}
 
 -- all rows of a list have keys of a list, or none has
 rows_at-all : (ks : List ℕ) (rows : List PlainRow) → keys rows ≡ ks → rows_at ks rows ≡ rows

@@ -5,7 +5,7 @@ use Rattle.chunk_list.proofs.Runs.{length-left, length-run, more_is, more_out, o
 use Rattle.key_lists.{specs.Keys.{is_among, IsRising, without}, proofs.Among.{among_above, among_below}, proofs.Every.{every, every_weaker}, proofs.Parts.{every_back, every_front}, proofs.Rising.{rising_count, rising_some}}
 use Rattle.row_set.{specs.Sets.{IsKeySet, count_below}, proofs.Windows.{rising_back, rising_before, rising_front}}
 use Rattle.tick_model.{specs.declared.table.PlainRow.PlainRow, specs.Tables.cells_at, specs.Updates.removing, proofs.Among.row_at-filter}
-use Rattle.tick_table.{specs.declared.stepping.RowPlace.RowPlace, specs.Placed.{IsRowPlace, paired, put_row}, proofs.Applied.among-without, proofs.Paired.{at_place, count_left, count_without, paired-insert, paired-remove, paired-set, place_below, removing-last, row_of, without-first, without-last, without_shorter}, proofs.TableColumns.length-mapped, proofs.Told.{at_put_row, flat_map-same}}
+use Rattle.tick_table.{specs.Placed.{paired, put_row}, proofs.Applied.among-without, proofs.Paired.{at_place, count_left, count_without, paired-insert, paired-remove, paired-set, place_below, removing-last, row_of, without-first, without-last, without_shorter}, proofs.TableColumns.length-mapped, proofs.Told.{at_put_row, flat_map-same}}
 
 -- a walk along some keys of rows has come to this one: those are behind it, and those are still to come
 pub record IsComeTo (rows behind : List ℕ) (key : ℕ) (others : List ℕ) : Type 0 where
@@ -35,16 +35,12 @@ come_to rows walked behind key others rises walked_rise there e =
       above = (rising_back behind (key ∷ others) parts_rise).0;
     }
 
--- the position of a place is that of its key
-pub place_is : (rows : List ℕ) (place : RowPlace) (key : ℕ) → place.key ≡ key → IsRowPlace rows place → place.position ≡ count_below key rows
-place_is rows place key same h = h.position ∙ ap (λ k. count_below k rows) same
-
 -- there are few positions
-pub place_few : (rows : List ℕ) (place : RowPlace) → IsKeySet rows → IsRowPlace rows place → place.position < 2 ^ 62
-place_few rows place keys here =
-    let below = place_below place.key rows keys.rising here.row in
+pub few_below : (key : ℕ) (rows : List ℕ) → IsKeySet rows → is_among key rows ≡ true → count_below key rows < 2 ^ 62
+few_below key rows keys here =
+    let below = place_below key rows keys.rising here in
     let few = rising_count 0 (2 ^ 62) rows (omega arith) (every (λ (other : ℕ). 0 ≤ other) rows (λ other. omega arith)) keys.small keys.rising in
-    omega (arith, below, few, here.position)
+    omega (arith, below, few)
 
 module _ (rows behind : List ℕ) (key : ℕ) (others : List ℕ) (h : IsComeTo rows behind key others) where
   -- the rows behind it were taken out
@@ -60,11 +56,10 @@ module _ (rows behind : List ℕ) (key : ℕ) (others : List ℕ) (h : IsComeTo 
   taken_place : count_below key rows ≡ length behind + count_below key (without behind rows)
   taken_place = count_left key behind rows h.rows_rise h.behind_rise h.behind_own h.below
 
-  pub held_position : (place : RowPlace) (now left : List (List ℤ)) (cells : ℕ → List ℤ) (start count : ℕ) → place.key ≡ key → IsRowPlace rows place → start + count ≤ length now → left ++ slice_range now start (start + count) ≡ map cells behind
-      → place.position ≡ length left + count + count_below key (without behind rows)
-  held_position place now left cells start count same here most is =
+  pub held_position : (position : ℕ) (now left : List (List ℤ)) (cells : ℕ → List ℤ) (start count : ℕ) → position ≡ count_below key rows → start + count ≤ length now → left ++ slice_range now start (start + count) ≡ map cells behind
+      → position ≡ length left + count + count_below key (without behind rows)
+  held_position position now left cells start count at most is =
       let parts = taken_place in
-      let at = place_is rows place key same here in
       let many = ap length is ∙ length-mapped cells behind in
       omega (arith, parts, at, many, length-append left (slice_range now start (start + count)), length-run now start count most)
 

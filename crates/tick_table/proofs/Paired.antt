@@ -54,21 +54,6 @@ place_key key (first ∷ ks) rises here =
           ap (λ n. get_or (first ∷ ks) n 0) (count_later key first ks (later_less key first ks rises later)) ∙ place_key key ks rises.1 later
     ]
 
--- the key behind one that is there has one more below it
-pub count_next : (key : ℕ) (ks : List ℕ) → IsRising ks → is_among key ks ≡ true → count_below (key + 1) ks ≡ suc (count_below key ks)
-count_next key [] rises here = absurd (true≢false (sym here))
-count_next key (first ∷ ks) rises here =
-    elim (cases_eq first key) [
-      | inl same ↦
-          count_later (key + 1) first ks (omega (arith, same))
-          ∙ ap suc (count_none (key + 1) ks (every_weaker (λ other. key < other) (λ other. key + 1 ≤ other) ks (λ other above. omega (arith, above)) (above_same key first ks same rises)))
-          ∙ sym (ap suc (count_here key first ks (omega (arith, same)) rises))
-      | inr differs ↦
-          let later = later_among key first ks differs here in
-          let less = later_less key first ks rises later in
-          count_later (key + 1) first ks (omega (arith, less)) ∙ ap suc (count_next key ks rises.1 later) ∙ sym (ap suc (count_later key first ks less))
-    ]
-
 -- keys that are left out: those that are not below a key, or all of them below it
 pub count_without : (key : ℕ) (others ks : List ℕ) → AllByRecursion (λ other. key ≤ other) others → count_below key (without others ks) ≡ count_below key ks
 count_without key others ks above =

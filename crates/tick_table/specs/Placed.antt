@@ -6,12 +6,9 @@
 --     put_rows rows others      the others, with these rows put among them, one after the other
 --     stayed update rows      the rows that an update does not remove, where it moves them
 --     stepped update told rows      the rows after an update, where these are told
---     IsRowPlace rows place      the place is that of a row
-use Rattle.std.{specs.Prelude.{◌≡◌, ℕ, ◌+◌, ◌≤◌, ◌==◌, true, List, [], ◌∷◌, length, map, nat_lt, if◌then◌else◌, ℤ, slice_index_or}, specs.List.sum_by}
-use Rattle.key_lists.specs.Keys.{is_among}
-use Rattle.row_set.specs.Sets.{count_below}
+use Rattle.std.{specs.Prelude.{ℕ, ◌+◌, ◌≤◌, ◌==◌, List, [], ◌∷◌, length, map, nat_lt, if◌then◌else◌, ℤ, slice_index_or}, specs.List.sum_by}
 use Rattle.tick_model.{specs.declared.table.PlainRow.PlainRow, specs.Updates.{Update, removing, shifting}}
-use Rattle.tick_table.{specs.declared.stepping.RowPlace.RowPlace, specs.Slots.{AreSlots, SlotCells}}
+use Rattle.tick_table.specs.Slots.{AreSlots, SlotCells}
 
 -- what contracts see of rows by position: their cells, those of the rows that the step took out, and those that it replaced
 pub record Placed : Type 0 where
@@ -53,7 +50,3 @@ stayed update rows = shifting update.shifted (removing update.removed rows)
 
 abbrev pub stepped : Update → List PlainRow → List PlainRow → List PlainRow
 stepped update told rows = put_rows told (stayed update rows)
-
-pub record IsRowPlace (rows : List ℕ) (place : RowPlace) : Type 0 where
-  pub row : is_among place.key rows ≡ true
-  pub position : place.position ≡ count_below place.key rows

@@ -1,24 +1,28 @@
 //! The positions of keys that are asked for in rising order.
 
-ghost use Rattle.std.specs.Prelude.{◌≡◌};
-ghost use Rattle.row_set.specs.Sets.{IsKeySet, found};
+ghost use Rattle.std.specs.Prelude.{◌≡◌, ◌<◌, ◌≤◌, IsTrue, length, take, drop, true};
+ghost use Rattle.std.specs.List.{AllByRecursion};
+ghost use Rattle.key_lists.specs.Keys.{is_among};
+ghost use Rattle.row_set.specs.Ranges.{AreApart, keys_before, keys_of};
+ghost use Rattle.row_set.specs.Sets.{IsKeySet, count_below, found};
 
-use row_set::{Keys, RowSet};
+use row_set::{Range, RowSet};
 use std::marker::Model;
 
-/// A set of keys, in which a key is looked for from the one on that was asked for last: the keys that are asked for in rising
-/// order are found in one pass over the set. A contract sees the set.
+/// So many ranges are passed one by one before a key is searched for.
+const FEW: usize = 8;
+
+/// A set of keys, in which a key is looked for from the range on that was come to last: keys that are asked for in rising order
+/// and lie near one another are found in one pass over the ranges. A contract sees the set.
 #[derive(Drop)]
 pub(crate) struct Places<'t> {
     set: &'t RowSet,
-    /// The first key that is not passed.
-    next: Option<u64>,
-    /// The keys behind it.
-    keys: Keys<'t>,
-    /// How many keys are passed.
-    passed: u64,
-    /// Each of these is less than this.
-    below: u64,
+    /// The ranges of the set.
+    ranges: &'t [Range],
+    /// How many of them are passed.
+    passed: usize,
+    /// How many keys those hold.
+    before: u64,
 }
 
 impl<'t> Model for Places<'t> {
@@ -29,7 +33,36 @@ impl<'t> Model for Places<'t> {
 
     ghost view = { λ places. places.set.now };
 
-    ghost invariant = { λ places. IsPassing places.set.now places.next places.keys places.passed places.below };
+    ghost invariant = { λ places. IsPassing places.set.now places.ranges.now places.passed places.before };
+}
+
+/// Whether so many of the ranges end before a key, and no other.
+fn ends_at(ranges: &[Range], index: usize, key: u64) -> bool
+    requires apart { AreApart 0 ranges.now }
+    requires within { index ≤ length ranges.now }
+    ensures ended { result ≡ true → AllByRecursion (λ range. range.last < key) (take index ranges.now) }
+    ensures others { result ≡ true → AllByRecursion (λ range. key ≤ range.last) (drop index ranges.now) }
+{
+    if index > 0 && key <= ranges[index - 1].last {
+        return false;
+    }
+    index == ranges.len() || key <= ranges[index].last
+}
+
+/// The position of a key before which so many of the ranges end, with this number of keys, or else, as an error, the number of
+/// smaller keys.
+fn found_at(ranges: &[Range], index: usize, before: u64, key: u64) -> Result<u64, u64>
+    requires apart { AreApart 0 ranges.now }
+    requires ended { AllByRecursion (λ range. range.last < key) (take index ranges.now) }
+    requires others { AllByRecursion (λ range. key ≤ range.last) (drop index ranges.now) }
+    requires before { before ≡ keys_before index ranges.now }
+    ensures { result ≡ found key (keys_of ranges.now) }
+{
+    if index < ranges.len() && ranges[index].first <= key {
+        Ok(before + (key - ranges[index].first))
+    } else {
+        Err(before)
+    }
 }
 
 impl<'t> Places<'t> {
@@ -37,38 +70,42 @@ impl<'t> Places<'t> {
     pub(crate) fn of(set: &'t RowSet) -> Places<'t>
         ensures { result ≡ set.now }
     {
-        let mut keys = set.iter();
-        let next = keys.next();
         Places {
             set,
-            next,
-            keys,
+            ranges: set.ranges(),
             passed: 0,
-            below: 0,
+            before: 0,
         }
     }
 
-    /// The position of a key, or else, as an error, the number of smaller keys. A key that is less than the one before it is
-    /// searched for.
+    /// The position of a key, or else, as an error, the number of smaller keys. A key that is less than one before it, or far
+    /// behind it, is searched for.
     pub(crate) fn find(&mut self, key: u64) -> Result<u64, u64>
         ensures same { self.new ≡ self.old }
         ensures position { result ≡ found key self.old }
         ensures keys { IsKeySet self.old }
     {
-        if key < self.below {
-            return self.set.find(key);
-        }
-        self.below = key;
-        while let Some(next) = self.next {
-            if next == key {
-                return Ok(self.passed);
-            }
-            if next > key {
-                return Err(self.passed);
-            }
-            self.next = self.keys.next();
+        let end = self.passed.saturating_add(FEW).min(self.ranges.len());
+        while self.passed < end && self.ranges[self.passed].last < key {
+            let range = self.ranges[self.passed];
+            self.before += range.last - range.first + 1;
             self.passed += 1;
         }
-        Err(self.passed)
+        if ends_at(self.ranges, self.passed, key) {
+            found_at(self.ranges, self.passed, self.before, key)
+        } else {
+            self.set.find(key)
+        }
+    }
+
+    /// The position of a key of the set.
+    pub(crate) fn position_of(&mut self, key: u64) -> usize
+        requires { IsTrue (is_among key self.old) }
+        ensures same { self.new ≡ self.old }
+        ensures position { result ≡ count_below key self.old }
+    {
+        match self.find(key) {
+            Ok(position) | Err(position) => position as usize,
+        }
     }
 }

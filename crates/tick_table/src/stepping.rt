@@ -1,6 +1,6 @@
 //! Rows that a change brings on.
 
-ghost use Rattle.std.specs.Prelude.{◌≡◌, ◌*◌, ◌^◌, ◌≤◌, ◌++◌, [], IsTrue, None, length, map, drop, flat_map, IfOk, IfSome, OnOk};
+ghost use Rattle.std.specs.Prelude.{◌≡◌, ◌*◌, ◌^◌, ◌≤◌, ◌++◌, [], IsTrue, None, length, map, drop, flat_map, IfOk, OnOk};
 ghost use Rattle.std.specs.Bool.{OnTrue};
 ghost use Rattle.std.specs.List.{AllByRecursion};
 ghost use Rattle.key_lists.specs.Keys.{is_among, without};
@@ -10,19 +10,13 @@ ghost use Rattle.tick_model.specs.Changes.{rows_under, told_keys};
 ghost use Rattle.tick_model.specs.Rules.{update_fault};
 ghost use Rattle.tick_model.specs.Tables.{cells_at};
 ghost use Rattle.tick_model.specs.Updates.{removing};
-ghost use Rattle.tick_table.specs.Placed.{IsRowPlace, paired, put_rows, stayed, stepped};
+ghost use Rattle.tick_table.specs.Placed.{paired, put_rows, stayed, stepped};
 
 use crate::placed::PlacedRows;
+use crate::places::Places;
 use row_set::RowSet;
 use std::alloc::AllocError;
 use table_update::Update;
-
-/// The key of a row and its position.
-#[derive(Clone, Copy)]
-pub(crate) struct RowPlace {
-    key: u64,
-    position: usize,
-}
 
 /// Brings rows under these keys on by a change, and gives their keys after it. What the change removes and replaces is kept
 /// aside, so that the rows from before can be told.
@@ -70,13 +64,11 @@ fn remove_rows(placed: &mut PlacedRows, rows: &RowSet, removed: &RowSet) -> Resu
     ensures saved { OnOk result (placed.new.saved ≡ placed.old.saved) }
 {
     let _ = rows.ranges();
-    let mut last = None;
+    let mut places = Places::of(rows);
     let mut start = 0;
     let mut count = 0;
     for key in removed {
-        let place = place_after(rows, last, key);
-        let position = place.position - (placed.count_left() + count);
-        last = Some(place);
+        let position = places.position_of(key) - (placed.count_left() + count);
         if position == start {
             count += 1;
         } else {
@@ -113,13 +105,12 @@ fn add_rows<'a>(
     }
     let _ = rows.ranges();
     let mut rest = cells;
-    let mut last = None;
+    let mut places = Places::of(rows);
     for key in added {
-        let place = place_after(rows, last, key);
+        let position = places.position_of(key);
         let (row, others) = rest.split_at(placed.width());
-        placed.put_in(place.position, row)?;
+        placed.put_in(position, row)?;
         rest = others;
-        last = Some(place);
     }
     Ok(rest)
 }
@@ -185,35 +176,12 @@ fn modify_rows(
 {
     let _ = rows.ranges();
     let mut rest = cells;
-    let mut last = None;
+    let mut places = Places::of(rows);
     for key in modified {
-        let place = place_after(rows, last, key);
+        let position = places.position_of(key);
         let (row, others) = rest.split_at(placed.width());
-        placed.replace(place.position, row)?;
+        placed.replace(position, row)?;
         rest = others;
-        last = Some(place);
     }
     Ok(())
-}
-
-/// Where the row under a key is: of rows under neighbouring keys only the first is searched for.
-fn place_after(rows: &RowSet, last: Option<RowPlace>, key: u64) -> RowPlace
-    requires own { IsTrue (is_among key rows.now) }
-    requires last { IfSome last (IsRowPlace rows.now) }
-    ensures key { result.key ≡ key }
-    ensures place { IsRowPlace rows.now result }
-{
-    let _ = rows.ranges();
-    if let Some(place) = last {
-        if place.key + 1 == key {
-            return RowPlace {
-                key,
-                position: place.position + 1,
-            };
-        }
-    }
-    RowPlace {
-        key,
-        position: rows.count_below(key) as usize,
-    }
 }

@@ -1,9 +1,9 @@
 use Rattle.std.proofs.Common.{◌≡◌, refl, ap, ap₂, sym, ◌∙◌, subst, true, arith, ◌*◌, ◌≤◌, ◌∷◌, length, drop, take, List, ℕ, ℤ, zero-mul}
 use Rattle.std.specs.List.{insert}
 use Rattle.key_lists.{specs.Keys.{is_among, without}, proofs.Every.filter_all}
-use Rattle.row_set.proofs.Yielded.{next_has, yielded_next}
+use Rattle.row_set.{specs.Sets.count_below, proofs.Yielded.{next_has, yielded_next}}
 use Rattle.tick_model.{specs.declared.table.PlainRow.PlainRow, specs.Changes.rows_under}
-use Rattle.tick_table.{specs.Placed.{paired, put_row, put_rows}, proofs.Edits.{come_to, place_is, put_count, put_now, put_within}, proofs.Paired.row_of, proofs.Puts.{rest_next, room_next, row_fits}}
+use Rattle.tick_table.{specs.Placed.{paired, put_row, put_rows}, proofs.Edits.{come_to, put_count, put_now, put_within}, proofs.Paired.row_of, proofs.Puts.{rest_next, room_next, row_fits}}
 use Rattle.tick_table.proofs.stepping.add_rows.Goals as goal
 
 pub loop-key-init : goal.loop-key-init
@@ -13,7 +13,7 @@ loop-key-init c =
     let cells = c.args.cells.now in
     let all = c.into_iter-key-iterator.ensures.into_iter_gives.0 in record {
       width = refl;
-      past = tt;
+      places = c.of-places.ensures;
       room = subst (λ (ks : List ℕ). length ks * width ≤ length cells) (sym all) c.requires.whole;
       rest = ap (λ (ks : List ℕ). drop (length ks * width) cells) all;
       count = c.requires.count ∙ ap (λ (ks : List ℕ). length (without ks rows)) (sym all);
@@ -22,9 +22,10 @@ loop-key-init c =
       saved = refl;
     }
 
-pub place_after-place-requires-clause-own : goal.place_after-place-requires-clause-own
-place_after-place-requires-clause-own c =
-    next_has c.loop-key.yielded c.into_iter-key-iterator.ensures.into_iter_gives c.loop-key.yielded_by c.in-Some.ensures.steps (λ key. is_among key c.args.rows.now ≡ true) c.requires.own
+pub position_of-position-requires : goal.position_of-position-requires
+position_of-position-requires c =
+    subst (λ (ks : List ℕ). is_among c.in-Some.key ks ≡ true) (sym c.loop-key.invariant.places)
+    (next_has c.loop-key.yielded c.into_iter-key-iterator.ensures.into_iter_gives c.loop-key.yielded_by c.in-Some.ensures.steps (λ key. is_among key c.args.rows.now ≡ true) c.requires.own)
 
 pub split_at-requires : goal.split_at-requires
 split_at-requires c =
@@ -40,9 +41,9 @@ put_in-requires-clause-within c =
     let others = c.next.new.self in
     let gives = c.into_iter-key-iterator.ensures.into_iter_gives in
     let come = come_to rows c.args.added.now c.loop-key.yielded key others c.ranges-2.ensures.keys.rising gives.1.rising c.requires.own (yielded_next c.loop-key.yielded gives c.loop-key.yielded_by c.in-Some.ensures.steps) in
-    let is = place_is rows c.place_after-place.result key c.place_after-place.ensures.key c.place_after-place.ensures.place in
+    let is = c.position_of-position.ensures.position ∙ ap (count_below key) c.loop-key.invariant.places in
     let count = c.loop-key.invariant.count ∙ ap (λ (ks : List ℕ). length (without ks rows)) c.in-Some.ensures.steps in
-    put_within rows c.loop-key.yielded key others come c.split_at.result.0.now c.loop-key.placed.rows c.place_after-place.result.position count is
+    put_within rows c.loop-key.yielded key others come c.split_at.result.0.now c.loop-key.placed.rows c.position_of-position.result count is
 
 pub put_in-requires-clause-whole : goal.put_in-requires-clause-whole
 put_in-requires-clause-whole c = omega (arith, c.split_at.ensures.front_len, c.width.ensures)
@@ -56,11 +57,11 @@ loop-key-preserved c =
     let steps : c.loop-key.key-iterator ≡ key ∷ others = c.in-Some.ensures.steps in
     let rest = c.loop-key.rest.now in
     let now = c.loop-key.placed.rows in
-    let position = c.place_after-place.result.position in
+    let position = c.position_of-position.result in
     let row = c.split_at.result.0.now in
     let gives = c.into_iter-key-iterator.ensures.into_iter_gives in
     let come = come_to rows c.args.added.now c.loop-key.yielded key others c.ranges-2.ensures.keys.rising gives.1.rising c.requires.own (yielded_next c.loop-key.yielded gives c.loop-key.yielded_by steps) in
-    let is = place_is rows c.place_after-place.result key c.place_after-place.ensures.key c.place_after-place.ensures.place in
+    let is = c.position_of-position.ensures.position ∙ ap (count_below key) c.loop-key.invariant.places in
     let count = c.loop-key.invariant.count ∙ ap (λ (ks : List ℕ). length (without ks rows)) steps in
     let wide : c.width.result ≡ width = c.width.ensures ∙ c.loop-key.invariant.width in
     let front : row ≡ take width rest = c.split_at.ensures.front ∙ ap (λ n. take n rest) wide in
@@ -71,7 +72,7 @@ loop-key-preserved c =
     ∙ put_now rows c.loop-key.yielded key others come row now position count is
     ∙ ap (λ (cells : List ℤ). put_row (row_of key cells) (paired (without (key ∷ others) rows) now)) front in record {
       width = c.in_ok-put_in.ensures.width ∙ c.loop-key.invariant.width;
-      past = c.place_after-place.ensures.place;
+      places = c.position_of-position.ensures.same ∙ c.loop-key.invariant.places;
       room =
           subst (λ (rest : List ℤ). length others * width ≤ length rest) (sym back)
           (room_next (length others) width rest (subst (λ (ks : List ℕ). length ks * width ≤ length rest) steps c.loop-key.invariant.room));

@@ -1,14 +1,13 @@
 use Rattle.std.proofs.Common.{◌≡◌, ◌*◌, ◌≤◌, length, drop}
-use Rattle.std.specs.Prelude.{IfSome}
 use Rattle.key_lists.specs.Keys.{without}
 use Rattle.tick_model.specs.Changes.{rows_under}
-use Rattle.tick_table.specs.Placed.{IsRowPlace, paired, put_rows}
+use Rattle.tick_table.specs.Placed.{paired, put_rows}
 use Rattle.tick_table.proofs.stepping.add_rows.Given as goal
 
 abbrev pub invariant-loop-key : goal.invariant-loop-key
 invariant-loop-key l = record {
   width : l.placed.width ≡ l.fn.placed.width;
-  past : IfSome l.last (IsRowPlace l.rows);
+  places : l.places ≡ l.rows;
   room : length l.key-iterator * l.fn.placed.width ≤ length l.rest;
   rest : drop (length l.key-iterator * l.fn.placed.width) l.rest ≡ drop (length l.added * l.fn.placed.width) l.fn.cells;
   count : length l.placed.rows ≡ length (without l.key-iterator l.rows);

@@ -1,9 +1,9 @@
 use Rattle.std.proofs.Common.{◌≡◌, refl, ap, ap₂, sym, ◌∙◌, subst, true, arith, ◌*◌, ◌≤◌, ◌++◌, ◌∷◌, [], length, drop, take, get_or, set, List, ℕ, ℤ, append-nil}
 use Rattle.std.{specs.Prelude.flat_map, proofs.lemmas.List.append_assoc}
 use Rattle.key_lists.specs.Keys.{is_among}
-use Rattle.row_set.proofs.Yielded.{next_has, yielded_next}
+use Rattle.row_set.{specs.Sets.count_below, proofs.Yielded.{next_has, yielded_next}}
 use Rattle.tick_model.{specs.declared.table.PlainRow.PlainRow, specs.Changes.rows_under, specs.Tables.cells_at}
-use Rattle.tick_table.{specs.Placed.{paired, put_row, put_rows}, proofs.Edits.{come_to, place_is, set_count, set_now, set_saved, set_within}, proofs.Paired.row_of, proofs.Puts.{room_next, row_fits}}
+use Rattle.tick_table.{specs.Placed.{paired, put_row, put_rows}, proofs.Edits.{come_to, set_count, set_now, set_saved, set_within}, proofs.Paired.row_of, proofs.Puts.{room_next, row_fits}}
 use Rattle.tick_table.proofs.stepping.modify_rows.Goals as goal
 
 pub loop-key-init : goal.loop-key-init
@@ -14,7 +14,7 @@ loop-key-init c =
     let cells = c.args.cells.now in
     let all = c.into_iter-key-iterator.ensures.into_iter_gives.0 in record {
       width = refl;
-      past = tt;
+      places = c.of-places.ensures;
       room = subst (λ (ks : List ℕ). length ks * width ≤ length cells) (sym all) c.requires.whole;
       count = c.requires.count;
       now = ap (λ (ks : List ℕ). put_rows (rows_under width ks cells) (paired rows was)) all;
@@ -22,9 +22,10 @@ loop-key-init c =
       saved = ap (λ (ks : List ℕ). c.args.placed.now.saved ++ flat_map (λ key. cells_at key (paired rows was)) ks) all;
     }
 
-pub place_after-place-requires-clause-own : goal.place_after-place-requires-clause-own
-place_after-place-requires-clause-own c =
-    next_has c.loop-key.yielded c.into_iter-key-iterator.ensures.into_iter_gives c.loop-key.yielded_by c.in-Some.ensures.steps (λ key. is_among key c.args.rows.now ≡ true) c.requires.own
+pub position_of-position-requires : goal.position_of-position-requires
+position_of-position-requires c =
+    subst (λ (ks : List ℕ). is_among c.in-Some.key ks ≡ true) (sym c.loop-key.invariant.places)
+    (next_has c.loop-key.yielded c.into_iter-key-iterator.ensures.into_iter_gives c.loop-key.yielded_by c.in-Some.ensures.steps (λ key. is_among key c.args.rows.now ≡ true) c.requires.own)
 
 pub split_at-requires : goal.split_at-requires
 split_at-requires c =
@@ -40,8 +41,8 @@ replace-requires-clause-within c =
     let others = c.next.new.self in
     let gives = c.into_iter-key-iterator.ensures.into_iter_gives in
     let come = come_to rows c.args.modified.now c.loop-key.yielded key others c.ranges-2.ensures.keys.rising gives.1.rising c.requires.own (yielded_next c.loop-key.yielded gives c.loop-key.yielded_by c.in-Some.ensures.steps) in
-    let is = place_is rows c.place_after-place.result key c.place_after-place.ensures.key c.place_after-place.ensures.place in
-    set_within rows c.loop-key.yielded key others come c.split_at.result.0.now c.loop-key.placed.rows c.place_after-place.result.position c.loop-key.invariant.count is
+    let is = c.position_of-position.ensures.position ∙ ap (count_below key) c.loop-key.invariant.places in
+    set_within rows c.loop-key.yielded key others come c.split_at.result.0.now c.loop-key.placed.rows c.position_of-position.result c.loop-key.invariant.count is
 
 pub replace-requires-clause-whole : goal.replace-requires-clause-whole
 replace-requires-clause-whole c = omega (arith, c.split_at.ensures.front_len, c.width.ensures)
@@ -56,11 +57,11 @@ loop-key-preserved c =
     let rest = c.loop-key.rest.now in
     let now = c.loop-key.placed.rows in
     let saved = c.loop-key.placed.saved in
-    let position = c.place_after-place.result.position in
+    let position = c.position_of-position.result in
     let row = c.split_at.result.0.now in
     let gives = c.into_iter-key-iterator.ensures.into_iter_gives in
     let come = come_to rows c.args.modified.now c.loop-key.yielded key others c.ranges-2.ensures.keys.rising gives.1.rising c.requires.own (yielded_next c.loop-key.yielded gives c.loop-key.yielded_by steps) in
-    let is = place_is rows c.place_after-place.result key c.place_after-place.ensures.key c.place_after-place.ensures.place in
+    let is = c.position_of-position.ensures.position ∙ ap (count_below key) c.loop-key.invariant.places in
     let count = c.loop-key.invariant.count in
     let wide : c.width.result ≡ width = c.width.ensures ∙ c.loop-key.invariant.width in
     let front : row ≡ take width rest = c.split_at.ensures.front ∙ ap (λ n. take n rest) wide in
@@ -72,7 +73,7 @@ loop-key-preserved c =
     ∙ ap (λ (cells : List ℤ). put_row (row_of key cells) (paired rows now)) front in
     let cells_then : List ℤ = flat_map (λ other. cells_at other (paired rows (set now position row))) others in record {
       width = c.in_ok-replace.ensures.width ∙ c.loop-key.invariant.width;
-      past = c.place_after-place.ensures.place;
+      places = c.position_of-position.ensures.same ∙ c.loop-key.invariant.places;
       room =
           subst (λ (rest : List ℤ). length others * width ≤ length rest) (sym back)
           (room_next (length others) width rest (subst (λ (ks : List ℕ). length ks * width ≤ length rest) steps c.loop-key.invariant.room));

@@ -1,16 +1,32 @@
-use Rattle.std.proofs.Common.{ap, ◌∙◌, subst}
-use Rattle.row_set.specs.Sets.{found}
-use Rattle.tick_table.{specs.Places.IsPassing, proofs.Passing.{found_next, found_none}}
+use Rattle.std.proofs.Common.{◌+◌, ◌<◌, arith, length}
+use Rattle.row_set.{proofs.Counts.{apart_ranges, blank, few_before, length-keys_more}, proofs.Places.range_at}
 use Rattle.tick_table.proofs.places.Places.find.Goals as goal
 
-pub returns-then-next-key-clause-position : goal.returns-then-next-key-clause-position
-returns-then-next-key-clause-position c =
+pub overflow_sub-self : goal.overflow_sub-self
+overflow_sub-self c =
     let s = c.loop-self.self-inside in
-    found_next s.set.now s.keys s.passed c.args.key c.in-Some.next s.next c.in-Some.is (subst (IsPassing s.set.now s.next s.keys s.passed) c.loop-self.invariant.below c.loop-self.invariant.passing) c.if-next-key.true
-    ∙ ap (found c.args.key) (c.loop-self.invariant.same ∙ c.self.view_is)
+    (range_at 0 s.ranges.now c.loop-self.invariant.passing.apart s.passed blank (omega (arith, c.loop-self-test.true, c.loop-self.invariant.end))).ascends
 
-pub returns-then-next-key-2-clause-position : goal.returns-then-next-key-2-clause-position
-returns-then-next-key-2-clause-position c =
+pub overflow_add-self-in-loop-self : goal.overflow_add-self-in-loop-self
+overflow_add-self-in-loop-self c =
     let s = c.loop-self.self-inside in
-    found_none s.set.now s.keys s.passed c.args.key c.in-Some.next s.next c.in-Some.is (subst (IsPassing s.set.now s.next s.keys s.passed) c.loop-self.invariant.below c.loop-self.invariant.passing) c.if-next-key-2.true
-    ∙ ap (found c.args.key) (c.loop-self.invariant.same ∙ c.self.view_is)
+    let ranges = apart_ranges s.ranges.now c.loop-self.invariant.passing.apart in
+    let lt : s.passed < length s.ranges.now = omega (arith, c.loop-self-test.true, c.loop-self.invariant.end) in
+    omega (arith, c.loop-self.invariant.passing.count, length-keys_more s.passed blank s.ranges.now ranges.each lt, few_before (s.passed + 1) s.ranges.now ranges)
+
+pub loop-self-preserved : goal.loop-self-preserved
+loop-self-preserved c =
+    let s = c.loop-self.self-inside in
+    let passing = c.loop-self.invariant.passing in
+    let lt : s.passed < length s.ranges.now = omega (arith, c.loop-self-test.true, c.loop-self.invariant.end) in
+    record {
+      same = c.loop-self.invariant.same;
+      end = c.loop-self.invariant.end;
+      passing = record {
+        key_set = passing.key_set;
+        held = passing.held;
+        apart = passing.apart;
+        within = omega (arith, lt);
+        count = omega (arith, passing.count, length-keys_more s.passed blank s.ranges.now (apart_ranges s.ranges.now passing.apart).each lt);
+      };
+    }
