@@ -52,6 +52,12 @@ added_test false true false h k = refl
 added_test false false true h k = absurd (true≢false (sym (k refl)))
 added_test false false false h k = refl
 
+left_test : (l c : Bool) → (c ≡ true → l ≡ true) → (c || (l && not c)) ≡ l
+left_test true true k = refl
+left_test true false k = refl
+left_test false true k = absurd (true≢false (sym (k refl)))
+left_test false false k = refl
+
 modified_test : (m l c : Bool) → (m ≡ true → l ≡ true) → (not c && m) ≡ (m && (l && not c))
 modified_test true true true h = refl
 modified_test true true false h = refl
@@ -351,6 +357,20 @@ module _ (old : List ℕ) (first next : Update) (f : update_fault (2 ^ 62) old f
 
         comes : (key : ℕ) → is_among key next.added ≡ true → is_among key next_places ≡ false
         comes key here = of_among (λ key. is_among key next_places ≡ false) key next.added (none_pass (λ key. is_among key next_places) next.added next_rules.added) here
+
+    -- what both leave
+    pub united_after : IsRising next.added → united next.added (united carried (landed next.shifted (landed first.shifted kept_keys))) ≡ keys_after middle next
+    united_after next_added_rise =
+        rising_same (united next.added (united carried both)) (keys_after middle next)
+        (united_rises next.added (united carried both) (united_rises carried both (places_rise next.shifted (landed first.shifted kept_keys) places_lawful)))
+        (keys_after-rise (2 ^ 62) middle next (record { breaks_none = n; added_rise = next_added_rise }))
+        (λ key.
+        among-united key next.added (united carried both)
+        ∙ ap (λ b. is_among key next.added || b) (among-united key carried both ∙ ap (λ b. is_among key carried || b) (kept_or_new key) ∙ left_test (is_among key next_places) (is_among key carried) (is_place key))
+        ∙ sym (among-put_keys key next.added next_places))
+      where
+        both : List ℕ
+        both = landed next.shifted (landed first.shifted kept_keys)
 
     -- what both modify
     module _ (modified_rise : IsRising first.modified) where

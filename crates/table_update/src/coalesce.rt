@@ -4,6 +4,7 @@ ghost use Rattle.std.specs.Prelude.{◌≡◌, [], if◌then◌else◌, IfOk};
 ghost use Rattle.key_lists.specs.Keys.{IsRising, without};
 ghost use Rattle.row_set.specs.Sets.{united};
 ghost use Rattle.shift_data.specs.Moves.{IsLawful};
+ghost use Rattle.tick_laws.specs.Checked.{keys_after};
 ghost use Rattle.tick_model.specs.Changes.{is_none};
 ghost use Rattle.tick_model.specs.Rules.{landed};
 ghost use Rattle.tick_model.specs.Shifts.{shifted};
@@ -14,6 +15,9 @@ use crate::update::Update;
 use row_set::RowSet;
 use shift_data::ShiftData;
 use std::alloc::AllocError;
+
+/// The most ranges of keys that are not worth the search for those that both updates keep.
+const FEW_RANGES: usize = 16;
 
 impl Update {
     /// The update that this one and then the next one make of a table with the old keys. Its modified rows are those that
@@ -27,6 +31,39 @@ impl Update {
         } else {
             self.followed_by(next, old)
         }
+    }
+
+    /// The keys of a table, made those that it has after this update and then the next one. Where both move all rows, many
+    /// keys are gone over once. After a refusal they are gone.
+    pub fn apply_both_to_keys(&self, next: &Update, keys: RowSet) -> Result<RowSet, AllocError>
+        requires { Follow keys self.now next.now }
+        ensures { IfOk result (λ after. after ≡ keys_after (keys_after keys self.now) next.now) }
+    {
+        if self.moves_one_range() && next.moves_one_range() && keys.ranges().len() > FEW_RANGES {
+            self.apply_at_once(next, keys)
+        } else {
+            next.apply_to_keys(self.apply_to_keys(keys)?)
+        }
+    }
+
+    /// Whether the rows of one range move.
+    fn moves_one_range(&self) -> bool {
+        self.shifted().ranges().len() == 1
+    }
+
+    /// The keys after this update and then the next one: those of the rows that both keep move by both at once.
+    fn apply_at_once(&self, next: &Update, mut keys: RowSet) -> Result<RowSet, AllocError>
+        requires { Follow keys self.now next.now }
+        ensures { IfOk result (λ after. after ≡ keys_after (keys_after keys self.now) next.now) }
+    {
+        let _ = keys.ranges();
+        let carried = next.places_of(self.added())?;
+        let removed = self.removed_with(next, &keys)?;
+        keys.remove_all(&removed)?;
+        let mut places = self.shifted().apply_both_in_place(next.shifted(), keys)?;
+        places.insert_all(&carried)?;
+        places.insert_all(next.added())?;
+        Ok(places)
     }
 
     /// The update that this one and then the next one make.

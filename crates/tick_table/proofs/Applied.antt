@@ -4,7 +4,7 @@ use Rattle.std.{specs.Prelude.{flat_map, option_map}, specs.List.AllByRecursion,
 use Rattle.key_lists.{specs.Keys.{is_among, IsRising, without}, proofs.Among.{among-append, among-filter, apart_back, each_among, of_among}, proofs.Booleans.or_false, proofs.Every.{every_both, every_unmapped, every_weaker, every-append, every-filter, every-map, map_map, map_own, map_same, none_pass}}
 use Rattle.row_set.specs.Sets.{IsKeySet}
 use Rattle.tick_model.{specs.declared.table.PlainRow.PlainRow, specs.declared.table.PlainTable.PlainTable, specs.declared.update.ShiftRange.ShiftRange, specs.Changes.{Change, changed, rows_under, told_keys}, specs.Rules.{landed, update_fault}, specs.Shifts.{as_key, moved}, specs.Tables.{IsRow, IsTable, cells_at, keys, row_at}, specs.Updates.{Update, carry, moved_row, removing, shifting}, proofs.Among.each_found}
-use Rattle.table_update.{proofs.KeysAfter.{KeepsRules, rules_kept}, proofs.LawfulParts.places_rise}
+use Rattle.table_update.{specs.Coalesced.Follow, proofs.KeysAfter.{KeepsRules, rules_kept}, proofs.LawfulParts.places_rise}
 use Rattle.tick_laws.{specs.Checked.{IsChecked, keys_after}, proofs.CheckedUpdates.table-carry, proofs.ToldRows.{cells_of_row, rows_under-told}}
 use Rattle.tick_table.{specs.Kept.{IsKept, cells_before, row_before, table_before, table_now}, specs.Placed.{Placed, paired, put_rows, stayed, stepped}, proofs.CarriedRows.{keys-removing, keys-told, rows_step}, proofs.Paired.{at_mapped, keys-paired, paired-map, row_of}, proofs.TableColumns.length-mapped, proofs.Told.{AreOnce, at_put_rows, at_stayed, once-append, once-rising, told_own}}
 
@@ -99,6 +99,9 @@ module _ (rows before : List ℕ) (old : Placed) (last : Update) (last_told : Li
   pub lawful : update_fault (2 ^ 62) rows update ≡ None
   lawful = subst (λ ks. update_fault (2 ^ 62) ks update ≡ None) own_keys breaks_none
 
+  pub follows : Follow before last update
+  follows = record { applies = k.checked; follows = subst (λ ks. update_fault (2 ^ 62) ks update ≡ None) k.after lawful }
+
   pub whole : length cells ≡ length (told_keys update) * old.width
   whole =
       ap (λ (change : Change). length change.cells) is ∙ fits ∙ sym (ap₂ (λ (table : PlainTable) (change : Change). length (told_keys change.update) * table.width) view is)
@@ -149,11 +152,14 @@ module _ (rows before : List ℕ) (old : Placed) (last : Update) (last_told : Li
         (apart_back update.added update.modified (not_added (keys those) update breaks_none)))
 
     -- and the rows are brought on by it
-    module _ (new : Placed) (new_rows old_rows : List ℕ) (w : new.width ≡ old.width) (a : new_rows ≡ keys_after rows update) (o : old_rows ≡ rows)
+    module _ (new : Placed) (new_rows : List ℕ) (w : new.width ≡ old.width) (a : new_rows ≡ keys_after (keys_after before last) update)
         (n : length new.rows ≡ length (keys_after rows update)) (slice : List ℤ) (same : slice ≡ cells) (p : paired (keys_after rows update) new.rows ≡ stepped update (rows_under old.width (told_keys update) slice) those)
         (l : new.left ≡ map (λ key. cells_at key those) update.removed) (s : new.saved ≡ flat_map (λ key. cells_at key stay) update.modified) where
+      now_keys : new_rows ≡ keys_after rows update
+      now_keys = a ∙ ap (λ ks. keys_after ks update) (sym k.after)
+
       now_rows : paired new_rows new.rows ≡ put_rows told stay
-      now_rows = ap (λ ks. paired ks new.rows) a ∙ p ∙ ap (λ (cells : List ℤ). stepped update (rows_under old.width (told_keys update) cells) those) same
+      now_rows = ap (λ ks. paired ks new.rows) now_keys ∙ p ∙ ap (λ (cells : List ℤ). stepped update (rows_under old.width (told_keys update) cells) those) same
 
       now_carried : table_now new_rows new ≡ carried
       now_carried =
@@ -187,17 +193,17 @@ module _ (rows before : List ℕ) (old : Placed) (last : Update) (last_told : Li
           go false true g m = saved_cells (place key) m ∙ stay_cells key here g
           go false false g m = same_cells (place key) (place_stays key here g) m ∙ stay_cells key here g
 
-      old_rows_are : map (row_before new_rows new update) old_rows ≡ those
+      old_rows_are : map (row_before new_rows new update) rows ≡ those
       old_rows_are =
-          ap (map (row_before new_rows new update)) (o ∙ sym own_keys)
+          ap (map (row_before new_rows new update)) (sym own_keys)
           ∙ map_same (row_before new_rows new update) (λ key. row_of key (cells_at key those)) (keys those)
           (every_weaker (λ key. is_among key (keys those) ≡ true) (λ key. row_before new_rows new update key ≡ row_of key (cells_at key those)) (keys those) (λ key here. ap (row_of key) (cells_are key here)) (each_among (keys those)))
           ∙ rows_again those k.now_table.rising
 
-      was_now : table_before new_rows old_rows new update ≡ table_now rows old
+      was_now : table_before new_rows rows new update ≡ table_now rows old
       was_now = ap₂ (λ (width : ℕ) (rows : List PlainRow). let made : PlainTable = record { width = width; rows = rows } in made) w old_rows_are
 
-      pub old_is : table_before new_rows old_rows new update ≡ now
+      pub old_is : table_before new_rows rows new update ≡ now
       old_is = was_now ∙ view
 
       pub new_is : table_now new_rows new ≡ changed now change
@@ -208,17 +214,17 @@ module _ (rows before : List ℕ) (old : Placed) (last : Update) (last_told : Li
           subst (λ width. AllByRecursion (λ row. cells_at row.key (paired new_rows new.rows) ≡ row.cells) (rows_under width (told_keys update) cells)) (sym w)
           (subst (λ (rows : List PlainRow). AllByRecursion (λ row. cells_at row.key rows ≡ row.cells) told) (sym now_rows) (told_own told stay told_once))
 
-      pub kept_is : IsKept new_rows old_rows new update cells
+      pub kept_is : IsKept new_rows rows new update cells
       kept_is = record {
         some = omega (arith, w, k.some);
         few = omega (arith, w, k.few);
         now_table = subst IsTable (sym now_carried) carried_table;
         before_table = subst IsTable (sym was_now) k.now_table;
-        count = n ∙ sym (ap length a);
+        count = n ∙ sym (ap length now_keys);
         left = ap length l ∙ length-mapped (λ key. cells_at key those) update.removed;
         saved = ap length s ∙ length-rows old.width (λ key. cells_at key stay) update.modified modified_whole ∙ ap (λ width. length update.modified * width) (sym w);
         whole = whole ∙ ap (λ width. length (told_keys update) * width) (sym w);
         told_rows = told_are;
-        checked = subst (λ ks. update_fault (2 ^ 62) ks update ≡ None) (sym o) lawful;
-        after = a ∙ ap (λ ks. keys_after ks update) (sym o);
+        checked = lawful;
+        after = now_keys;
       }

@@ -18,25 +18,26 @@ use row_set::RowSet;
 use std::alloc::AllocError;
 use table_update::Update;
 
-/// Brings rows under these keys on by a change, and gives their keys after it. What the change removes and replaces is kept
+/// Brings rows under these keys on by a change, to those under the keys after it. What the change removes and replaces is kept
 /// aside, so that the rows from before can be told.
 pub(crate) fn bring_on(
     placed: &mut PlacedRows,
-    rows: RowSet,
+    rows: &RowSet,
+    after: &RowSet,
     update: &Update,
     cells: &[i64],
-) -> Result<RowSet, AllocError>
-    requires lawful { update_fault (2 ^ 62) rows update.now ≡ None }
-    requires count { length placed.old.rows ≡ length rows }
+) -> Result<(), AllocError>
+    requires lawful { update_fault (2 ^ 62) rows.now update.now ≡ None }
+    requires after { after.now ≡ keys_after rows.now update.now }
+    requires count { length placed.old.rows ≡ length rows.now }
     requires whole { length cells.now ≡ length (told_keys update.now) * placed.old.width }
-    ensures keys { IfOk result (λ after. after ≡ keys_after rows update.now) }
     ensures width { OnOk result (placed.new.width ≡ placed.old.width) }
-    ensures count { OnOk result (length placed.new.rows ≡ length (keys_after rows update.now)) }
-    ensures now { OnOk result (paired (keys_after rows update.now) placed.new.rows
-        ≡ stepped update.now (rows_under placed.old.width (told_keys update.now) cells.now) (paired rows placed.old.rows)) }
-    ensures left { OnOk result (placed.new.left ≡ map (λ key. cells_at key (paired rows placed.old.rows)) update.now.removed) }
+    ensures count { OnOk result (length placed.new.rows ≡ length (keys_after rows.now update.now)) }
+    ensures now { OnOk result (paired (keys_after rows.now update.now) placed.new.rows
+        ≡ stepped update.now (rows_under placed.old.width (told_keys update.now) cells.now) (paired rows.now placed.old.rows)) }
+    ensures left { OnOk result (placed.new.left ≡ map (λ key. cells_at key (paired rows.now placed.old.rows)) update.now.removed) }
     ensures saved { OnOk result (placed.new.saved
-        ≡ flat_map (λ key. cells_at key (stayed update.now (paired rows placed.old.rows))) update.now.modified) }
+        ≡ flat_map (λ key. cells_at key (stayed update.now (paired rows.now placed.old.rows))) update.now.modified) }
     ensures removed { OnOk result (IsKeySet update.now.removed) }
     ensures added { OnOk result (IsKeySet update.now.added) }
     ensures modified { OnOk result (IsKeySet update.now.modified) }
@@ -45,11 +46,10 @@ pub(crate) fn bring_on(
     let added = update.added();
     let modified = update.modified();
     placed.begin_step()?;
-    remove_rows(placed, &rows, removed)?;
-    let rows = update.apply_to_keys(rows)?;
-    let rest = add_rows(placed, &rows, added, cells)?;
-    modify_rows(placed, &rows, modified, rest)?;
-    Ok(rows)
+    remove_rows(placed, rows, removed)?;
+    let rest = add_rows(placed, after, added, cells)?;
+    modify_rows(placed, after, modified, rest)?;
+    Ok(())
 }
 
 /// Takes the rows under some of the keys out: those that lie side by side together.

@@ -271,11 +271,11 @@ impl TickTable {
             copies,
         } = self;
         let Change { update, cells } = change;
-        let prev_rows = last.apply_to_keys(prev_rows)?;
-        let rows = bring_on(&mut placed, rows, &update, cells.as_slice())?;
+        let now = last.apply_both_to_keys(&update, prev_rows)?;
+        bring_on(&mut placed, &rows, &now, &update, cells.as_slice())?;
         Ok(TickTable {
-            rows,
-            prev_rows,
+            rows: now,
+            prev_rows: rows,
             placed,
             update,
             told: cells,
