@@ -3,7 +3,7 @@ use Rattle.std.proofs.Common.{◌≡◌, refl, ap, ap₂, sym, ◌∙◌, subst,
 use Rattle.std.{specs.Cmp.signed_Decides, specs.Cmp.Rules.signed_items, specs.List.AllByRecursion, specs.Option.option_map_or, specs.Ordering.int_eq, specs.Prelude.{find, slice_get, unwrap_or}, proofs.lemmas.Bool.and_parts, proofs.lemmas.Int.{int_wrap_fits, ints}, proofs.lemmas.List.length-map}
 use Rattle.key_lists.{specs.Keys.{is_among, IsRising}, proofs.Every.{every-filter, every-map, every_weaker, filter-map, filter_passes, map_map, map_same}}
 use Rattle.row_changes.specs.Sums.{added_up}
-use Rattle.row_groups.{proofs.Keys.some_of, specs.Members.{Grouped, IsNumberOf, Member, Names, by_at, group_of, keys_of, member_under, name_at, placed as member_placed}}
+use Rattle.row_groups.{proofs.Keys.some_of, specs.Members.{Grouped, Member, Names, by_at, group_of, keys_of, member_under, name_at, placed as member_placed}}
 use Rattle.tick_laws.{proofs.ResultCells.length-filter_most, proofs.ResultTables.table_count}
 use Rattle.tick_model.{proofs.Among.{each_found, rows_among}, specs.Agg.{agg_table, aggregate, column_of, key_cells, over, present, sum_of}, specs.declared.plan.Agg.Agg, specs.declared.table.PlainRow.PlainRow, specs.declared.table.PlainTable.PlainTable, specs.Formulas.wrap, specs.Tables.{cell, cells_at, is_null, keys, null, row_at, same_cells, IsTable}}
 use Rattle.agg_by.{specs.declared.running.Running.Running, specs.declared.running.Running.TheVariants.{Count, Sum, Min, Max, First, Last}, specs.Answers.{answer, cell_of}, specs.ByNumber.at_number, specs.Kept.{AnswerAll, Answers, agg_of, cells_in, group_rows, indexed, member_by}, specs.Steps.{first_keys, kept_cells, key_at}, specs.Sums.{no_total, sum_or_null, total_of}, specs.Values.{greatest, in_order, least, opposites}, proofs.Bringing.{keys-members, members}, proofs.GroupRows.{cells-agg, first_at}, proofs.Ordered.{greatest_is, least_is}}
@@ -177,11 +177,6 @@ module _ (by : List ℕ) (table : PlainTable) (t : IsTable table) (kept : Groupe
   -- a first row is a row
   pub led_row : (first : ℕ) → is_among first (first_keys by table.rows) ≡ true → is_among first (keys table.rows) ≡ true
   led_row first own = (and_parts _ _ (sym (first_at by table first t) ∙ own)).1
-
-  -- the group of its first row, by its number
-  pub led_at : (first number : ℕ) (names : Names) (found : Option (List Member)) → is_among first (first_keys by table.rows) ≡ true → ((cells : List ℤ) → option_map (λ (member : Member). member.cells) (member_under first kept.members) ≡ Some cells → IsNumberOf number cells names)
-      → found ≡ option_map (λ cells. group_of cells kept.members) (name_at number names) → found ≡ Some (group_of (key_at by table.rows first) kept.members)
-  led_at first number names found own is e = e ∙ ap (option_map (λ cells. group_of cells kept.members)) (is (key_at by table.rows first) (known_at first (led_row first own))).own
 
   pub led_cells : (first : ℕ) (rows : List Member) (cells : List ℤ) → is_among first (first_keys by table.rows) ≡ true → rows ≡ group_of (key_at by table.rows first) kept.members → AllByRecursion (λ member. member.cells ≡ cells) rows → cells ≡ key_at by table.rows first
   led_cells first rows cells own is all =

@@ -1,11 +1,11 @@
 -- The first rows of touched groups, found by the key cells of touched rows.
 use Rattle.std.proofs.Common.{◌≡◌, refl, ap, ap₂, sym, ◌∙◌, subst, Bool, true, false, ◌&&◌, ◌||◌, ◌==◌, ℕ, ◌+◌, ◌^◌, ◌<◌, ◌≤◌, arith, List, [], ◌∷◌, filter, length, Option, Some, None, option_map, unwrap_or, is_some, ℤ, true≢false}
-use Rattle.std.{specs.Cmp.Rules.signed_items, specs.List.{AllByRecursion, list_any}, specs.Option.option_map_or, specs.Prelude.slice_get, proofs.lemmas.Bool.eqb-true, proofs.lemmas.Option.{none-some, same_Some}}
+use Rattle.std.{specs.Cmp.Rules.signed_items, specs.List.{AllByRecursion, list_any}, specs.Option.option_map_or, specs.Prelude.slice_get, proofs.lemmas.Bool.{and_parts, eqb-true}, proofs.lemmas.Option.{none-some, same_Some}}
 use Rattle.key_lists.{specs.Keys.{is_among, IsRising}, proofs.Among.among-filter, proofs.Every.{every_both, every-filter, every-map, every_unmapped, filter_passes}, proofs.Rising.{rising-filter, rising_same, rising_some}}
-use Rattle.row_groups.{specs.Members.{AreGrouped, Grouped, Member, group_of, keys_of, member_under}, proofs.Placed.every-by_at}
+use Rattle.row_groups.{specs.Members.{AreGrouped, Grouped, Member, Names, group_of, keys_of, member_under, name_at}, proofs.Placed.every-by_at}
 use Rattle.row_set.{specs.Sets.with_key, proofs.United.{among-with_key, length-united, with_key_rises}}
 use Rattle.tick_model.{proofs.Among.rows_among, specs.Agg.{is_first, key_cells}, specs.declared.table.PlainRow.PlainRow, specs.declared.table.PlainTable.PlainTable, specs.Tables.{keys, same_cells, IsTable}}
-use Rattle.agg_by.{specs.Kept.group_rows, specs.Steps.{first_keys, kept_cells, key_at, starts}, proofs.Answering.keys_group, proofs.Bringing.members, proofs.GroupRows.{first_at, leads, leads_own}, proofs.Untouched.own_cells}
+use Rattle.agg_by.{specs.Kept.{group_rows, indexed}, specs.Steps.{first_keys, kept_cells, key_at, starts}, proofs.Answering.{keys_group, known_at, led_cells, led_row}, proofs.Bringing.members, proofs.GroupRows.{first_at, leads, leads_own}, proofs.Untouched.own_cells}
 
 group_small : (grouped : Grouped) (cells : List ℤ) → AreGrouped grouped → AllByRecursion (λ key. key < 2 ^ 62) (keys_of (group_of cells grouped.members))
 group_small grouped cells are =
@@ -75,6 +75,27 @@ module _ (by : List ℕ) (table : PlainTable) (t : IsTable table) where
   pub starts_when : (key : ℕ) (cells : List ℤ) → starts (members by None rows) key cells ≡ (same_cells (key_at by rows key) cells && is_among key (first_keys by rows))
   starts_when key cells =
       ap (λ ks. option_map_or (λ k. k == key) (slice_get ks 0) false) (keys_group by rows cells) ∙ first_key_of key (group_rows by cells rows) ∙ leads_when cells key
+
+  module _ (kept : Grouped) (are : kept ≡ indexed by None rows) (first : ℕ) where
+    -- a first row leads the group with its key cells
+    pub led_own : is_among first (first_keys by rows) ≡ true → starts kept.members first (kept_cells kept.members first) ≡ true
+    led_own own =
+        ap₂ (λ (ms : List Member) (cells : List ℤ). starts ms first cells) (ap (λ (kept : Grouped). kept.members) are) (ap (λ (cells : Option (List ℤ)). unwrap_or cells []) (known_at by table t kept are first (led_row by table t kept are first own)))
+        ∙ starts_when first (key_at by rows first) ∙ ap₂ (λ a b. a && b) ((signed_items (key_at by rows first) (key_at by rows first)).1 refl) own
+
+    -- the group that it leads has these, and is found by its number
+    pub led_name : (named : Option (List ℤ)) → option_map_or (starts kept.members first) named false ≡ true → named ≡ Some (key_at by rows first)
+    led_name None e = absurd (true≢false (sym e))
+    led_name (Some cells) e =
+        ap Some (sym ((signed_items (key_at by rows first) cells).0 (and_parts _ _ (sym (starts_when first cells) ∙ sym (ap (λ (kept : Grouped). starts kept.members first cells) are) ∙ e)).0))
+
+    pub led_at : (number : ℕ) (names : Names) (found : Option (List Member)) → option_map_or (starts kept.members first) (name_at number names) false ≡ true
+        → found ≡ option_map (λ cells. group_of cells kept.members) (name_at number names) → found ≡ Some (group_of (key_at by rows first) kept.members)
+    led_at number names found e is = is ∙ ap (option_map (λ cells. group_of cells kept.members)) (led_name (name_at number names) e)
+
+    pub led_found : (number : ℕ) (names : Names) (found : Option (List Member)) (group : List Member) (cells : List ℤ) → is_among first (first_keys by rows) ≡ true → option_map_or (starts kept.members first) (name_at number names) false ≡ true
+        → found ≡ option_map (λ cells. group_of cells kept.members) (name_at number names) → found ≡ Some group → AllByRecursion (λ member. member.cells ≡ cells) group → cells ≡ key_at by rows first
+    led_found number names found group cells own e is here all = led_cells by table t kept are first group cells own (same_Some _ _ (sym here ∙ led_at number names found e is)) all
 
   starts_any : (key : ℕ) (touched : List (List ℤ)) → list_any (starts (members by None rows) key) touched ≡ (list_any (same_cells (key_at by rows key)) touched && is_among key (first_keys by rows))
   starts_any key [] = refl

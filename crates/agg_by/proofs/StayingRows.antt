@@ -1,14 +1,13 @@
 -- The touched groups whose first row stays the first.
-use Rattle.std.proofs.Common.{◌≡◌, refl, ap, ap₂, sym, ◌∙◌, subst, Bool, true, false, not, cond, ◌&&◌, ℕ, ◌+◌, ◌^◌, ◌<◌, ◌≤◌, arith, List, [], ◌∷◌, ◌++◌, map, filter, length, take, Option, Some, None, option_map, ℤ, if◌then◌else◌}
-use Rattle.std.{specs.Cmp.Rules.signed_items, specs.List.AllByRecursion, specs.Option.option_map_or, proofs.lemmas.Bool.and_parts, proofs.lemmas.List.{append-nil, length-append, length-map, map-append}, proofs.lemmas.List.Elements.filter-append, proofs.lemmas.Option.same_Some}
+use Rattle.std.proofs.Common.{◌≡◌, refl, ap, ap₂, sym, ◌∙◌, subst, Bool, true, false, not, cond, ◌&&◌, ℕ, ◌+◌, ◌^◌, ◌<◌, ◌≤◌, arith, List, [], ◌∷◌, ◌++◌, map, filter, length, take, Option, Some, None, ℤ, if◌then◌else◌}
+use Rattle.std.{specs.Cmp.Rules.signed_items, specs.List.AllByRecursion, proofs.lemmas.Bool.and_parts, proofs.lemmas.List.{append-nil, length-append, length-map, map-append}, proofs.lemmas.List.Elements.filter-append, proofs.lemmas.Option.same_Some}
 use Rattle.key_lists.{specs.Keys.{is_among, IsRising, without}, proofs.Among.{among-filter, each_among, of_among}, proofs.Every.{every_both, every_weaker, every-filter, every-map, filter-map, filter_filter, filter_passes}, proofs.Rising.rising_some, proofs.Parts.{every_front, take_front}}
-use Rattle.row_groups.specs.Members.{Grouped, Member, member_under}
 use Rattle.row_set.proofs.Windows.{rising_before}
 use Rattle.shift_data.{proofs.Lawful.{lawful, not_past}, proofs.ByRange.moves_up}
 use Rattle.shown_rows.proofs.Restricted.{exact_shift}
 use Rattle.tick_model.{specs.Agg.{agg_table, aggregate}, specs.declared.plan.Agg.Agg, specs.declared.table.PlainRow.PlainRow, specs.declared.update.KeyPair.KeyPair, specs.Rules.is_past, specs.Shifts.{as_key, moved}, specs.Tables.{cell, cells_at, keys, same_cells, IsRow}, specs.Updates.{kept_pair, new_keys, old_keys}}
 use Rattle.tick_table.{specs.Exact.IsExact, specs.Ticking.Ticking}
-use Rattle.agg_by.{specs.Kept.{group_rows, indexed}, specs.Steps.{first_keys, is_touched, key_at, stays, touched_firsts}, proofs.Answering.cells_known, proofs.FirstKeys.first_keys_rise, proofs.GroupParts.rising_moved, proofs.GroupRows.{cells-agg, first_at}}
+use Rattle.agg_by.{specs.Kept.group_rows, specs.Steps.{first_keys, is_touched, key_at, stays, touched_firsts}, proofs.FirstKeys.first_keys_rise, proofs.GroupParts.rising_moved, proofs.GroupRows.{cells-agg, first_at}}
 
 pub same_turned : (xs ys : List ℤ) → same_cells xs ys ≡ same_cells ys xs
 same_turned xs ys = cases (same_cells xs ys) (same_cells ys xs) refl refl
@@ -133,22 +132,15 @@ module _ (by : List ℕ) (t : Ticking) (e : IsExact t) where
         (every-filter (λ key. is_among key (first_keys by t.old.rows) ≡ true) stays_first before (every_front (λ key. is_among key (first_keys by t.old.rows) ≡ true) before (old ∷ others) (subst (AllByRecursion (λ key. is_among key (first_keys by t.old.rows) ≡ true)) next firsts_there)))
         (filter_passes stays_first before)))))
 
-  -- the key cells of a first row before, and of a row now, as they are noted and kept
-  pub has_cells : (aggs : List Agg) (old new : ℕ) (row : List ℤ) (kept : Grouped) → is_among old (first_keys by t.old.rows) ≡ true → row ≡ cells_at old (agg_table by aggs t.old).rows → is_among new (keys t.new.rows) ≡ true → kept ≡ indexed by None t.new.rows
-      → option_map_or (λ (member : Member). same_cells member.cells (take (length by) row)) (member_under new kept.members) false ≡ same_cells (key_at by t.old.rows old) (key_at by t.new.rows new)
-  has_cells aggs old new row kept own noted there are =
-      ap₂ (λ (cells : List ℤ) (kept : Grouped). option_map_or (λ (member : Member). same_cells member.cells cells) (member_under new kept.members) false) begins are
-      ∙ through (member_under new (indexed by None t.new.rows).members) (cells_known by None t.new.rows new there)
-      ∙ same_turned (key_at by t.new.rows new) (key_at by t.old.rows old)
+  -- the key cells with which a noted row begins, and those of a row now
+  pub has_cells : (aggs : List Agg) (old new : ℕ) (row cells : List ℤ) → is_among old (first_keys by t.old.rows) ≡ true → row ≡ cells_at old (agg_table by aggs t.old).rows → cells ≡ key_at by t.new.rows new
+      → same_cells cells (take (length by) row) ≡ same_cells (key_at by t.old.rows old) (key_at by t.new.rows new)
+  has_cells aggs old new row cells own noted are = ap₂ same_cells are begins ∙ same_turned (key_at by t.new.rows new) (key_at by t.old.rows old)
     where
       begins : take (length by) row ≡ key_at by t.old.rows old
       begins =
           ap₂ take (sym (length-map by (cell (cells_at old t.old.rows)))) (noted ∙ cells-agg by aggs t.old old e.tick.old_table own)
           ∙ take_front (key_at by t.old.rows old) _
-
-      through : (o : Option Member) → option_map (λ (member : Member). member.cells) o ≡ Some (key_at by t.new.rows new) → option_map_or (λ (member : Member). same_cells member.cells (key_at by t.old.rows old)) o false ≡ same_cells (key_at by t.new.rows new) (key_at by t.old.rows old)
-      through None f = absurd (cc)
-      through (Some member) f = ap (λ cells. same_cells cells (key_at by t.old.rows old)) (same_Some _ _ f)
 
   pub begins_long : (aggs : List Agg) (old : ℕ) (row : List ℤ) → is_among old (first_keys by t.old.rows) ≡ true → row ≡ cells_at old (agg_table by aggs t.old).rows → length by ≤ length row
   begins_long aggs old row own noted =
@@ -156,7 +148,5 @@ module _ (by : List ℕ) (t : Ticking) (e : IsExact t) where
       (sym (ap length (noted ∙ cells-agg by aggs t.old old e.tick.old_table own) ∙ length-append (key_at by t.old.rows old) (map (aggregate (group_rows by (key_at by t.old.rows old) t.old.rows)) aggs) ∙ ap (λ n. n + length (map (aggregate (group_rows by (key_at by t.old.rows old) t.old.rows)) aggs)) (length-map by (cell (cells_at old t.old.rows)))))
       (omega arith)
 
-  pub first_row_there : (key : ℕ) → is_among key (touched_firsts by t t.new.rows) ≡ true → is_among key (keys t.new.rows) ≡ true
-  first_row_there key own =
-      let first = (and_parts _ _ (sym (among-filter (λ key. is_touched by t (key_at by t.new.rows key)) key (first_keys by t.new.rows)) ∙ own)).1 in
-      (and_parts _ _ (sym (first_at by t.new key e.tick.new_table) ∙ first)).1
+  pub touched_first : (key : ℕ) → is_among key (touched_firsts by t t.new.rows) ≡ true → is_among key (first_keys by t.new.rows) ≡ true
+  touched_first key own = (and_parts _ _ (sym (among-filter (λ key. is_touched by t (key_at by t.new.rows key)) key (first_keys by t.new.rows)) ∙ own)).1

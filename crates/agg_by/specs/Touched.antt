@@ -3,9 +3,10 @@
 --     with_number number numbers      one number more, if it is not there
 --     is_named cells names number      whether the group with a number has some of these key cells
 --     starts_numbered rows first number      whether the group with a number has its first row under a key
+--     AreLed rows led      each of these groups has its number, and its first row under its key
 --     AreNoted before cells names numbers      besides the numbers of before they are those of the groups with these key cells, each of which has one
 use Rattle.std.{specs.Prelude.{ℕ, ◌≡◌, ◌||◌, Bool, true, false, List, [], ◌∷◌, ◌++◌, Some, slice_index_or, ℤ, if◌then◌else◌}, specs.List.{AllByRecursion, list_any}, specs.Option.option_map_or}
-use Rattle.agg_by.specs.Steps.{starts}
+use Rattle.agg_by.{specs.declared.firsts.LedGroup.LedGroup, specs.Steps.starts}
 use Rattle.key_lists.specs.Keys.{is_among}
 use Rattle.row_groups.specs.Members.{Names, Numbered, name_at}
 use Rattle.tick_model.specs.Tables.{same_cells}
@@ -21,6 +22,9 @@ is_named cells names number = option_map_or (λ own. list_any (same_cells own) c
 
 abbrev pub starts_numbered : Numbered → ℕ → ℕ → Bool
 starts_numbered rows first number = option_map_or (starts rows.members first) (name_at number rows.names) false
+
+abbrev pub AreLed : Numbered → List LedGroup → Type 0
+AreLed rows = AllByRecursion (λ group. starts_numbered rows group.first group.number ≡ true)
 
 pub record AreNoted (before : List ℕ) (cells : List (List ℤ)) (names : Names) (numbers : List ℕ) : Type 0 where
   pub kept : (number : ℕ) → is_among number before ≡ true → is_among number numbers ≡ true

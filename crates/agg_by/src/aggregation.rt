@@ -16,7 +16,7 @@ ghost use Rattle.tick_model.specs.Changes.{change_of};
 ghost use Rattle.tick_table.specs.Exact.{IsExact, counted, tick_of};
 ghost use Rattle.tick_table.specs.Ticking.{no_rows};
 
-use crate::firsts::firsts_of;
+use crate::firsts::{LedGroup, find_led};
 use crate::kept::Kept;
 use crate::moving::Moving;
 use crate::notes::Notes;
@@ -41,6 +41,8 @@ pub struct Aggregation {
     key_cells: Vec<i64>,
     /// The groups that a step touches.
     touched: TouchedGroups,
+    /// Room for those of them that have rows.
+    led: Vec<LedGroup>,
     /// Room for the rows that are noted in a step.
     noted: Vec<i64>,
 }
@@ -52,6 +54,7 @@ impl Drop for Aggregation {
             kept: _,
             key_cells: _,
             touched: _,
+            led: _,
             noted: _,
         } = self;
     }
@@ -92,6 +95,7 @@ impl Aggregation {
             kept: Kept::new(alloc, by, aggs),
             key_cells: Vec::new(alloc),
             touched: TouchedGroups::new(alloc),
+            led: Vec::new(alloc),
             noted: Vec::new(alloc),
         }
     }
@@ -125,6 +129,7 @@ impl Aggregation {
             mut kept,
             mut key_cells,
             mut touched,
+            mut led,
             noted,
         } = self;
         let (change, noted) = grouped_step(
@@ -133,6 +138,7 @@ impl Aggregation {
             shown,
             &mut key_cells,
             &mut touched,
+            &mut led,
             noted,
             input,
             reads,
@@ -143,6 +149,7 @@ impl Aggregation {
                 kept,
                 key_cells,
                 touched,
+                led,
                 noted,
             },
             change,
@@ -158,6 +165,7 @@ fn grouped_step<L: Ledger>(
     shown: &RowSet,
     key_cells: &mut Vec<i64>,
     touched: &mut TouchedGroups,
+    led: &mut Vec<LedGroup>,
     noted: Vec<i64>,
     input: &TickTable,
     reads: &mut Steps<L>,
@@ -177,13 +185,14 @@ fn grouped_step<L: Ledger>(
     kept.begin(alloc)?;
     let moving = Moving::of(alloc, kept, input)?;
     let notes = noted_groups(
-        alloc, kept, input, &moving, touched, key_cells, noted, reads,
+        alloc, kept, input, &moving, touched, led, key_cells, noted, reads,
     )?;
     kept.bring_on(input, &moving, touched, key_cells, reads)?;
-    let firsts = firsts_of(alloc, &kept.rows, touched.numbers())?;
+    let firsts = find_led(alloc, &kept.rows, touched.numbers(), led)?;
     let rows = GroupRows {
         input,
         kept,
+        led: led.as_slice(),
         notes: &notes,
     };
     let change = group_change(alloc, &rows, firsts, shown, reads)?;
@@ -197,6 +206,7 @@ fn noted_groups<L: Ledger>(
     input: &TickTable,
     moving: &Moving,
     touched: &mut TouchedGroups,
+    led: &mut Vec<LedGroup>,
     key_cells: &mut Vec<i64>,
     noted: Vec<i64>,
     reads: &mut Steps<L>,
@@ -215,8 +225,8 @@ fn noted_groups<L: Ledger>(
     ensures reads { reads.new ≤ reads.old + (input.now.new.width + length kept.now.aggs) * counted input.now.update }
 {
     touched.note_before(kept, input, moving, key_cells, reads)?;
-    let before = firsts_of(alloc, &kept.rows, touched.numbers())?;
-    Notes::take(kept, input, before, noted, reads)
+    let before = find_led(alloc, &kept.rows, touched.numbers(), led)?;
+    Notes::take(kept, input, before, led.as_slice(), noted, reads)
 }
 
 /// The change of the rows of the groups, where `firsts` has the keys of the first rows of the touched groups now, and `shown`
@@ -228,14 +238,14 @@ fn group_change<L: Ledger>(
     shown: &RowSet,
     reads: &mut Steps<L>,
 ) -> Result<Change, AllocError>
-    requires ready { AreReady rows.now.input.now rows.now.kept.now rows.now.notes.now }
+    requires ready { AreReady rows.now.input.now rows.now.kept.now rows.now.led.now rows.now.notes.now }
     requires few { length rows.now.kept.now.by + length rows.now.kept.now.aggs ≤ 32 }
     requires firsts { firsts ≡ touched_firsts rows.now.kept.now.by rows.now.input.now rows.now.input.now.new.rows }
     requires shown { shown.now ≡ first_keys rows.now.kept.now.by rows.now.input.now.old.rows }
     ensures change { IfOk result (λ change. change ≡ change_of (grouped rows.now.kept.now.by rows.now.kept.now.aggs (tick_of rows.now.input.now))) }
     ensures reads { reads.new ≤ reads.old + 2 * length rows.now.kept.now.aggs * length firsts }
 {
-    let staying = staying_firsts(alloc, rows.kept, rows.input, rows.notes, &firsts)?;
+    let staying = staying_firsts(alloc, rows.kept, rows.input, rows.notes, &firsts, rows.led)?;
     let (compared_before, compared_now) = staying.into_keys();
     let removed = rows.notes.keys.minus(&compared_before)?;
     let added = firsts.minus(&compared_now)?;

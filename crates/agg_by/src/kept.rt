@@ -12,9 +12,10 @@ ghost use Rattle.tick_model.specs.declared.table.PlainRow.{PlainRow};
 ghost use Rattle.tick_table.specs.Exact.{IsExact, counted};
 ghost use Rattle.agg_by.specs.Answers.{IsWithin};
 ghost use Rattle.tick_table.specs.Versions.{table_in};
-ghost use Rattle.agg_by.specs.Steps.{changing, changing_before, coming, first_keys, key_at, leaving, starts, touched_cells};
-ghost use Rattle.agg_by.specs.Touched.{AreNoted, is_named, starts_numbered};
+ghost use Rattle.agg_by.specs.Steps.{changing, changing_before, coming, first_keys, kept_cells, key_at, leaving, starts, touched_cells};
+ghost use Rattle.agg_by.specs.Touched.{AreLed, AreNoted, is_named, starts_numbered};
 
+use crate::firsts::LedGroup;
 use crate::moving::Moving;
 use crate::running::{Running, begun, put_all, put_values, take_all};
 use crate::touched::TouchedGroups;
@@ -228,12 +229,14 @@ impl Kept {
         Ok(())
     }
 
-    /// Puts the row of a group, whose first row has this key, behind other cells.
+    /// Puts the row of a group, whose first row has this key, behind other cells. It is likely to be the one at this place of `led`.
     pub(crate) fn put_group<L: Ledger>(
         &self,
         version: Version,
         input: &TickTable,
         first: u64,
+        led: &[LedGroup],
+        place: usize,
         cells: &mut Vec<i64>,
         reads: &mut Steps<L>,
     ) -> Result<(), AllocError>
@@ -241,12 +244,26 @@ impl Kept {
         requires keeps { Keeps self.now (table_in version input.now).rows }
         requires within { AllByRecursion (IsWithin (table_in version input.now).width) self.now.running.items }
         requires here { IsTrue (is_among first (first_keys self.now.by (table_in version input.now).rows)) }
+        requires led { AreLed self.now.rows led.now }
         ensures cells { OnOk result (cells.new.items ≡ cells.old.items ++ cells_at first (agg_table self.now.by self.now.aggs (table_in version input.now)).rows) }
         ensures reads { reads.new ≤ reads.old + length self.now.aggs }
     {
-        let number = self.rows.number_of(first);
+        let number = self.number_led(first, led, place);
         let group = self.rows.group_at(number).unwrap();
         cells.extend_from_slice(group.cells())?;
         put_values(&self.running, number, &group, version, input, cells, reads)
+    }
+
+    /// The number of the group whose first row has this key. No row is looked for where the group is the one at this place of `led`.
+    pub(crate) fn number_led(&self, first: u64, led: &[LedGroup], place: usize) -> usize
+        requires led { AreLed self.now.rows led.now }
+        requires there { IsSome (member_under first self.now.rows.members) }
+        requires starts { IsTrue (starts self.now.rows.members first (kept_cells self.now.rows.members first)) }
+        ensures { IsTrue (starts_numbered self.now.rows first result) }
+    {
+        match led.get(place) {
+            Some(group) if group.first == first => group.number,
+            _ => self.rows.number_of(first),
+        }
     }
 }

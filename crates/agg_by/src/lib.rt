@@ -5,7 +5,7 @@
 //! greatest or the least at hand (`values`).
 //! What a step touches are the groups of the rows that come, go or are modified (`moving`), by their key cells before and now.
 //! The groups that rows leave are found once, by their numbers. Each touched group is noted once, by its number (`touched`), which
-//! gives its first row before and now (`firsts`). Its row before is noted (`notes`) before the indexes are brought on (`kept`). A
+//! gives its first row before and now, by which its row is found (`firsts`). Its row before is noted (`notes`) before the indexes are brought on (`kept`). A
 //! group that no row touches is not looked at; only its key moves with its first row. `AggOp` keeps the keys of its rows too;
 //! `Aggregation` is it without them, for a caller that has a table of these rows.
 #![tactic(auto)]

@@ -5,6 +5,7 @@ ghost use Rattle.std.specs.List.{AllByRecursion};
 ghost use Rattle.agg_by.specs.Answers.{IsWithin};
 ghost use Rattle.agg_by.specs.Kept.{Keeps};
 ghost use Rattle.agg_by.specs.Steps.{first_keys};
+ghost use Rattle.agg_by.specs.Touched.{AreLed};
 ghost use Rattle.key_lists.specs.Keys.{is_among};
 ghost use Rattle.row_changes.specs.Parts.{cells_under};
 ghost use Rattle.tick_model.specs.Agg.{agg_table};
@@ -12,6 +13,7 @@ ghost use Rattle.tick_model.specs.declared.table.PlainTable.{PlainTable};
 ghost use Rattle.tick_model.specs.Tables.{cells_at};
 ghost use Rattle.tick_table.specs.Exact.{IsExact};
 
+use crate::firsts::LedGroup;
 use crate::kept::Kept;
 use row_set::RowSet;
 use std::alloc::AllocError;
@@ -31,11 +33,13 @@ pub(crate) struct Notes {
 impl Notes {
     ghost use Rattle.agg_by.specs.Notes.{IsNoted};
 
-    /// Notes the rows of the groups with these first rows, as they are before the step. `cells` is room for them.
+    /// Notes the rows of the groups with these first rows, as they are before the step. `led` has the groups, `cells` is room for
+    /// their rows.
     pub fn take<L: Ledger>(
         kept: &Kept,
         input: &TickTable,
         keys: RowSet,
+        led: &[LedGroup],
         mut cells: Vec<i64>,
         reads: &mut Steps<L>,
     ) -> Result<Notes, AllocError>
@@ -44,13 +48,15 @@ impl Notes {
         requires keeps { Keeps kept.now input.now.old.rows }
         requires within { AllByRecursion (IsWithin input.now.old.width) kept.now.running.items }
         requires firsts { AllByRecursion (λ key. IsTrue (is_among key (first_keys kept.now.by input.now.old.rows))) keys }
+        requires led { AreLed kept.now.rows led.now }
         ensures noted { IfOk result (λ notes. IsNoted notes (agg_table kept.now.by kept.now.aggs input.now.old)) }
         ensures keys { IfOk result (λ notes. notes.keys ≡ keys) }
         ensures reads { reads.new ≤ reads.old + length kept.now.aggs * length keys }
     {
         cells.clear();
-        put_groups(kept, input, &keys, &mut cells, reads)?;
         let width = kept.by.len() + kept.aggs.len();
+        cells.reserve(led.len().saturating_mul(width))?;
+        put_groups(kept, input, &keys, led, &mut cells, reads)?;
         Ok(Notes { keys, cells, width })
     }
 
@@ -89,6 +95,7 @@ fn put_groups<L: Ledger>(
     kept: &Kept,
     input: &TickTable,
     keys: &RowSet,
+    led: &[LedGroup],
     cells: &mut Vec<i64>,
     reads: &mut Steps<L>,
 ) -> Result<(), AllocError>
@@ -96,11 +103,14 @@ fn put_groups<L: Ledger>(
     requires keeps { Keeps kept.now input.now.old.rows }
     requires within { AllByRecursion (IsWithin input.now.old.width) kept.now.running.items }
     requires firsts { AllByRecursion (λ key. IsTrue (is_among key (first_keys kept.now.by input.now.old.rows))) keys.now }
+    requires led { AreLed kept.now.rows led.now }
     ensures cells { OnOk result (cells.new.items ≡ cells.old.items ++ cells_under (agg_table kept.now.by kept.now.aggs input.now.old) keys.now) }
     ensures reads { reads.new ≤ reads.old + length kept.now.aggs * length keys.now }
 {
+    let mut place: usize = 0;
     for first in keys {
-        kept.put_group(Version::Before, input, first, cells, reads)?;
+        kept.put_group(Version::Before, input, first, led, place, cells, reads)?;
+        place = place.wrapping_add(1);
     }
     Ok(())
 }

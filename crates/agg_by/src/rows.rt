@@ -1,5 +1,13 @@
 //! Where the rows of the groups are found, before the step and now.
 
+ghost use Rattle.std.specs.Prelude.{◌≡◌, ◌+◌, ◌≤◌, ◌++◌, IsTrue, OnOk, length};
+ghost use Rattle.agg_by.specs.Rows.{AreReady};
+ghost use Rattle.agg_by.specs.Steps.{first_keys};
+ghost use Rattle.key_lists.specs.Keys.{is_among};
+ghost use Rattle.tick_model.specs.Agg.{agg_table};
+ghost use Rattle.tick_model.specs.Tables.{cells_at};
+
+use crate::firsts::LedGroup;
 use crate::kept::Kept;
 use crate::notes::Notes;
 use row_changes::Rows;
@@ -13,20 +21,45 @@ use tick_table::{Steps, TickTable, Version};
 pub(crate) struct GroupRows<'a> {
     pub input: &'a TickTable,
     pub kept: &'a Kept,
+    /// The touched groups of now.
+    pub led: &'a [LedGroup],
     pub notes: &'a Notes,
 }
 
+impl GroupRows<'_> {
+    /// Puts the row that the group has now, whose first row has this key, behind other cells.
+    fn put_now<L: Ledger>(
+        &self,
+        first: u64,
+        cells: &mut Vec<i64>,
+        reads: &mut Steps<L>,
+    ) -> Result<(), AllocError>
+        requires ready { AreReady self.now.input.now self.now.kept.now self.now.led.now self.now.notes.now }
+        requires here { IsTrue (is_among first (first_keys self.now.kept.now.by self.now.input.now.new.rows)) }
+        ensures cells { OnOk result (cells.new.items ≡ cells.old.items ++ cells_at first (agg_table self.now.kept.now.by self.now.kept.now.aggs self.now.input.now.new).rows) }
+        ensures reads { reads.new ≤ reads.old + length self.now.kept.now.aggs }
+    {
+        let place = self.led.partition_point(|group| group.first < first);
+        self.kept.put_group(
+            Version::Now,
+            self.input,
+            first,
+            self.led,
+            place,
+            cells,
+            reads,
+        )
+    }
+}
+
 impl<L: Ledger> Rows<L> for GroupRows<'_> {
-    ghost use Rattle.std.specs.Prelude.{length};
-    ghost use Rattle.tick_model.specs.Agg.{agg_table};
-    ghost use Rattle.agg_by.specs.Rows.{AreReady};
     ghost use Rattle.tick_table.specs.Versions.{table_in};
 
     ghost table = { λ rows version. agg_table rows.kept.now.by rows.kept.now.aggs (table_in version rows.input.now) };
 
     ghost row_reads = { λ rows. length rows.kept.now.aggs };
 
-    ghost ready = { λ rows. AreReady rows.input.now rows.kept.now rows.notes.now };
+    ghost ready = { λ rows. AreReady rows.input.now rows.kept.now rows.led.now rows.notes.now };
 
     fn row(
         &self,
@@ -40,13 +73,10 @@ impl<L: Ledger> Rows<L> for GroupRows<'_> {
                 Some(row) => cells.extend_from_slice(row),
                 None => {
                     let now = self.input.update().shifted().landing(key);
-                    self.kept
-                        .put_group(Version::Now, self.input, now, cells, reads)
+                    self.put_now(now, cells, reads)
                 }
             },
-            Version::Now => self
-                .kept
-                .put_group(Version::Now, self.input, key, cells, reads),
+            Version::Now => self.put_now(key, cells, reads),
         }
     }
 }

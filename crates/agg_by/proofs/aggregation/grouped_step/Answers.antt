@@ -3,7 +3,7 @@ use Rattle.std.specs.List.{AllByRecursion, list_any}
 use Rattle.row_groups.specs.Members.{groups_of}
 use Rattle.tick_model.{specs.Agg.agg_table, specs.Changes.change_of, specs.declared.plan.Agg.Agg}
 use Rattle.tick_table.specs.Exact.{tick_of}
-use Rattle.agg_by.{specs.Aggregator.{IsColumn, grouped}, specs.Notes.IsNoted, specs.Steps.{starts, touched_cells, touched_firsts}, specs.Touched.starts_numbered, proofs.Whole.{begun_keeps, brought_reads, changed_reads, found_firsts, within_all}}
+use Rattle.agg_by.{specs.Aggregator.{IsColumn, grouped}, specs.Notes.IsNoted, specs.Steps.{starts, touched_cells, touched_firsts}, specs.Touched.{AreLed, starts_numbered}, proofs.Whole.{begun_keeps, brought_reads, changed_reads, found_firsts, within_all}}
 use Rattle.agg_by.proofs.aggregation.grouped_step.Goals as goal
 
 pub of-requires-clause-rows : goal.of-requires-clause-rows
@@ -43,6 +43,7 @@ group_change-requires-clause-ready g c =
       exact = c.requires.exact;
       keeps = c.in_ok-bring_on.ensures.keeps;
       within = within_all t.new.width c.args.kept.now.aggs kept.running.items (c.in_ok-bring_on.ensures.keeps.running.0 ∙ brought.aggs ∙ c.in_ok-begin.ensures.made.aggs) c.requires.columns;
+      led = subst (AreLed kept.rows) (sym c.as_slice.ensures.value) c.in_ok-firsts.ensures.led;
       noted = subst (λ (by : List ℕ). IsNoted notes (agg_table by kept.aggs t.old)) (sym brought.by) (subst (λ (aggs : List Agg). IsNoted notes (agg_table c.begin.new.self.by aggs t.old)) (sym brought.aggs) c.in_ok-notes.ensures.noted);
       keys = c.in_ok-notes.ensures.keys ∙ ap (λ (by : List ℕ). touched_firsts by t t.old.rows) (sym brought.by);
     }

@@ -2,7 +2,7 @@ use Rattle.std.proofs.Common.{◌≡◌, ap, sym, ◌∙◌, subst, true, arith,
 use Rattle.std.{specs.List.{AllByRecursion, list_any}, proofs.lemmas.Result.IfOk-weaker}
 use Rattle.key_lists.specs.Keys.{is_among}
 use Rattle.row_groups.specs.Members.{groups_of}
-use Rattle.agg_by.{specs.declared.notes.Notes.Notes, specs.Steps.{first_keys, touched_firsts}, specs.Touched.starts_numbered, proofs.Whole.{came_few, firsts_few, found_firsts, noted_reads, touched_there}}
+use Rattle.agg_by.{specs.declared.notes.Notes.Notes, specs.Steps.{first_keys, touched_firsts}, specs.Touched.{AreLed, starts_numbered}, proofs.Whole.{came_few, firsts_few, found_firsts, noted_reads, touched_there}}
 use Rattle.tick_table.specs.Exact.{counted}
 use Rattle.agg_by.proofs.aggregation.noted_groups.Goals as goal
 
@@ -20,6 +20,9 @@ take-requires-clause-firsts g c =
     let are : c.in_ok-before.before ≡ touched_firsts by t t.old.rows =
     found_firsts by t t.old c.requires.exact.tick.old_table (groups_of rows) c.in_ok-before.before c.requires.keeps.rows c.in_ok-before.ensures.rising (λ first. c.in_ok-before.ensures.firsts first ∙ ap (list_any (starts_numbered rows first)) c.numbers.ensures ∙ c.in_ok-note_before.ensures.firsts first) in
     subst (AllByRecursion (λ key. is_among key (first_keys by t.old.rows) ≡ true)) (sym are) (touched_there by t t.old.rows)
+
+pub take-requires-clause-led : goal.take-requires-clause-led
+take-requires-clause-led g c = subst (AreLed c.args.kept.now.rows) (sym c.as_slice.ensures.value) c.in_ok-before.ensures.led
 
 pub returns-clause-touched : goal.returns-clause-touched
 returns-clause-touched g c = IfOk-weaker c.take.result _ _ (λ (notes : Notes) keys. c.in_ok-note_before.ensures.named) c.take.ensures.keys

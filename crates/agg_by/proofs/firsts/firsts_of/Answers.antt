@@ -1,20 +1,31 @@
-use Rattle.row_groups.specs.Members.{groups_of, name_at}
-use Rattle.std.proofs.Common.{◌≡◌, sym, ap, ◌∙◌, ℕ, List, take, arith}
-use Rattle.std.{specs.List.list_any, proofs.lemmas.List.take_all, proofs.lemmas.Result.IfOk-weaker}
+use Rattle.std.proofs.Common.{◌≡◌, ap, sym, ◌∙◌, subst, Bool, true, false, ◌||◌, ◌==◌, ℕ, ◌+◌, ◌<◌, List, length, get_or, take, refl}
+use Rattle.std.{specs.List.list_any, proofs.lemmas.List.Folds.list_any_more}
 use Rattle.key_lists.specs.Keys.{IsRising, is_among}
-use Rattle.row_set.specs.Sets.{IsKeySet}
-use Rattle.agg_by.{specs.Touched.starts_numbered, proofs.FirstKeys.some_small}
+use Rattle.row_set.{specs.Ranges.keys_from, specs.Sets.united, proofs.United.{among-with_key, one_key, united_rises}}
+use Rattle.agg_by.specs.declared.firsts.LedGroup.{LedGroup}
 use Rattle.agg_by.proofs.firsts.firsts_of.Goals as goal
 
-pub put_first-requires : goal.put_first-requires
-put_first-requires c = some_small (groups_of c.args.rows.now) (name_at _ c.args.rows.now.names) c.in-Some.group c.group_at.ensures.members (sym c.group_at.ensures.group ∙ c.in-Some.is)
+abbrev blank : LedGroup
+blank = record { first = 0; number = 0 }
 
-pub returns-clause-rising : goal.returns-clause-rising
-returns-clause-rising c = IfOk-weaker c.from_keys.result IsKeySet IsRising (λ set is. is.rising) c.from_keys.ensures.set
+last_first : (a b : Bool) → (a || b) ≡ (b || a)
+last_first true true = refl
+last_first true false = refl
+last_first false true = refl
+last_first false false = refl
 
-pub returns-clause-firsts : goal.returns-clause-firsts
-returns-clause-firsts c =
-    let numbers = c.args.numbers.now in
-    let all : take c.loop-number.number-index numbers ≡ numbers = take_all c.loop-number.number-index numbers (omega (arith, c.loop-number-test.false)) in
-    IfOk-weaker c.from_keys.result (λ (set : List ℕ). (first : ℕ) → is_among first set ≡ is_among first c.loop-number.firsts.items) (λ (set : List ℕ). (first : ℕ) → is_among first set ≡ list_any (starts_numbered c.args.rows.now first) numbers)
-    (λ set is first. is first ∙ c.loop-number.invariant.firsts first ∙ ap (list_any (starts_numbered c.args.rows.now first)) all) c.from_keys.ensures.keys
+among_more : (first : ℕ) (set : List ℕ) (led : List LedGroup) (i : ℕ) → i < length led → is_among first set ≡ list_any (λ (group : LedGroup). group.first == first) (take i led)
+    → is_among first (united (keys_from (get_or led i blank).first (get_or led i blank).first) set) ≡ list_any (λ (group : LedGroup). group.first == first) (take (i + 1) led)
+among_more first set led i within so_far =
+    let key = (get_or led i blank).first in
+    ap (λ (keys : List ℕ). is_among first (united keys set)) (one_key key) ∙ among-with_key first key set ∙ last_first (key == first) (is_among first set)
+    ∙ ap (λ b. b || (key == first)) so_far ∙ sym (list_any_more (λ (group : LedGroup). group.first == first) led i blank within)
+
+pub loop-group-preserved : goal.loop-group-preserved
+loop-group-preserved c =
+    let led = c.args.led.now in
+    let i = c.loop-group.group-index in
+    let key = (get_or led i blank).first in record {
+      firsts = λ first. ap (is_among first) c.in_ok-insert_range.ensures.ok ∙ among_more first c.loop-group.firsts led i c.loop-group-test.true (c.loop-group.invariant.firsts first);
+      rising = subst IsRising (sym c.in_ok-insert_range.ensures.ok) (united_rises (keys_from key key) c.loop-group.firsts c.loop-group.invariant.rising);
+    }

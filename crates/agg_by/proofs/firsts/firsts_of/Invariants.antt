@@ -1,11 +1,11 @@
-use Rattle.std.proofs.Common.{◌≡◌, ℕ, ◌^◌, ◌<◌, take}
-use Rattle.std.specs.List.{AllByRecursion, list_any}
-use Rattle.key_lists.specs.Keys.{is_among}
-use Rattle.agg_by.specs.Touched.{starts_numbered}
+use Rattle.std.proofs.Common.{◌≡◌, ℕ, ◌==◌, take}
+use Rattle.std.specs.List.{list_any}
+use Rattle.key_lists.specs.Keys.{IsRising, is_among}
+use Rattle.agg_by.specs.declared.firsts.LedGroup.{LedGroup}
 use Rattle.agg_by.proofs.firsts.firsts_of.Given as goal
 
-abbrev pub invariant-loop-number : goal.invariant-loop-number
-invariant-loop-number l = record {
-  firsts : (first : ℕ) → is_among first l.firsts.items ≡ list_any (starts_numbered l.rows first) (take l.number-index l.numbers);
-  small : AllByRecursion (λ key. key < 2 ^ 62) l.firsts.items;
+abbrev pub invariant-loop-group : goal.invariant-loop-group
+invariant-loop-group l = record {
+  firsts : (first : ℕ) → is_among first l.firsts ≡ list_any (λ (group : LedGroup). group.first == first) (take l.group-index l.led);
+  rising : IsRising l.firsts;
 }

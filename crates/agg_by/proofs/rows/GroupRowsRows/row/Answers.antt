@@ -42,8 +42,8 @@ landing-now-requires-clause-inside g c =
     let absent : is_among key (touched_firsts by t t.old.rows) ≡ false = ap (is_among key) (sym ready.keys) ∙ none_chosen (is_among key rows.notes.now.keys) (cells_at key (agg_table by aggs t.old).rows) told in
     ap (λ (shifts : List ShiftRange). is_past (2 ^ 62) (moved shifts key)) (c.shifted.ensures ∙ ap (λ (update : Update). update.shifted) c.update.ensures) ∙ lands by t ready.exact key (still_there by aggs t ready.exact key own absent)
 
-pub put_group-requires-clause-here : goal.put_group-requires-clause-here
-put_group-requires-clause-here g c =
+pub put_now-requires-clause-here : goal.put_now-requires-clause-here
+put_now-requires-clause-here g c =
     let rows = c.args.self.now in
     let t = rows.input.now in
     let by = rows.kept.now.by in
@@ -68,13 +68,13 @@ returns-in-None-clause-cells g c =
     let told = rw c.in-None.is at (c.row.ensures (agg_table by aggs t.old) ready.noted) in
     let absent : is_among key (touched_firsts by t t.old.rows) ≡ false = ap (is_among key) (sym ready.keys) ∙ none_chosen (is_among key rows.notes.now.keys) (cells_at key (agg_table by aggs t.old).rows) told in
     let place : c.landing-now.result ≡ as_key (moved t.update.shifted key) = c.landing-now.ensures.place ∙ ap (λ (shifts : List ShiftRange). as_key (moved shifts key)) (c.shifted.ensures ∙ ap (λ (update : Update). update.shifted) c.update.ensures) in
-    rw c.in-Before.is (on_ok_weaker c.put_group.result
-    (λ made. made ∙ ap (λ (row : List ℤ). c.args.cells.now.items ++ row) (ap (λ (k : ℕ). cells_at k (agg_table by aggs t.new).rows) place ∙ same_row by aggs t ready.exact key own absent)) c.put_group.ensures.cells)
+    rw c.in-Before.is (on_ok_weaker c.put_now.result
+    (λ made. made ∙ ap (λ (row : List ℤ). c.args.cells.now.items ++ row) (ap (λ (k : ℕ). cells_at k (agg_table by aggs t.new).rows) place ∙ same_row by aggs t ready.exact key own absent)) c.put_now.ensures.cells)
 
-pub put_group-requires-in-Now-clause-here : goal.put_group-requires-in-Now-clause-here
-put_group-requires-in-Now-clause-here g c =
+pub put_now-requires-in-Now-clause-here : goal.put_now-requires-in-Now-clause-here
+put_now-requires-in-Now-clause-here g c =
     let rows = c.args.self.now in
     subst (λ ks. is_among c.args.key ks ≡ true) (keys-agg rows.kept.now.by rows.kept.now.aggs rows.input.now.new) (rw c.in-Now.is at c.requires.here)
 
 pub returns-in-Now-clause-cells : goal.returns-in-Now-clause-cells
-returns-in-Now-clause-cells g c = rw c.in-Now.is c.put_group-in-Now.ensures.cells
+returns-in-Now-clause-cells g c = rw c.in-Now.is c.put_now-in-Now.ensures.cells
