@@ -41,7 +41,7 @@ compared_at table update old new now rising r there others = record {
     news = sym (as_filter now (new_keys (pairs table update)) r rising there) ∙ filter-map (λ key. is_among key now) (λ (pair : KeyPair). pair.new) (pairs table update)
 
 -- a pair whose new key is not that of a chosen one is not chosen
-not_chosen : (p : KeyPair → Bool) (pairs : List KeyPair) → AllByRecursion (λ pair. is_among pair.new (new_keys (filter p pairs)) ≡ false → p pair ≡ false) pairs
+pub not_chosen : (p : KeyPair → Bool) (pairs : List KeyPair) → AllByRecursion (λ pair. is_among pair.new (new_keys (filter p pairs)) ≡ false → p pair ≡ false) pairs
 not_chosen p [] = tt
 not_chosen p (pair ∷ pairs) = (
   here,

@@ -20,13 +20,37 @@ use tick_table::{Steps, Version};
 
 /// The rows that a change tells.
 #[derive(Drop)]
-pub(crate) struct Told {
+pub struct Told {
     /// The cells of the added rows and then of the modified ones, one row after the other.
-    pub(crate) cells: Vec<i64>,
+    pub cells: Vec<i64>,
     /// The keys of the modified rows.
-    pub(crate) modified: RowSet,
+    pub modified: RowSet,
     /// The columns in which one of them differs.
-    pub(crate) columns: ColumnSet,
+    pub columns: ColumnSet,
+}
+
+impl Told {
+    /// Tells a modified row, whose key is above those that are told, by its cells before the step and now.
+    pub fn put(
+        &mut self,
+        key: u64,
+        before: &[i64],
+        now: &[i64],
+        width: u32,
+    ) -> Result<(), AllocError>
+        requires few { width ≤ 32 }
+        requires small { key < 2 ^ 62 }
+        requires above { AllByRecursion (λ other. other < key) self.old.modified }
+        requires rising { IsRising self.old.columns }
+        ensures modified { OnOk result (self.new.modified ≡ self.old.modified ++ key ∷ []) }
+        ensures columns { OnOk result ((column : ℕ) → is_among column self.new.columns ≡ (is_among column self.old.columns || (nat_lt column width && not (int_eq (cell_of before.now column) (cell_of now.now column))))) }
+        ensures rising { OnOk result (IsRising self.new.columns) }
+        ensures cells { OnOk result (self.new.cells.items ≡ self.old.cells.items ++ now.now) }
+    {
+        self.cells.extend_from_slice(now)?;
+        self.columns = with_differing(self.columns.copy(), before, now, width);
+        self.modified.insert_range(key, key)
+    }
 }
 
 /// Compares the rows that stay, place by place. Those that differ are told behind the cells.

@@ -9,7 +9,7 @@ use Rattle.tick_model.{specs.declared.plan.Expr.Expr, specs.declared.plan.Op.The
 use Rattle.tick_laws.{proofs.ResultTables.result_table, proofs.ToldRows.told_there}
 use Rattle.row_set.{specs.Sets.with_key, proofs.Held.range_rises, proofs.United.among-with_key}
 use Rattle.row_changes.{specs.Mapped.IsMapped, specs.Parts.{AreCompared, Parts, cells_under, tick_along}, proofs.Comparing.{cells_more, column_next, same_column}, proofs.Differing.{AreThose, column_more, column_passed}, proofs.MadeChange.change_is, proofs.MappedParts.mapped_parts, proofs.MadeRows.{cells-made, keys-made, made_compared}}
-use Rattle.shown_rows.proofs.Restricted.{is_modified, kept, modified_by, modified_new, modified_old, modified_pairs}
+use Rattle.shown_rows.proofs.Restricted.{any_same, is_modified, kept, modified_by, modified_new, modified_old, modified_pairs}
 use Rattle.tick_table.{specs.Exact.{IsExact, tick_of}, specs.Ticking.Ticking, proofs.WholeRows.row_whole}
 use Rattle.row_ops.specs.Viewer.{with_values}
 
@@ -77,9 +77,6 @@ column_known columns set differ place h own =
           | inl here ↦ or_left (place == c) (is_among c set) (eq-eqb place c here) ∙ sym (ap (λ c. is_among c set) (sym here) ∙ own)
           | inr apart ↦ ap (λ b. b || is_among c set) (ne_eqb place c apart)
         ]
-
-any_same : {X : Type 0} (p q : X → Bool) (xs : List X) → AllByRecursion (λ x. p x ≡ q x) xs → list_any p xs ≡ list_any q xs
-any_same p q xs h = sym (any-map (λ b. b) p xs) ∙ ap (list_any (λ b. b)) (map_same p q xs h) ∙ any-map (λ b. b) q xs
 
 module _ (exprs : List Expr) (t : Ticking) where
   abbrev old : PlainTable

@@ -1,4 +1,5 @@
 pub mod Named
 pub mod Parts
 pub mod Restricted
+pub mod Telling
 pub mod Walks

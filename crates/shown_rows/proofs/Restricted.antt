@@ -1,14 +1,18 @@
 -- The tick from some rows of an exact input before to some of them now, and its parts.
-use Rattle.std.proofs.Common.{◌≡◌, refl, ap, ap₂, sym, ◌∙◌, subst, Bool, true, false, not, ◌&&◌, ℕ, ◌+◌, ◌*◌, ◌≤◌, ◌^◌, arith, List, map, filter, length, None}
-use Rattle.std.{specs.List.AllByRecursion, proofs.Math.Nat.mul-le-mul_left, proofs.lemmas.Bool.and_parts, proofs.lemmas.List.length-map}
-use Rattle.key_lists.{specs.Keys.{is_among, IsRising, without}, proofs.Among.{among-filter, each_among}, proofs.Every.{every, every_weaker, every_both, every-map, every_unmapped, every-filter, filter_passes, filter_same, filter_swap, filter-map, map_map, map_own}}
+use Rattle.std.proofs.Common.{◌≡◌, refl, ap, ap₂, sym, ◌∙◌, subst, Bool, true, false, not, ◌&&◌, ℕ, ◌^◌, List, ◌++◌, map, filter, length, None, ℤ}
+use Rattle.std.{specs.List.{AllByRecursion, list_any}, specs.Ordering.int_eq, specs.Prelude.nat_lt, proofs.lemmas.Bool.and_parts, proofs.lemmas.List.length-map}
+use Rattle.key_lists.{specs.Keys.{is_among, IsRising, without}, proofs.Among.{among-filter, each_among}, proofs.Every.{and_swap, any-map, every, every_weaker, every_both, every-map, every_unmapped, every-filter, filter_in, filter_passes, filter_same, filter_swap, filter-map, map_map, map_own, map_same}}
 use Rattle.shift_data.specs.Moves.{IsLawful, canonical, pair_by, pairs_of}
 use Rattle.table_update.{proofs.LawfulParts.lawful_some, specs.Kept.old_modified}
-use Rattle.tick_model.{specs.declared.table.PlainTable.PlainTable, specs.declared.update.KeyPair.KeyPair, specs.Rules.update_fault, specs.Shifts.shifted, specs.Tables.{keys, same_cells}, specs.Updates.{IsTick, Tick, Update, between, differs, kept_pair, new_keys, old_keys, pairs}}
-use Rattle.tick_laws.{specs.Checked.keys_after, proofs.OperatorTicks.all_both_in, proofs.ResultCells.length-filter_most}
-use Rattle.row_changes.{proofs.Comparing.pairs_of-keys, specs.Parts.{AreParts, Parts}}
+use Rattle.tick_model.{specs.declared.table.PlainTable.PlainTable, specs.declared.update.KeyPair.KeyPair, specs.declared.update.ShiftRange.ShiftRange, specs.Changes.{Change, change_of}, specs.Rules.update_fault, specs.Shifts.shifted, specs.Tables.{cell, cells_at, keys, same_cells}, specs.Updates.{IsTick, Tick, Update, between, differs, differs_in, kept_pair, new_keys, old_keys, pairs}}
+use Rattle.tick_laws.{specs.Checked.keys_after, proofs.OperatorTicks.all_both_in}
+use Rattle.row_changes.{proofs.ComparedPairs.not_chosen, proofs.Comparing.pairs_of-keys, proofs.MadeChange.change_is, specs.Parts.{AreParts, AreThere, Parts, cells_under}}
 use Rattle.tick_table.{specs.Exact.{IsExact, tick_of}, specs.Ticking.Ticking, proofs.Between.{keys_after_between, shift_keeps_order, staying_are, between_lawful}}
-use Rattle.shown_rows.{specs.Shown.{IsPart, through}, proofs.Named.{filter_named, named_by}, proofs.Parts.{cells_there, is_table}}
+use Rattle.shown_rows.{specs.Shown.{IsPart, staying, stays, through}, proofs.Named.{filter_named, named_by}, proofs.Parts.{cells_there, cells_under-part, is_table}}
+
+-- tests that agree on a list
+pub any_same : {X : Type 0} (p q : X → Bool) (xs : List X) → AllByRecursion (λ x. p x ≡ q x) xs → list_any p xs ≡ list_any q xs
+any_same p q xs h = sym (any-map (λ b. b) p xs) ∙ ap (list_any (λ b. b)) (map_same p q xs h) ∙ any-map (λ b. b) q xs
 
 module _ (t : Ticking) (e : IsExact t) where
   abbrev pub kept : List KeyPair
@@ -82,65 +86,67 @@ module _ (t : Ticking) (e : IsExact t) where
         (lawful_some t.update.shifted (λ key. both (kept_pair t.update key)) (without t.update.removed (keys t.old.rows)) exact_shift)
 
     -- of the pairs that are modified, those whose row was shown and is shown still
-    abbrev pub stays : KeyPair → Bool
-    stays pair = is_among pair.old before && not (is_among pair.old (between shown_tick).removed)
-
     abbrev pub touched : List KeyPair
-    touched = filter stays (filter is_modified kept)
+    touched = staying t before (between shown_tick).removed
 
-    swapped : (a c : Bool) → (a && c) ≡ (c && a)
-    swapped true true = refl
-    swapped true false = refl
-    swapped false true = refl
-    swapped false false = refl
-
-    stays_both : AllByRecursion (λ pair. stays pair ≡ both pair) kept
+    stays_both : AllByRecursion (λ pair. stays before (between shown_tick).removed pair ≡ both pair) kept
     stays_both =
-        every_weaker (λ (pair : KeyPair). is_among pair.old (old_keys (filter both kept)) ≡ both pair) (λ pair. stays pair ≡ both pair) kept
-        (λ pair named. swapped (is_among pair.old before) (not (is_among pair.old (between shown_tick).removed))
+        every_weaker (λ (pair : KeyPair). is_among pair.old (old_keys (filter both kept)) ≡ both pair) (λ pair. stays before (between shown_tick).removed pair ≡ both pair) kept
+        (λ pair named. and_swap (is_among pair.old before) (not (is_among pair.old (between shown_tick).removed))
         ∙ sym (among-filter (λ key. not (is_among key (between shown_tick).removed)) pair.old before)
         ∙ ap (is_among pair.old) still_shown ∙ named)
         (named_by (λ (pair : KeyPair). pair.old) both kept e.tick.rising_old)
 
-    pub touched_are : touched ≡ filter is_modified shown_tick.kept
-    touched_are = filter_swap stays is_modified kept ∙ ap (filter is_modified) (filter_same stays both kept stays_both)
+    touched_are : touched ≡ filter is_modified shown_tick.kept
+    touched_are = filter_swap (stays before (between shown_tick).removed) is_modified kept ∙ ap (filter is_modified) (filter_same (stays before (between shown_tick).removed) both kept stays_both)
 
-    rising_kept : IsRising (new_keys shown_tick.kept)
-    rising_kept = shown_is_tick.rising_new
+    every_touched : (P : KeyPair → Type 0) → AllByRecursion P shown_tick.kept → AllByRecursion P touched
+    every_touched P all = subst (AllByRecursion P) (sym touched_are) (every-filter P is_modified shown_tick.kept all)
 
-    pub compared_shown : touched ≡ filter (λ pair. is_among pair.new (new_keys touched)) shown_tick.kept
+    compared_shown : touched ≡ filter (λ pair. is_among pair.new (new_keys touched)) shown_tick.kept
     compared_shown =
-        touched_are ∙ sym (filter_named (λ (pair : KeyPair). pair.new) is_modified shown_tick.kept rising_kept)
+        touched_are ∙ sym (filter_named (λ (pair : KeyPair). pair.new) is_modified shown_tick.kept shown_is_tick.rising_new)
         ∙ ap (λ pairs. filter (λ (pair : KeyPair). is_among pair.new (new_keys pairs)) shown_tick.kept) (sym touched_are)
 
     -- a row that is shown is the input's
-    same_rows : AllByRecursion (λ pair. differs shown_tick.old shown_tick.new pair ≡ differs t.old t.new pair) shown_tick.kept
+    abbrev IsSame : KeyPair → Type 0
+    IsSame pair = (cells_at pair.old shown_tick.old.rows ≡ cells_at pair.old t.old.rows) × (cells_at pair.new shown_tick.new.rows ≡ cells_at pair.new t.new.rows)
+
+    same_rows : AllByRecursion IsSame shown_tick.kept
     same_rows =
-        every_weaker (λ pair. both pair ≡ true) (λ pair. differs shown_tick.old shown_tick.new pair ≡ differs t.old t.new pair) (filter both kept)
-        (λ pair in_both. ap₂ (λ old new. not (same_cells old new)) (cells_there (choice t.old) t.old pair.old o (and_parts _ _ in_both).0) (cells_there (choice t.new) t.new pair.new n (and_parts _ _ in_both).1))
+        every_weaker (λ pair. both pair ≡ true) IsSame (filter both kept)
+        (λ pair in_both. (cells_there (choice t.old) t.old pair.old o (and_parts _ _ in_both).0, cells_there (choice t.new) t.new pair.new n (and_parts _ _ in_both).1))
         (filter_passes both kept)
 
-    pub others_shown : AllByRecursion (λ pair. is_among pair.new (new_keys touched) ≡ false → differs shown_tick.old shown_tick.new pair ≡ false) shown_tick.kept
-    others_shown =
-        every_both (λ pair. is_among pair.new (new_keys (filter is_modified shown_tick.kept)) ≡ is_modified pair) (λ pair. differs shown_tick.old shown_tick.new pair ≡ is_modified pair)
-        (λ pair. is_among pair.new (new_keys touched) ≡ false → differs shown_tick.old shown_tick.new pair ≡ false) shown_tick.kept
-        (λ pair named same absent. same ∙ sym named ∙ ap (λ pairs. is_among pair.new (new_keys pairs)) (sym touched_are) ∙ absent)
-        (named_by (λ (pair : KeyPair). pair.new) is_modified shown_tick.kept rising_kept)
-        (every_both (λ pair. differs shown_tick.old shown_tick.new pair ≡ differs t.old t.new pair) (λ pair. is_modified pair ≡ differs t.old t.new pair) (λ pair. differs shown_tick.old shown_tick.new pair ≡ is_modified pair) shown_tick.kept
-        (λ pair same by. same ∙ sym by) same_rows
+    abbrev differ : KeyPair → Bool
+    differ = differs shown_tick.old shown_tick.new
+
+    touched_differ : touched ≡ filter differ shown_tick.kept
+    touched_differ =
+        touched_are
+        ∙ filter_same is_modified differ shown_tick.kept
+        (every_both IsSame (λ pair. is_modified pair ≡ differs t.old t.new pair) (λ pair. is_modified pair ≡ differ pair) shown_tick.kept
+        (λ pair same by. by ∙ sym (ap₂ (λ old new. not (same_cells old new)) same.0 same.1)) same_rows
         (every-filter (λ pair. is_modified pair ≡ differs t.old t.new pair) both kept modified_by))
 
-    -- the keys that are read
-    pub touched_old : AllByRecursion (λ key. is_among key before ≡ true) (old_keys touched)
-    touched_old = every-map (λ key. is_among key before ≡ true) (λ (pair : KeyPair). pair.old) touched
-        (every_weaker (λ pair. stays pair ≡ true) (λ pair. is_among pair.old before ≡ true) touched (λ pair s. (and_parts _ _ s).0) (filter_passes stays (filter is_modified kept)))
+    all_differ : filter differ touched ≡ touched
+    all_differ = ap (filter differ) touched_differ ∙ filter_in differ differ shown_tick.kept (every (λ pair. differ pair ≡ false → differ pair ≡ false) shown_tick.kept (λ pair is. is)) ∙ sym touched_differ
 
-    pub touched_new : AllByRecursion (λ key. is_among key now ≡ true) (new_keys touched)
-    touched_new = subst (λ pairs. AllByRecursion (λ key. is_among key now ≡ true) (new_keys pairs)) (sym touched_are)
-        (every-map (λ key. is_among key now ≡ true) (λ (pair : KeyPair). pair.new) (filter is_modified shown_tick.kept)
-        (every-filter (λ pair. is_among pair.new now ≡ true) is_modified shown_tick.kept
-        (every_unmapped (λ key. is_among key now ≡ true) (λ (pair : KeyPair). pair.new) shown_tick.kept
-        shown_is_tick.of_new)))
+    others_shown : AllByRecursion (λ pair. is_among pair.new (new_keys touched) ≡ false → differ pair ≡ false) shown_tick.kept
+    others_shown = subst (λ pairs. AllByRecursion (λ (pair : KeyPair). is_among pair.new (new_keys pairs) ≡ false → differ pair ≡ false) shown_tick.kept) (sym touched_differ) (not_chosen differ shown_tick.kept)
+
+    columns_shown : (column : ℕ) → list_any (differs_in t.old t.new column) touched ≡ list_any (differs_in shown_tick.old shown_tick.new column) touched
+    columns_shown column =
+        any_same (differs_in t.old t.new column) (differs_in shown_tick.old shown_tick.new column) touched
+        (every_touched (λ pair. differs_in t.old t.new column pair ≡ differs_in shown_tick.old shown_tick.new column pair)
+        (every_weaker IsSame (λ pair. differs_in t.old t.new column pair ≡ differs_in shown_tick.old shown_tick.new column pair) shown_tick.kept
+        (λ pair same. sym (ap₂ (λ old new. not (int_eq (cell old column) (cell new column))) same.0 same.1)) same_rows))
+
+    -- the keys that are read
+    touched_new : AllByRecursion (λ key. is_among key now ≡ true) (new_keys touched)
+    touched_new =
+        every-map (λ key. is_among key now ≡ true) (λ (pair : KeyPair). pair.new) touched
+        (every_touched (λ pair. is_among pair.new now ≡ true) (every_unmapped (λ key. is_among key now ≡ true) (λ (pair : KeyPair). pair.new) shown_tick.kept shown_is_tick.of_new))
 
     pub added_new : AllByRecursion (λ key. is_among key now ≡ true) (between shown_tick).added
     added_new = every-filter (λ key. is_among key now ≡ true) (λ key. not (is_among key (new_keys shown_tick.kept))) (keys shown_tick.new.rows) (each_among (keys shown_tick.new.rows))
@@ -152,30 +158,35 @@ module _ (t : Ticking) (e : IsExact t) where
     pub keys_shown : keys_after before (between shown_tick) ≡ now
     keys_shown = keys_after_between shown_tick shown_is_tick
 
-    -- what is touched are the parts of the change
-    pub parts_shown : (parts : Parts) → parts.removed ≡ (between shown_tick).removed → parts.added ≡ (between shown_tick).added
-        → parts.shifted ≡ canonical t.update.shifted (without (between shown_tick).removed before) → parts.compared_before ≡ old_keys touched → parts.compared_now ≡ new_keys touched
-        → AreParts (choice t.old) (choice t.new) parts shown_tick.kept
-    parts_shown parts removed added shift old new = record {
-      tick = shown_is_tick;
-      removed = removed;
-      added = added;
-      shifted = shift ∙ shift_shown;
-      compared = record {
-        even = ap length old ∙ length-map touched (λ (pair : KeyPair). pair.old) ∙ sym (length-map touched (λ (pair : KeyPair). pair.new)) ∙ ap length (sym new);
-        compared = ap₂ pairs_of old new ∙ pairs_of-keys touched ∙ compared_shown ∙ ap (λ (ks : List ℕ). filter (λ (pair : KeyPair). is_among pair.new ks) shown_tick.kept) (sym new);
-        others = subst (λ (ks : List ℕ). AllByRecursion (λ pair. is_among pair.new ks ≡ false → differs shown_tick.old shown_tick.new pair ≡ false) shown_tick.kept) (sym new) others_shown;
-      };
-    }
-
-    pub touched_few : length (new_keys touched) ≤ length t.update.modified
-    touched_few =
-        subst (λ n. n ≤ length t.update.modified) (sym (length-map touched (λ (pair : KeyPair). pair.new)))
-        (subst (λ n. length touched ≤ n) (sym (ap length modified_new ∙ length-map (filter is_modified kept) (λ (pair : KeyPair). pair.new))) (length-filter_most stays (filter is_modified kept)))
-
-    -- where the compared rows are these, no more are read than the modified ones twice, and the others
-    pub reads_few : (width first second coming : ℕ) (compared : List ℕ) → compared ≡ new_keys touched → second ≤ first + width * (2 * length compared + coming) → second ≤ first + width * (2 * length t.update.modified + coming)
-    reads_few width first second coming compared are h = omega (arith, h, mul-le-mul_left width few)
+    -- what is told is the change
+    pub change_shown : (removed added modified columns : List ℕ) (shifts : List ShiftRange) (cells : List ℤ) → removed ≡ (between shown_tick).removed → added ≡ (between shown_tick).added
+        → shifts ≡ canonical t.update.shifted (without (between shown_tick).removed before) → modified ≡ new_keys touched → IsRising columns
+        → ((column : ℕ) → is_among column columns ≡ (nat_lt column t.new.width && list_any (differs_in t.old t.new column) touched)) → cells ≡ cells_under t.new added ++ cells_under t.new modified
+        → let made : Change = record { update = record { removed = removed; added = added; modified = modified; shifted = shifts; columns = columns }; cells = cells } in made ≡ change_of shown_tick
+    change_shown removed added modified columns shifts cells r a s m rising c told =
+        change_is (choice t.old) (choice t.new) parts shown_tick.kept are modified columns cells
+        (m ∙ ap new_keys (sym (ap (filter differ) own ∙ all_differ))) rising
+        (λ column. c column ∙ ap₂ (λ width any. nat_lt column width && any) (sym (ap (λ (table : PlainTable). table.width) n)) (columns_shown column ∙ ap (list_any (differs_in (choice t.old) (choice t.new) column)) (sym own)))
+        (told ∙ ap₂ (λ (xs ys : List ℤ). xs ++ ys) (same added (subst (AreThere (choice t.new)) (sym a) added_new)) (same modified (subst (AreThere (choice t.new)) (sym m) touched_new)))
       where
-        few : 2 * length compared + coming ≤ 2 * length t.update.modified + coming
-        few = omega (arith, ap length are, touched_few)
+        parts : Parts
+        parts = record { removed = removed; added = added; shifted = shifts; compared_before = old_keys touched; compared_now = new_keys touched }
+
+        own : pairs_of (old_keys touched) (new_keys touched) ≡ touched
+        own = pairs_of-keys touched
+
+        are : AreParts (choice t.old) (choice t.new) parts shown_tick.kept
+        are = record {
+          tick = shown_is_tick;
+          removed = r;
+          added = a;
+          shifted = s ∙ shift_shown;
+          compared = record {
+            even = length-map touched (λ (pair : KeyPair). pair.old) ∙ sym (length-map touched (λ (pair : KeyPair). pair.new));
+            compared = own ∙ compared_shown;
+            others = others_shown;
+          };
+        }
+
+        same : (ks : List ℕ) → AreThere (choice t.new) ks → cells_under t.new ks ≡ cells_under (choice t.new) ks
+        same ks there = sym (cells_under-part (choice t.new) t.new ks n there)

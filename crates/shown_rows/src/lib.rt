@@ -10,6 +10,7 @@ mod keys;
 mod pairs;
 mod rows;
 mod shown;
+mod staying;
 
 pub use keys::{keys_among, put_last, put_last_if};
 pub use pairs::{KeyPairs, Pairs};

@@ -1,10 +1,12 @@
 //! The keys of rows that stay, before a step and now.
 
-ghost use Rattle.std.specs.Prelude.{◌≡◌, ◌^◌, ◌<◌, ◌&&◌, not, [], ◌∷◌, ◌++◌, filter, if◌then◌else◌, length, IfOk};
+ghost use Rattle.std.specs.Prelude.{◌≡◌, ◌^◌, ◌<◌, [], ◌∷◌, ◌++◌, filter, if◌then◌else◌, length, IfOk};
 ghost use Rattle.std.specs.List.{AllByRecursion};
 ghost use Rattle.std.specs.Iterator.{YieldsFirst, item_count};
 ghost use Rattle.key_lists.specs.Keys.{is_among};
 ghost use Rattle.row_set.specs.Sets.{IsKeySet};
+ghost use Rattle.table_update.specs.Kept.{old_modified};
+ghost use Rattle.tick_model.specs.Tables.{keys};
 ghost use Rattle.tick_model.specs.Updates.{new_keys, old_keys, pairs as pairs_kept};
 ghost use Rattle.tick_table.specs.Exact.{IsExact};
 
@@ -85,24 +87,6 @@ impl KeyPairs {
         }
     }
 
-    /// Those whose old key is in one set and not in another.
-    pub fn within(
-        &self,
-        alloc: Global,
-        shown: &RowSet,
-        leaving: &RowSet,
-    ) -> Result<KeyPairs, AllocError>
-        ensures { IfOk result (λ pairs. pairs ≡ filter (λ pair. is_among pair.old shown.now && not (is_among pair.old leaving.now)) self.now) }
-    {
-        let mut within = KeyPairs::new(alloc);
-        for pair in self {
-            if shown.contains(pair.old) && !leaving.contains(pair.old) {
-                within = within.with_last(pair)?;
-            }
-        }
-        Ok(within)
-    }
-
     /// The old keys and the new ones.
     pub fn into_keys(self) -> (RowSet, RowSet)
         ensures old { result.0 ≡ old_keys self }
@@ -145,6 +129,22 @@ impl<'a> Model for Pairs<'a> {
     ghost view = { λ pairs. pairs_of pairs.from pairs.to };
 
     ghost invariant = { λ pairs. length pairs.from ≡ length pairs.to };
+}
+
+impl<'a> Pairs<'a> {
+    /// The pairs of the rows that an exact table modifies, where `from` has their old keys.
+    pub fn modified(input: &'a TickTable, from: &'a RowSet) -> Pairs<'a>
+        requires exact { IsExact input.now }
+        requires from { from.now ≡ old_modified (keys input.now.old.rows) input.now.update }
+        ensures pairs { result ≡ filter (λ pair. is_among pair.new input.now.update.modified) (pairs_kept input.now.old input.now.update) }
+        ensures old { IsKeySet (old_keys result) }
+        ensures new { IsKeySet (new_keys result) }
+    {
+        Pairs {
+            from: from.iter(),
+            to: input.update().modified().iter(),
+        }
+    }
 }
 
 impl<'a> Iterator for Pairs<'a> {

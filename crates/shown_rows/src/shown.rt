@@ -7,12 +7,14 @@ ghost use Rattle.tick_model.specs.Updates.{between};
 ghost use Rattle.tick_table.specs.Exact.{IsExact, tick_of};
 ghost use Rattle.shown_rows.specs.Shown.{IsPart, through};
 
-use crate::pairs::KeyPairs;
-use crate::rows::{Chooses, ChosenRows};
-use row_changes::{Touched, change_of_touched};
+use crate::rows::Chooses;
+use crate::staying::tell_staying;
+use row_changes::Rows;
 use row_set::RowSet;
 use std::alloc::{AllocError, Global};
 use std::sync::ledger::Ledger;
+use table_update::Update;
+use tick_model::items::Items;
 use tick_table::{Change, Steps, TickTable};
 
 /// The change from the rows that are chosen of the input before the step to those that are chosen now. `shown` has the keys
@@ -37,17 +39,21 @@ pub fn shown_change<L: Ledger, C: Chooses>(
     ensures change { IfOk result (λ change. change ≡ change_of (through (C.chosen choice.now) (tick_of input.now))) }
     ensures reads { reads.new ≤ reads.old + input.now.new.width * (2 * length input.now.update.modified + length coming) }
 {
-    let modified = KeyPairs::modified(input)?;
-    let pairs = modified.within(alloc, shown, &leaving)?;
-    let shifted = input.update().shifted().canonical_without(shown, &leaving)?;
-    let (compared_before, compared_now) = pairs.into_keys();
-    let touched = Touched {
-        removed: leaving,
-        added: coming,
-        shifted,
-        compared_before,
-        compared_now,
-    };
-    let rows = ChosenRows { input, choice };
-    change_of_touched(alloc, &rows, input.width(), touched, reads)
+    let update = input.update();
+    let staying = update.modified().len().min(shown.len());
+    let rows = coming.len().saturating_add(staying) as usize;
+    let mut cells = Vec::with_capacity(alloc, rows.saturating_mul(input.width() as usize))?;
+    input.all_now(&coming, &mut cells, reads)?;
+    let told = tell_staying(alloc, input, shown, &leaving, cells, reads)?;
+    let shifted = update.shifted().canonical_without(shown, &leaving)?;
+    Ok(Change {
+        update: Update {
+            removed: leaving,
+            added: coming,
+            modified: told.modified,
+            shifted,
+            columns: told.columns,
+        },
+        cells: Items::of(told.cells),
+    })
 }
