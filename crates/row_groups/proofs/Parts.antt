@@ -1,9 +1,10 @@
 -- Lists of which a first part passes a test, and such lists in chunks.
-use Rattle.std.proofs.Common.{◌≡◌, refl, ap, sym, ◌∙◌, subst, Bool, true, false, ℕ, zero, suc, ◌+◌, ◌<◌, ◌≤◌, arith, List, [], ◌∷◌, ◌++◌, length, take, drop, get_or}
+use Rattle.std.proofs.Common.{◌≡◌, refl, ap, sym, ◌∙◌, subst, Bool, true, false, ℕ, zero, suc, ◌+◌, ◌<◌, ◌≤◌, arith, List, [], ◌∷◌, ◌++◌, length, take, drop, get_or, IsSome}
 use Rattle.std.{specs.List.AllByRecursion, proofs.Math.Seq.drop-cons, proofs.lemmas.Bool.true_from_ne_false}
-use Rattle.chunk_list.{specs.declared.counts.Place.Place, specs.Chunked.{joined, list_at, position_in}, proofs.Joined.joined_around}
+use Rattle.chunk_list.{specs.declared.counts.Place.Place, specs.Chunked.{joined, list_at, position_in}, proofs.Changing.every_chunk, proofs.Joined.joined_around}
+use Rattle.row_handles.specs.Entries.{Entry, key_with}
 use Rattle.key_lists.{proofs.Every.every-append, proofs.Parts.{every_front, every_back, every_at, drop_among}}
-use Rattle.row_groups.specs.Slots.{IsParted}
+use Rattle.row_groups.{specs.declared.place.Slot.Slot, specs.Slots.{AreKnown, IsParted}}
 
 pub unlike : (b : Bool) → b ≡ true → b ≡ false → ⊥
 unlike b e f = cc
@@ -54,6 +55,11 @@ chunks_failed p ls i d lt some h e =
 pub parted_in : {X : Type 0} (p : X → Bool) (ls : List (List X)) (i : ℕ) → i < length ls → IsParted p (joined ls) → IsParted p (list_at i ls)
 parted_in p ls i lt h =
     parted_front p (list_at i ls) (joined (drop (suc i) ls)) (parted_back p (joined (take i ls)) (list_at i ls ++ joined (drop (suc i) ls)) (subst (IsParted p) (joined_around ls i lt) h))
+
+-- the rows of each chunk are known
+pub known_at : (entries : List Entry) (chunks : List (List Slot)) (i : ℕ) (rows : List Slot) → i < length chunks → AreKnown entries (joined chunks) → rows ≡ list_at i chunks → AreKnown entries rows
+known_at entries chunks i rows lt known e =
+    subst (AreKnown entries) (sym e) (every_at (AreKnown entries) chunks i [] lt (every_chunk (λ (slot : Slot). IsSome (key_with slot.handle entries)) chunks known))
 
 -- the parts of a list up to a place in its midst, and from there
 pub take_among : {X : Type 0} (xs ys zs : List X) (n m : ℕ) → length xs + m ≡ n → m ≤ length ys → take n (xs ++ (ys ++ zs)) ≡ xs ++ take m ys

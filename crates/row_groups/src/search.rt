@@ -1,5 +1,5 @@
 //! The search for a place among the rows of a group, which stand in chunks.
-ghost use Rattle.std.specs.Prelude.{◌≡◌, ◌-◌, ◌<◌, ◌≤◌, true, false, length, take, drop};
+ghost use Rattle.std.specs.Prelude.{◌≡◌, ◌+◌, ◌<◌, ◌≤◌, true, false, length, take, drop};
 ghost use Rattle.std.specs.List.{AllByRecursion};
 ghost use Rattle.chunk_list.specs.Chunked.{joined, list_at, position_in};
 ghost use Rattle.row_groups.specs.Slots.{AreKnown, is_before, IsParted};
@@ -7,27 +7,46 @@ ghost use Rattle.row_groups.specs.Slots.{AreKnown, is_before, IsParted};
 use crate::place::{Place, Slot};
 use chunk_list::{Chunks, Place as Spot};
 
-/// Among fewer rows a place is looked for from the middle on.
+/// Among fewer rows or chunks a place is looked for from the middle on.
 const FEW: usize = 16;
 
 /// So far from the likely place the second look goes.
 const NEAR: usize = 3;
 
-/// Where a row is likely to stand in a chunk whose rows have one `at`: where its key would be if keys rose evenly. For few rows and
-/// for those of several `at` nothing is said, and the number of the rows stands for it.
-fn likely_place(rows: &[Slot], place: &Place<'_>) -> usize
-    requires { AreKnown place.now.handles.now rows.now }
+/// Of a span that is not smaller the upper bits are enough to guess by, and no product with a count is too large.
+const WIDE: u64 = 1 << 40;
+
+/// By what a row stands evenly between others: where there are several `at`, by these.
+fn rank(at: i64) -> u64 {
+    at.abs_diff(i64::MIN)
+}
+
+/// Where a place is likely to be among so many rows or chunks, the first and the last of which are at hand: where it would be if
+/// rows stood evenly between the first row and the last by `at`, or by key where these have one `at`. Among few it is the middle.
+fn likely_place(lower: &[Slot], upper: &[Slot], count: usize, place: &Place<'_>) -> usize
+    requires lower { AreKnown place.now.handles.now lower.now }
+    requires upper { AreKnown place.now.handles.now upper.now }
 {
-    let (Some(first), Some(last)) = (rows.first(), rows.last()) else {
-        return rows.len();
-    };
-    if rows.len() < FEW || first.at != last.at {
-        return rows.len();
+    if count < FEW {
+        return count / 2;
     }
-    let least = place.handles.key_of(first.handle);
-    let span = place.handles.key_of(last.handle).saturating_sub(least);
-    let gap = (span / rows.len() as u64).saturating_add(1);
-    (place.key.saturating_sub(least) / gap) as usize
+    let (Some(first), Some(last)) = (lower.first(), upper.last()) else {
+        return count / 2;
+    };
+    let (least, most, own) = if first.at == last.at {
+        let least = place.handles.key_of(first.handle);
+        (least, place.handles.key_of(last.handle), place.key)
+    } else {
+        (rank(first.at), rank(last.at), rank(place.at))
+    };
+    let span = most.saturating_sub(least);
+    let part = own.saturating_sub(least).min(span);
+    let (part, span) = if span < WIDE {
+        (part, span)
+    } else {
+        (part >> 24, span >> 24)
+    };
+    (part.saturating_mul(count as u64) / span.saturating_add(1)) as usize
 }
 
 /// A place to look at between two others: the guessed one, or the middle where that is not between them.
@@ -51,8 +70,8 @@ fn rows_before(rows: &[Slot], place: &Place<'_>) -> usize
     ensures before { AllByRecursion (λ slot. is_before place.now.handles.now place.now.at place.now.key slot ≡ true) (take result rows.now) }
     ensures others { AllByRecursion (λ slot. is_before place.now.handles.now place.now.at place.now.key slot ≡ false) (drop result rows.now) }
 {
-    let mut guess = likely_place(rows, place);
-    let mut step = if guess < rows.len() { NEAR } else { rows.len() };
+    let mut guess = likely_place(rows, rows, rows.len(), place);
+    let mut step = NEAR;
     let mut low = 0;
     let mut high = rows.len();
     while low < high {
@@ -70,22 +89,29 @@ fn rows_before(rows: &[Slot], place: &Place<'_>) -> usize
     low
 }
 
-/// How many chunks begin before a place.
-fn begun_before(chunks: &Chunks<Slot>, place: &Place<'_>) -> usize
+/// The chunk in which the rows before a place end: the first, or the last that begins before the place. It is looked for as a row is.
+fn chunk_before(chunks: &Chunks<Slot>, place: &Place<'_>) -> usize
+    requires some { 0 < length chunks.now }
     requires known { AreKnown place.now.handles.now (joined chunks.now) }
     requires parted { IsParted (is_before place.now.handles.now place.now.at place.now.key) (joined chunks.now) }
-    ensures within { result ≤ length chunks.now }
-    ensures before { AllByRecursion (λ slot. is_before place.now.handles.now place.now.at place.now.key slot ≡ true) (joined (take (result - 1) chunks.now)) }
-    ensures others { AllByRecursion (λ slot. is_before place.now.handles.now place.now.at place.now.key slot ≡ false) (joined (drop result chunks.now)) }
+    ensures within { result < length chunks.now }
+    ensures before { AllByRecursion (λ slot. is_before place.now.handles.now place.now.at place.now.key slot ≡ true) (joined (take result chunks.now)) }
+    ensures others { AllByRecursion (λ slot. is_before place.now.handles.now place.now.at place.now.key slot ≡ false) (joined (drop (result + 1) chunks.now)) }
 {
     let mut low = 0;
-    let mut high = chunks.len();
+    let mut high = chunks.len() - 1;
+    let mut guess = likely_place(chunks.chunk(0), chunks.chunk(high), chunks.len(), place);
+    let mut step = NEAR;
     while low < high {
-        let middle = low + (high - low) / 2;
-        if place.is_after(chunks.chunk(middle)[0]) {
+        let middle = inside(guess, low, high);
+        let far = step;
+        step = step.saturating_mul(2);
+        if place.is_after(chunks.chunk(middle + 1)[0]) {
             low = middle + 1;
+            guess = middle.saturating_add(far);
         } else {
             high = middle;
+            guess = middle.checked_sub(far).unwrap_or(high);
         }
     }
     low
@@ -101,14 +127,13 @@ pub(crate) fn spot_before(chunks: &Chunks<Slot>, place: &Place<'_>) -> Spot
     ensures before { AllByRecursion (λ slot. is_before place.now.handles.now place.now.at place.now.key slot ≡ true) (take (position_in chunks.now result) (joined chunks.now)) }
     ensures others { AllByRecursion (λ slot. is_before place.now.handles.now place.now.at place.now.key slot ≡ false) (drop (position_in chunks.now result) (joined chunks.now)) }
 {
-    let next = begun_before(chunks, place);
-    if next == 0 {
+    if chunks.len() == 0 {
         return Spot {
             index: 0,
             offset: 0,
         };
     }
-    let index = next - 1;
+    let index = chunk_before(chunks, place);
     Spot {
         index,
         offset: rows_before(chunks.chunk(index), place),
