@@ -8,7 +8,7 @@ ghost use Rattle.tick_table.specs.Exact.{IsExact, counted, tick_of};
 
 use crate::lookup::{Outcome, lookup_step};
 use crate::pick::Pick;
-use row_groups::Groups;
+use row_groups::NumberedGroups;
 use std::alloc::{AllocError, Global};
 use std::marker::Model;
 use std::sync::ledger::Ledger;
@@ -25,9 +25,9 @@ pub struct AsOfOp {
     left_width: u32,
     right_width: u32,
     /// The rows of the left input by their key cells, in order of time.
-    left: Groups,
+    left: NumberedGroups,
     /// Those of the right input.
-    right: Groups,
+    right: NumberedGroups,
     /// Room for the key cells of a row.
     buffer: Vec<i64>,
 }
@@ -51,6 +51,7 @@ impl Model for AsOfOp {
     ghost use Rattle.std.specs.Prelude.{◌+◌, ◌≤◌, ◌<◌, length};
     ghost use Rattle.std.specs.List.{AllByRecursion};
     ghost use Rattle.lookup_join.specs.Matcher.{IsMatcher, Matcher};
+    ghost use Rattle.row_groups.specs.Members.{groups_of};
 
     ghost Value = { Matcher };
 
@@ -60,8 +61,8 @@ impl Model for AsOfOp {
       take = join.take;
       left_width = join.left_width;
       right_width = join.right_width;
-      left = join.left;
-      right = join.right;
+      left = groups_of join.left;
+      right = groups_of join.right;
     } };
 
     ghost invariant = { λ join. IsMatcher join.take join.left_width join.right_width };
@@ -88,8 +89,8 @@ impl AsOfOp {
             take,
             left_width,
             right_width,
-            left: Groups::new(alloc, width),
-            right: Groups::new(alloc, width),
+            left: NumberedGroups::new(alloc, width),
+            right: NumberedGroups::new(alloc, width),
             buffer: Vec::new(alloc),
         }
     }

@@ -7,7 +7,7 @@ ghost use Rattle.lookup_join.specs.Duplicates.{cells_under, earlier, faulty_grou
 ghost use Rattle.row_groups.specs.Members.{keys_of};
 
 use crate::notes::Notes;
-use row_groups::Groups;
+use row_groups::NumberedGroups;
 use row_set::RowSet;
 
 /// A left row with two matches or more.
@@ -22,7 +22,7 @@ pub struct Duplicate {
 }
 
 /// The first left row of a group, where the group has two right rows.
-fn duplicate_in(left: &Groups, right: &Groups, cells: &[i64]) -> Option<Duplicate>
+fn duplicate_in(left: &NumberedGroups, right: &NumberedGroups, cells: &[i64]) -> Option<Duplicate>
     ensures { result ≡ faulty_group left.now.members right.now.members cells.now }
 {
     let matches = right.group(cells);
@@ -49,7 +49,11 @@ fn earlier_of(one: Option<Duplicate>, other: Option<Duplicate>) -> Option<Duplic
 }
 
 /// The least left row with two matches in the noted groups.
-fn noted_duplicate(left: &Groups, right: &Groups, notes: &Notes) -> Option<Duplicate>
+fn noted_duplicate(
+    left: &NumberedGroups,
+    right: &NumberedGroups,
+    notes: &Notes,
+) -> Option<Duplicate>
     ensures { result ≡ least_fault left.now.members right.now.members None (map (λ note. note.cells) notes.now.notes) }
 {
     let mut least = None;
@@ -63,8 +67,8 @@ fn noted_duplicate(left: &Groups, right: &Groups, notes: &Notes) -> Option<Dupli
 /// The least left row with two matches in the noted groups and in those of these left rows. Where each right row is alone in its
 /// group, none is looked for.
 pub(crate) fn first_duplicate(
-    left: &Groups,
-    right: &Groups,
+    left: &NumberedGroups,
+    right: &NumberedGroups,
     notes: &Notes,
     came: &RowSet,
 ) -> Option<Duplicate>

@@ -14,7 +14,7 @@ use crate::duplicates::{Duplicate, first_duplicate};
 use crate::lookup::{Outcome, lookup_step};
 use crate::notes::Notes;
 use crate::pick::Pick;
-use row_groups::Groups;
+use row_groups::NumberedGroups;
 use row_set::RowSet;
 use std::alloc::{AllocError, Global};
 use std::marker::Model;
@@ -54,9 +54,9 @@ pub struct JoinOp {
     left_width: u32,
     right_width: u32,
     /// The rows of the left input by their key cells.
-    left: Groups,
+    left: NumberedGroups,
     /// Those of the right input.
-    right: Groups,
+    right: NumberedGroups,
     /// Room for the key cells of a row.
     buffer: Vec<i64>,
 }
@@ -81,6 +81,7 @@ impl Model for JoinOp {
     ghost use Rattle.std.specs.List.{AllByRecursion};
     ghost use Rattle.lookup_join.specs.Joiner.{Joiner};
     ghost use Rattle.lookup_join.specs.Matcher.{IsMatcher};
+    ghost use Rattle.row_groups.specs.Members.{groups_of};
 
     ghost Value = { Joiner };
 
@@ -90,8 +91,8 @@ impl Model for JoinOp {
       choice = join.choice;
       left_width = join.left_width;
       right_width = join.right_width;
-      left = join.left;
-      right = join.right;
+      left = groups_of join.left;
+      right = groups_of join.right;
     } };
 
     ghost invariant = { λ join. IsMatcher join.take join.left_width join.right_width };
@@ -118,8 +119,8 @@ impl JoinOp {
             choice,
             left_width,
             right_width,
-            left: Groups::new(alloc, width),
-            right: Groups::new(alloc, width),
+            left: NumberedGroups::new(alloc, width),
+            right: NumberedGroups::new(alloc, width),
             buffer: Vec::new(alloc),
         }
     }
@@ -199,8 +200,8 @@ impl JoinOp {
 /// The least left row with two matches, where there is to be one, by the groups that the step touches.
 fn fault_now(
     choice: Choice,
-    left: &Groups,
-    right: &Groups,
+    left: &NumberedGroups,
+    right: &NumberedGroups,
     notes: &Notes,
     came: &RowSet,
 ) -> Option<Duplicate>

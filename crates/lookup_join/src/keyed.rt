@@ -7,14 +7,14 @@ ghost use Rattle.key_lists.specs.Keys.{IsRising, is_among};
 ghost use Rattle.lookup_join.specs.Taken.{rekeyed_pairs};
 ghost use Rattle.lookup_join.specs.Keyed.{IsRowOf, column_of, indexed, key_cells, rekeys, same_spot, time_of};
 ghost use Rattle.row_changes.specs.Parts.{AreThere};
-ghost use Rattle.row_groups.specs.Members.{keys_of, member_of, member_under};
+ghost use Rattle.row_groups.specs.Members.{groups_of, keys_of, member_of, member_under};
 ghost use Rattle.row_set.specs.Sets.{united};
 ghost use Rattle.tick_model.specs.Tables.{keys};
 ghost use Rattle.tick_model.specs.Updates.{new_keys};
 ghost use Rattle.tick_table.specs.Exact.{IsExact};
 
 use crate::pick::Pick;
-use row_groups::Groups;
+use row_groups::NumberedGroups;
 use row_set::RowSet;
 use shown_rows::KeyPairs;
 use std::alloc::{AllocError, Global};
@@ -87,7 +87,7 @@ pub(crate) fn read_key(
 }
 
 /// Whether a row of the index has these key cells and this time.
-fn stands_at(index: &Groups, key: u64, cells: &[i64], time: i64) -> bool
+fn stands_at(index: &NumberedGroups, key: u64, cells: &[i64], time: i64) -> bool
     ensures { result ≡ option_map_or (λ member. same_spot member (member_of key cells.now time)) (member_under key index.now.members) false }
 {
     let same_cells = match index.cells_of(key) {
@@ -103,13 +103,13 @@ pub(crate) fn rekeyed<L: Ledger>(
     side: Side,
     on: &[OnPair],
     pick: Pick,
-    index: &Groups,
+    index: &NumberedGroups,
     input: &TickTable,
     pairs: &KeyPairs,
     buffer: &mut Vec<i64>,
     reads: &mut Steps<L>,
 ) -> Result<KeyPairs, AllocError>
-    requires index { index.now ≡ indexed side on.now pick input.now.old.rows }
+    requires index { groups_of index.now ≡ indexed side on.now pick input.now.old.rows }
     requires before { AllByRecursion (λ pair. IsTrue (is_among pair.old (keys input.now.old.rows))) pairs.now }
     requires now { AllByRecursion (λ pair. IsTrue (is_among pair.new (keys input.now.new.rows))) pairs.now }
     ensures pairs { IfOk result (λ changed. changed ≡ filter (rekeys side on.now pick input.now.old input.now.new) pairs.now) }
@@ -131,7 +131,7 @@ fn add_rows<L: Ledger>(
     side: Side,
     on: &[OnPair],
     pick: Pick,
-    index: &mut Groups,
+    index: &mut NumberedGroups,
     input: &TickTable,
     keys: &RowSet,
     buffer: &mut Vec<i64>,
@@ -163,16 +163,16 @@ pub(crate) fn bring_on<L: Ledger>(
     side: Side,
     on: &[OnPair],
     pick: Pick,
-    index: &mut Groups,
+    index: &mut NumberedGroups,
     input: &TickTable,
     rekeyed: KeyPairs,
     buffer: &mut Vec<i64>,
     reads: &mut Steps<L>,
 ) -> Result<RowSet, AllocError>
     requires exact { IsExact input.now }
-    requires index { index.old ≡ indexed side on.now pick input.now.old.rows }
+    requires index { groups_of index.old ≡ indexed side on.now pick input.now.old.rows }
     requires rekeyed { rekeyed ≡ rekeyed_pairs side on.now pick input.now }
-    ensures index { OnOk result (index.new ≡ indexed side on.now pick input.now.new.rows) }
+    ensures index { OnOk result (groups_of index.new ≡ indexed side on.now pick input.now.new.rows) }
     ensures came { IfOk result (λ came. came ≡ united (new_keys rekeyed) input.now.update.added) }
     ensures reads { reads.new ≤ reads.old + input.now.new.width * (length rekeyed + length input.now.update.added) }
 {

@@ -5,7 +5,7 @@ ghost use Rattle.lookup_join.specs.Latest.{AreTimed, earlier as earlier_of, matc
 ghost use Rattle.lookup_join.specs.Notes.{taken_key};
 
 use crate::pick::Pick;
-use row_groups::Groups;
+use row_groups::NumberedGroups;
 
 /// A row of a group, and its time.
 #[derive(Clone, Copy, PartialEq, Eq)]
@@ -15,7 +15,7 @@ pub(crate) struct Found {
 }
 
 /// Of the rows with these cells the one that is picked of the latest that are not later than a time.
-pub(crate) fn latest(pick: Pick, index: &Groups, cells: &[i64], at: i64) -> Option<Found>
+pub(crate) fn latest(pick: Pick, index: &NumberedGroups, cells: &[i64], at: i64) -> Option<Found>
     requires { AreTimed pick index.now.members }
     ensures { result ≡ option_map (λ member. record { key = member.key; at = member.at }) (match_of pick cells.now at index.now.members) }
 {
@@ -38,7 +38,7 @@ fn untimed(key: Option<u64>, at: i64) -> Option<Found>
 }
 
 /// Of the rows with these cells the last of the latest that are not later than a time.
-pub(crate) fn last_until(index: &Groups, cells: &[i64], at: i64) -> Option<Found>
+pub(crate) fn last_until(index: &NumberedGroups, cells: &[i64], at: i64) -> Option<Found>
     ensures { result ≡ option_map (λ member. record { key = member.key; at = member.at }) (match_of Pick.Last cells.now at index.now.members) }
 {
     let group = index.group(cells);
@@ -49,7 +49,7 @@ pub(crate) fn last_until(index: &Groups, cells: &[i64], at: i64) -> Option<Found
 }
 
 /// The key of that row.
-pub(crate) fn latest_key(pick: Pick, index: &Groups, cells: &[i64], at: i64) -> Option<u64>
+pub(crate) fn latest_key(pick: Pick, index: &NumberedGroups, cells: &[i64], at: i64) -> Option<u64>
     requires { AreTimed pick index.now.members }
     ensures { result ≡ taken_key pick index.now.members cells.now at }
 {
@@ -58,7 +58,7 @@ pub(crate) fn latest_key(pick: Pick, index: &Groups, cells: &[i64], at: i64) -> 
 }
 
 /// The first time after this one of a row with these cells.
-pub(crate) fn next_time(index: &Groups, cells: &[i64], at: i64) -> Option<i64>
+pub(crate) fn next_time(index: &NumberedGroups, cells: &[i64], at: i64) -> Option<i64>
     ensures { result ≡ next_of cells.now at index.now.members }
 {
     let group = index.group(cells);

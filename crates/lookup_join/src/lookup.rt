@@ -6,6 +6,7 @@ ghost use Rattle.key_lists.specs.Keys.{is_among};
 ghost use Rattle.lookup_join.specs.Keyed.{indexed};
 ghost use Rattle.lookup_join.specs.Matched.{matched_tick};
 ghost use Rattle.lookup_join.specs.Taken.{AreMatched, rekeyed_pairs, told_notes, turned_keys};
+ghost use Rattle.row_groups.specs.Members.{groups_of};
 ghost use Rattle.row_set.specs.Sets.{united};
 ghost use Rattle.tick_model.specs.Changes.{change_of};
 ghost use Rattle.tick_model.specs.Updates.{between, new_keys};
@@ -17,7 +18,7 @@ use crate::pick::Pick;
 use crate::rows::MatchedRows;
 use crate::turned::turned_rows;
 use row_changes::mapped;
-use row_groups::Groups;
+use row_groups::NumberedGroups;
 use row_set::RowSet;
 use shown_rows::KeyPairs;
 use std::alloc::{AllocError, Global};
@@ -41,8 +42,8 @@ pub(crate) fn lookup_step<L: Ledger>(
     on: &[OnPair],
     pick: Pick,
     take: &[u32],
-    left_rows: &mut Groups,
-    right_rows: &mut Groups,
+    left_rows: &mut NumberedGroups,
+    right_rows: &mut NumberedGroups,
     left: &TickTable,
     right: &TickTable,
     buffer: &mut Vec<i64>,
@@ -52,10 +53,10 @@ pub(crate) fn lookup_step<L: Ledger>(
     requires right_exact { IsExact right.now }
     requires few { left.now.new.width + length take.now ≤ 32 }
     requires take { AllByRecursion (λ column. column < right.now.new.width) take.now }
-    requires left_rows { left_rows.old ≡ indexed Side.Left on.now pick left.now.old.rows }
-    requires right_rows { right_rows.old ≡ indexed Side.Right on.now pick right.now.old.rows }
-    ensures left_rows { OnOk result (left_rows.new ≡ indexed Side.Left on.now pick left.now.new.rows) }
-    ensures right_rows { OnOk result (right_rows.new ≡ indexed Side.Right on.now pick right.now.new.rows) }
+    requires left_rows { groups_of left_rows.old ≡ indexed Side.Left on.now pick left.now.old.rows }
+    requires right_rows { groups_of right_rows.old ≡ indexed Side.Right on.now pick right.now.old.rows }
+    ensures left_rows { OnOk result (groups_of left_rows.new ≡ indexed Side.Left on.now pick left.now.new.rows) }
+    ensures right_rows { OnOk result (groups_of right_rows.new ≡ indexed Side.Right on.now pick right.now.new.rows) }
     ensures change { IfOk result (λ outcome. outcome.change ≡ change_of (matched_tick on.now pick take.now (tick_of left.now) (tick_of right.now))) }
     ensures notes { IfOk result (λ outcome. outcome.notes ≡ record { width = length on.now; notes = told_notes on.now pick left.now right.now }) }
     ensures came { IfOk result (λ outcome. outcome.came ≡ united (new_keys (rekeyed_pairs Side.Left on.now pick left.now)) left.now.update.added) }
@@ -87,15 +88,15 @@ fn bring_right_on<L: Ledger>(
     alloc: Global,
     on: &[OnPair],
     pick: Pick,
-    index: &mut Groups,
+    index: &mut NumberedGroups,
     left: &TickTable,
     right: &TickTable,
     buffer: &mut Vec<i64>,
     reads: &mut Steps<L>,
 ) -> Result<Notes, AllocError>
     requires exact { IsExact right.now }
-    requires index { index.old ≡ indexed Side.Right on.now pick right.now.old.rows }
-    ensures index { OnOk result (index.new ≡ indexed Side.Right on.now pick right.now.new.rows) }
+    requires index { groups_of index.old ≡ indexed Side.Right on.now pick right.now.old.rows }
+    ensures index { OnOk result (groups_of index.new ≡ indexed Side.Right on.now pick right.now.new.rows) }
     ensures notes { IfOk result (λ notes. notes ≡ record { width = length on.now; notes = told_notes on.now pick left.now right.now }) }
     ensures reads { reads.new ≤ reads.old + right.now.new.width * (3 * length right.now.update.modified + 2 * length right.now.update.added) }
 {
@@ -123,14 +124,14 @@ fn bring_left_on<L: Ledger>(
     alloc: Global,
     on: &[OnPair],
     pick: Pick,
-    index: &mut Groups,
+    index: &mut NumberedGroups,
     left: &TickTable,
     buffer: &mut Vec<i64>,
     reads: &mut Steps<L>,
 ) -> Result<RowSet, AllocError>
     requires exact { IsExact left.now }
-    requires index { index.old ≡ indexed Side.Left on.now pick left.now.old.rows }
-    ensures index { OnOk result (index.new ≡ indexed Side.Left on.now pick left.now.new.rows) }
+    requires index { groups_of index.old ≡ indexed Side.Left on.now pick left.now.old.rows }
+    ensures index { OnOk result (groups_of index.new ≡ indexed Side.Left on.now pick left.now.new.rows) }
     ensures came { IfOk result (λ came. came ≡ united (new_keys (rekeyed_pairs Side.Left on.now pick left.now)) left.now.update.added) }
     ensures reads { reads.new ≤ reads.old + left.now.new.width * (2 * length left.now.update.modified + length left.now.update.added) }
 {
@@ -154,11 +155,11 @@ fn bring_left_on<L: Ledger>(
 fn turned_set<L: Ledger>(
     alloc: Global,
     rows: &MatchedRows<'_>,
-    left_rows: &Groups,
+    left_rows: &NumberedGroups,
     reads: &mut Steps<L>,
 ) -> Result<RowSet, AllocError>
-    requires left_rows { left_rows.now ≡ indexed Side.Left rows.now.on.now rows.now.pick rows.now.left.now.new.rows }
-    requires matched { AreMatched rows.now.on.now rows.now.pick rows.now.take.now rows.now.left.now rows.now.right.now rows.now.index.now rows.now.notes.now.notes }
+    requires left_rows { groups_of left_rows.now ≡ indexed Side.Left rows.now.on.now rows.now.pick rows.now.left.now.new.rows }
+    requires matched { AreMatched rows.now.on.now rows.now.pick rows.now.take.now rows.now.left.now rows.now.right.now (groups_of rows.now.index.now) rows.now.notes.now.notes }
     requires notes { rows.now.notes.now.notes ≡ told_notes rows.now.on.now rows.now.pick rows.now.left.now rows.now.right.now }
     ensures keys { IfOk result (λ set. (key : ℕ) → is_among key rows.now.left.now.update.added ≡ false → is_among key set ≡ is_among key (turned_keys rows.now.on.now rows.now.pick rows.now.take.now rows.now.left.now rows.now.right.now)) }
     ensures reads { reads.new ≤ reads.old + 2 * length rows.now.take.now * length rows.now.notes.now.notes }
@@ -177,12 +178,12 @@ fn turned_set<L: Ledger>(
 fn matched_change<L: Ledger>(
     alloc: Global,
     rows: &MatchedRows<'_>,
-    left_rows: &Groups,
+    left_rows: &NumberedGroups,
     reads: &mut Steps<L>,
 ) -> Result<Change, AllocError>
     requires few { rows.now.left.now.new.width + length rows.now.take.now ≤ 32 }
-    requires left_rows { left_rows.now ≡ indexed Side.Left rows.now.on.now rows.now.pick rows.now.left.now.new.rows }
-    requires matched { AreMatched rows.now.on.now rows.now.pick rows.now.take.now rows.now.left.now rows.now.right.now rows.now.index.now rows.now.notes.now.notes }
+    requires left_rows { groups_of left_rows.now ≡ indexed Side.Left rows.now.on.now rows.now.pick rows.now.left.now.new.rows }
+    requires matched { AreMatched rows.now.on.now rows.now.pick rows.now.take.now rows.now.left.now rows.now.right.now (groups_of rows.now.index.now) rows.now.notes.now.notes }
     requires notes { rows.now.notes.now.notes ≡ told_notes rows.now.on.now rows.now.pick rows.now.left.now rows.now.right.now }
     ensures change { IfOk result (λ change. change ≡ change_of (matched_tick rows.now.on.now rows.now.pick rows.now.take.now (tick_of rows.now.left.now) (tick_of rows.now.right.now))) }
     ensures reads { reads.new ≤ reads.old

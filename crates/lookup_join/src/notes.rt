@@ -7,14 +7,14 @@ ghost use Rattle.lookup_join.specs.Keyed.{indexed};
 ghost use Rattle.lookup_join.specs.Latest.{AreTimed};
 ghost use Rattle.lookup_join.specs.Notes.{fresh_note, is_noted, next_after, note_of, noted_of, noting, spot_under, with_note};
 ghost use Rattle.lookup_join.specs.Taken.{modified_pairs, spot_at, told_notes};
-ghost use Rattle.row_groups.specs.Members.{member_under};
+ghost use Rattle.row_groups.specs.Members.{groups_of, member_under};
 ghost use Rattle.tick_model.specs.Tables.{keys};
 ghost use Rattle.tick_table.specs.Exact.{IsExact};
 
 use crate::keyed::{Side, read_key};
 use crate::latest::{last_until, latest_key, next_time};
 use crate::pick::Pick;
-use row_groups::Groups;
+use row_groups::NumberedGroups;
 use row_set::RowSet;
 use shown_rows::KeyPairs;
 use std::alloc::{AllocError, Global};
@@ -35,7 +35,7 @@ pub(crate) struct Noted {
 #[derive(Drop)]
 pub(crate) struct Notes {
     /// The key cells and times of the notes, each under its number.
-    numbers: Groups,
+    numbers: NumberedGroups,
     /// The old key of the right row that was taken, if there was one.
     before: Vec<Option<u64>>,
 }
@@ -56,7 +56,7 @@ impl Notes {
         ensures { result ≡ record { width = width; notes = [] } }
     {
         Notes {
-            numbers: Groups::new(alloc, width),
+            numbers: NumberedGroups::new(alloc, width),
             before: Vec::new(alloc),
         }
     }
@@ -135,7 +135,13 @@ impl Notes {
     }
 
     /// Notes a place by the right rows that there are, if it is not noted yet.
-    fn note(&mut self, pick: Pick, right: &Groups, cells: &[i64], at: i64) -> Result<(), AllocError>
+    fn note(
+        &mut self,
+        pick: Pick,
+        right: &NumberedGroups,
+        cells: &[i64],
+        at: i64,
+    ) -> Result<(), AllocError>
         requires width { length cells.now ≡ self.old.width }
         requires timed { AreTimed pick right.now.members }
         ensures { OnOk result (self.new ≡ record self.old { notes = with_note (fresh_note pick right.now.members (record { cells = cells.now; at = at })) self.old.notes }) }
@@ -147,7 +153,7 @@ impl Notes {
     }
 
     /// Notes the place at which a right row stood before the step.
-    fn note_old(&mut self, pick: Pick, right: &Groups, key: u64) -> Result<(), AllocError>
+    fn note_old(&mut self, pick: Pick, right: &NumberedGroups, key: u64) -> Result<(), AllocError>
         requires here { IsSome (member_under key right.now.members) }
         requires width { self.old.width ≡ right.now.width }
         requires timed { AreTimed pick right.now.members }
@@ -162,7 +168,7 @@ impl Notes {
 /// Notes the places that rows leave.
 fn note_removed(
     pick: Pick,
-    index: &Groups,
+    index: &NumberedGroups,
     removed: &RowSet,
     notes: &mut Notes,
 ) -> Result<(), AllocError>
@@ -181,14 +187,14 @@ fn note_removed(
 fn note_modified<L: Ledger>(
     on: &[OnPair],
     pick: Pick,
-    index: &Groups,
+    index: &NumberedGroups,
     right: &TickTable,
     modified: &KeyPairs,
     notes: &mut Notes,
     buffer: &mut Vec<i64>,
     reads: &mut Steps<L>,
 ) -> Result<(), AllocError>
-    requires index { index.now ≡ indexed Side.Right on.now pick right.now.old.rows }
+    requires index { groups_of index.now ≡ indexed Side.Right on.now pick right.now.old.rows }
     requires before { AllByRecursion (λ pair. IsTrue (is_among pair.old (keys right.now.old.rows))) modified.now }
     requires now { AllByRecursion (λ pair. IsTrue (is_among pair.new (keys right.now.new.rows))) modified.now }
     requires width { notes.old.width ≡ length on.now }
@@ -212,7 +218,7 @@ fn note_modified<L: Ledger>(
 fn note_added<L: Ledger>(
     on: &[OnPair],
     pick: Pick,
-    index: &Groups,
+    index: &NumberedGroups,
     right: &TickTable,
     notes: &mut Notes,
     buffer: &mut Vec<i64>,
@@ -239,14 +245,14 @@ pub(crate) fn touched_places<L: Ledger>(
     alloc: Global,
     on: &[OnPair],
     pick: Pick,
-    index: &Groups,
+    index: &NumberedGroups,
     left: &TickTable,
     right: &TickTable,
     modified: &KeyPairs,
     buffer: &mut Vec<i64>,
     reads: &mut Steps<L>,
 ) -> Result<Notes, AllocError>
-    requires index { index.now ≡ indexed Side.Right on.now pick right.now.old.rows }
+    requires index { groups_of index.now ≡ indexed Side.Right on.now pick right.now.old.rows }
     requires exact { IsExact right.now }
     requires modified { modified.now ≡ modified_pairs right.now }
     ensures notes { IfOk result (λ notes. notes ≡ record { width = length on.now; notes = told_notes on.now pick left.now right.now }) }

@@ -4,6 +4,7 @@ ghost use Rattle.std.specs.Prelude.{◌≡◌, ◌+◌, ◌≤◌, ◌++◌, dro
 ghost use Rattle.lookup_join.specs.Keyed.{key_cells, time_of};
 ghost use Rattle.lookup_join.specs.Latest.{AreTimed, match_of};
 ghost use Rattle.lookup_join.specs.Notes.{taken_key};
+ghost use Rattle.row_groups.specs.Members.{groups_of};
 ghost use Rattle.tick_table.specs.Versions.{table_in};
 ghost use Rattle.lookup_join.specs.Taken.{AreMatched, HasRow, match_in, match_now, speaks, taken_cells};
 
@@ -13,7 +14,7 @@ use crate::matches::Match;
 use crate::notes::Notes;
 use crate::pick::Pick;
 use row_changes::Rows;
-use row_groups::Groups;
+use row_groups::NumberedGroups;
 use row_set::RowSet;
 use std::alloc::AllocError;
 use std::sync::ledger::Ledger;
@@ -29,7 +30,7 @@ pub(crate) struct MatchedRows<'a> {
     pub pick: Pick,
     pub take: &'a [u32],
     /// The right rows of now.
-    pub index: &'a Groups,
+    pub index: &'a NumberedGroups,
     pub notes: &'a Notes,
 }
 
@@ -79,7 +80,7 @@ impl MatchedRows<'_> {
     ) -> Result<(), AllocError>
         requires start { start ≤ vec_len cells.old }
         requires some { HasRow (table_in version self.now.left.now) }
-        requires matched { AreMatched self.now.on.now self.now.pick self.now.take.now self.now.left.now self.now.right.now self.now.index.now self.now.notes.now.notes }
+        requires matched { AreMatched self.now.on.now self.now.pick self.now.take.now self.now.left.now self.now.right.now (groups_of self.now.index.now) self.now.notes.now.notes }
         ensures cells { OnOk result (cells.new.items ≡ cells.old.items
             ++ taken_cells self.now.on.now self.now.pick self.now.take.now (table_in version self.now.right.now).rows
             (key_cells Side.Left self.now.on.now (drop start cells.old.items)) (time_of Side.Left self.now.pick (drop start cells.old.items))) }
@@ -98,13 +99,14 @@ impl<L: Ledger> Rows<L> for MatchedRows<'_> {
     ghost use Rattle.std.specs.Prelude.{◌≡◌, ◌+◌, ◌≤◌, ◌++◌, length, OnOk};
     ghost use Rattle.lookup_join.specs.Matched.{matched_table};
     ghost use Rattle.lookup_join.specs.Taken.{AreMatched};
+    ghost use Rattle.row_groups.specs.Members.{groups_of};
     ghost use Rattle.tick_table.specs.Versions.{table_in};
 
     ghost table = { λ rows version. matched_table rows.on.now rows.pick rows.take.now (table_in version rows.left.now) (table_in version rows.right.now) };
 
     ghost row_reads = { λ rows. rows.left.now.new.width + length rows.take.now };
 
-    ghost ready = { λ rows. AreMatched rows.on.now rows.pick rows.take.now rows.left.now rows.right.now rows.index.now rows.notes.now.notes };
+    ghost ready = { λ rows. AreMatched rows.on.now rows.pick rows.take.now rows.left.now rows.right.now (groups_of rows.index.now) rows.notes.now.notes };
 
     fn row(
         &self,

@@ -10,7 +10,7 @@ use crate::latest::{earlier, latest_key, next_time};
 use crate::matches::Match;
 use crate::notes::Notes;
 use crate::pick::Pick;
-use row_groups::{Group, Groups};
+use row_groups::{Group, NumberedGroups};
 use std::alloc::{AllocError, Global};
 use std::sync::ledger::Ledger;
 use tick_table::{Steps, TickTable};
@@ -28,7 +28,7 @@ fn count_until(group: &Group<'_>, until: Option<i64>) -> usize
 /// Puts the keys of those rows with some key cells behind others whose times are from one moment on, until another if there is
 /// one.
 fn put_keys(
-    index: &Groups,
+    index: &NumberedGroups,
     cells: &[i64],
     from: i64,
     until: Option<i64>,
@@ -46,7 +46,7 @@ fn put_keys(
 }
 
 /// Until when a note of a place speaks for left rows.
-fn end_of(index: &Groups, notes: &Notes, cells: &[i64], at: i64) -> Option<i64>
+fn end_of(index: &NumberedGroups, notes: &Notes, cells: &[i64], at: i64) -> Option<i64>
     ensures { result ≡ end_of_note index.now.members notes.now.notes cells.now at }
 {
     earlier(next_time(index, cells, at), notes.next_time(cells, at))
@@ -57,8 +57,8 @@ pub(crate) fn turned_rows<L: Ledger>(
     alloc: Global,
     pick: Pick,
     take: &[u32],
-    left: &Groups,
-    index: &Groups,
+    left: &NumberedGroups,
+    index: &NumberedGroups,
     right: &TickTable,
     notes: &Notes,
     reads: &mut Steps<L>,

@@ -3,7 +3,6 @@
 #![tactic(auto)]
 
 mod group;
-mod groups;
 mod index;
 mod leaving;
 mod lists;
@@ -15,5 +14,4 @@ mod sequence;
 mod table;
 
 pub use group::Group;
-pub use groups::Groups;
 pub use numbered::NumberedGroups;

@@ -1,4 +1,4 @@
-//! Groups whose numbers are shown.
+//! The index itself.
 ghost use Rattle.std.specs.Prelude.{◌≡◌, ◌≢◌, ◌↔◌, ℕ, List, ℤ, ◌<◌, ◌≤◌, ◌^◌, [], None, Some, IfOk, IfSome, IsSome, IsTrue, length, option_map, true, OnOk, OnErr};
 ghost use Rattle.std.specs.List.{AllByRecursion, AllZip};
 ghost use Rattle.tick_model.specs.Rules.{shift_fault};
@@ -11,8 +11,9 @@ use shift_data::ShiftData;
 use std::alloc::{AllocError, Global};
 use std::marker::Model;
 
-/// The rows of a table by their key cells, as `Groups` has them. Each group has a number, by which something of the caller's can
-/// stand beside it in a vector. It keeps its number while it has rows; then the number is free for another group.
+/// The rows of a table by their key cells. The rows with equal cells are a group, in which they stand by rising `at` and then by
+/// rising key. What is kept of a row is not read from the table again. Each group has a number, by which something of the caller's
+/// can stand beside it in a vector. It keeps its number while it has rows; then the number is free for another group.
 pub struct NumberedGroups {
     index: Index,
 }
@@ -125,7 +126,7 @@ impl NumberedGroups {
     }
 
     /// Whether each row is known to be the only one of its group: none has come to a group that was there.
-    pub(crate) fn are_alone(&self) -> bool
+    pub fn are_alone(&self) -> bool
         ensures { result ≡ true → (cells : List ℤ) → length (group_of cells self.now.members) ≤ 1 }
     {
         !self.index.lists.crowded
@@ -163,7 +164,7 @@ impl NumberedGroups {
     }
 
     /// The `at` of the row under a key, or None where there is none.
-    pub(crate) fn at_of(&self, key: u64) -> Option<i64>
+    pub fn at_of(&self, key: u64) -> Option<i64>
         ensures at { result ≡ option_map (λ member. member.at) (member_under key self.now.members) }
         ensures members { AreGrouped (groups_of self.now) }
     {

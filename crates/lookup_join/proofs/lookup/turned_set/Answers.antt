@@ -2,7 +2,7 @@ use Rattle.std.proofs.Common.{◌≡◌, ap, ap₂, sym, ◌∙◌, subst, ◌<�
 use Rattle.std.{specs.List.AllByRecursion, proofs.lemmas.Bool.eqb-true, proofs.lemmas.List.nil_from_length}
 use Rattle.key_lists.specs.Keys.{is_among}
 use Rattle.lookup_join.{specs.declared.keyed.Side.TheVariants.Right, specs.declared.pick.Pick.Pick, specs.Notes.Note, specs.Taken.{IsFrom, step_notes, turned_keys, turned_members}, proofs.Before.notes_from, proofs.Latests.timed_index, proofs.Noting.told_all, proofs.Compared.{told_came, turned_small}}
-use Rattle.row_groups.specs.Members.{Grouped, Member}
+use Rattle.row_groups.specs.Members.{Grouped, Member, groups_of}
 use Rattle.tick_model.{specs.declared.table.PlainRow.PlainRow, specs.Tables.keys}
 use Rattle.lookup_join.proofs.lookup.turned_set.Goals as goal
 
@@ -16,7 +16,7 @@ turned_rows-requires-clause-take g c = c.requires.matched.within
 pub turned_rows-requires-clause-timed : goal.turned_rows-requires-clause-timed
 turned_rows-requires-clause-timed g c =
     let rows = c.args.rows.now in
-    timed_index Right rows.on.now rows.pick rows.right.now.new.rows rows.index.now c.requires.matched.rows
+    timed_index Right rows.on.now rows.pick rows.right.now.new.rows (groups_of rows.index.now) c.requires.matched.rows
 
 pub turned_rows-requires-clause-there : goal.turned_rows-requires-clause-there
 turned_rows-requires-clause-there g c =

@@ -1,5 +1,6 @@
 use Rattle.std.proofs.Common.{◌≡◌, ap, sym, ◌∙◌, subst, rules, w64, SFits, List, ℤ, map, drop, length}
 use Rattle.std.{specs.Prelude.OnOk, proofs.lemmas.Int.to_z-of_z, proofs.lemmas.List.take_rest}
+use Rattle.row_groups.specs.Members.{groups_of}
 use Rattle.tick_table.specs.Versions.{table_in}
 use Rattle.lookup_join.{specs.declared.keyed.Side.TheVariants.{Left, Right}, specs.declared.matches.Match.Match, specs.Keyed.time_of, specs.Taken.{IsThere, cell_of}, proofs.Latests.timed_index, proofs.Taking.{in_cells, in_there}, proofs.Reading.taken_behind}
 use Rattle.lookup_join.proofs.rows.MatchedRows.put_taken.Goals as goal
@@ -7,7 +8,7 @@ use Rattle.lookup_join.proofs.rows.MatchedRows.put_taken.Goals as goal
 pub match_in-taken-requires : goal.match_in-taken-requires
 match_in-taken-requires g c =
     let rows = c.args.self.now in
-    timed_index Right rows.on.now rows.pick rows.right.now.new.rows rows.index.now c.requires.matched.rows
+    timed_index Right rows.on.now rows.pick rows.right.now.new.rows (groups_of rows.index.now) c.requires.matched.rows
 
 pub put_cells-requires-clause-there : goal.put_cells-requires-clause-there
 put_cells-requires-clause-there g c =
