@@ -34,6 +34,7 @@ use tick_table::{Change, Steps, TickTable};
 
 /// Shows a row for each group of its input's rows with equal key cells. It stands for the rows that it saw last, whose groups
 /// it keeps, but not the keys of their first rows.
+#[derive(Drop)]
 pub struct Aggregation {
     width: u32,
     kept: Kept,
@@ -45,19 +46,6 @@ pub struct Aggregation {
     led: Vec<LedGroup>,
     /// Room for the rows that are noted in a step.
     noted: Vec<i64>,
-}
-
-impl Drop for Aggregation {
-    fn drop(self) {
-        let Self {
-            width: _,
-            kept: _,
-            key_cells: _,
-            touched: _,
-            led: _,
-            noted: _,
-        } = self;
-    }
 }
 
 impl Model for Aggregation {

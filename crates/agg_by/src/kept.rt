@@ -29,6 +29,7 @@ use tick_model::plan::Agg;
 use tick_table::{RowReader, Steps, TickTable, Version};
 
 /// The rows of an input by their key cells, and what answers each aggregate.
+#[derive(Drop)]
 pub struct Kept {
     pub(crate) by: Items<u32>,
     pub(crate) aggs: Items<Agg>,
@@ -36,17 +37,6 @@ pub struct Kept {
     pub(crate) rows: NumberedGroups,
     /// The aggregates in their order; none before the first step.
     pub(crate) running: Vec<Running>,
-}
-
-impl Drop for Kept {
-    fn drop(self) {
-        let Self {
-            by: _,
-            aggs: _,
-            rows: _,
-            running: _,
-        } = self;
-    }
 }
 
 impl Kept {

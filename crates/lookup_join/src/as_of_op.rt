@@ -18,6 +18,7 @@ use tick_table::{Change, Steps, TickTable};
 
 /// Puts cells of the latest right row that is not later behind each left row, of the right rows with its key cells. It stands
 /// for the rows of both inputs that it saw last.
+#[derive(Drop)]
 pub struct AsOfOp {
     on: Items<OnPair>,
     at: OnPair,
@@ -30,21 +31,6 @@ pub struct AsOfOp {
     right: NumberedGroups,
     /// Room for the key cells of a row.
     buffer: Vec<i64>,
-}
-
-impl Drop for AsOfOp {
-    fn drop(self) {
-        let Self {
-            on: _,
-            at: _,
-            take: _,
-            left_width: _,
-            right_width: _,
-            left: _,
-            right: _,
-            buffer: _,
-        } = self;
-    }
 }
 
 impl Model for AsOfOp {

@@ -47,6 +47,7 @@ impl From<AllocError> for JoinFault {
 }
 
 /// Puts cells of a matching right row behind each left row. It stands for the rows of both inputs that it saw last.
+#[derive(Drop)]
 pub struct JoinOp {
     on: Items<OnPair>,
     take: Items<u32>,
@@ -59,21 +60,6 @@ pub struct JoinOp {
     right: NumberedGroups,
     /// Room for the key cells of a row.
     buffer: Vec<i64>,
-}
-
-impl Drop for JoinOp {
-    fn drop(self) {
-        let Self {
-            on: _,
-            take: _,
-            choice: _,
-            left_width: _,
-            right_width: _,
-            left: _,
-            right: _,
-            buffer: _,
-        } = self;
-    }
 }
 
 impl Model for JoinOp {

@@ -21,15 +21,10 @@ use tick_model::limits::MOST_ROWS;
 use tick_table::{Change, Shared, Steps};
 
 /// Puts the rows of its inputs one after the other. It keeps nothing of the rows that it saw.
+#[derive(Drop)]
 pub struct Merge {
     count: u32,
     width: u32,
-}
-
-impl Drop for Merge {
-    fn drop(self) {
-        let Self { count: _, width: _ } = self;
-    }
 }
 
 impl Model for Merge {

@@ -27,6 +27,7 @@ use tick_model::plan::Op;
 use tick_table::{Change, Shared, Steps};
 
 /// An operator of a plan, with what it keeps of its inputs' rows. It stands for the rows that it saw last.
+#[derive(Drop)]
 pub struct Operator {
     /// What it was made of. It takes no bytes.
     op: Snapshot<Op>,
@@ -36,16 +37,6 @@ pub struct Operator {
 }
 
 // Written out, so that a crate which lets an operator go does not prove anew how each part of it is let go.
-impl Drop for Operator {
-    fn drop(self) {
-        let Self {
-            op: _,
-            running: _,
-            reads: _,
-        } = self;
-    }
-}
-
 impl Model for Operator {
     ghost use Rattle.std.specs.Coded.{codes};
     ghost use Rattle.operators.specs.Operating.{Operating, made_of};

@@ -14,6 +14,7 @@ use tick_model::plan::Op;
 use tick_table::{Change, Shared, Steps};
 
 /// An operator with what it keeps.
+#[derive(Drop)]
 pub enum Running {
     Where(RowFilter),
     View(ViewOp),
@@ -24,22 +25,6 @@ pub enum Running {
     Head(EndRows<AtFirst>),
     Tail(EndRows<AtLast>),
     AsOf(AsOfOp),
-}
-
-impl Drop for Running {
-    fn drop(self) {
-        match self {
-            Self::Where(_) => {}
-            Self::View(_) => {}
-            Self::Join(_) => {}
-            Self::Agg(_) => {}
-            Self::Merge(_) => {}
-            Self::Sort(_) => {}
-            Self::Head(_) => {}
-            Self::Tail(_) => {}
-            Self::AsOf(_) => {}
-        }
-    }
 }
 
 impl TableOperator for Running {

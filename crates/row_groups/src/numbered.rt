@@ -14,14 +14,9 @@ use std::marker::Model;
 /// The rows of a table by their key cells. The rows with equal cells are a group, in which they stand by rising `at` and then by
 /// rising key. What is kept of a row is not read from the table again. Each group has a number, by which something of the caller's
 /// can stand beside it in a vector. It keeps its number while it has rows; then the number is free for another group.
+#[derive(Drop)]
 pub struct NumberedGroups {
     index: Index,
-}
-
-impl Drop for NumberedGroups {
-    fn drop(self) {
-        let Self { index: _ } = self;
-    }
 }
 
 impl Model for NumberedGroups {

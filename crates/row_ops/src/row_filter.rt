@@ -21,15 +21,10 @@ use tick_model::plan::Pred;
 use tick_table::{Change, Steps, TickTable};
 
 /// Shows the rows of its input that pass a test. It keeps nothing of the rows that it saw.
+#[derive(Drop)]
 pub struct RowFilter {
     test: Pred,
     width: u32,
-}
-
-impl Drop for RowFilter {
-    fn drop(self) {
-        let Self { test: _, width: _ } = self;
-    }
 }
 
 impl Model for RowFilter {

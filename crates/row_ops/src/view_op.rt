@@ -29,15 +29,10 @@ use tick_model::plan::Expr;
 use tick_table::{Change, Steps, TickTable};
 
 /// Puts computed columns behind those of its input. It keeps nothing of the rows that it saw.
+#[derive(Drop)]
 pub struct ViewOp {
     exprs: Items<Expr>,
     width: u32,
-}
-
-impl Drop for ViewOp {
-    fn drop(self) {
-        let Self { exprs: _, width: _ } = self;
-    }
 }
 
 impl Model for ViewOp {

@@ -36,15 +36,10 @@ use tick_model::plan::SortBy;
 use tick_table::{Change, Steps, TickTable};
 
 /// Shows the rows of its input in order. It stands for the rows that it saw last.
+#[derive(Drop)]
 pub struct SortOp {
     order: RowOrder,
     width: u32,
-}
-
-impl Drop for SortOp {
-    fn drop(self) {
-        let Self { order: _, width: _ } = self;
-    }
 }
 
 impl Model for SortOp {

@@ -20,15 +20,10 @@ use tick_model::plan::SortBy;
 /// Entries in order by the sort columns, each ascending or descending, and then by key. A contract sees the sort columns and
 /// the chunks, lists of 1 to 512 entries that rise from the first entry of the first chunk to the last one of the last. A
 /// position is a place among all entries.
+#[derive(Drop)]
 pub struct SortOrder {
     by: Items<SortBy>,
     entries: ChunkList<Entry>,
-}
-
-impl Drop for SortOrder {
-    fn drop(self) {
-        let Self { by: _, entries: _ } = self;
-    }
 }
 
 impl Model for SortOrder {

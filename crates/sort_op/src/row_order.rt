@@ -36,23 +36,13 @@ pub(crate) struct Row {
 
 /// The rows of an input in order by the sort columns, each ascending or descending, and then by key. A position is a place in
 /// this order. In the midst of a step there are rows with a handle that are not in the order.
+#[derive(Drop)]
 pub(crate) struct RowOrder {
     pub(crate) by: Items<SortBy>,
     pub(crate) handles: Handles,
     pub(crate) cells: SortCells,
     /// The handles of the rows, in order.
     rows: ChunkList<Handle>,
-}
-
-impl Drop for RowOrder {
-    fn drop(self) {
-        let Self {
-            by: _,
-            handles: _,
-            cells: _,
-            rows: _,
-        } = self;
-    }
 }
 
 impl Model for RowOrder {

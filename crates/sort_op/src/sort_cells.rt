@@ -18,14 +18,9 @@ use tick_model::plan::SortBy;
 
 /// The cells of rows in the sort columns: a list for each column, by the handles of the rows. A cell that was never put is
 /// null. A contract sees the lists.
+#[derive(Drop)]
 pub(crate) struct SortCells {
     columns: Vec<Vec<i64>>,
-}
-
-impl Drop for SortCells {
-    fn drop(self) {
-        let Self { columns: _ } = self;
-    }
 }
 
 impl Model for SortCells {

@@ -30,14 +30,9 @@ use tick_model::sources::is_source;
 use tick_table::{Change, Steps, TickTable};
 
 /// The keys of every source, in order of the sources. A contract sees a list of lists of keys.
+#[derive(Drop)]
 pub struct SourceKeys {
     sets: Vec<RowSet>,
-}
-
-impl Drop for SourceKeys {
-    fn drop(self) {
-        let Self { sets: _ } = self;
-    }
 }
 
 impl Model for SourceKeys {

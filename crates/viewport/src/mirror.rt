@@ -52,17 +52,12 @@ impl From<UpdateFault> for MirrorFault {
 }
 
 /// A table that is made by changes alone. A contract sees it as its table.
+#[derive(Drop)]
 pub struct Mirror {
     table: TickTable,
 }
 
 // Written out, so that a crate which lets a mirror go does not prove anew how its table is let go.
-impl Drop for Mirror {
-    fn drop(self) {
-        let Self { table: _ } = self;
-    }
-}
-
 impl Model for Mirror {
     ghost use Rattle.tick_table.specs.Ticking.{Ticking};
 

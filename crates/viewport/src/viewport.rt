@@ -24,6 +24,7 @@ use tick_table::{Change, Steps, TickTable};
 
 /// A subscription to a slice of a table. It stands for the rows of the table that it saw last, and tells how the slice changed
 /// since its last message.
+#[derive(Drop)]
 pub struct Viewport {
     alloc: Global,
     slice: Slice,
@@ -36,18 +37,6 @@ pub struct Viewport {
 }
 
 // Written out, so that a crate which lets a viewport go does not prove anew how each part of it is let go.
-impl Drop for Viewport {
-    fn drop(self) {
-        let Self {
-            alloc: _,
-            slice: _,
-            seen: _,
-            last: _,
-            kept: _,
-        } = self;
-    }
-}
-
 impl Model for Viewport {
     ghost use Rattle.table_update.specs.Coalesced.{key_pairs};
     ghost use Rattle.tick_model.specs.Tables.{keys};
