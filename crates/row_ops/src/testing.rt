@@ -13,6 +13,9 @@ use std::sync::ledger::Ledger;
 use tick_model::plan::Pred;
 use tick_table::{RowReader, Steps, TickTable, Version};
 
+/// There is room for as many ranges of keys at once.
+const FEW: u64 = 64;
+
 /// Those of the keys whose rows pass now.
 pub(crate) fn passing_keys<L: Ledger>(
     alloc: Global,
@@ -26,7 +29,8 @@ pub(crate) fn passing_keys<L: Ledger>(
     ensures keys { IfOk result (λ found. found ≡ filter (λ key. truth test.now (cells_at key input.now.new.rows)) keys.now) }
     ensures reads { reads.new ≤ reads.old + input.now.new.width * length keys.now }
 {
-    let mut found = RowSet::new(alloc);
+    let room = (keys.len() / 2 + 1).min(FEW);
+    let mut found = RowSet::with_capacity(alloc, room as usize)?;
     let mut rows = RowReader::of(input, Version::Now);
     for key in keys {
         let passing = passes(test, rows.row(key, reads));

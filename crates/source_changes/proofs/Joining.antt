@@ -5,9 +5,9 @@ use Rattle.row_set.specs.Sets.{IsKeySet}
 use Rattle.table_update.specs.Coalesced.{Follow, coalesced}
 use Rattle.tick_laws.specs.Checked.{keys_after}
 use Rattle.tick_model.{specs.Rules.update_fault, specs.Updates.Update}
-use Rattle.source_changes.{specs.declared.gathering.Gathered.Gathered, specs.Stepping.update_after, specs.Waiting.{AreSets, IsGathered, MayFollow, MayWait, joined, keys_with}, proofs.Settled.{settled_applies, settled_keys, settled_plain}, proofs.Waited.{both_joined, both_waits}}
+use Rattle.source_changes.{specs.declared.gathering.PendingUpdate.PendingUpdate, specs.Stepping.update_after, specs.Waiting.{AreSets, IsGathered, MayFollow, MayWait, joined, keys_with}, proofs.Settled.{settled_applies, settled_keys, settled_plain}, proofs.Waited.{both_joined, both_waits}}
 
-abbrev pub made : List ℕ → Update → Option Update → Gathered
+abbrev pub made : List ℕ → Update → Option Update → PendingUpdate
 made keys update waiting = record { keys = keys; update = update; waiting = waiting }
 
 module _ (old : List ℕ) (old_set : IsKeySet old) (keys : List ℕ) (update : Update) where

@@ -6,7 +6,7 @@ use Rattle.row_set.specs.Sets.{IsKeySet}
 use Rattle.shift_data.specs.Moves.{IsLawful}
 use Rattle.tick_laws.{specs.Checked.keys_after, specs.Replaced.no_update}
 use Rattle.tick_model.{specs.declared.feed.Block.Block, specs.declared.table.PlainRow.PlainRow, specs.declared.table.PlainTable.PlainTable, specs.declared.update.FeedRule.TheVariants.Update as ByUpdate, specs.declared.update.FeedRule.FeedRule, specs.declared.update.UpdateFault.UpdateFault, specs.Rules.update_fault, specs.Sources.{IsBlock, block_fault, carry_on, too_many, unchanged, update_of}, specs.Tables.{IsRow, IsTable, keys}, specs.Updates.Update}
-use Rattle.source_changes.{specs.declared.gathering.Gathered.Gathered, specs.declared.taking.TakenBlocks.TakenBlocks, specs.Blocks.IsReadable, specs.Faults.{IsKeysBelow, keys_fault}, specs.Reads.{read_rows, step_reads}, specs.Stepping.{IsStepping, Stepping, stepped, ticked, told_after, update_after}, specs.Taking.{IsTaking, taking}, specs.Waiting.{AreSets, AreSetsOf, IsGathered, Waits, joined, keys_with}, proofs.Followed.unmoved, proofs.Joining.keys_joined, proofs.Reading.new_step, proofs.Standing.{after_is, first_applies, lawful_wider, stands_unchanged}, proofs.Taken.{moves, reads_on as step_reads_on, same_fault, steps_on, ticks_on, unbroken}}
+use Rattle.source_changes.{specs.declared.gathering.PendingUpdate.PendingUpdate, specs.declared.taking.TakenBlocks.TakenBlocks, specs.Blocks.IsReadable, specs.Faults.{IsKeysBelow, keys_fault}, specs.Reads.{read_rows, step_reads}, specs.Stepping.{IsStepping, Stepping, stepped, ticked, told_after, update_after}, specs.Taking.{IsTaking, taking}, specs.Waiting.{AreSets, AreSetsOf, IsGathered, Waits, joined, keys_with}, proofs.Followed.unmoved, proofs.Joining.keys_joined, proofs.Reading.new_step, proofs.Standing.{after_is, first_applies, lawful_wider, stands_unchanged}, proofs.Taken.{moves, reads_on as step_reads_on, same_fault, steps_on, ticks_on, unbroken}}
 
 pub table_set : (table : PlainTable) → IsTable table → IsKeySet (keys table.rows)
 table_set table h = record {
@@ -56,7 +56,7 @@ module _ (source : TakenBlocks) (h : IsTaking source) where
   abbrev old : List ℕ
   old = keys source.table.now.new.rows
 
-  abbrev gathered : Gathered
+  abbrev gathered : PendingUpdate
   gathered = source.gathered
 
   pub old_set : IsKeySet old

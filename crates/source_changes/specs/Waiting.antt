@@ -7,7 +7,7 @@
 --     IsGathered old gathered      what was gathered of a source that had the old keys
 use Rattle.std.specs.Prelude.{◌≡◌, ℕ, ◌^◌, ◌⊎◌, List, [], Option, None, Some}
 use Rattle.row_set.specs.Sets.{IsKeySet}
-use Rattle.source_changes.{specs.declared.gathering.Gathered.Gathered, specs.Stepping.update_after}
+use Rattle.source_changes.{specs.declared.gathering.PendingUpdate.PendingUpdate, specs.Stepping.update_after}
 use Rattle.tick_laws.specs.Checked.{keys_after}
 use Rattle.tick_model.{specs.Rules.update_fault, specs.Updates.Update}
 
@@ -41,7 +41,7 @@ abbrev pub AreSetsOf : Option Update → Type 0
 AreSetsOf None = Unit {0}
 AreSetsOf (Some update) = AreSets update
 
-pub record IsGathered (old : List ℕ) (gathered : Gathered) : Type 0 where
+pub record IsGathered (old : List ℕ) (gathered : PendingUpdate) : Type 0 where
   pub keys : gathered.keys ≡ keys_after old gathered.update
   pub plain : gathered.update.columns ≡ []
   pub applies : update_fault (2 ^ 62) old gathered.update ≡ None

@@ -27,7 +27,7 @@ const FEW: usize = 64;
 
 /// What the blocks of a step have changed of a source so far.
 #[derive(Drop)]
-pub(crate) struct Gathered {
+pub(crate) struct PendingUpdate {
     /// The keys that the update leaves.
     pub(crate) keys: RowSet,
     /// What the blocks have changed, but for the last ones where an update waits.
@@ -36,14 +36,14 @@ pub(crate) struct Gathered {
     pub(crate) waiting: Option<Update>,
 }
 
-impl Gathered {
+impl PendingUpdate {
     /// A source that no block has changed, with its keys.
-    pub(crate) fn new(alloc: Global, keys: RowSet) -> Gathered
+    pub(crate) fn new(alloc: Global, keys: RowSet) -> PendingUpdate
         ensures keys { result.keys ≡ keys }
         ensures update { result.update ≡ no_update }
         ensures waiting { result.waiting ≡ None }
     {
-        Gathered {
+        PendingUpdate {
             keys,
             update: Update::none(alloc),
             waiting: None,

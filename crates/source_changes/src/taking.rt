@@ -14,7 +14,7 @@ ghost use Rattle.tick_model.specs.Tables.{keys as table_keys};
 
 use crate::blocks::update_of;
 use crate::faults::{BatchFault, KeyFault};
-use crate::gathering::Gathered;
+use crate::gathering::PendingUpdate;
 use crate::records::record_of;
 use crate::steps::SourceStep;
 use crate::told::ToldRows;
@@ -29,7 +29,7 @@ use tick_table::{Change, Steps, TickTable};
 #[derive(Drop)]
 pub(crate) struct TakenBlocks<'t, 'b> {
     table: &'t TickTable,
-    gathered: Gathered,
+    gathered: PendingUpdate,
     told: ToldRows<'b>,
 }
 
@@ -51,7 +51,7 @@ impl<'t, 'b> TakenBlocks<'t, 'b> {
         let _rows = table.rows();
         TakenBlocks {
             table,
-            gathered: Gathered::new(alloc, keys),
+            gathered: PendingUpdate::new(alloc, keys),
             told: ToldRows::new(alloc),
         }
     }
@@ -98,7 +98,7 @@ impl<'t, 'b> TakenBlocks<'t, 'b> {
             gathered,
             told,
         } = self;
-        let Gathered {
+        let PendingUpdate {
             keys,
             update,
             waiting: _,
@@ -110,7 +110,7 @@ impl<'t, 'b> TakenBlocks<'t, 'b> {
 }
 
 /// Checks the update of the next block on the keys of now.
-fn check(gathered: &Gathered, next: &Update, block: &Block) -> Result<(), BatchFault>
+fn check(gathered: &PendingUpdate, next: &Update, block: &Block) -> Result<(), BatchFault>
     requires update { next.now ≡ update_said block.now }
     requires readable { IsReadable block.now }
     requires waits { Waits gathered.now.keys gathered.now.waiting }

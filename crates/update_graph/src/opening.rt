@@ -16,7 +16,7 @@ ghost use Rattle.update_graph.specs.Tags.{is_operator, op_at};
 
 use crate::context::StepContext;
 use crate::sweep::{Sweep, shares_for};
-use crate::work::{Ready, advance_inside};
+use crate::work::{LiveNode, advance_inside};
 use new_counts::new_count;
 use operators::Operator;
 use std::alloc::{AllocError, Global};
@@ -57,7 +57,7 @@ fn widths_of(alloc: Global, run: &Run, op: &Op) -> Result<Vec<u32>, AllocError>
 }
 
 /// The operator of a node, and its table, before step 0.
-fn fresh(alloc: Global, run: &Run, node: u32, op: &Op) -> Result<Ready, AllocError>
+fn fresh(alloc: Global, run: &Run, node: u32, op: &Op) -> Result<LiveNode, AllocError>
     requires lawful { IsLawfulRun run.now }
     requires node { node < length run.now.plan.nodes }
     requires operator { is_operator run.now node ≡ true }
@@ -68,7 +68,7 @@ fn fresh(alloc: Global, run: &Run, node: u32, op: &Op) -> Result<Ready, AllocErr
     let own = TickTable::new(alloc, width_of(run, node))?;
     let table = Arc::new(alloc, own)?;
     match Operator::new(alloc, op, &widths) {
-        Ok(operator) => Ok(Ready { operator, table }),
+        Ok(operator) => Ok(LiveNode { operator, table }),
         Err(error) => Err(error),
     }
 }

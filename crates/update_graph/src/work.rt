@@ -35,7 +35,7 @@ use tick_table::{Shared, Steps};
 
 /// A node's operator, and the table that it changes.
 #[derive(Drop)]
-pub(crate) struct Ready {
+pub(crate) struct LiveNode {
     pub(crate) operator: Operator,
     pub(crate) table: Shared,
 }
@@ -46,7 +46,7 @@ pub(crate) enum State {
     /// It is a source, whose table is kept with those of all sources, at this place.
     Source(usize),
     /// It has a table. What it keeps lies in a place of its own, which changes hands where the node is idle.
-    Defined(Box<Ready>),
+    Defined(Box<LiveNode>),
     /// It has none although its inputs have theirs.
     Failed(NodeFault),
     /// It has none since an input has none.
@@ -184,7 +184,7 @@ impl Work {
     }
 
     /// The operator and the table of a node, before a step that the run enters. Each node has its table then.
-    pub(crate) fn into_ready(self, run: &Run, step: u64, node: u32) -> Box<Ready>
+    pub(crate) fn into_ready(self, run: &Run, step: u64, node: u32) -> Box<LiveNode>
         requires work { named self ≡ tag run.now self.step node }
         requires next { self.step + 1 ≡ step }
         requires entered { IsEntered run.now step }
@@ -276,7 +276,7 @@ fn with_table(
     run: &Run,
     node: u32,
     step: u64,
-    ready: Ready,
+    ready: LiveNode,
 ) -> Result<(Work, Share), AllocError>
     requires defined { is_defined run.now step node ≡ true }
     requires ready { IsReady run.now (table_at (state_of run.now step)) (step + 1) node ready.operator ready.table }
@@ -290,7 +290,12 @@ fn with_table(
 }
 
 /// A node that has a table, with its operator where it lies.
-fn holding(run: &Run, node: u32, step: u64, ready: Box<Ready>) -> Result<(Work, Share), AllocError>
+fn holding(
+    run: &Run,
+    node: u32,
+    step: u64,
+    ready: Box<LiveNode>,
+) -> Result<(Work, Share), AllocError>
     requires defined { is_defined run.now step node ≡ true }
     requires ready { IsReady run.now (table_at (state_of run.now step)) (step + 1) node ready.value.operator ready.value.table }
     requires table { arc_value {X = Ticking} ready.value.table ≡ shown run.now step node }
@@ -307,7 +312,7 @@ fn holding(run: &Run, node: u32, step: u64, ready: Box<Ready>) -> Result<(Work, 
 
 /// What a node keeps after a step in which nothing of it changes: its operator takes a step in which it does nothing, and its
 /// table tells of no change.
-fn rest(alloc: Global, ready: Box<Ready>) -> Result<Box<Ready>, AllocError>
+fn rest(alloc: Global, ready: Box<LiveNode>) -> Result<Box<LiveNode>, AllocError>
     requires { IsExact (arc_value {X = Ticking} ready.value.table) }
     ensures operator { IfOk result (λ resting. resting.value.operator ≡ idled ready.value.operator) }
     ensures table { IfOk result (λ resting. arc_value {X = Ticking} resting.value.table ≡ ticking (unchanged (arc_value {X = Ticking} ready.value.table).new)) }
@@ -325,7 +330,7 @@ fn rest(alloc: Global, ready: Box<Ready>) -> Result<Box<Ready>, AllocError>
 pub(crate) fn stay(
     context: &StepContext<'_>,
     node: u32,
-    ready: Box<Ready>,
+    ready: Box<LiveNode>,
     inside: &Inside,
 ) -> Result<(Work, Share), AllocError>
     requires inside { inside.now.node ≡ node }
@@ -367,7 +372,7 @@ fn without_step(
 pub(crate) fn advance_inside<L: Ledger>(
     context: &StepContext<'_>,
     node: u32,
-    ready: Ready,
+    ready: LiveNode,
     shares: Shares,
     reads: &mut Steps<L>,
     inside: &Inside,
@@ -389,14 +394,14 @@ pub(crate) fn advance_inside<L: Ledger>(
     drop(shares);
     match handed {
         Some(inputs) => {
-            let Ready {
+            let LiveNode {
                 operator,
                 mut table,
             } = ready;
             match operator.step(context.alloc, table.rows(), &inputs, reads) {
                 Ok((operator, change)) => {
                     change_table(context.alloc, &mut table, change)?;
-                    let ready = Ready { operator, table };
+                    let ready = LiveNode { operator, table };
                     with_table(context.alloc, context.run, node, context.step, ready)
                 }
                 Err(fault) => without_step(context.run, node, context.step, fault),

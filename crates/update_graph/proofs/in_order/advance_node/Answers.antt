@@ -2,7 +2,7 @@ use Rattle.std.proofs.Common.{ap, sym, ◌∙◌, subst, ◌<◌, length, get_or
 use Rattle.std.{specs.List.AllByRecursion, proofs.lemmas.List.get_or_default}
 use Rattle.tick_laws.specs.Reached.{table_before}
 use Rattle.tick_model.{specs.declared.plan.Node.Node, specs.Operators.inputs_of}
-use Rattle.update_graph.{specs.declared.work.Ready.Ready, specs.Stands.IsReady, specs.Tags.no_node, proofs.ClaimedWorks.next_step, proofs.EnteredTicks.lesser, proofs.Sweeping.length-tags}
+use Rattle.update_graph.{specs.declared.work.LiveNode.LiveNode, specs.Stands.IsReady, specs.Tags.no_node, proofs.ClaimedWorks.next_step, proofs.EnteredTicks.lesser, proofs.Sweeping.length-tags}
 use Rattle.update_graph.proofs.in_order.advance_node.Goals as goal
 
 pub into_ready-ready-requires-clause-next : goal.into_ready-ready-requires-clause-next
@@ -32,4 +32,4 @@ pub advance_inside-advanced-requires-clause-ready : goal.advance_inside-advanced
 advance_inside-advanced-requires-clause-ready g c =
     let run = c.args.context.now.at.run.now in
     let step = c.args.context.now.at.step in
-    subst (λ (ready : Ready). IsReady run (table_before run step) step c.len-number.result ready.operator ready.table) (sym c.into_inner-ready.ensures) c.into_ready-ready.ensures.ready
+    subst (λ (ready : LiveNode). IsReady run (table_before run step) step c.len-number.result ready.operator ready.table) (sym c.into_inner-ready.ensures) c.into_ready-ready.ensures.ready

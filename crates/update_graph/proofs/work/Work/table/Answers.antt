@@ -2,7 +2,7 @@ use Rattle.std.proofs.Common.{ap, sym, ◌∙◌, subst, true≢false, ◌<◌, 
 use Rattle.std.{proofs.lemmas.Bool.not-false, specs.Arc.arc_value}
 use Rattle.tick_model.specs.Evaluation.{has_table, is_source}
 use Rattle.tick_table.specs.Ticking.{Ticking}
-use Rattle.update_graph.{specs.declared.work.Ready.Ready, specs.Stands.IsKept, specs.Tags.{Kept, node_at}, proofs.Sweeping.{place_there, source_shown}}
+use Rattle.update_graph.{specs.declared.work.LiveNode.LiveNode, specs.Stands.IsKept, specs.Tags.{Kept, node_at}, proofs.Sweeping.{place_there, source_shown}}
 use Rattle.update_graph.proofs.work.Work.table.Goals as goal
 
 pub bounds-sources-place : goal.bounds-sources-place
@@ -21,7 +21,7 @@ returns-in-Source c =
 pub returns-in-Defined : goal.returns-in-Defined
 returns-in-Defined c =
     let s = c.args.self.now in
-    ap (λ (ready : Ready). arc_value {X = Ticking} ready.table) c.deref.ensures
+    ap (λ (ready : LiveNode). arc_value {X = Ticking} ready.table) c.deref.ensures
     ∙ (subst (λ kept. IsKept s.run s.step s.node kept) c.in-Defined.is (subst (λ (t : Kept). IsKept t.run t.step t.node c.self.inside.state) c.self.view_is c.self.invariant)).2
 
 pub unreachable-requires : goal.unreachable-requires

@@ -1,7 +1,7 @@
 use Rattle.std.proofs.Common.{◌≡◌, ap, sym, ◌∙◌, subst, Option, ◌^◌, Some, None}
 use Rattle.tick_model.{specs.Rules.update_fault, specs.Updates.Update}
 use Rattle.source_changes.{specs.Stepping.update_after, specs.Waiting.{AreSets, IsGathered, MayFollow, joined, keys_with}, proofs.Joining.{both_join, both_wait, made, on_both, still_behind}}
-use Rattle.source_changes.proofs.gathering.Gathered.put.Goals as goal
+use Rattle.source_changes.proofs.gathering.PendingUpdate.put.Goals as goal
 
 pub returns-in_ok-both-in-Some-clause-gathered : goal.returns-in_ok-both-in-Some-clause-gathered
 returns-in_ok-both-in-Some-clause-gathered c =

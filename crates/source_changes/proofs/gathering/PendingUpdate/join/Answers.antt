@@ -3,7 +3,7 @@ use Rattle.table_update.specs.Coalesced.{Follow}
 use Rattle.tick_laws.specs.Checked.{keys_after}
 use Rattle.tick_model.specs.Updates.{Update}
 use Rattle.source_changes.{specs.Stepping.update_after, specs.Waiting.{AreSets, IsGathered}, proofs.Joining.{made, next_follows, next_joins}}
-use Rattle.source_changes.proofs.gathering.Gathered.join.Goals as goal
+use Rattle.source_changes.proofs.gathering.PendingUpdate.join.Goals as goal
 
 pub update_after-requires : goal.update_after-requires
 update_after-requires c =
