@@ -1,11 +1,11 @@
 -- Keys to which rows that stay move, and the rules of the added and the modified keys.
 use Rattle.std.proofs.Common.{◌≡◌, refl, ap, sym, ◌∙◌, Bool, true, false, cond, not, ◌&&◌, ◌||◌, ℕ, List, [], ◌∷◌, ◌++◌, filter, Some}
-use Rattle.std.{specs.Prelude.{find, slice_get}}
+use Rattle.std.specs.Prelude.{find, slice_get}
 use Rattle.key_lists.{specs.Keys.{is_among, IsRising}, proofs.Among.{among-filter, among-append, each_among}, proofs.Every.{every_weaker, filter-map, and_swap, find_same}, proofs.Rising.{rising_some, rising_same}, proofs.Booleans.and_true}
 use Rattle.row_set.{specs.Sets.{common, united}, proofs.United.among-united}
 use Rattle.tick_model.{specs.declared.update.ShiftRange.ShiftRange, specs.Shifts.{moved, as_key}, specs.Rules.landed}
 use Rattle.shift_data.specs.Moves.{IsLawful, unapplied}
-use Rattle.table_update.{proofs.LawfulParts.places_rise}
+use Rattle.table_update.proofs.LawfulParts.{places_rise}
 
 pub common_swap : (keys others : List ℕ) → IsRising keys → IsRising others → common keys others ≡ common others keys
 common_swap keys others r s =

@@ -1,8 +1,7 @@
 -- A text of a change is of one change.
 use Rattle.std.proofs.Common.{◌≡◌, refl, ap, sym, ◌∙◌, subst, Bool, false, cond, ℕ, ◌-◌, ◌*◌, ◌^◌, ◌<◌, arith, List, [], ◌∷◌, ◌++◌, length, map, drop}
 use Rattle.std.{specs.Prelude.{ℤ, pos, negsuc, ◌<ℤ◌, codes, filter, flat_map}, specs.Int.Signed.mag, specs.List.AllByRecursion, specs.Fmt.{decimal, signed_decimal}, proofs.lemmas.Bool.cond-false, proofs.lemmas.Fmt.{decimal_injective, signed_decimal_injective}, proofs.lemmas.Int.ints, proofs.lemmas.List.{append-nil, length-map}, proofs.lemmas.List.Elements.filter-append}
-use Rattle.tick_model.proofs.RowLists.{keys-rows_under}
-use Rattle.tick_model.{specs.declared.plan.ColumnSpec.ColumnSpec, specs.declared.table.PlainRow.PlainRow, specs.declared.update.ShiftRange.ShiftRange, specs.Changes.{Change, rows_under, told_keys, is_none, is_empty}, specs.LawfulRuns.AreTexts, specs.Names.same_name, specs.Printable.{IsPrintable, IsShiftRange}, specs.Tables.keys, specs.Texts.{change_records, column_name, columns_record, removed_record, row_record, shift_record, step_record, told_records, records_text}}
+use Rattle.tick_model.{proofs.RowLists.keys-rows_under, specs.declared.plan.ColumnSpec.ColumnSpec, specs.declared.table.PlainRow.PlainRow, specs.declared.update.ShiftRange.ShiftRange, specs.Changes.{Change, rows_under, told_keys, is_none, is_empty}, specs.LawfulRuns.AreTexts, specs.Names.same_name, specs.Printable.{IsPrintable, IsShiftRange}, specs.Tables.keys, specs.Texts.{change_records, column_name, columns_record, removed_record, row_record, shift_record, step_record, told_records, records_text}}
 use Rattle.key_lists.{specs.Keys.runs, proofs.Every.{every, every-map, every-append}, proofs.Parts.{every_front, every_back}}
 use Rattle.update_text.{specs.OneToOne.UpdateTextIsOneToOne, proofs.Apart.names_apart, proofs.Backwards.{AreApart, first_same, rest_same, unmapped, place_same, some_is_none, filter_passed, filter_missed}, proofs.Quoting.records_same, specs.Reading.IsToldRow, proofs.RowsBack.row_same, proofs.RowsUnder.{rows_under-append, cells_under, told_under}, proofs.RunsBack.{runs_same, runs_below}}
 

@@ -2,11 +2,10 @@
 use Rattle.std.proofs.Common.{◌≡◌, refl, ap, sym, ◌∙◌, subst, Bool, true, false, cond, ℕ, ◌+◌, ◌*◌, ◌^◌, ◌<◌, ◌≤◌, arith, List, [], ◌∷◌, ◌++◌, length, length-append, drop, map, append_assoc, ne_eqb}
 use Rattle.std.{specs.Prelude.{ℤ, codes, flat_map, FitsSigned, ◌==◌, Result, Ok, Err, IfOk, OnOk}, specs.Int.w64, specs.List.AllByRecursion, proofs.lemmas.Grind.flat_map-append, proofs.lemmas.List.{append-nil, map-append}}
 use Rattle.tick_laws.proofs.LawfulSources.{length-fit_columns}
-use Rattle.tick_model.proofs.RowLists.{keys-rows_under}
+use Rattle.tick_model.{proofs.RowLists.keys-rows_under, specs.declared.plan.ColumnSpec.ColumnSpec, specs.declared.table.PlainRow.PlainRow, specs.declared.update.ShiftRange.ShiftRange, specs.Changes.{Change, is_empty, is_none, rows_under, told_keys}, specs.Printable.{IsPrintable, IsShiftRange, fit_columns}, specs.Tables.keys, specs.Texts.{column_name, columns_record, record_text, records_text, removed_record, row_record, shift_record, step_record}}
 use Rattle.key_lists.{specs.Keys.{IsRising, is_among, runs}, proofs.Every.{every_both, every_weaker, every-append, filter_none}, proofs.Parts.{every_front, every_back}}
 use Rattle.row_set.specs.Sets.{IsKeySet, common}
 use Rattle.shift_data.specs.ShiftLists.{IsShiftList}
-use Rattle.tick_model.{specs.declared.plan.ColumnSpec.ColumnSpec, specs.declared.table.PlainRow.PlainRow, specs.declared.update.ShiftRange.ShiftRange, specs.Changes.{Change, is_empty, is_none, rows_under, told_keys}, specs.Printable.{IsPrintable, IsShiftRange, fit_columns}, specs.Tables.keys, specs.Texts.{column_name, columns_record, record_text, records_text, removed_record, row_record, shift_record, step_record}}
 use Rattle.update_text.{specs.declared.printed.PrintedFault.PrintedFault, specs.OneToOne.change_text, specs.Reading.{AreAhead, AreTold, IsConsistent, IsToldRow, cells_of, has_tag, is_run, run_keys}, specs.Told.parts_shown, proofs.AddedRows.rows_under-keys, proofs.Backwards.some_is_none, proofs.ChangeRecords.{five_texts, first_and_parts}, proofs.ChangesBack.{rows_added, rows_modified, rows_told_all, cells_told}, proofs.ReadRows.none_from_test, proofs.RunsBack.{keys_of-runs, runs_below, runs_ordered}}
 
 -- records of another tag

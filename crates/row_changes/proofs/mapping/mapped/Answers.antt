@@ -1,8 +1,7 @@
 use Rattle.std.proofs.Common.{◌≡◌, ap, sym, ◌∙◌, subst, List}
 use Rattle.std.proofs.lemmas.Result.{IfOk-weaker}
 use Rattle.tick_model.{specs.declared.update.KeyPair.KeyPair, specs.Changes.change_of, specs.Updates.{Update, pairs}}
-use Rattle.tick_table.specs.Exact.{tick_of}
-use Rattle.tick_table.specs.declared.version.Version.TheVariants.{Before, Now}
+use Rattle.tick_table.{specs.Exact.tick_of, specs.declared.version.Version.TheVariants.{Before, Now}}
 use Rattle.row_changes.{specs.Mapped.mapped_tick, specs.Parts.{Parts, AreParts, AreThere, tick_along}, proofs.MadeChange.parts_there, proofs.MappedParts.mapped_parts}
 use Rattle.row_changes.proofs.mapping.mapped.Goals as goal
 

@@ -1,11 +1,11 @@
 use Rattle.std.proofs.Common.{◌≡◌, ap, sym, ◌∙◌, subst, arith, rules, append-nil, ◌+◌, ◌<◌, ◌≤◌, ◌&&◌, ◌||◌, List, length}
 use Rattle.std.{specs.List.{AllByRecursion, list_any}, specs.Prelude.nat_lt, proofs.lemmas.List.take_all}
-use Rattle.key_lists.{specs.Keys.{IsRising, is_among}}
+use Rattle.key_lists.specs.Keys.{IsRising, is_among}
 use Rattle.row_changes.proofs.Comparing.{behind, column_end, length-pairs_of}
 use Rattle.shift_data.specs.Moves.{pairs_of}
 use Rattle.shown_rows.proofs.Restricted.{modified_even}
 use Rattle.table_update.specs.Kept.{old_modified}
-use Rattle.tick_model.{specs.declared.update.KeyPair.KeyPair, specs.Formulas.IsWithin, specs.Tables.{keys}, specs.Updates.Update}
+use Rattle.tick_model.{specs.declared.update.KeyPair.KeyPair, specs.Formulas.IsWithin, specs.Tables.keys, specs.Updates.Update}
 use Rattle.row_ops.{specs.Viewer.with_values, proofs.Viewed.{cells_told, column_told, columns_rise, columns_viewed, modified_there, value_differs}}
 use Rattle.row_ops.proofs.view_op.put_modified.Goals as goal
 

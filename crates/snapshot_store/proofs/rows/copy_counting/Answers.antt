@@ -2,8 +2,7 @@ use Rattle.std.proofs.Common.{◌≡◌, ◌∷◌, ◌++◌, ◌+◌, ◌*◌, 
 use Rattle.std.{specs.Int.{w64, cast_unsigned}, specs.Prelude.{flat_map, map}, specs.List.AllByRecursion, proofs.Math.Nat.suc-mul, proofs.lemmas.Grind.flat_map-append}
 use Rattle.key_lists.{specs.Keys.is_among, proofs.Among.each_among}
 use Rattle.row_set.proofs.Yielded.{next_has, yielded_all}
-use Rattle.tick_model.specs.declared.table.PlainTable.{PlainTable}
-use Rattle.tick_model.specs.Tables.{cells_at, keys}
+use Rattle.tick_model.{specs.declared.table.PlainTable.PlainTable, specs.Tables.{cells_at, keys}}
 use Rattle.snapshot_store.proofs.RowWords.{keys_long, table_words, words_at}
 use Rattle.snapshot_store.proofs.rows.copy_counting.Goals as goal
 

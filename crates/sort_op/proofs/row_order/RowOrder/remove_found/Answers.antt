@@ -1,7 +1,7 @@
 use Rattle.std.proofs.Common.{◌≡◌, refl, ap, ap₂, sym, ◌∙◌, subst, arith, ℕ, suc, ◌+◌, ◌-◌, ◌<◌, ◌≤◌, List, [], ◌∷◌, ◌++◌, length, length-append, append-nil}
 use Rattle.std.{specs.Prelude.remove, proofs.lemmas.List.Edits.length-remove}
 use Rattle.key_lists.specs.Keys.{IsRising}
-use Rattle.row_set.proofs.{Windows.rising_back, Yielded.{next_has, next_small, yielded_all, yielded_next}}
+use Rattle.row_set.{proofs.Windows.rising_back, proofs.Yielded.{next_has, next_small, yielded_all, yielded_next}}
 use Rattle.sort_op.{specs.Places.left_from, specs.Ranks.Ranking, proofs.LeftOut.{left_next, left_none, many_before, next_before}}
 use Rattle.sort_op.proofs.row_order.RowOrder.remove_found.Goals as goal
 

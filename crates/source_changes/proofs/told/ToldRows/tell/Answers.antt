@@ -1,11 +1,10 @@
 use Rattle.std.proofs.Common.{◌≡◌, ap, ap₂, sym, ◌∙◌, subst, List}
 use Rattle.std.specs.Map.{keys_of as map_keys}
-use Rattle.tick_table.proofs.CarriedRows.{keys-removing}
+use Rattle.tick_table.{proofs.CarriedRows.keys-removing, specs.Placed.put_rows}
 use Rattle.key_lists.specs.Keys.{without}
 use Rattle.row_set.specs.Ranges.{keys_of}
 use Rattle.shift_data.specs.Moves.{IsLawful}
 use Rattle.tick_model.{specs.declared.table.PlainRow.PlainRow, specs.declared.update.ShiftRange.ShiftRange, specs.Sources.update_of, specs.Tables.keys, specs.Updates.{Update, shifting}}
-use Rattle.tick_table.specs.Placed.{put_rows}
 use Rattle.source_changes.proofs.Mapped.{keys-told, ranges_ascend, told_left}
 use Rattle.source_changes.proofs.told.ToldRows.tell.Goals as goal
 

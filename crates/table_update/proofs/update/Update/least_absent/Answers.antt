@@ -1,5 +1,5 @@
 use Rattle.std.proofs.Common.{◌≡◌, refl, sym, ap, ap₂, ◌∙◌, ◌==◌, true≢false, false, length, ℕ, List, Option, Some, None, not}
-use Rattle.std.specs.{Prelude.find, Option.is_some}
+use Rattle.std.{specs.Prelude.find, specs.Option.is_some}
 use Rattle.key_lists.specs.Keys.{is_among, without}
 use Rattle.row_set.specs.Sets.{common, united}
 use Rattle.tick_laws.proofs.EmptyUpdates.{none_is}

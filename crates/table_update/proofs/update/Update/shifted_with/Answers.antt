@@ -1,6 +1,6 @@
 use Rattle.std.proofs.Common.{◌≡◌, ap, ap₂, sym, ◌∙◌, subst, IfOk, map}
 use Rattle.key_lists.specs.Keys.{without}
-use Rattle.tick_model.{specs.Shifts.shifted}
+use Rattle.tick_model.specs.Shifts.{shifted}
 use Rattle.shift_data.specs.Moves.{pair_through}
 use Rattle.table_update.{specs.Coalesced.kept_by_both, proofs.CoalescedKeys.{kept_keys, kept_lawful, kept_of_old, kept_pairs, places_lawful}}
 use Rattle.table_update.proofs.update.Update.shifted_with.Goals as goal
